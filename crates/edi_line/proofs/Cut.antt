@@ -1,0 +1,96 @@
+-- How bytes are cut into lines.
+use Rattle.std.proofs.Common.{◌≡◌, ◌≢◌, ℕ, ◌+◌, ◌<◌, ◌≤◌, ◌⊎◌, true, eqb, Some, None, List, [], ◌∷◌, ◌++◌, length, take, drop, get_or, refl, sym, ap, ◌∙◌, subst, inl, inr, arith, lit<}
+use Rattle.std.specs.List.{concat, onto_first, position, position_or_len}
+use Rattle.std.proofs.lemmas.Bool.{ne_eqb, eqb-true, eqb-false, cases_eq}
+use Rattle.std.proofs.lemmas.List.{append-nil, append_assoc, take_all, drop_all, length-take-le, get_or-take, take_more, take-append-drop}
+use Rattle.std.proofs.lemmas.List.Elements.{recursion_from_All, All-from_get_or}
+use Rattle.std.proofs.lemmas.List.Sums.{fails_before_first, passes_at_first}
+use Rattle.edi_line.specs.Lines.{HasNoFeed, IsEnded, AreLines, IsLinesOf, lines_of}
+use Rattle.edi_line.proofs.Numbers.{position_at_Some, position_at_None}
+
+-- a line ends at the first feed
+pub cut_at_feed : (front after : List ℕ) → HasNoFeed front → lines_of (front ++ 10 ∷ after) ≡ (front ++ 10 ∷ []) ∷ lines_of after
+cut_at_feed [] after none = refl
+cut_at_feed (c ∷ cs) after none = rw (ne_eqb c 10 none.0) (ap (onto_first c) (cut_at_feed cs after none.1))
+
+-- bytes without a feed are one line
+pub one_line : (line : List ℕ) → HasNoFeed line → 0 < length line → lines_of line ≡ line ∷ []
+one_line [] none some = absurd (omega arith)
+one_line (c ∷ []) none some = rw (ne_eqb c 10 none.0) refl
+one_line (c ∷ d ∷ ds) none some = rw (ne_eqb c 10 none.0) (ap (onto_first c) (one_line (d ∷ ds) none.1 (omega arith)))
+
+-- what `position` says of the first feed
+no_feed_before : (bytes : List ℕ) (n : ℕ) → n ≤ length bytes → n ≤ position_or_len (λ c. eqb c 10) bytes → HasNoFeed (take n bytes)
+no_feed_before bytes n within before =
+    recursion_from_All (λ c. c ≢ 10) (take n bytes) (All-from_get_or (λ c. c ≢ 10) (take n bytes) 0 (λ i below e.
+    let long : length (take n bytes) ≡ n = length-take-le n bytes within in
+    let here : i < n = omega arith in
+    let same : get_or (take n bytes) i 0 ≡ get_or bytes i 0 = get_or-take n bytes i 0 here in
+    eqb-false _ _ (fails_before_first (λ c. eqb c 10) bytes i 0 (omega arith)) (sym same ∙ e)))
+
+pub first_at_feed : (bytes : List ℕ) (feed : ℕ) → position (λ c. eqb c 10) bytes ≡ Some feed → lines_of bytes ≡ take (feed + 1) bytes ∷ lines_of (drop (feed + 1) bytes)
+first_at_feed bytes feed e =
+    let found = position_at_Some (λ c. eqb c 10) bytes feed e in
+    let none = no_feed_before bytes feed (omega arith) (omega arith) in
+    let at : get_or bytes feed 0 ≡ 10 = eqb-true _ _ (subst (λ n. eqb (get_or bytes n 0) 10 ≡ true) found.0 (passes_at_first (λ c. eqb c 10) bytes 0 (omega arith))) in
+    let front : take (feed + 1) bytes ≡ take feed bytes ++ 10 ∷ [] = take_more bytes feed 0 found.1 ∙ ap (λ c. take feed bytes ++ c ∷ []) at in
+    let whole : bytes ≡ take feed bytes ++ 10 ∷ drop (feed + 1) bytes =
+    sym (take-append-drop (feed + 1) bytes) ∙ ap (λ xs. xs ++ drop (feed + 1) bytes) front ∙ append_assoc (take feed bytes) (10 ∷ []) (drop (feed + 1) bytes) in
+    ap lines_of whole ∙ cut_at_feed (take feed bytes) (drop (feed + 1) bytes) none ∙ ap (λ line. line ∷ lines_of (drop (feed + 1) bytes)) (sym front)
+
+pub first_of_one : (bytes : List ℕ) → 0 < length bytes → position (λ c. eqb c 10) bytes ≡ None → lines_of bytes ≡ take (length bytes) bytes ∷ lines_of (drop (length bytes) bytes)
+first_of_one bytes some e =
+    let past = position_at_None (λ c. eqb c 10) bytes e in
+    let all : take (length bytes) bytes ≡ bytes = take_all (length bytes) bytes (omega arith) in
+    let rest : drop (length bytes) bytes ≡ [] = drop_all (length bytes) bytes (omega arith) in
+    let none = subst HasNoFeed all (no_feed_before bytes (length bytes) (omega arith) past) in
+    one_line bytes none some ∙ ap (λ line. line ∷ []) (sym all) ∙ ap (λ xs. take (length bytes) bytes ∷ lines_of xs) (sym rest)
+
+-- ---- there is just one list of lines
+
+pub lines_are_same : (lines : List (List ℕ)) → AreLines lines → lines_of (concat lines) ≡ lines
+lines_are_same [] each = refl
+lines_are_same (line ∷ []) (inl e) =
+    ap lines_of (append-nil line ∙ e.ended) ∙ cut_at_feed e.bytes [] e.no_feed ∙ ap (λ l. l ∷ []) (sym e.ended)
+lines_are_same (line ∷ []) (inr u) = ap lines_of (append-nil line) ∙ one_line line u.no_feed u.some
+lines_are_same (line ∷ next ∷ lines) each =
+    let e = each.0 in
+    let rest = concat (next ∷ lines) in
+    ap (λ l. lines_of (l ++ rest)) e.ended ∙ ap lines_of (append_assoc e.bytes (10 ∷ []) rest) ∙ cut_at_feed e.bytes rest e.no_feed
+    ∙ ap (λ l. l ∷ lines_of rest) (sym e.ended) ∙ ap (λ ls. line ∷ ls) (lines_are_same (next ∷ lines) each.1)
+
+pub lines_unique : (bytes : List ℕ) (lines : List (List ℕ)) → IsLinesOf bytes lines → lines ≡ lines_of bytes
+lines_unique bytes lines h = sym (lines_are_same lines h.each) ∙ ap lines_of h.joined
+
+-- ---- and there is one
+
+concat_onto : (c : ℕ) (lines : List (List ℕ)) → concat (onto_first c lines) ≡ c ∷ concat lines
+concat_onto c [] = refl
+concat_onto c (line ∷ lines) = refl
+
+ended_before : (line : List ℕ) (lines : List (List ℕ)) → IsEnded line → AreLines lines → AreLines (line ∷ lines)
+ended_before line [] e each = inl e
+ended_before line (next ∷ lines) e each = (e, each)
+
+longer_ended : (c : ℕ) (line : List ℕ) → c ≢ 10 → IsEnded line → IsEnded (c ∷ line)
+longer_ended c line other e = record { bytes = c ∷ e.bytes; no_feed = (other, e.no_feed); ended = ap (λ l. c ∷ l) e.ended }
+
+onto_lines : (c : ℕ) (lines : List (List ℕ)) → c ≢ 10 → AreLines lines → AreLines (onto_first c lines)
+onto_lines c [] other each = inr (record { no_feed = (other, tt); some = lit< tt })
+onto_lines c (line ∷ []) other (inl e) = inl (longer_ended c line other e)
+onto_lines c (line ∷ []) other (inr u) = inr (record { no_feed = (other, u.no_feed); some = omega arith })
+onto_lines c (line ∷ next ∷ lines) other each = (longer_ended c line other each.0, each.1)
+
+step_lines : (c : ℕ) (cs : List ℕ) → (c ≡ 10) ⊎ (c ≡ 10 → ⊥) → IsLinesOf cs (lines_of cs) → IsLinesOf (c ∷ cs) (lines_of (c ∷ cs))
+step_lines c cs (inl feed) h = rw feed (record {
+  joined = ap (λ xs. 10 ∷ xs) h.joined;
+  each = ended_before (10 ∷ []) (lines_of cs) (record { bytes = []; no_feed = tt; ended = refl }) h.each;
+})
+step_lines c cs (inr other) h = rw (ne_eqb c 10 other) (record {
+  joined = concat_onto c (lines_of cs) ∙ ap (λ xs. c ∷ xs) h.joined;
+  each = onto_lines c (lines_of cs) other h.each;
+})
+
+pub lines_exist : (bytes : List ℕ) → IsLinesOf bytes (lines_of bytes)
+lines_exist [] = record { joined = refl; each = tt }
+lines_exist (c ∷ cs) = step_lines c cs (cases_eq c 10) (lines_exist cs)

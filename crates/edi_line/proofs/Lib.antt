@@ -1,0 +1,15 @@
+pub mod Digits
+pub mod Numbers
+pub mod Spelled
+pub mod Cut
+pub mod FirstBroken
+pub mod Rules
+pub mod Passes
+pub mod Shape
+pub mod DeviceLemmas
+pub mod Heads
+pub mod NumberRead
+pub mod Said
+pub mod Printed
+pub mod PrintedRules
+pub mod KnownFiles

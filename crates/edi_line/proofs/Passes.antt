@@ -1,0 +1,102 @@
+-- A reader on its way through the lines of a file.
+use Rattle.std.proofs.Common.{◌≡◌, ℕ, ◌+◌, true, false, Some, Result, Ok, Err, List, [], ◌∷◌, ◌++◌, length, take, drop, map, sym, ap, ◌∙◌, subst, arith, IfOk, IfErr, OnOk, Vec, Global}
+use Rattle.std.proofs.lemmas.List.{append-nil, append_assoc, length_push, take-append-drop, length-take-le, length-drop, take_at, drop_at}
+use Rattle.edi_line.specs.Entry.{entries}
+use Rattle.edi_line.specs.Lines.{lines_of, content_of}
+use Rattle.edi_line.specs.Spelling.{Reading, reading_of}
+use Rattle.edi_line.specs.Zones.{readings_of, parts_after}
+use Rattle.edi_line.specs.LineRules.{BreaksIn, IsZonesOf}
+use Rattle.edi_line.specs.Refusal.{IsLeastBroken, IsUnbroken, IfBroken}
+use Rattle.edi_line.specs.Held.{rule_of, closed, zoned, Takes, Stands}
+use Rattle.edi_line.specs.declared.fault.LineFault.{LineFault}
+use Rattle.edi_line.specs.declared.fault.LineFault.TheVariants as fault
+use Rattle.edi_line.specs.declared.reading.Reader.{Reader}
+use Rattle.edi_line.specs.declared.zone.Zone.{Zone}
+use Rattle.edi_line.proofs.Rules.{stands_more, refused_here, refused_at_end, sound_at_end, closed_zones}
+
+-- the lines up to the next one, that one, and those behind it
+record Next (lines : List Reading) (n : ℕ) (line : Reading) (after : List Reading) : Type 0 where
+  whole : lines ≡ take n lines ++ line ∷ after
+  long : length (take n lines) ≡ n
+  more : take (n + 1) lines ≡ take n lines ++ line ∷ []
+  rest : drop (n + 1) lines ≡ after
+
+next_of : (lines : List Reading) (n : ℕ) (line : Reading) (after : List Reading) → drop n lines ≡ line ∷ after → Next lines n line after
+next_of lines n line after e =
+    let whole : lines ≡ take n lines ++ line ∷ after = sym (take-append-drop n lines) ∙ ap (λ xs. take n lines ++ xs) e in
+    let left = length-drop n lines in
+    let count = ap length e in
+    let long : length (take n lines) ≡ n = length-take-le n lines (omega (arith, left, count)) in
+    let apart : lines ≡ (take n lines ++ line ∷ []) ++ after = whole ∙ sym (append_assoc (take n lines) (line ∷ []) after) in
+    let one : length (take n lines ++ line ∷ []) ≡ n + 1 = omega (arith, length_push (take n lines) line, long) in
+    record {
+      whole = whole;
+      long = long;
+      more = ap (take (n + 1)) apart ∙ take_at (take n lines ++ line ∷ []) after (n + 1) one;
+      rest = ap (drop (n + 1)) apart ∙ drop_at (take n lines ++ line ∷ []) after (n + 1) one;
+    }
+
+-- where a reader is
+pub record IsAt (lines : List Reading) (r : Reader) (left : List Reading) : Type 0 where
+  pub stands : Stands (take r.line lines) r
+  pub left_is : drop r.line lines ≡ left
+
+pub taken : (lines : List Reading) (old new : Reader) (line : Reading) (after : List Reading) → IsAt lines old (line ∷ after) → Takes old line new → IsAt lines new after
+taken lines old new line after at t =
+    let next = next_of lines old.line line after at.left_is in
+    record {
+      stands = subst (λ n. Stands (take n lines) new) (sym t.counted) (subst (λ done. Stands done new) (sym next.more) (stands_more (take old.line lines) line old new at.stands t));
+      left_is = ap (λ n. drop n lines) t.counted ∙ next.rest;
+    }
+
+pub refused : (lines : List Reading) (old : Reader) (line : Reading) (after : List Reading) (rule place : ℕ) → IsAt lines old (line ∷ after) → place ≡ old.line + 1 → rule_of old.order line ≡ Some rule → IsLeastBroken (BreaksIn lines) rule place
+refused lines old line after rule place at place_is e =
+    let next = next_of lines old.line line after at.left_is in
+    refused_here lines (take old.line lines) line after rule place next.whole at.stands.sound (omega (arith, place_is, next.long)) (ap (λ o. rule_of o line) (sym at.stands.order) ∙ e)
+
+-- a reader that has gone through all lines
+pub all_taken : (lines : List Reading) (r : Reader) → IsAt lines r [] → Stands lines r
+all_taken lines r at =
+    let all : take r.line lines ≡ lines = sym (append-nil (take r.line lines)) ∙ ap (λ xs. take r.line lines ++ xs) (sym at.left_is) ∙ take-append-drop r.line lines in
+    subst (λ done. Stands done r) all at.stands
+
+pub readings_step : (bytes line after : List ℕ) → lines_of bytes ≡ line ∷ lines_of after → readings_of bytes ≡ reading_of (content_of line) ∷ readings_of after
+readings_step bytes line after e = ap (λ lines. map reading_of (map content_of lines)) e
+
+-- a fault that is of a line
+pub fault_refused : (lines : List Reading) (old : Reader) (line : Reading) (after : List Reading) (f : LineFault) → IsAt lines old (line ∷ after)
+    → IfBroken (λ rule at. (at ≡ old.line + 1) × (rule_of old.order line ≡ Some rule)) f → IfBroken (IsLeastBroken (BreaksIn lines)) f
+fault_refused lines old line after (fault.Memory e) at h = tt
+fault_refused lines old line after (fault.Broken rule place) at h = refused lines old line after rule place at h.0 h.1
+
+abbrev EndFault : Reader → ℕ → ℕ → Type 0
+EndFault r rule at = (rule ≡ 106) × (at ≡ r.line + 1) × (r.order.eom ≡ false)
+
+fault_at_end : (lines : List Reading) (r : Reader) (f : LineFault) → Stands lines r → IfBroken (EndFault r) f → IfBroken (IsLeastBroken (BreaksIn lines)) f
+fault_at_end lines r (fault.Memory e) s h = tt
+fault_at_end lines r (fault.Broken rule place) s h =
+    refused_at_end lines rule place s.sound (ap (λ o. o.eom) (sym s.order) ∙ h.2) h.0 (omega (arith, h.1, s.counted))
+
+abbrev Zones : Type 0
+Zones = Result (Vec Zone Global) LineFault
+
+abbrev EndsWell : Reader → Zones → Type 0
+EndsWell r result = IfOk result (λ zones. (entries zones.items ≡ closed (zoned r)) × (r.order.eom ≡ true))
+
+pub end_refused : (lines : List Reading) (r : Reader) (result : Zones) → Stands lines r
+    → IfErr result (IfBroken (EndFault r)) → IfErr result (IfBroken (IsLeastBroken (BreaksIn lines)))
+end_refused lines r (Ok zones) s h = tt
+end_refused lines r (Err f) s h = fault_at_end lines r f s h
+
+pub end_sound : (lines : List Reading) (r : Reader) (result : Zones) → Stands lines r
+    → EndsWell r result → OnOk result (IsUnbroken (BreaksIn lines))
+end_sound lines r (Ok zones) s h = sound_at_end lines s.sound (ap (λ o. o.eom) (sym s.order) ∙ h.1)
+end_sound lines r (Err f) s h = tt
+
+pub end_zones : (bytes : List ℕ) (r : Reader) (result : Zones) → Stands (readings_of bytes) r
+    → EndsWell r result → IfOk result (λ zones. IsZonesOf bytes (entries zones.items))
+end_zones bytes r (Ok zones) s h = record {
+  readable = λ rule place own broken. s.sound rule place broken;
+  is = h.0 ∙ ap closed s.zones ∙ closed_zones (parts_after 0 (readings_of bytes));
+}
+end_zones bytes r (Err f) s h = tt

@@ -1,0 +1,30 @@
+//! Numbers, lines and zones of an exchange file, and the devices that its bytes come from.
+#![tactic(auto)]
+
+pub mod device;
+pub mod fault;
+mod known;
+mod lines;
+pub mod num;
+mod order;
+pub mod reading;
+pub mod script;
+pub mod sequence;
+mod spelling;
+pub mod whole;
+pub mod zone;
+
+pub use device::{ByteIn, ByteOut, FromRead, ToWrite};
+pub use fault::LineFault;
+pub use known::{known_lines_are_read, known_numbers_are_read};
+pub use lines::lines_are_unique;
+pub use num::{Num, numbers_are_unique, spellings_are_read};
+pub use reading::{printed_zones_are_read_again, zones, zones_are_those_of_the_lines};
+pub use script::{ScriptIn, ScriptOut};
+pub use sequence::Sequence;
+pub use spelling::readings_spell;
+pub use whole::{ReadFault, read_all};
+pub use zone::Zone;
+
+#[cfg(test)]
+mod tests;

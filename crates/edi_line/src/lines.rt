@@ -1,0 +1,54 @@
+//! The lines of a file.
+
+ghost use Rattle.std.specs.Prelude.{◌≡◌, ℕ, List, ◌+◌, ◌<◌, ◌≤◌, [], ◌∷◌, ◌++◌, length, ◌==◌, take, drop, position};
+ghost use Rattle.edi_line.specs.Lines.{IsLinesOf, lines_of, without_last, content_of};
+
+/// The first line, with its line feed if it has one, and the bytes behind it.
+pub(crate) fn first_line(bytes: &[u8]) -> (&[u8], &[u8])
+    requires { 0 < length bytes.now }
+    ensures lines { lines_of bytes.now ≡ result.0.now ∷ lines_of result.1.now }
+    ensures shorter { length result.1.now < length bytes.now }
+{
+    bytes.split_at(first_end(bytes))
+}
+
+/// Where the first line ends.
+fn first_end(bytes: &[u8]) -> usize
+    requires { 0 < length bytes.now }
+    ensures some { 0 < result }
+    ensures within { result ≤ length bytes.now }
+    ensures lines { lines_of bytes.now ≡ take result bytes.now ∷ lines_of (drop result bytes.now) }
+{
+    match feed_in(bytes) {
+        Some(feed) => feed + 1,
+        None => bytes.len(),
+    }
+}
+
+fn feed_in(bytes: &[u8]) -> Option<usize>
+    ensures { result ≡ position (λ c. c == 10) bytes.now }
+{
+    bytes.iter().position(|c| *c == b'\n')
+}
+
+/// A line without its line feed, and then without one carriage return.
+pub(crate) fn content(line: &[u8]) -> &[u8]
+    ensures { result.now ≡ content_of line.now }
+{
+    without(b'\r', without(b'\n', line))
+}
+
+fn without(last: u8, bytes: &[u8]) -> &[u8]
+    ensures { result.now ≡ without_last last bytes.now }
+{
+    match bytes {
+        [front @ .., end] if *end == last => front,
+        _ => bytes,
+    }
+}
+
+/// A file has just one list of lines.
+pub fn lines_are_unique()
+    ensures lines { (bytes : List ℕ) → IsLinesOf bytes (lines_of bytes) }
+    ensures unique { (bytes : List ℕ) (lines : List (List ℕ)) → IsLinesOf bytes lines → lines ≡ lines_of bytes }
+{}

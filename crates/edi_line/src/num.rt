@@ -1,0 +1,222 @@
+//! Decimal numbers, kept as whole millionths.
+
+ghost use Rattle.std.specs.Prelude.{◌≡◌, ℕ, List, ◌+◌, ◌*◌, ◌/◌, ◌%◌, ◌^◌, ◌<◌, ◌≤◌, ◌↔◌, [], ◌∷◌, ◌++◌, length, IsTrue, IfOk, OnOk, OnErr, MatchOption, Some, All, ℤ, pos, ◌==◌, position};
+ghost use Rattle.std.specs.Str.Parse.{AllDigits, digits_value};
+ghost use Rattle.edi_line.specs.Number.{IsNumberText, number, IsWhole, IsFraction, signed_by, size_of, MOST, signed_text, plain_text, size_text, point_text, fraction_digits, sign_of, body_of, whole_of, fraction_of};
+
+use std::alloc::{AllocError, Global};
+use std::marker::Model;
+
+/// A decimal number of at most nine whole and six fraction digits, so a whole count of millionths,
+/// at most 999999999999999 either way. Contracts see that count.
+#[derive(Clone, Copy, Debug, PartialEq, Eq, PartialOrd, Ord, Hash)]
+pub struct Num {
+    millionths: i64,
+}
+
+impl Model for Num {
+    ghost Value = { ℤ };
+
+    ghost view = { λ n. n.millionths };
+
+    ghost invariant = { λ n. size_of n.millionths ≤ MOST };
+
+    ghost inverse = { λ z. record { millionths = z } };
+}
+
+impl Num {
+    /// The number that a text spells, if it spells one: a `+` or `-` or none, digits, and perhaps a
+    /// point with digits after it, at least one digit in all. Leading zeros of the whole part and
+    /// trailing zeros of the fraction don't count towards the nine and six digits. `-0` is 0.
+    pub fn read(text: &[u8]) -> Option<Num>
+        ensures says { MatchOption result ((m : ℤ) → ¬ (IsNumberText text.now m)) (λ n. IsNumberText text.now n) }
+        ensures value { result ≡ number text.now }
+    {
+        Num::spelled(text)
+    }
+
+    fn spelled(text: &[u8]) -> Option<Num>
+        ensures { MatchOption result ((m : ℤ) → ¬ (IsNumberText text.now m)) (λ n. IsNumberText text.now n) }
+    {
+        let (sign, digits) = split_sign(text);
+        let (whole, fraction) = split_point(digits);
+        if whole.is_empty() && fraction.is_empty() {
+            return None;
+        }
+        let units = whole_value(whole)?;
+        let millionths = fraction_value(fraction)?;
+        Some(Num::with_sign(sign, units * 1_000_000 + millionths))
+    }
+
+    fn with_sign(sign: &[u8], size: u64) -> Num
+        requires { size ≤ MOST }
+        ensures { result ≡ signed_by sign.now size }
+    {
+        let size = size as i64;
+        let millionths = if sign.first() == Some(&b'-') {
+            -size
+        } else {
+            size
+        };
+        Num { millionths }
+    }
+
+    /// The plain spelling: a `-` where it is negative, the whole part without leading zeros but at
+    /// least `0`, then a point and the fraction without trailing zeros if it isn't 0.
+    pub fn plain(self, alloc: Global) -> Result<Vec<u8>, AllocError>
+        ensures { IfOk result (λ text. text.items ≡ plain_text self) }
+    {
+        let mut text = Vec::new(alloc);
+        if self.millionths < 0 {
+            text.push(b'-')?;
+        }
+        push_size(alloc, &mut text, self.millionths.unsigned_abs())?;
+        Ok(text)
+    }
+
+    /// The plain spelling with a `+` where there is no `-`; zero is `+0`.
+    pub fn signed(self, alloc: Global) -> Result<Vec<u8>, AllocError>
+        ensures { IfOk result (λ text. text.items ≡ signed_text self) }
+    {
+        let mut text = Vec::new(alloc);
+        text.push(if self.millionths < 0 { b'-' } else { b'+' })?;
+        push_size(alloc, &mut text, self.millionths.unsigned_abs())?;
+        Ok(text)
+    }
+
+    /// The whole count of millionths.
+    pub fn millionths(self) -> i64
+        ensures value { result ≡ self }
+        ensures range { size_of self ≤ MOST }
+    {
+        self.millionths
+    }
+}
+
+/// The sign in front, if any, and the rest.
+fn split_sign(text: &[u8]) -> (&[u8], &[u8])
+    ensures sign { result.0.now ≡ sign_of text.now }
+    ensures rest { result.1.now ≡ body_of text.now }
+{
+    let signs = match text {
+        [b'+' | b'-', ..] => 1,
+        _ => 0,
+    };
+    text.split_at(signs)
+}
+
+/// The digits before the first point, and those after it.
+fn split_point(digits: &[u8]) -> (&[u8], &[u8])
+    ensures whole { result.0.now ≡ whole_of digits.now }
+    ensures fraction { result.1.now ≡ fraction_of digits.now }
+{
+    match point_in(digits) {
+        Some(point) => (&digits[..point], &digits[point + 1..]),
+        None => (digits, &[]),
+    }
+}
+
+fn point_in(digits: &[u8]) -> Option<usize>
+    ensures { result ≡ position (λ c. c == 46) digits.now }
+{
+    digits.iter().position(|c| *c == b'.')
+}
+
+fn are_zeros(digits: &[u8]) -> bool
+    ensures { IsTrue result ↔ All (λ c. c ≡ 48) digits.now }
+{
+    digits.iter().all(|c| *c == b'0')
+}
+
+/// What at most nine digits are worth.
+fn digits_worth(digits: &[u8]) -> Option<u64>
+    requires { length digits.now ≤ 9 }
+    ensures { MatchOption result (¬ (AllDigits 10 digits.now))
+        (λ n. AllDigits 10 digits.now × (n ≡ digits_value 10 digits.now)) }
+{
+    let mut worth = 0;
+    for c in digits {
+        if !c.is_ascii_digit() {
+            return None;
+        }
+        worth = worth * 10 + u64::from(*c - b'0');
+    }
+    Some(worth)
+}
+
+/// The whole part.
+fn whole_value(digits: &[u8]) -> Option<u64>
+    ensures { MatchOption result ((n : ℕ) → ¬ (IsWhole digits.now n))
+        (λ n. IsWhole digits.now n × (n < 1000000000)) }
+{
+    let (zeros, rest) = digits.split_at(digits.len().saturating_sub(9));
+    if are_zeros(zeros) {
+        digits_worth(rest)
+    } else {
+        None
+    }
+}
+
+/// The fraction, in millionths.
+fn fraction_value(digits: &[u8]) -> Option<u64>
+    ensures { MatchOption result ((n : ℕ) → ¬ (IsFraction digits.now n))
+        (λ n. IsFraction digits.now n × (n < 1000000)) }
+{
+    let (rest, zeros) = digits.split_at(digits.len().min(6));
+    if !are_zeros(zeros) {
+        return None;
+    }
+    let worth = digits_worth(rest)?;
+    Some(worth * 10u64.pow(6 - rest.len() as u32))
+}
+
+/// Whole units, and the fraction if there is one.
+#[tactic(auto, unfolding(crate::specs::Number::size_text))]
+fn push_size(alloc: Global, text: &mut Vec<u8>, size: u64) -> Result<(), AllocError>
+    ensures { OnOk result (text.new.items ≡ text.old.items ++ size_text size) }
+{
+    let units = (size / 1_000_000).to_string(alloc)?;
+    text.extend_from_slice(units.as_bytes())?;
+    push_point_text(text, size % 1_000_000)
+}
+
+/// The point and the digits behind it, or nothing for 0.
+fn push_point_text(text: &mut Vec<u8>, millionths: u64) -> Result<(), AllocError>
+    requires { millionths < 1000000 }
+    ensures { OnOk result (text.new.items ≡ text.old.items ++ point_text millionths) }
+{
+    if millionths == 0 {
+        return Ok(());
+    }
+    text.push(b'.')?;
+    push_fraction(text, millionths)
+}
+
+/// The digits of the millionths behind the point, as far as some are left.
+fn push_fraction(text: &mut Vec<u8>, millionths: u64) -> Result<(), AllocError>
+    requires { millionths < 1000000 }
+    ensures { OnOk result (text.new.items ≡ text.old.items ++ fraction_digits 6 millionths) }
+{
+    let mut rest = millionths;
+    let mut places = 6;
+    while rest != 0 {
+        places -= 1;
+        let unit = 10u64.pow(places);
+        text.push(b'0' + (rest / unit) as u8)?;
+        rest %= unit;
+    }
+    Ok(())
+}
+
+/// What is written of a number is read as that number.
+pub fn spellings_are_read()
+    ensures signed { (m : ℤ) → size_of m ≤ MOST → IsNumberText (signed_text m) m }
+    ensures plain { (m : ℤ) → size_of m ≤ MOST → IsNumberText (plain_text m) m }
+{}
+
+/// A text is one number at most, which is in range and is the one that reading finds.
+pub fn numbers_are_unique()
+    ensures found { (t : List ℕ) (m : ℤ) → number t ≡ Some m ↔ IsNumberText t m }
+    ensures unique { (t : List ℕ) (m n : ℤ) → IsNumberText t m → IsNumberText t n → m ≡ n }
+    ensures range { (t : List ℕ) (m : ℤ) → IsNumberText t m → size_of m ≤ MOST }
+{}

@@ -1,0 +1,189 @@
+//! The zones of a file.
+
+ghost use Rattle.std.specs.Prelude.{Option, Some, None, true, false, ◌≡◌, ℕ, List, ◌+◌, ◌^◌, ◌<◌, ◌≤◌, [], ◌∷◌, ◌++◌, length, map, OnOk, IfOk, IfErr, option_map, flat_map};
+ghost use Rattle.edi_line.specs.Entry.{Entry, entry, entries};
+ghost use Rattle.edi_line.specs.Zones.{kind_of as kind_in, zones_of, HasShape, IsFileOf, with_more, part_of, part_by, Part, whole_zones, IsZonesIn, groups_of, charset_of};
+ghost use Rattle.edi_line.specs.LineRules.{BreaksLineRule, IsZonesOf};
+ghost use Rattle.edi_line.specs.Refusal.{IsUnbroken, IsLeastBroken, IsLineRefusal, IfBroken};
+ghost use Rattle.std.specs.List.{AllByRecursion};
+ghost use Rattle.edi_line.specs.Printing.{IsPrintable, printed, numbered};
+ghost use Rattle.edi_line.specs.Held.{rule_of, rule_of_kind, noted, noted_kind, Takes, Stands, Zoned, zoned, step, closed};
+ghost use Rattle.edi_line.specs.Spelling.{Reading, reading_of, spelling_shown};
+
+use crate::fault::LineFault;
+use crate::lines;
+use crate::order::{Order, ZoneKind, kind_of};
+use crate::spelling::{Spelled, read_content};
+use crate::zone::Zone;
+use std::alloc::{AllocError, Global};
+use std::borrow::CowSlice;
+
+/// What is kept of the lines that have come.
+#[derive(Drop)]
+struct Reader<'a> {
+    line: u64,
+    order: Order,
+    zones: Vec<Zone<'a>>,
+    open_zone: Option<Zone<'a>>,
+}
+
+impl<'a> Reader<'a> {
+    fn new(alloc: Global) -> Reader<'a>
+        ensures { Stands [] result }
+    {
+        Reader {
+            line: 0,
+            order: Order::new(),
+            zones: Vec::new(alloc),
+            open_zone: None,
+        }
+    }
+
+    /// Takes the content of the next line.
+    fn take_line(&mut self, alloc: Global, content: &'a [u8]) -> Result<(), LineFault>
+        requires line { self.old.line + 1 < 2 ^ 64 }
+        requires records { self.old.order.records ≤ self.old.line }
+        ensures ok { OnOk result (Takes self.old (reading_of content.now) self.new) }
+        ensures broken { IfErr result (IfBroken (λ rule at.
+            (at ≡ self.old.line + 1) × (rule_of self.old.order (reading_of content.now) ≡ Some rule))) }
+    {
+        self.line += 1;
+        match read_content(content) {
+            Ok(None) => Ok(()),
+            Ok(Some(spelled)) => self.take_spelled(alloc, spelled),
+            Err(rule) => Err(LineFault::Broken {
+                rule,
+                at: self.line,
+            }),
+        }
+    }
+
+    /// Takes what this line spells.
+    fn take_spelled(&mut self, alloc: Global, spelled: Spelled<'a>) -> Result<(), LineFault>
+        requires { self.old.order.records + 1 < 2 ^ 64 }
+        ensures line { OnOk result (self.new.line ≡ self.old.line) }
+        ensures no_rule { OnOk result (rule_of_kind self.old.order (kind_in spelled.entry.code) ≡ None) }
+        ensures order { OnOk result (self.new.order ≡ noted_kind self.old.order (kind_in spelled.entry.code)) }
+        ensures zones { OnOk result (zoned self.new
+            ≡ step (part_by (kind_in spelled.entry.code) self.old.line (spelling_shown spelled.entry)) (zoned self.old)) }
+        ensures broken { IfErr result (IfBroken (λ rule at.
+            (at ≡ self.old.line) × (rule_of_kind self.old.order (kind_in spelled.entry.code) ≡ Some rule))) }
+    {
+        let kind = kind_of(spelled.code);
+        if let Some(rule) = self.order.rule(kind) {
+            return Err(LineFault::Broken {
+                rule,
+                at: self.line,
+            });
+        }
+        self.order.note(kind);
+        self.take_part(alloc, kind, spelled)?;
+        Ok(())
+    }
+
+    /// Continues the open zone, or closes it and perhaps opens the next.
+    fn take_part(
+        &mut self,
+        alloc: Global,
+        kind: ZoneKind,
+        spelled: Spelled<'a>,
+    ) -> Result<(), AllocError>
+        ensures line { OnOk result (self.new.line ≡ self.old.line) }
+        ensures order { OnOk result (self.new.order ≡ self.old.order) }
+        ensures zones { OnOk result (zoned self.new
+            ≡ step (part_by kind self.old.line (spelling_shown spelled.entry)) (zoned self.old)) }
+    {
+        match kind {
+            ZoneKind::Next => self.lengthen(alloc, spelled.value),
+            ZoneKind::Remark => self.close(),
+            _ => {
+                self.close()?;
+                self.open_zone = Some(Zone {
+                    line: self.line,
+                    code: spelled.code,
+                    nature: spelled.nature,
+                    format: spelled.format,
+                    value: CowSlice::Borrowed(spelled.value),
+                });
+                Ok(())
+            }
+        }
+    }
+
+    /// Lengthens the open zone, if there is one.
+    fn lengthen(&mut self, alloc: Global, more: &[u8]) -> Result<(), AllocError>
+        ensures line { OnOk result (self.new.line ≡ self.old.line) }
+        ensures order { OnOk result (self.new.order ≡ self.old.order) }
+        ensures done { OnOk result (self.new.zones ≡ self.old.zones) }
+        ensures open_zone { OnOk result (option_map entry self.new.open_zone ≡ option_map (with_more more.now) (option_map entry self.old.open_zone)) }
+    {
+        match &mut self.open_zone {
+            Some(zone) => zone.lengthen(alloc, more),
+            None => Ok(()),
+        }
+    }
+
+    /// Adds the open zone, if there is one, to those that are done.
+    fn close(&mut self) -> Result<(), AllocError>
+        ensures line { OnOk result (self.new.line ≡ self.old.line) }
+        ensures order { OnOk result (self.new.order ≡ self.old.order) }
+        ensures zones { OnOk result (zoned self.new ≡ record { done = closed (zoned self.old); open_zone = None }) }
+    {
+        if let Some(zone) = self.open_zone.take() {
+            self.zones.push(zone)?;
+        }
+        Ok(())
+    }
+
+    /// All lines have come.
+    fn finish(mut self) -> Result<Vec<Zone<'a>>, LineFault>
+        requires { self.line + 1 < 2 ^ 64 }
+        ensures ok { IfOk result (λ zones. (entries zones.items ≡ closed (zoned self.entry)) × (self.entry.order.eom ≡ true)) }
+        ensures broken { IfErr result (IfBroken (λ rule at. (rule ≡ 106) × (at ≡ self.entry.line + 1) × (self.entry.order.eom ≡ false))) }
+    {
+        if !self.order.eom {
+            return Err(LineFault::Broken {
+                rule: 106,
+                at: self.line + 1,
+            });
+        }
+        self.close()?;
+        let Reader { zones, .. } = self;
+        Ok(zones)
+    }
+}
+
+/// The zones of a file in the order of its lines, without remarks: BOM, then CSE or nothing, then
+/// records each led by RTY, then EOM.
+///
+/// Where one of the rules 101 to 110 is broken, the fault names the least line with a broken rule,
+/// and the least rule that is broken there.
+pub fn zones<'a>(alloc: Global, bytes: &'a [u8]) -> Result<Vec<Zone<'a>>, LineFault>
+    ensures zones { IfOk result (λ zones. IsZonesOf bytes.now (entries zones.items)) }
+    ensures shape { IfOk result (λ zones. HasShape (entries zones.items)) }
+    ensures few { IfOk result (λ zones. length (groups_of (entries zones.items)) ≤ 9999999) }
+    ensures sound { OnOk result (IsUnbroken (BreaksLineRule bytes.now)) }
+    ensures least { IfErr result (IsLineRefusal (BreaksLineRule bytes.now)) }
+{
+    let mut reader = Reader::new(alloc);
+    let mut rest = bytes;
+    while !rest.is_empty() {
+        let (line, after) = lines::first_line(rest);
+        reader.take_line(alloc, lines::content(line))?;
+        rest = after;
+    }
+    reader.finish()
+}
+
+/// Printed zones are read as they were, each at its line, and break no rule where they have the shape of a file.
+pub fn printed_zones_are_read_again()
+    ensures zones { (zs : List Entry) → AllByRecursion IsPrintable zs → zones_of (printed zs) ≡ numbered 1 zs }
+    ensures unbroken { (zs : List Entry) (charset : Option Entry) (groups : List (List Entry)) → IsFileOf zs charset groups
+        → AllByRecursion IsPrintable zs → length groups ≤ 9999999 → IsUnbroken (BreaksLineRule (printed zs)) }
+{}
+
+/// The zones of a file in words of its lines, and of its groups.
+pub fn zones_are_those_of_the_lines()
+    ensures zones { (parts : List Part) → IsZonesIn parts (whole_zones parts) }
+    ensures groups { (zones : List Entry) (charset : Option Entry) (groups : List (List Entry)) → IsFileOf zones charset groups → (charset_of zones ≡ charset) × (groups_of zones ≡ groups) }
+{}

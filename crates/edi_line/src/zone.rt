@@ -1,0 +1,40 @@
+//! A zone of a file.
+
+ghost use Rattle.std.specs.Prelude.{◌≡◌, ◌++◌, OnOk};
+ghost use Rattle.edi_line.specs.Entry.{entry};
+ghost use Rattle.edi_line.specs.Zones.{with_more};
+
+use std::alloc::{AllocError, Global};
+use std::borrow::CowSlice;
+
+/// A zone of a file. Its value is that of its head and of the NEX lines that continue it.
+#[derive(Debug, Drop)]
+pub struct Zone<'a> {
+    /// The line of its head, counted from 1.
+    pub line: u64,
+    /// Three bytes; in a file each is `A` to `Z` or `0` to `9`.
+    pub code: [u8; 3],
+    /// A byte; in a file from 0x20 to 0x7E.
+    pub nature: u8,
+    /// A byte; in a file from 0x20 to 0x7E.
+    pub format: u8,
+    /// The value's bytes; as `zones` gives them, lent by the file where no NEX line continues them.
+    pub value: CowSlice<'a, u8>,
+}
+
+impl<'a> Zone<'a> {
+    /// Puts these bytes behind the value, which is then owned.
+    pub(crate) fn lengthen(&mut self, alloc: Global, more: &[u8]) -> Result<(), AllocError>
+        ensures { OnOk result (entry self.new ≡ with_more more.now (entry self.old)) }
+    {
+        match &mut self.value {
+            CowSlice::Owned(value) => value.extend_from_slice(more),
+            CowSlice::Borrowed(front) => {
+                let mut value = Vec::from_slice(alloc, front)?;
+                value.extend_from_slice(more)?;
+                self.value = CowSlice::Owned(value);
+                Ok(())
+            }
+        }
+    }
+}

@@ -1,0 +1,13 @@
+pub mod Plans
+pub mod Whole
+pub mod PlanOf
+pub mod Agreeing
+pub mod Sides
+pub mod ReferenceRules
+pub mod ReferenceRefusal
+pub mod Laws
+pub mod Orders
+pub mod Places
+pub mod Interim
+pub mod Repeats
+pub mod Nodes

@@ -1,0 +1,30 @@
+ghost use Rattle.std.specs.Prelude.{◌≡◌, alloc_error};
+ghost use Rattle.edi_plan.specs.declared.fault.RefFault.TheVariants.{Memory};
+
+use std::alloc::{AllocError, AllocFailed};
+use thiserror::Error;
+
+/// Why records state no plan.
+#[derive(Debug, Drop, Error)]
+pub enum RefFault {
+    #[error("out of memory")]
+    Memory(AllocError),
+    #[error("rule {rule} is broken at record {at}")]
+    Broken { rule: u16, at: u64 },
+}
+
+impl From<AllocError> for RefFault {
+    ghost from_gives = { λ _ e. e ≡ Memory alloc_error };
+
+    fn from(fault: AllocError) -> RefFault {
+        RefFault::Memory(fault)
+    }
+}
+
+impl<T: Drop> From<AllocFailed<T>> for RefFault {
+    ghost from_gives = { λ _ e. e ≡ Memory alloc_error };
+
+    fn from(_fault: AllocFailed<T>) -> RefFault {
+        RefFault::Memory(AllocError)
+    }
+}

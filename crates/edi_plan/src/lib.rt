@@ -1,0 +1,16 @@
+//! Plans: records whose pointers are resolved.
+#![tactic(auto)]
+
+pub mod attributes;
+pub mod fault;
+pub mod laws;
+pub mod plan;
+pub mod record;
+
+mod nodes;
+mod repeats;
+
+pub use attributes::sorted_attributes;
+pub use fault::RefFault;
+pub use plan::Plan;
+pub use record::{PlanAttribute, PlanEnd, PlanRecord};

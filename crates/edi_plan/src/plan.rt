@@ -1,0 +1,151 @@
+ghost use Rattle.std.specs.Prelude.{◌≡◌, ◌≢◌, ◌↔◌, ◌<◌, ◌≤◌, length, Some, OnOk, IfOk, IfErr, MatchOption, option_copied, ℕ};
+ghost use Rattle.edi_line.specs.Refusal.{IsUnbroken};
+ghost use Rattle.edi_plan.specs.Plans.{same_kind};
+
+use crate::fault::RefFault;
+use crate::nodes::plan_nodes;
+use crate::record::{PlanAttribute, PlanEnd, PlanRecord};
+use crate::repeats::first_repeat;
+use edi_line::Sequence;
+use edi_record::{Extra, Kind, Point, Sheet};
+use edi_schema::{ClassRef, Role, Schema};
+use std::alloc::{AllocError, Global};
+use std::marker::Model;
+
+/// The plan that the records of a sheet state.
+#[derive(Drop)]
+pub struct Plan {
+    cse: Option<Sequence<u8>>,
+    list: Sequence<PlanRecord>,
+}
+
+impl Model for Plan {
+    ghost use Rattle.edi_plan.specs.Plans.{Drawing};
+    ghost use Rattle.edi_plan.specs.Whole.{IsWhole};
+
+    ghost Value = { Drawing };
+
+    ghost view = { λ p. record { cse = p.cse; list = p.list } };
+
+    ghost invariant = { λ p. IsWhole (record { cse = p.cse; list = p.list }) };
+}
+
+impl Plan {
+    ghost use Rattle.edi_plan.specs.Agreeing.{Agrees};
+    ghost use Rattle.edi_plan.specs.Interim.{HoldsNodesAlone};
+    ghost use Rattle.edi_plan.specs.PlanOf.{IsPlanOf};
+    ghost use Rattle.edi_plan.specs.Plans.{IsPlace, record_at};
+    ghost use Rattle.edi_plan.specs.Places.{places_of};
+    ghost use Rattle.edi_plan.specs.Whole.{IsWhole};
+    ghost use Rattle.edi_plan.specs.ReferenceRules.{BreaksReferenceRule};
+    ghost use Rattle.edi_plan.specs.ReferenceRefusal.{IsReferenceRefusal};
+
+    /// The plan of a sheet of nodes alone under a schema, or the least record that breaks a rule of
+    /// references (301 to 303) and the least rule there.
+    pub fn build(alloc: Global, schema: &Schema, sheet: Sheet) -> Result<Plan, RefFault>
+        requires { HoldsNodesAlone sheet.list }
+        ensures plan { IfOk result (IsPlanOf schema.now sheet) }
+        ensures agrees { IfOk result (Agrees schema.now) }
+        ensures sound { OnOk result (IsUnbroken (BreaksReferenceRule schema.now sheet.list)) }
+        ensures least { IfErr result (IsReferenceRefusal (BreaksReferenceRule schema.now sheet.list)) }
+    {
+        let Sheet { cse, list } = sheet;
+        let repeat = first_repeat(alloc, list.as_slice())?;
+        let records = plan_nodes(alloc, schema, list, repeat)?;
+        Ok(Plan {
+            cse,
+            list: Sequence::from_vec(records),
+        })
+    }
+
+    pub fn len(&self) -> u32
+        ensures { result ≡ length self.now.list }
+    {
+        self.list.as_slice().len() as u32
+    }
+
+    pub fn cse(&self) -> Option<&[u8]>
+        ensures { option_copied result ≡ self.now.cse }
+    {
+        match &self.cse {
+            Some(text) => Some(text.as_slice()),
+            None => None,
+        }
+    }
+
+    pub fn kind(&self, place: u32) -> Kind
+        requires { IsPlace self.now place }
+        ensures { result ≡ (record_at self.now place).kind }
+    {
+        self.list.as_slice()[place as usize].kind
+    }
+
+    pub fn scp(&self, place: u32) -> ClassRef
+        requires { IsPlace self.now place }
+        ensures { result ≡ (record_at self.now place).class }
+    {
+        self.list.as_slice()[place as usize].class
+    }
+
+    pub fn role(&self, place: u32) -> Role
+        requires { IsPlace self.now place }
+        ensures { result ≡ (record_at self.now place).role }
+    {
+        self.list.as_slice()[place as usize].role
+    }
+
+    pub fn points(&self, place: u32) -> &[Point]
+        requires { IsPlace self.now place }
+        ensures { result.now ≡ (record_at self.now place).points }
+    {
+        self.list.as_slice()[place as usize].points.as_slice()
+    }
+
+    pub fn attributes(&self, place: u32) -> &[PlanAttribute]
+        requires { IsPlace self.now place }
+        ensures { result.now ≡ (record_at self.now place).attributes }
+    {
+        self.list.as_slice()[place as usize].attributes.as_slice()
+    }
+
+    pub fn extras(&self, place: u32) -> &[Extra]
+        requires { IsPlace self.now place }
+        ensures { result.now ≡ (record_at self.now place).extras }
+    {
+        self.list.as_slice()[place as usize].extras.as_slice()
+    }
+
+    /// The ends of a link, the origin first.
+    pub fn ends(&self, place: u32) -> &[PlanEnd]
+        requires { IsPlace self.now place }
+        ensures { result.now ≡ (record_at self.now place).ends }
+    {
+        self.list.as_slice()[place as usize].ends.as_slice()
+    }
+
+    /// The places of the records of a kind, in file order.
+    pub fn places(&self, alloc: Global, kind: Kind) -> Result<Vec<u32>, AllocError>
+        ensures { IfOk result (λ places. places.items ≡ places_of kind self.now) }
+    {
+        let mut places = Vec::new(alloc);
+        for place in 0..self.len() {
+            if is_same_kind(kind, self.kind(place)) {
+                places.push(place)?;
+            }
+        }
+        Ok(places)
+    }
+
+    /// What each plan keeps.
+    pub fn keeps(&self)
+        ensures { IsWhole self.now }
+    {
+        let _ = &self.list;
+    }
+}
+
+fn is_same_kind(a: Kind, b: Kind) -> bool
+    ensures { result ≡ same_kind a b }
+{
+    a == b
+}

@@ -1,0 +1,36 @@
+-- What is gathered from the records of a plan, by their places.
+use Rattle.std.proofs.Common.{◌≡◌, ℕ, zero, suc, ◌+◌, ◌<◌, ◌≤◌, Bool, true, false, cond, not, List, [], ◌∷◌, map, filter_map, length, get_or, Option, Some, None, refl, sym, ap, ◌∙◌, subst, arith, sum_by, count_by, true≢false, zero-add, IsPermutation, IsSorted, Ordering, Less, Equal, Greater, is_lt, is_gt, is_eq}
+use Rattle.std.specs.List.{AllByRecursion}
+use Rattle.std.specs.Cmp.{IsTotalOrder}
+use Rattle.std.specs.Ordering.{ordering_reverse}
+use Rattle.std.proofs.lemmas.Cmp.{tied_itself, upto}
+use Rattle.std.proofs.lemmas.Map.Lookups.{CmpEqualImpliesEq}
+use Rattle.std.proofs.lemmas.List.Sums.{sum_by-cons}
+use Rattle.std.proofs.lemmas.List.Sorted.{sum_by-IsPermutation, IsPermutation-refl, IsPermutation-cons, IsPermutation-trans, IsPermutation-middle}
+use Rattle.edi_schema.specs.Sorted.{insert_sorted, sort_by, NeverFalls, SameCounts}
+use Rattle.edi_topo.specs.Ranking.{sum_below}
+use Rattle.edi_rank.specs.Same.{OneToOne}
+use Rattle.edi_topo.proofs.Sums.{sum_below-same, sum_by-below}
+use Rattle.edi_rank.proofs.Sums.{sum_below-renamed}
+use Rattle.edi_schema.proofs.SortedLists.{count_by-cons}
+
+-- what is gathered from a list, by the places
+
+abbrev weight : {Y : Type 0} → (Y → Bool) → Option Y → ℕ
+weight test None = 0
+weight test (Some y) = cond (test y) 1 0
+
+count_by-filter_map : {X Y : Type 0} (test : Y → Bool) (h : X → Option Y) (xs : List X) → count_by test (filter_map h xs) ≡ sum_by (λ x. weight test (h x)) xs
+count_by-filter_map test h [] = refl
+count_by-filter_map test h (x ∷ xs) = go (h x) refl (count_by-filter_map test h xs) ∙ sym (sum_by-cons (λ x. weight test (h x)) x xs)
+  where
+    go : (o : Option _) → h x ≡ o → count_by test (filter_map h xs) ≡ sum_by (λ x. weight test (h x)) xs → count_by test (filter_map h (x ∷ xs)) ≡ weight test (h x) + sum_by (λ x. weight test (h x)) xs
+    go None e more = rw e (more ∙ sym (zero-add _))
+    go (Some y) e more = rw e (count_by-cons test y (filter_map h xs) ∙ ap (λ k. cond (test y) 1 0 + k) more)
+
+pub gathered_alike : {X Y : Type 0} (to : ℕ → ℕ) (xs ys : List X) (d : X) → OneToOne to (length xs) (length ys) → (h k : X → Option Y)
+    → ((i : ℕ) → i < length xs → h (get_or xs i d) ≡ k (get_or ys (to i) d)) → SameCounts (filter_map h xs) (filter_map k ys)
+gathered_alike to xs ys d places h k same test =
+    count_by-filter_map test h xs ∙ (sum_by-below (λ x. weight test (h x)) xs d
+    ∙ (sum_below-renamed to (length xs) (length ys) places (λ i. weight test (h (get_or xs i d))) (λ i. weight test (k (get_or ys i d))) (λ i l. ap (weight test) (same i l))
+    ∙ (sym (sum_by-below (λ x. weight test (k x)) ys d) ∙ sym (count_by-filter_map test k ys))))

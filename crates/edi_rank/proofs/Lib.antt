@@ -1,0 +1,10 @@
+pub mod SameLaws
+pub mod Sums
+pub mod Gathered
+pub mod Orders
+pub mod KeysKept
+pub mod Unique
+pub mod Kept
+pub mod UpTo
+pub mod Along
+pub mod NodeLabels

@@ -1,0 +1,11 @@
+pub mod Same
+pub mod Turned
+pub mod Keys
+pub mod InOrder
+pub mod Alike
+pub mod RankRefusal
+pub mod Layers
+pub mod Labelling
+pub mod Arranged
+pub mod Laws
+pub mod Kept

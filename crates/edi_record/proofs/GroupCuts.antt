@@ -1,0 +1,133 @@
+-- The zones of a record, cut off.
+use Rattle.std.proofs.Common.{◌≡◌, ℕ, zero, suc, ◌+◌, ◌-◌, ◌<◌, ◌≤◌, Bool, true, false, cond, not, ◌||◌, ltb, List, [], ◌∷◌, length, take, drop, get_or, position, Option, Some, None, refl, sym, ap, ◌∙◌, subst, arith, one-add}
+use Rattle.std.specs.List.{position_or_len}
+use Rattle.std.proofs.lemmas.Bool.{ltb-true, ltb-false}
+use Rattle.std.specs.Prelude.{codes}
+use Rattle.std.proofs.lemmas.List.{take_all}
+use Rattle.std.proofs.lemmas.List.Sums.{prefix_len-le-length}
+use Rattle.edi_line.specs.Entry.{Entry, entry, entries, has_code}
+use Rattle.edi_record.specs.Records.{values, group_at}
+use Rattle.edi_line.specs.Zones.{begins_group, ends_group, before_end, groups_of}
+use Rattle.edi_line.specs.declared.zone.Zone.{Zone}
+
+abbrev pub begins : Zone → Bool
+begins z = begins_group (entry z)
+
+abbrev pub ends : Zone → Bool
+ends z = ends_group (entry z)
+
+-- the zones before the end of a record
+pub before_here : (zs : List Zone) → entries (take (position_or_len ends zs) zs) ≡ before_end (entries zs)
+before_here [] = refl
+before_here (z ∷ zs) = go (ends z) refl (before_here zs)
+  where
+    go : (b : Bool) → ends z ≡ b → entries (take (position_or_len ends zs) zs) ≡ before_end (entries zs)
+        → entries (take (cond (not b) (1 + position_or_len ends zs) 0) (z ∷ zs)) ≡ cond b [] (entry z ∷ before_end (entries zs))
+    go true e more = refl
+    go false e more = rw one-add (ap (λ es. entry z ∷ es) more)
+
+-- those zones begin no record
+begins_ends : (z : Zone) → ends z ≡ false → begins z ≡ false
+begins_ends z e = go (begins z) refl
+  where
+    go : (b : Bool) → begins z ≡ b → b ≡ false
+    go true h = let f : true ≡ false = sym (ap (λ b. b || Rattle.edi_line.specs.Entry.has_code (Rattle.std.proofs.Common.codes "EOM") (entry z)) h) ∙ e in absurd (cc)
+    go false h = refl
+
+groups_behind : (zs : List Zone) → groups_of (entries (drop (position_or_len ends zs) zs)) ≡ groups_of (entries zs)
+groups_behind [] = refl
+groups_behind (z ∷ zs) = go (ends z) refl (groups_behind zs)
+  where
+    go : (b : Bool) → ends z ≡ b → groups_of (entries (drop (position_or_len ends zs) zs)) ≡ groups_of (entries zs)
+        → groups_of (entries (drop (cond (not b) (1 + position_or_len ends zs) 0) (z ∷ zs))) ≡ groups_of (entries (z ∷ zs))
+    go true e more = refl
+    go false e more = rw (one-add, begins_ends z e) more
+
+-- where no zone begins a record there is none
+pub no_group : (zs : List Zone) → length zs ≤ position_or_len begins zs → groups_of (entries zs) ≡ []
+no_group [] none = refl
+no_group (z ∷ zs) none = go (begins z) refl (no_group zs) none
+  where
+    go : (b : Bool) → begins z ≡ b → (length zs ≤ position_or_len begins zs → groups_of (entries zs) ≡ [])
+        → suc (length zs) ≤ cond (not b) (1 + position_or_len begins zs) 0 → groups_of (entries (z ∷ zs)) ≡ []
+    go true e more none = absurd (omega (arith, none))
+    go false e more none = rw e (more (omega (arith, none)))
+
+-- the first record and what is behind it, where one begins at k
+pub group_cut : (zs : List Zone) (k n : ℕ) → position_or_len begins zs ≡ k → k < length zs → n ≡ position_or_len ends (drop 1 (drop k zs))
+    → groups_of (entries zs) ≡ entries (take (1 + n) (drop k zs)) ∷ groups_of (entries (drop (1 + n) (drop k zs)))
+group_cut [] k n at below e = absurd (omega arith)
+group_cut (z ∷ zs) k n at below e = go (begins z) refl k at below e (λ k. group_cut zs k n)
+  where
+    go : (b : Bool) → begins z ≡ b → (k : ℕ) → cond (not b) (1 + position_or_len begins zs) 0 ≡ k → k < suc (length zs) → n ≡ position_or_len ends (drop 1 (drop k (z ∷ zs)))
+        → ((k : ℕ) → position_or_len begins zs ≡ k → k < length zs → n ≡ position_or_len ends (drop 1 (drop k zs))
+        → groups_of (entries zs) ≡ entries (take (1 + n) (drop k zs)) ∷ groups_of (entries (drop (1 + n) (drop k zs))))
+        → groups_of (entries (z ∷ zs)) ≡ entries (take (1 + n) (drop k (z ∷ zs))) ∷ groups_of (entries (drop (1 + n) (drop k (z ∷ zs))))
+    go true b zero at below e more =
+        rw (b, one-add, e) (ap (λ es. (entry z ∷ es) ∷ groups_of (entries zs)) (sym (before_here zs)) ∙ ap (λ gs. (entry z ∷ entries (take (position_or_len ends zs) zs)) ∷ gs) (sym (groups_behind zs)))
+    go true b (suc k) at below e more = absurd (omega (arith, at))
+    go false b zero at below e more = absurd (omega (arith, at))
+    go false b (suc k) at below e more = rw b (more k (omega (arith, at)) (omega (arith, below)) e)
+
+-- ---- places
+
+some_test : (t : Bool) (i k : ℕ) → cond t (Some i) None ≡ Some k → (t ≡ true) × (k ≡ i)
+some_test true i k e = (refl, cc)
+some_test false i k e = absurd cc
+
+none_test : (t : Bool) (i : ℕ) → cond t (Some i) None ≡ None → t ≡ false
+none_test true i e = absurd cc
+none_test false i e = refl
+
+pub place_at_Some : {X : Type 0} (p : X → Bool) (xs : List X) (k : ℕ) → position p xs ≡ Some k → (k ≡ position_or_len p xs) × (k < length xs)
+place_at_Some p xs k e =
+    let parts = some_test _ _ _ e in
+    let at : k ≡ position_or_len p xs = parts.1 in
+    (at, omega (arith, at, ltb-true _ _ parts.0))
+
+pub no_place : {X : Type 0} (p : X → Bool) (xs : List X) → position p xs ≡ None → length xs ≤ position_or_len p xs
+no_place p xs e = ltb-false _ _ (none_test _ _ e)
+
+pub place_at_None : {X : Type 0} (p : X → Bool) (xs : List X) → position p xs ≡ None → length xs ≡ position_or_len p xs
+place_at_None p xs e = omega (arith, no_place p xs e, prefix_len-le-length (λ x. not (p x)) xs)
+
+-- ---- values
+
+pub value_here : (code : List ℕ) (z : Entry) (zs : List Entry) (value : List ℕ) → has_code code z ≡ true → value ≡ z.value → values code (z ∷ zs) ≡ value ∷ values code zs
+value_here code z zs value e same = rw (e, same) refl
+
+pub value_skipped : (code : List ℕ) (z : Entry) (zs : List Entry) → has_code code z ≡ false → values code (z ∷ zs) ≡ values code zs
+value_skipped code z zs e = rw e refl
+
+-- ---- the record that begins at the first zone
+
+pub begun_here : (zs : List Zone) (n : ℕ) (z : Entry) (es : List Entry) → 0 < length zs → n ≡ position_or_len ends (drop 1 zs) → entries zs ≡ z ∷ es → entries (take (1 + n) zs) ≡ z ∷ before_end es
+begun_here [] n z es some e same = absurd (omega arith)
+begun_here (x ∷ xs) n z es some e same =
+    let head : entry x ≡ z = cc in
+    let tail : entries xs ≡ es = cc in
+    rw one-add (ap (λ k. entry x ∷ entries (take k xs)) e ∙ ap (λ t. entry x ∷ t) (before_here xs) ∙ ap (λ t. entry x ∷ before_end t) tail ∙ ap (λ y. y ∷ before_end es) head)
+
+-- ---- a group holds one type
+
+none_before : (zs : List Entry) → values (codes "RTY") (before_end zs) ≡ []
+none_before [] = refl
+none_before (z ∷ zs) = go (ends_group z) refl (begins_group z) refl (none_before zs)
+  where
+    go : (b : Bool) → ends_group z ≡ b → (c : Bool) → begins_group z ≡ c → values (codes "RTY") (before_end zs) ≡ [] → values (codes "RTY") (before_end (z ∷ zs)) ≡ []
+    go true e c f more = rw e refl
+    go false e true f more = let wrong : true ≡ false = sym (ap (λ b. b || has_code (codes "EOM") z) f) ∙ e in absurd (cc)
+    go false e false f more = rw (e, f) more
+
+pub one_type : (z : Entry) (zs : List Entry) → begins_group z ≡ true → length (values (codes "RTY") (z ∷ before_end zs)) ≡ 1
+one_type z zs e = rw e (ap (λ vs. length (z.value ∷ vs)) (none_before zs))
+
+-- the record that begins with the first zone
+pub record_here : (zs : List Zone) (d z : Zone) (n : ℕ) → 1 ≤ length zs → z ≡ get_or zs 0 d → begins z ≡ true → n ≡ position_or_len ends (take (length zs - 1) (drop 1 zs))
+    → Some (entries (take (1 + n) zs)) ≡ group_at (entries zs)
+record_here [] d z n some e begin count = absurd (omega arith)
+record_here (x ∷ xs) d z n some e begin count =
+    let all : take (length (x ∷ xs) - 1) xs ≡ xs = take_all (length (x ∷ xs) - 1) xs (omega arith) in
+    let first : begins x ≡ true = ap begins (sym e) ∙ begin in
+    let n_is : n ≡ position_or_len ends xs = count ∙ ap (position_or_len ends) all in
+    rw (first, one-add, n_is) (ap (λ es. Some (entry x ∷ es)) (before_here xs))

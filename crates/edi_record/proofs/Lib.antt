@@ -1,0 +1,16 @@
+pub mod TextParts
+pub mod Unique
+pub mod Stated
+pub mod RowsHold
+pub mod Numbered
+pub mod SheetStated
+pub mod AttributesRead
+pub mod Passes
+pub mod GroupCuts
+pub mod Loops
+pub mod Parts
+pub mod ListRead
+pub mod PrintedRecords
+pub mod Printable
+pub mod InStretches
+pub mod ValueOrder

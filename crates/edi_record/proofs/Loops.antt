@@ -1,0 +1,252 @@
+-- Steps of the loops over the zones of a record.
+use Rattle.std.proofs.Common.{◌≡◌, ℕ, ◌+◌, ◌*◌, ◌-◌, ◌/◌, ◌%◌, ◌<◌, ◌≤◌, Bool, true, false, cond, not, ◌&&◌, ◌||◌, eqb, leb, List, [], ◌∷◌, ◌++◌, length, get_or, take, drop, map, filter, Option, Some, None, codes, refl, sym, ap, ◌∙◌, arith, add-one, one-add, eq-eqb, ltb, lt-ltb, is_some, MatchOption}
+use Rattle.std.specs.List.{list_any, before_first}
+use Rattle.std.specs.Str.{all_ascii_digits}
+use Rattle.std.specs.Char.{is_ascii_digit, digit_value}
+use Rattle.std.specs.Prelude.{count_by}
+use Rattle.std.proofs.lemmas.Bool.{eqb-true, eqb-false, ne_eqb}
+use Rattle.std.proofs.lemmas.Slice.Eq.{bytes_eq-Decides}
+use Rattle.std.proofs.lemmas.Bool.Decides.{nat_tests}
+use Rattle.std.proofs.Math.Seq.{drop-cons}
+use Rattle.std.proofs.Math.ListN.{drop_of_length-le}
+use Rattle.std.proofs.lemmas.List.{append_assoc, take_more, take_all, nil_from_length, length-map}
+use Rattle.std.proofs.lemmas.List.Recursion.{is_count_by}
+use Rattle.std.specs.Str.Parse.{digits_value, digits_value_after}
+use Rattle.edi_line.specs.Entry.{Entry, entry, entries, has_code}
+use Rattle.edi_line.specs.declared.zone.Zone.{Zone}
+use Rattle.edi_record.specs.Records.{values, opens, closes, points_at, sns_after, end_of, ends, Placed, placed, is_open_after, is_extra, extra}
+use Rattle.edi_record.specs.Texts.{PointerText, pointer, count}
+use Rattle.edi_record.specs.RecordRules.{count_until, kind_in, is_unknown_pointer, has_unknown_pointer, counts_right, counts_wrong}
+use Rattle.edi_record.specs.declared.record.Kind.{Kind}
+use Rattle.edi_record.specs.declared.record.Extra.{Extra}
+use Rattle.edi_record.specs.declared.record.End.{End}
+
+-- a value where no attribute is open
+abbrev pub is_stray : Placed → Bool
+is_stray p = closes p.zone && not p.open_before
+
+abbrev pub ends_stretch : List ℕ → List ℕ → Entry → Bool
+ends_stretch opening closing z = has_code opening z || has_code closing z
+
+-- a stretch is open, and the code comes in it as often as is still wanted
+abbrev pub is_pending : Bool → Bool → (Entry → Bool) → List ℕ → List Entry → Bool
+is_pending is_open is_seen ends code zs = is_open && leb (cond is_seen 1 2) (count_until ends code zs)
+
+-- the extras among zones before which an attribute is open or none is
+abbrev pub extras_after : Kind → Bool → List Entry → List Extra
+extras_after kind is_open zs = map (λ (p : Placed). extra p.zone) (filter (is_extra kind) (placed is_open zs))
+
+-- an SNS comes before any end
+abbrev pub has_stray : List Entry → Bool
+has_stray zs = list_any (has_code (codes "SNS")) (before_first points_at zs)
+
+abbrev pub are_worth : List ℕ → ℕ → Bool
+are_worth digits number = all_ascii_digits digits && eqb (digits_value 10 digits) number
+
+-- ---- the zone at an index
+
+pub next_zone : (zs : List Zone) (i : ℕ) (z : Zone) → i < length zs → z ≡ get_or zs i z → entries (drop i zs) ≡ entry z ∷ entries (drop (i + 1) zs)
+next_zone zs i z below is =
+    let cut : drop i zs ≡ get_or zs i z ∷ drop (i + 1) zs = rw add-one (drop-cons zs i z below) in
+    ap entries cut ∙ ap (λ x. entry x ∷ entries (drop (i + 1) zs)) (sym is)
+
+pub no_zone : (zs : List Zone) (i : ℕ) → length zs ≤ i → entries (drop i zs) ≡ []
+no_zone zs i past = ap entries (drop_of_length-le zs past)
+
+-- ---- values where no attribute is open
+
+opens_apart : (z : Entry) → opens z ≡ true → closes z ≡ false
+opens_apart z e = let same : z.code ≡ codes "ATP" = (bytes_eq-Decides z.code (codes "ATP")).0 e in rw same refl
+
+pub stray_opens : (b : Bool) (z : Entry) (zs : List Entry) → opens z ≡ true → list_any is_stray (placed b (z ∷ zs)) ≡ list_any is_stray (placed true zs)
+unfolding placed
+stray_opens b z zs e = rw (opens_apart z e, e) refl
+
+pub stray_here : (b : Bool) (z : Entry) (zs : List Entry) → closes z ≡ true → b ≡ false → list_any is_stray (placed b (z ∷ zs)) ≡ true
+unfolding placed
+stray_here b z zs e f = rw (e, f) refl
+
+pub stray_closes : (b : Bool) (z : Entry) (zs : List Entry) → opens z ≡ false → closes z ≡ true → b ≡ true → list_any is_stray (placed b (z ∷ zs)) ≡ list_any is_stray (placed false zs)
+unfolding placed
+stray_closes b z zs e f g = rw (e, f, g) refl
+
+pub stray_skips : (b : Bool) (z : Entry) (zs : List Entry) → opens z ≡ false → closes z ≡ false → list_any is_stray (placed b (z ∷ zs)) ≡ list_any is_stray (placed b zs)
+unfolding placed
+stray_skips b z zs e f = rw (e, f) refl
+
+pub stray_end : (b : Bool) → list_any is_stray (placed b []) ≡ false
+unfolding placed
+stray_end b = refl
+
+-- ---- extras
+
+pub extras_none : (kind : Kind) (b : Bool) → extras_after kind b [] ≡ []
+unfolding placed
+extras_none kind b = refl
+
+pub extras_here : (kind : Kind) (b : Bool) (z : Entry) (zs : List Entry) → is_extra kind (record { open_before = b; zone = z }) ≡ true → extras_after kind b (z ∷ zs) ≡ extra z ∷ extras_after kind (is_open_after b z) zs
+unfolding placed
+extras_here kind b z zs e = rw e refl
+
+pub extras_skip : (kind : Kind) (b : Bool) (z : Entry) (zs : List Entry) → is_extra kind (record { open_before = b; zone = z }) ≡ false → extras_after kind b (z ∷ zs) ≡ extras_after kind (is_open_after b z) zs
+unfolding placed
+extras_skip kind b z zs e = rw e refl
+
+pub extras_grow : (all found more : List Extra) (done new : List Extra) (x : Extra) → all ≡ done ++ found → found ≡ x ∷ more → new ≡ done ++ x ∷ [] → all ≡ new ++ more
+extras_grow all found more done new x kept here pushed = kept ∙ ap (λ t. done ++ t) here ∙ sym (append_assoc done (x ∷ []) more) ∙ ap (λ t. t ++ more) (sym pushed)
+
+-- ---- the SNS of ends
+
+pub sns_none : None ≡ sns_after []
+unfolding sns_after
+sns_none = refl
+
+pub sns_stops : (z : Entry) (zs : List Entry) → points_at z ≡ true → None ≡ sns_after (z ∷ zs)
+unfolding sns_after
+sns_stops z zs e = rw e refl
+
+pub sns_found : (z : Entry) (zs : List Entry) → points_at z ≡ false → has_code (codes "SNS") z ≡ true → Some z.value ≡ sns_after (z ∷ zs)
+unfolding sns_after
+sns_found z zs e f = rw (e, f) refl
+
+pub sns_goes_on : (z : Entry) (zs : List Entry) → points_at z ≡ false → has_code (codes "SNS") z ≡ false → sns_after zs ≡ sns_after (z ∷ zs)
+unfolding sns_after
+sns_goes_on z zs e f = rw (e, f) refl
+
+pub stray_sns_goes_on : (z : Entry) (zs : List Entry) → points_at z ≡ false → has_code (codes "SNS") z ≡ false → has_stray zs ≡ has_stray (z ∷ zs)
+stray_sns_goes_on z zs e f = rw (e, one-add, f) refl
+
+-- ---- ends
+
+pub ends_end : ends [] ≡ []
+unfolding ends
+ends_end = refl
+
+pub ends_skip : (z : Entry) (zs : List Entry) → points_at z ≡ false → ends (z ∷ zs) ≡ ends zs
+unfolding ends
+ends_skip z zs e = rw e refl
+
+pub ends_here : (z : Entry) (zs : List Entry) → points_at z ≡ true → ends (z ∷ zs) ≡ end_of z.value (sns_after zs) ∷ ends zs
+unfolding ends
+ends_here z zs e = rw e refl
+
+abbrev end_made : PointerText → List Entry → End
+end_made p zs = record { lot = p.lot; subset = p.subset; target = record { rty = p.rty; rid = p.rid }; sns = sns_after zs }
+
+pub end_read : (z : Entry) (zs : List Entry) (text : List ℕ) (p : PointerText) → points_at z ≡ true → text ≡ z.value → Some p ≡ pointer text → ends (z ∷ zs) ≡ Some (end_made p zs) ∷ ends zs
+end_read z zs text p e same read =
+    let found : pointer z.value ≡ Some p = ap pointer (sym same) ∙ sym read in
+    ends_here z zs e ∙ rw found refl
+
+pub no_end : (z : Entry) (zs : List Entry) (text : List ℕ) → points_at z ≡ true → text ≡ z.value → None ≡ pointer text → ends (z ∷ zs) ≡ None ∷ ends zs
+no_end z zs text e same read =
+    let found : pointer z.value ≡ None = ap pointer (sym same) ∙ sym read in
+    ends_here z zs e ∙ rw found refl
+
+-- ---- counts
+
+pub digits_snoc : (xs : List ℕ) (d : ℕ) → all_ascii_digits (xs ++ d ∷ []) ≡ (all_ascii_digits xs && is_ascii_digit d)
+digits_snoc [] d = and_true (is_ascii_digit d)
+  where
+    and_true : (b : Bool) → (b && true) ≡ (true && b)
+    and_true true = refl
+    and_true false = refl
+digits_snoc (x ∷ xs) d = go (is_ascii_digit x) (digits_snoc xs d)
+  where
+    go : (b : Bool) → all_ascii_digits (xs ++ d ∷ []) ≡ (all_ascii_digits xs && is_ascii_digit d) → (b && all_ascii_digits (xs ++ d ∷ [])) ≡ ((b && all_ascii_digits xs) && is_ascii_digit d)
+    go true e = e
+    go false e = refl
+
+value_snoc : (n : ℕ) (xs : List ℕ) (d : ℕ) → digits_value_after 10 n (xs ++ d ∷ []) ≡ digits_value_after 10 n xs * 10 + digit_value d
+value_snoc n [] d = refl
+value_snoc n (x ∷ xs) d = value_snoc (n * 10 + digit_value x) xs d
+
+-- a digit is worth less than ten
+digit_below : (d : ℕ) → is_ascii_digit d ≡ true → digit_value d < 10
+digit_below d e = grind (arith, nat_tests)
+
+no_less : (v d n : ℕ) → d < 10 → eqb (v * 10 + d) n ≡ (eqb d (n % 10) && eqb v (n / 10))
+no_less v d n h = go (eqb d (n % 10)) refl (eqb v (n / 10)) refl
+  where
+    go : (p : Bool) → eqb d (n % 10) ≡ p → (q : Bool) → eqb v (n / 10) ≡ q → eqb (v * 10 + d) n ≡ (p && q)
+    go true e true f = let x = eqb-true _ _ e in let y = eqb-true _ _ f in eq-eqb (v * 10 + d) n (omega (arith, x, y))
+    go true e false f = ne_eqb (v * 10 + d) n (λ s. eqb-false _ _ f (omega (arith, s)))
+    go false e q f = ne_eqb (v * 10 + d) n (λ s. eqb-false _ _ e (omega (arith, s)))
+
+pub worth_snoc : (xs : List ℕ) (d n : ℕ) → are_worth (xs ++ d ∷ []) n ≡ ((is_ascii_digit d && eqb (digit_value d) (n % 10)) && are_worth xs (n / 10))
+worth_snoc xs d n = rw (digits_snoc xs d, value_snoc 0 xs d) (go (is_ascii_digit d) refl)
+  where
+    go : (b : Bool) → is_ascii_digit d ≡ b → ((all_ascii_digits xs && b) && eqb (digits_value 10 xs * 10 + digit_value d) n) ≡ ((b && eqb (digit_value d) (n % 10)) && are_worth xs (n / 10))
+    go true e = rw (no_less (digits_value 10 xs) (digit_value d) n (digit_below d e)) (swapped (all_ascii_digits xs) (eqb (digit_value d) (n % 10)) (eqb (digits_value 10 xs) (n / 10)))
+      where
+        swapped : (a b c : Bool) → ((a && true) && (b && c)) ≡ ((true && b) && (a && c))
+        swapped true b c = refl
+        swapped false true c = refl
+        swapped false false c = refl
+    go false e = nothing (all_ascii_digits xs) _
+      where
+        nothing : (a c : Bool) → ((a && false) && c) ≡ false
+        nothing true c = refl
+        nothing false c = refl
+
+pub last_apart : (rest : List ℕ) → 1 ≤ length rest → take (length rest - 1) rest ++ get_or rest (length rest - 1) 0 ∷ [] ≡ rest
+last_apart rest some =
+    let below : length rest - 1 < length rest = omega arith in
+    sym (take_more rest (length rest - 1) 0 below) ∙ take_all (length rest - 1 + 1) rest (omega arith)
+
+pub says_some : (text : List ℕ) (n : ℕ) (e r : Bool) → e ≡ eqb (length text) 0 → e ≡ false → r ≡ are_worth text n → r ≡ counts_right (text ∷ []) n
+unfolding count
+says_some text n e r is full worth = go (all_ascii_digits text) refl
+  where
+    some : ltb 0 (length text) ≡ true
+    some = let no_zero = eqb-false _ _ (sym is ∙ full) in lt-ltb 0 (length text) (omega (arith, no_zero))
+
+    go : (b : Bool) → all_ascii_digits text ≡ b → r ≡ counts_right (text ∷ []) n
+    go true d = worth ∙ rw (some, d) refl
+    go false d = worth ∙ rw (some, d) refl
+
+pub says_none : (text : List ℕ) (n : ℕ) (e : Bool) → e ≡ eqb (length text) 0 → e ≡ true → not e ≡ counts_right (text ∷ []) n
+unfolding count
+says_none text n e is empty =
+    let same : text ≡ [] = nil_from_length text (eqb-true _ _ (sym is ∙ empty)) in
+    rw (empty, same) refl
+
+counted_zones : (code : List ℕ) (zs : List Zone) → length (values code (entries zs)) ≡ count_by (λ z. has_code code (entry z)) zs
+counted_zones code zs = length-map (filter (has_code code) (entries zs)) (λ (z : Entry). z.value) ∙ along zs
+  where
+    step : (z : Zone) (zs : List Zone) → length (filter (has_code code) (entries (z ∷ zs))) ≡ cond (has_code code (entry z)) (1 + length (filter (has_code code) (entries zs))) (length (filter (has_code code) (entries zs)))
+    step z zs = go (has_code code (entry z)) refl
+      where
+        go : (b : Bool) → has_code code (entry z) ≡ b → length (filter (has_code code) (entries (z ∷ zs))) ≡ cond b (1 + length (filter (has_code code) (entries zs))) (length (filter (has_code code) (entries zs)))
+        go true e = rw e (sym (one-add (length (filter (has_code code) (entries zs)))))
+        go false e = rw e refl
+
+    along : (zs : List Zone) → length (filter (has_code code) (entries zs)) ≡ count_by (λ z. has_code code (entry z)) zs
+    along zs = is_count_by (λ zs. length (filter (has_code code) (entries zs))) (λ z. has_code code (entry z)) refl step zs
+
+pub no_more : {X : Type 0} (o : Option X) (P : Type 0) (Q : X → Type 0) (b : Bool) → b ≡ is_some o → b ≡ false → MatchOption o P Q → P
+no_more None P Q b is none h = h
+no_more (Some x) P Q b is none h = let f : true ≡ false = sym is ∙ none in absurd (cc)
+
+pub count_said : (counting counted text : List ℕ) (zs after : List Zone) (n : ℕ) (r : Bool) → values counting (entries zs) ≡ text ∷ values counting (entries after) → values counting (entries after) ≡ []
+    → n ≡ count_by (λ z. has_code counted (entry z)) zs → r ≡ counts_right (text ∷ []) n → not r ≡ counts_wrong counting counted (entries zs)
+count_said counting counted text zs after n r here none count says =
+    ap not (says ∙ ap (counts_right (text ∷ [])) (count ∙ sym (counted_zones counted zs)) ∙ ap (λ vs. counts_right vs (length (values counted (entries zs)))) (sym (here ∙ ap (λ vs. text ∷ vs) none)))
+
+-- ---- pointers that aren't known
+
+pub unknown_none : (kind : Kind) (b : Bool) → list_any (is_unknown_pointer kind) (placed b []) ≡ false
+unfolding placed
+unknown_none kind b = refl
+
+pub unknown_here : (kind : Kind) (b : Bool) (z : Entry) (zs : List Entry) → is_unknown_pointer kind (record { open_before = b; zone = z }) ≡ true → list_any (is_unknown_pointer kind) (placed b (z ∷ zs)) ≡ true
+unfolding placed
+unknown_here kind b z zs e = rw e refl
+
+pub unknown_skip : (kind : Kind) (b : Bool) (z : Entry) (zs : List Entry) → is_unknown_pointer kind (record { open_before = b; zone = z }) ≡ false
+    → list_any (is_unknown_pointer kind) (placed b (z ∷ zs)) ≡ list_any (is_unknown_pointer kind) (placed (is_open_after b z) zs)
+unfolding placed
+unknown_skip kind b z zs e = rw e refl
+
+pub unknown_in : (kind : Kind) (group : List Entry) → kind_in group ≡ Some kind → has_unknown_pointer group ≡ list_any (is_unknown_pointer kind) (placed false group)
+unknown_in kind group e = rw e refl

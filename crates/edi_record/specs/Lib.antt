@@ -1,0 +1,10 @@
+pub mod Texts
+pub mod Lent
+pub mod Shapes
+pub mod Records
+pub mod RecordRules
+pub mod RecordRefusal
+pub mod Layout
+pub mod Orders
+pub mod Rows
+pub mod Stretches

@@ -1,0 +1,37 @@
+-- What each sheet keeps.
+use Rattle.std.specs.Prelude.{ℕ, Bool, ◌&&◌, nat_eq, nat_le, IsTrue, List, length, codes}
+use Rattle.std.specs.List.{list_all}
+use Rattle.edi_record.specs.declared.record.Record.{Record}
+use Rattle.edi_record.specs.declared.record.Kind.{Kind}
+use Rattle.edi_record.specs.declared.record.Kind.TheVariants.{Pno, Par, Pfe, Fea, Lnk}
+
+-- the type of a record, as its zone spells it
+abbrev pub kind_code : Kind → List ℕ
+kind_code Pno = codes "PNO"
+kind_code Par = codes "PAR"
+kind_code Pfe = codes "PFE"
+kind_code Fea = codes "FEA"
+kind_code Lnk = codes "LNK"
+
+-- one point per node, two or more per arc, none elsewhere
+abbrev pub may_have_points : Kind → ℕ → Bool
+may_have_points Pno n = nat_eq n 1
+may_have_points Par n = nat_le 2 n
+may_have_points Pfe n = nat_eq n 0
+may_have_points Fea n = nat_eq n 0
+may_have_points Lnk n = nat_eq n 0
+
+-- two ends or more per link, none elsewhere
+abbrev pub may_have_ends : Kind → ℕ → Bool
+may_have_ends Pno n = nat_eq n 0
+may_have_ends Par n = nat_eq n 0
+may_have_ends Pfe n = nat_eq n 0
+may_have_ends Fea n = nat_eq n 0
+may_have_ends Lnk n = nat_le 2 n
+
+abbrev pub is_in_shape : Record → Bool
+is_in_shape r = may_have_points r.kind (length r.points) && may_have_ends r.kind (length r.ends)
+
+-- each record of the list has the points and the ends of its kind
+abbrev pub AreInShape : List Record → Type 0
+AreInShape list = IsTrue (list_all is_in_shape list)

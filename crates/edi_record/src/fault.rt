@@ -1,0 +1,69 @@
+//! Why zones state no records.
+
+ghost use Rattle.std.specs.Prelude.{◌≡◌, alloc_error};
+ghost use Rattle.edi_record.specs.declared.fault.RecordFault.TheVariants.{Memory};
+ghost use Rattle.edi_record.specs.declared.fault.GroupFault.TheVariants.{Memory as GroupMemory};
+ghost use Rattle.edi_record.specs.RecordRefusal.{fault_at};
+
+use std::alloc::{AllocError, AllocFailed};
+use thiserror::Error;
+
+/// Why the zones of a file state no records.
+#[derive(Debug, Drop, Error)]
+pub enum RecordFault {
+    #[error("out of memory")]
+    Memory(AllocError),
+    #[error("rule {rule} is broken at record {at}")]
+    Broken { rule: u16, at: u64 },
+}
+
+/// Why the zones of one record state none: want of memory, or the least rule that they break.
+#[derive(Debug, Drop)]
+pub enum GroupFault {
+    Memory(AllocError),
+    Broken(u16),
+}
+
+impl GroupFault {
+    /// The fault of the record that comes at this place.
+    pub(crate) fn at(self, at: u64) -> RecordFault
+        ensures { result ≡ fault_at at self }
+    {
+        match self {
+            GroupFault::Memory(fault) => RecordFault::Memory(fault),
+            GroupFault::Broken(rule) => RecordFault::Broken { rule, at },
+        }
+    }
+}
+
+impl From<AllocError> for GroupFault {
+    ghost from_gives = { λ _ e. e ≡ GroupMemory alloc_error };
+
+    fn from(fault: AllocError) -> GroupFault {
+        GroupFault::Memory(fault)
+    }
+}
+
+impl<T: Drop> From<AllocFailed<T>> for GroupFault {
+    ghost from_gives = { λ _ e. e ≡ GroupMemory alloc_error };
+
+    fn from(_fault: AllocFailed<T>) -> GroupFault {
+        GroupFault::Memory(AllocError)
+    }
+}
+
+impl From<AllocError> for RecordFault {
+    ghost from_gives = { λ _ e. e ≡ Memory alloc_error };
+
+    fn from(fault: AllocError) -> RecordFault {
+        RecordFault::Memory(fault)
+    }
+}
+
+impl<T: Drop> From<AllocFailed<T>> for RecordFault {
+    ghost from_gives = { λ _ e. e ≡ Memory alloc_error };
+
+    fn from(_fault: AllocFailed<T>) -> RecordFault {
+        RecordFault::Memory(AllocError)
+    }
+}

@@ -1,0 +1,31 @@
+//! Pointers, and the records that the zones of a file state.
+#![tactic(auto)]
+
+pub mod attributes;
+mod counts;
+mod ends;
+mod extras;
+pub mod fault;
+pub mod groups;
+pub mod name;
+pub mod pointer;
+mod points;
+pub mod reading;
+pub mod record;
+pub mod sheet;
+mod stating;
+
+pub use fault::RecordFault;
+pub use groups::{first_value, group_here, is_identifier, lacks_identifier, next_group, only_value};
+pub use name::Name;
+pub use pointer::{Pointer, texts_are_in_parts};
+pub use reading::{
+    attributes_and_ends_are_in_stretches, known_files_are_read, printed_records_break_no_rule,
+    records, records_are_read_again, records_are_unique, sheets_are_printable,
+    stated_records_have_names,
+};
+pub use record::{Attribute, End, Extra, Kind, Point, Record, Value};
+pub use sheet::Sheet;
+
+#[cfg(test)]
+mod tests;

@@ -1,0 +1,70 @@
+//! Pointers.
+
+ghost use Rattle.std.specs.Prelude.{◌≡◌, ◌↔◌, IfOk, ℕ, List, [], ◌∷◌, Some, None, MatchOption, length, take, drop, position, option_map, ◌==◌, ◌+◌};
+ghost use Rattle.std.specs.List.{slice_split};
+ghost use Rattle.edi_record.specs.Texts.{pointer, parts, point, IsPointer, IsPlace, PointerText};
+ghost use Rattle.edi_record.specs.Lent.{shown, AreCut};
+ghost use Rattle.edi_record.specs.declared.record.Point.{Point};
+
+use crate::name::Name;
+use edi_line::Sequence;
+use std::alloc::{AllocError, Global};
+
+/// The four parts of a pointer.
+#[derive(Clone, Copy, Debug)]
+pub struct Pointer<'a> {
+    pub lot: &'a [u8],
+    pub subset: &'a [u8],
+    pub rty: &'a [u8],
+    pub rid: &'a [u8],
+}
+
+/// The bytes before the first semicolon, and those after it.
+pub(crate) fn cut(text: &[u8]) -> Option<(&[u8], &[u8])>
+    ensures { AreCut text.now (option_map (λ p. (p.0.now, p.1.now)) result) }
+{
+    let at = semicolon_in(text)?;
+    Some((&text[..at], &text[at + 1..]))
+}
+
+fn semicolon_in(text: &[u8]) -> Option<usize>
+    ensures { result ≡ position (λ c. c == 59) text.now }
+{
+    text.iter().position(|c| *c == b';')
+}
+
+impl<'a> Pointer<'a> {
+    /// The parts of a text with exactly three semicolons.
+    pub fn read(text: &'a [u8]) -> Option<Pointer<'a>>
+        ensures { option_map shown result ≡ pointer text.now }
+    {
+        let (lot, rest) = cut(text)?;
+        let (subset, rest) = cut(rest)?;
+        let (rty, rid) = cut(rest)?;
+        if cut(rid).is_some() {
+            return None;
+        }
+        Some(Pointer {
+            lot,
+            subset,
+            rty,
+            rid,
+        })
+    }
+
+    /// The name of what it points at.
+    pub(crate) fn name(self, alloc: Global) -> Result<Name, AllocError>
+        ensures { IfOk result (λ n. n ≡ record { rty = self.entry.rty.now; rid = self.entry.rid.now }) }
+    {
+        Ok(Name {
+            rty: Sequence::from_slice(alloc, self.rty)?,
+            rid: Sequence::from_slice(alloc, self.rid)?,
+        })
+    }
+}
+
+/// What pointers and places are, in words of their parts.
+pub fn texts_are_in_parts()
+    ensures pointer { (text : List ℕ) (p : PointerText) → pointer text ≡ Some p ↔ IsPointer text p }
+    ensures place { (text : List ℕ) (p : Point) → point text ≡ Some p ↔ IsPlace text p }
+{}

@@ -1,0 +1,121 @@
+//! The records that zones state.
+
+ghost use Rattle.std.specs.Prelude.{◌≡◌, ◌≤◌, List, [], ◌∷◌, Some, None, Bool, ℕ, true, false, codes, length, option_map, IfOk, IfErr, OnOk};
+ghost use Rattle.std.specs.List.{AllZip};
+ghost use Rattle.edi_record.specs.Shapes.{AreInShape};
+ghost use Rattle.edi_line.specs.Entry.{Entry, entries};
+ghost use Rattle.edi_line.specs.Zones.{groups_of, charset_of as charset_in, zones_of};
+ghost use Rattle.edi_line.specs.Refusal.{IsUnbroken};
+ghost use Rattle.edi_record.specs.Records.{States, StatesSheet, value_of, IsValueOf};
+ghost use Rattle.edi_record.specs.Layout.{Letters, IsRecord, record_zones, settled_record, LayoutIsReadAgain, PrintedRecordsAreUnbroken, SheetsArePrintable};
+ghost use Rattle.edi_record.specs.Stretches.{AttributesAreInStretches, EndsAreInStretches};
+ghost use Rattle.edi_record.specs.Rows.{line, one_node, the_node, node_group, rules_of};
+ghost use Rattle.edi_record.specs.RecordRules.{BreaksRecordRule, has_no_kind, is_identifier, has_no_identifier, has_no_class};
+ghost use Rattle.edi_record.specs.RecordRefusal.{IsRecordRefusal};
+ghost use Rattle.edi_record.specs.declared.record.Record.{Record};
+
+use crate::attributes::copied;
+use crate::fault::RecordFault;
+use crate::groups::{first_value, group_at};
+use crate::record::Record;
+use crate::sheet::Sheet;
+use crate::stating::record_of;
+use edi_line::{Sequence, Zone};
+use std::alloc::{AllocError, Global};
+
+const TYPE: [u8; 3] = *b"RTY";
+
+const CHARSET: [u8; 3] = *b"CSE";
+
+/// The value of the first CSE, or none.
+fn charset_of(alloc: Global, zones: &[Zone<'_>]) -> Result<Option<Sequence<u8>>, AllocError>
+    ensures { IfOk result (λ cse. cse ≡ option_map (λ e. e.value) (charset_in (entries zones.now))) }
+{
+    copied(alloc, first_value(zones, CHARSET))
+}
+
+/// The records that the groups of zones state, or the first that breaks a rule and the least rule
+/// that it breaks.
+fn list_of(alloc: Global, zones: &[Zone<'_>]) -> Result<Vec<Record>, RecordFault>
+    requires few { length (groups_of (entries zones.now)) ≤ 9999999 }
+    ensures states { IfOk result (λ v. AllZip States (groups_of (entries zones.now)) v.items) }
+    ensures few { IfOk result (λ v. length v.items ≤ 9999999) }
+    ensures shape { IfOk result (λ v. AreInShape v.items) }
+    ensures sound { OnOk result (IsUnbroken (BreaksRecordRule (entries zones.now))) }
+    ensures least { IfErr result (IsRecordRefusal (BreaksRecordRule (entries zones.now))) }
+{
+    let mut list = Vec::new(alloc);
+    let mut rest = zones;
+    while let [zone, after @ ..] = rest {
+        if zone.code == TYPE {
+            match record_of(alloc, group_at(rest)) {
+                Ok(record) => list.push(record)?,
+                Err(fault) => return Err(fault.at(list.len() as u64 + 1)),
+            }
+        }
+        rest = after;
+    }
+    Ok(list)
+}
+
+/// The records that the zones of a file state, in their order, with the value of its first CSE; or
+/// the first record that breaks one of the rules 201 to 208, and the least rule that it breaks.
+pub fn records(alloc: Global, zones: &[Zone<'_>]) -> Result<Sheet, RecordFault>
+    requires few { length (groups_of (entries zones.now)) ≤ 9999999 }
+    ensures states { IfOk result (StatesSheet (entries zones.now)) }
+    ensures sound { OnOk result (IsUnbroken (BreaksRecordRule (entries zones.now))) }
+    ensures least { IfErr result (IsRecordRefusal (BreaksRecordRule (entries zones.now))) }
+{
+    let list = list_of(alloc, zones)?;
+    Ok(Sheet {
+        cse: charset_of(alloc, zones)?,
+        list: Sequence::from_vec(list),
+    })
+}
+
+/// A group of zones states one record at most.
+pub fn records_are_unique()
+    ensures { (group : List Entry) (r q : Record) → States group r → States group q → r ≡ q }
+{}
+
+/// The zones of a record state it, with its ends and values as they are written.
+pub fn records_are_read_again()
+    ensures record { (s : Letters) (r : Record) → IsRecord r → States (record_zones s r) (settled_record s r) }
+    ensures sheet { LayoutIsReadAgain }
+{}
+
+/// An attribute is an ATP with the first TEX and the first ATV before the next ATP, the TEX not after
+/// that ATV; an end is an FTP with the first SNS before the next FTP.
+pub fn attributes_and_ends_are_in_stretches()
+    ensures attributes { AttributesAreInStretches }
+    ensures ends { EndsAreInStretches }
+{}
+
+/// A sheet whose texts are each one line can be printed.
+pub fn sheets_are_printable()
+    ensures { SheetsArePrintable }
+{}
+
+/// The zones of a record that was read break no rule of records.
+pub fn printed_records_break_no_rule()
+    ensures { PrintedRecordsAreUnbroken }
+{}
+
+/// Known files state what they should.
+pub fn known_files_are_read()
+    ensures zones { groups_of (zones_of (one_node [])) ≡ node_group ∷ [] }
+    ensures node { States node_group the_node }
+    ensures unbroken { rules_of (one_node []) ≡ None ∷ [] }
+    ensures wrong_count { rules_of (one_node (line (codes "ATCSN01:1") [])) ≡ Some 205 ∷ [] }
+    ensures unknown_pointer { rules_of (one_node (line (codes "REFCP22:EDAB01;SeT1;PNO;Noeud_") [])) ≡ Some 208 ∷ [] }
+    ensures empty_pointer { rules_of (one_node (line (codes "REFCP00:") [])) ≡ None ∷ [] }
+{}
+
+/// A group of zones that states a record breaks no rule on its type, its identifier or its class;
+/// and its values are numbers where they may be.
+pub fn stated_records_have_names()
+    ensures kind { (group : List Entry) (r : Record) → States group r → has_no_kind group ≡ false }
+    ensures identifier { (group : List Entry) (r : Record) → States group r → is_identifier r.rid ≡ true → has_no_identifier group ≡ false }
+    ensures class { (group : List Entry) (r : Record) → States group r → has_no_class group ≡ false }
+    ensures value { (may : Bool) (text : List ℕ) → IsValueOf (may ≡ true) text (value_of may text) }
+{}

@@ -1,0 +1,105 @@
+//! Records and their parts.
+
+ghost use Rattle.std.specs.Prelude.{◌≡◌};
+ghost use Rattle.edi_record.specs.Records.{has_points as kind_has_points, is_link as kind_is_link};
+ghost use Rattle.edi_record.specs.Shapes.{may_have_points as may_have_so_many};
+
+use crate::name::Name;
+use edi_line::{Num, Sequence};
+
+/// The type of a record of a sheet.
+#[derive(Clone, Copy, Debug, PartialEq, Eq, PartialOrd, Ord, Hash)]
+pub enum Kind {
+    Pno,
+    Par,
+    Pfe,
+    Fea,
+    Lnk,
+}
+
+impl Kind {
+    /// Whether records of this type have points.
+    pub fn has_points(self) -> bool
+        ensures { result ≡ kind_has_points self }
+    {
+        match self {
+            Kind::Pno | Kind::Par => true,
+            Kind::Pfe | Kind::Fea | Kind::Lnk => false,
+        }
+    }
+
+    /// Whether records of this type have ends.
+    pub fn is_link(self) -> bool
+        ensures { result ≡ kind_is_link self }
+    {
+        match self {
+            Kind::Lnk => true,
+            Kind::Pno | Kind::Par | Kind::Pfe | Kind::Fea => false,
+        }
+    }
+
+    /// Whether a record of this type may have so many points: one for a node, two or more for an arc.
+    pub fn may_have_points(self, count: usize) -> bool
+        ensures { result ≡ may_have_so_many self count }
+    {
+        match self {
+            Kind::Pno => count == 1,
+            Kind::Par => count >= 2,
+            Kind::Pfe | Kind::Fea | Kind::Lnk => count == 0,
+        }
+    }
+}
+
+/// A place: two coordinates, and a third or none. Places go by x, y and z, and none comes before a
+/// third coordinate.
+#[derive(Clone, Copy, Debug, PartialEq, Eq, PartialOrd, Ord, Hash)]
+pub struct Point {
+    pub x: Num,
+    pub y: Num,
+    pub z: Option<Num>,
+}
+
+/// What an attribute or an extra zone holds. Numbers come before bytes.
+#[derive(Clone, Debug, Drop, PartialEq, Eq, PartialOrd, Ord)]
+pub enum Value {
+    Number(Num),
+    Bytes(Sequence<u8>),
+}
+
+/// An attribute as it was read.
+#[derive(Clone, Debug, Drop, PartialEq, Eq, PartialOrd, Ord)]
+pub struct Attribute {
+    pub atp: Name,
+    pub tex: Option<Sequence<u8>>,
+    pub atv: Sequence<u8>,
+}
+
+/// A zone whose code isn't known in its record.
+#[derive(Clone, Debug, Drop, PartialEq, Eq, PartialOrd, Ord)]
+pub struct Extra {
+    pub code: [u8; 3],
+    pub nature: u8,
+    pub format: u8,
+    pub value: Value,
+}
+
+/// An end of a link.
+#[derive(Clone, Debug, Drop, PartialEq, Eq, PartialOrd, Ord)]
+pub struct End {
+    pub lot: Sequence<u8>,
+    pub subset: Sequence<u8>,
+    pub target: Name,
+    pub sns: Option<Sequence<u8>>,
+}
+
+/// A record as its zones state it.
+#[derive(Debug, Drop, PartialEq, Eq)]
+pub struct Record {
+    pub kind: Kind,
+    pub rid: Sequence<u8>,
+    pub scp: Name,
+    pub points: Sequence<Point>,
+    pub ends: Sequence<End>,
+    pub attributes: Sequence<Attribute>,
+    pub extras: Sequence<Extra>,
+}

@@ -1,0 +1,10 @@
+pub mod Sorted
+pub mod Roles
+pub mod Classes
+pub mod SchemaOf
+pub mod SchemaRules
+pub mod SchemaRefusal
+pub mod Drafts
+pub mod Places
+pub mod Steps
+pub mod Laws

@@ -1,0 +1,43 @@
+-- The places of the classes of the four kinds.
+use Rattle.std.specs.Prelude.{◌≡◌, ◌⊎◌, ℕ, ◌<◌, ◌≤◌, Bool, true, false, ◌&&◌, Option, Some, None, if◌then◌else◌, position, count_by}
+use Rattle.edi_schema.specs.Roles.{is_plain, same_role, exchanged}
+use Rattle.edi_schema.specs.Classes.{Classes, has_role}
+use Rattle.edi_schema.specs.declared.role.Role.{Role}
+use Rattle.edi_schema.specs.declared.role.Role.TheVariants.{Initial, Final, Left, Right, Plain}
+use Rattle.edi_schema.specs.declared.places.Places.{Places}
+
+-- the place of the class of a kind
+abbrev pub place_in : Places → Role → Option ℕ
+place_in p Initial = p.initial
+place_in p Final = p.final_node
+place_in p Left = p.left
+place_in p Right = p.right
+place_in p Plain = None
+
+-- the new places have this place for the role, and those of the old for each other kind
+abbrev pub IsNoted : Places → Role → ℕ → Places → Type 0
+IsNoted old role place new = (r : Role) → is_plain r ≡ false → place_in new r ≡ (if same_role r role then Some place else place_in old r)
+
+-- both or none
+abbrev pub are_alike : Option ℕ → Option ℕ → Bool
+are_alike (Some m) (Some n) = true
+are_alike None None = true
+are_alike (Some m) None = false
+are_alike None (Some n) = false
+
+abbrev pub are_paired : Places → Bool
+are_paired p = are_alike p.initial p.final_node && are_alike p.left p.right
+
+-- each kind has one class at most, and this is its place
+pub record AreNoted (s : Classes) (p : Places) : Type 0 where
+  pub place : (role : Role) → is_plain role ≡ false → place_in p role ≡ position (has_role role) s
+  pub one : (role : Role) → is_plain role ≡ false → count_by (has_role role) s ≤ 1
+
+-- and it has one if the kind that it is exchanged with has
+pub record ArePlaces (s : Classes) (p : Places) : Type 0 where
+  pub noted : AreNoted s p
+  pub both : (role : Role) → is_plain role ≡ false → count_by (has_role role) s ≡ count_by (has_role (exchanged role)) s
+
+-- a kind has two classes, or one where the kind that it is exchanged with has none
+abbrev pub AreUnpaired : Classes → Type 0
+AreUnpaired s = (role : Role) × (is_plain role ≡ false) × ((1 < count_by (has_role role) s) ⊎ ((0 < count_by (has_role role) s) × (count_by (has_role (exchanged role)) s ≡ 0)))

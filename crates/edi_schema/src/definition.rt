@@ -1,0 +1,59 @@
+//! What is read of the records of a schema's two files.
+
+ghost use Rattle.std.specs.Prelude.{◌≡◌, map, IfOk};
+ghost use Rattle.edi_line.specs.Entry.{entries};
+ghost use Rattle.edi_line.specs.Zones.{groups_of};
+ghost use Rattle.edi_schema.specs.Drafts.{said, said_in};
+
+use crate::title::Title;
+use edi_line::Zone;
+use edi_record::{first_value, group_here, lacks_identifier};
+use std::alloc::{AllocError, Global};
+
+const WORD: [u8; 3] = *b"DIP";
+
+const KIND: [u8; 3] = *b"KND";
+
+const TYPE: [u8; 3] = *b"TYP";
+
+/// What is read of a record of either file: its name, and the first DIP, KND and TYP.
+#[derive(Clone, Copy, Debug)]
+pub struct Definition<'a> {
+    pub title: Title<'a>,
+    pub lacks_identifier: bool,
+    pub word: Option<&'a [u8]>,
+    pub kind: Option<&'a [u8]>,
+    pub word_type: Option<&'a [u8]>,
+}
+
+impl<'a> Definition<'a> {
+    fn of(group: &'a [Zone<'_>]) -> Definition<'a>
+        ensures { said result ≡ said_in (entries group.now) }
+    {
+        Definition {
+            title: Title::of(group),
+            lacks_identifier: lacks_identifier(group),
+            word: first_value(group, WORD),
+            kind: first_value(group, KIND),
+            word_type: first_value(group, TYPE),
+        }
+    }
+}
+
+/// What is read of each record, in the order of the file.
+pub fn definitions<'a>(
+    alloc: Global,
+    zones: &'a [Zone<'_>],
+) -> Result<Vec<Definition<'a>>, AllocError>
+    ensures { IfOk result (λ all. map said all.items ≡ map said_in (groups_of (entries zones.now))) }
+{
+    let mut done = Vec::new(alloc);
+    let mut rest = zones;
+    while let [_, after @ ..] = rest {
+        if let Some(group) = group_here(rest) {
+            done.push(Definition::of(group))?;
+        }
+        rest = after;
+    }
+    Ok(done)
+}

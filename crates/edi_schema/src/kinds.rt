@@ -1,0 +1,105 @@
+ghost use Rattle.std.specs.Prelude.{◌≡◌, ◌↔◌, IsSome, IfSome, codes};
+ghost use Rattle.std.specs.Prelude.{option_map};
+ghost use Rattle.edi_schema.specs.Roles.{AreKindCodes, role_coded, role_by};
+
+use crate::role::Role;
+use std::marker::Model;
+
+/// The codes of the four kinds of link.
+#[derive(Debug, Drop)]
+pub struct Kinds<'a> {
+    initial: &'a [u8],
+    final_node: &'a [u8],
+    left: &'a [u8],
+    right: &'a [u8],
+}
+
+impl<'a> Model for Kinds<'a> {
+    ghost use Rattle.edi_schema.specs.Roles.{KindCodes, AreKindCodes};
+
+    ghost Value = { KindCodes };
+
+    ghost view = { λ k. record { initial = k.initial.now; final_node = k.final_node.now; left = k.left.now; right = k.right.now } };
+
+    ghost invariant = { λ k. AreKindCodes (record { initial = k.initial.now; final_node = k.final_node.now; left = k.left.now; right = k.right.now }) };
+}
+
+impl<'a> Kinds<'a> {
+    /// The code of initial nodes.
+    pub fn initial(&self) -> &'a [u8]
+        ensures { result.now ≡ self.now.initial }
+    {
+        self.initial
+    }
+
+    /// IND, FND, LPO and RPO.
+    pub fn usual() -> Kinds<'static>
+        ensures { result ≡ record { initial = codes "IND"; final_node = codes "FND"; left = codes "LPO"; right = codes "RPO" } }
+    {
+        Kinds {
+            initial: b"IND",
+            final_node: b"FND",
+            left: b"LPO",
+            right: b"RPO",
+        }
+    }
+
+    /// The four codes, or none where one is empty or two are equal.
+    pub fn new(
+        initial: &'a [u8],
+        final_node: &'a [u8],
+        left: &'a [u8],
+        right: &'a [u8],
+    ) -> Option<Kinds<'a>>
+        ensures good { IsSome result ↔ AreKindCodes (record { initial = initial.now; final_node = final_node.now; left = left.now; right = right.now }) }
+        ensures codes { IfSome result (λ k. k ≡ record { initial = initial.now; final_node = final_node.now; left = left.now; right = right.now }) }
+    {
+        if initial.is_empty() || final_node.is_empty() || left.is_empty() || right.is_empty() {
+            return None;
+        }
+        if initial == final_node || initial == left || initial == right {
+            return None;
+        }
+        if final_node == left || final_node == right || left == right {
+            return None;
+        }
+        Some(Kinds {
+            initial,
+            final_node,
+            left,
+            right,
+        })
+    }
+
+    /// The kind with a code.
+    fn coded(&self, code: &[u8]) -> Option<Role>
+        ensures { result ≡ role_coded self.now code.now }
+    {
+        if code == self.initial {
+            Some(Role::Initial)
+        } else if code == self.final_node {
+            Some(Role::Final)
+        } else if code == self.left {
+            Some(Role::Left)
+        } else if code == self.right {
+            Some(Role::Right)
+        } else {
+            None
+        }
+    }
+
+    /// The kind whose code is this KND value, and else the kind whose code is the identifier.
+    pub(crate) fn role(&self, code: Option<&[u8]>, identifier: &[u8]) -> Role
+        ensures { result ≡ role_by self.now (option_map (λ t. t.now) code.entry) identifier.now }
+    {
+        if let Some(code) = code {
+            if let Some(role) = self.coded(code) {
+                return role;
+            }
+        }
+        match self.coded(identifier) {
+            Some(role) => role,
+            None => Role::Plain,
+        }
+    }
+}

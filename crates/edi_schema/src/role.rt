@@ -1,0 +1,29 @@
+//! The kinds of link.
+
+ghost use Rattle.std.specs.Prelude.{◌≡◌};
+ghost use Rattle.edi_schema.specs.Roles.{exchanged as exchanged_role};
+
+/// The kinds of link that a class may have.
+#[derive(Clone, Copy, Debug, PartialEq, Eq, PartialOrd, Ord, Hash)]
+pub enum Role {
+    Initial,
+    Final,
+    Left,
+    Right,
+    Plain,
+}
+
+impl Role {
+    /// The kind that is exchanged with this one where an arc is reversed.
+    pub fn exchanged(self) -> Role
+        ensures { result ≡ exchanged_role self }
+    {
+        match self {
+            Role::Initial => Role::Final,
+            Role::Final => Role::Initial,
+            Role::Left => Role::Right,
+            Role::Right => Role::Left,
+            Role::Plain => Role::Plain,
+        }
+    }
+}

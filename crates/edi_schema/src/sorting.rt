@@ -1,0 +1,46 @@
+//! Classes in the order of their names.
+
+ghost use Rattle.std.specs.Prelude.{◌≡◌, map, IfOk, IsPermutation};
+ghost use Rattle.std.specs.List.{IsDistinct};
+ghost use Rattle.std.specs.Map.{keys_of};
+ghost use Rattle.edi_schema.specs.Classes.{is_name, name_cmp};
+ghost use Rattle.edi_schema.specs.Drafts.{drafted};
+ghost use Rattle.edi_schema.specs.Sorted.{AlwaysRises};
+
+use crate::class::Class;
+use crate::draft::Draft;
+use edi_line::Sequence;
+use edi_record::Name;
+use indexmap::IndexMap;
+use std::alloc::{AllocError, Global};
+
+/// Classes with distinct names, in the order of the names.
+pub fn sorted_by_name<'a>(mut drafts: Vec<Draft<'a>>) -> Vec<Draft<'a>>
+    requires { IsDistinct is_name (keys_of (map drafted drafts.items)) }
+    ensures permutation { IsPermutation (map drafted drafts.entry.items) (map drafted result.items) }
+    ensures rises { AlwaysRises name_cmp (keys_of (map drafted result.items)) }
+{
+    drafts.sort_unstable_by_key(|draft| draft.title);
+    drafts
+}
+
+fn name(alloc: Global, draft: &Draft<'_>) -> Result<Name, AllocError>
+    ensures { IfOk result (λ name. name ≡ (drafted draft.now).0) }
+{
+    Ok(Name {
+        rty: Sequence::from_slice(alloc, draft.title.rty)?,
+        rid: Sequence::from_slice(alloc, draft.title.rid)?,
+    })
+}
+
+/// The classes by their names, in the same order.
+pub fn by_name(alloc: Global, drafts: &[Draft<'_>]) -> Result<IndexMap<Name, Class>, AllocError>
+    requires { AlwaysRises name_cmp (keys_of (map drafted drafts.now)) }
+    ensures { IfOk result (λ classes. classes.entries ≡ map drafted drafts.now) }
+{
+    let mut classes = IndexMap::new(alloc);
+    for draft in drafts {
+        classes.insert(name(alloc, draft)?, draft.class)?;
+    }
+    Ok(classes)
+}

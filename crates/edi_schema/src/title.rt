@@ -1,0 +1,31 @@
+//! The names of the records of a schema's files, as their zones lend them.
+
+ghost use Rattle.std.specs.Prelude.{◌≡◌};
+ghost use Rattle.edi_line.specs.Entry.{entries};
+ghost use Rattle.edi_schema.specs.Drafts.{name_in, named};
+
+use edi_line::Zone;
+use edi_record::first_value;
+
+const TYPE: [u8; 3] = *b"RTY";
+
+const IDENTIFIER: [u8; 3] = *b"RID";
+
+/// The type and the identifier of a record, lent by its zones.
+#[derive(Clone, Copy, Debug, PartialEq, Eq, PartialOrd, Ord, Hash)]
+pub struct Title<'a> {
+    pub rty: &'a [u8],
+    pub rid: &'a [u8],
+}
+
+impl<'a> Title<'a> {
+    /// The name of a record; what is missing is empty.
+    pub fn of(group: &'a [Zone<'_>]) -> Title<'a>
+        ensures { named result ≡ name_in (entries group.now) }
+    {
+        Title {
+            rty: first_value(group, TYPE).unwrap_or(&[]),
+            rid: first_value(group, IDENTIFIER).unwrap_or(&[]),
+        }
+    }
+}

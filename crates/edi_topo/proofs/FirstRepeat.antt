@@ -1,0 +1,82 @@
+-- The least member of a layer of nodes that ties is the least node that is alike an earlier one.
+use Rattle.std.proofs.Common.{◌≡◌, ℕ, suc, ◌<◌, ◌≤◌, ◌⊎◌, inl, inr, List, length, map, get_or, refl, sym, ap, ◌∙◌, subst, arith, Ordering, Equal}
+use Rattle.std.proofs.lemmas.List.{get_or-map}
+use Rattle.std.proofs.lemmas.Bool.{cases_order, cases_lt}
+use Rattle.edi_record.specs.declared.record.Kind.TheVariants.{Pno}
+use Rattle.edi_plan.specs.Places.{places_of}
+use Rattle.edi_plan.specs.Plans.{Drawing, IsPlace, record_at}
+use Rattle.edi_plan.specs.Whole.{IsWhole}
+use Rattle.edi_plan.proofs.PlaceLemmas.{place_there, place_of_kind, places_rise, has_place}
+use Rattle.edi_topo.specs.NodeKeys.{node_key, node_keys, node_key_cmp, no_node, IsNodeRanking}
+use Rattle.edi_topo.specs.Nodes.{RepeatsAnEarlier, IsFirstRepeatIfAny}
+use Rattle.edi_topo.specs.Ranking.{Ties, IsTie, IsRanking}
+use Rattle.edi_topo.specs.declared.fault.TieFault.TheVariants.{Tie}
+use Rattle.edi_line.specs.Refusal.{IsUnbroken}
+use Rattle.edi_topo.specs.TopologyRules.{AreAlikeNodes, BreaksTopologyRule}
+use Rattle.edi_topo.specs.TopologyRules.BreaksTopologyRule.{repeats_node}
+use Rattle.edi_topo.specs.declared.node_key.NodeKey.{NodeKey}
+use Rattle.edi_topo.proofs.NodeOrders.{node_order, keys_of_alike, alike_from_keys}
+use Rattle.edi_topo.specs.contracts.node_key.NodeKeyOrd.TheImpl.{ghosts as nodes}
+
+-- how many nodes there are, and the key of each
+
+abbrev pub count_of : Drawing → ℕ
+count_of p = length (places_of Pno p)
+
+abbrev pub key_of : Drawing → ℕ → NodeKey
+key_of p m = get_or (node_keys p) m no_node
+
+module _ (p : Drawing) (whole : IsWhole p) where
+  abbrev pub place : ℕ → ℕ
+  place m = get_or (places_of Pno p) m 0
+
+  key_is : (m : ℕ) → m < count_of p → key_of p m ≡ node_key (record_at p (place m))
+  key_is m h = get_or-map (λ k. node_key (record_at p k)) (places_of Pno p) m 0 no_node h
+
+  -- members tie exactly where their nodes are alike
+
+  alike_there : (m n : ℕ) → m < count_of p → n < count_of p → nodes.cmp (key_of p m) (key_of p n) ≡ Equal → AreAlikeNodes p (place m) (place n)
+  alike_there m n h l tie = alike_from_keys p (place m) (place n) whole (place_there Pno p m h) (place_there Pno p n l) (place_of_kind Pno p m h) (place_of_kind Pno p n l)
+      (subst (λ k. node_key_cmp k (node_key (record_at p (place n))) ≡ Equal) (key_is m h) (subst (λ k. node_key_cmp (key_of p m) k ≡ Equal) (key_is n l) (sym (node_order (key_of p m) (key_of p n)) ∙ tie)))
+
+  tie_there : (m n : ℕ) → m < count_of p → n < count_of p → AreAlikeNodes p (place m) (place n) → nodes.cmp (key_of p m) (key_of p n) ≡ Equal
+  tie_there m n h l d = node_order (key_of p m) (key_of p n) ∙ subst (λ k. node_key_cmp (key_of p m) k ≡ Equal) (sym (key_is n l))
+      (subst (λ k. node_key_cmp k (node_key (record_at p (place n))) ≡ Equal) (sym (key_is m h)) (keys_of_alike p (place m) (place n) d))
+
+  -- the member of a node that is alike an earlier one
+  tying_member : (n : ℕ) → RepeatsAnEarlier p n → (m : ℕ) × Ties nodes.cmp (key_of p) (count_of p) m × (place m ≡ n)
+  tying_member n d =
+      let a = has_place Pno p d.0 d.2.first d.2.first_node in
+      let b = has_place Pno p n d.2.second d.2.second_node in
+      let less : a.0 < b.0 = before a.0 b.0 a.1 b.1 (omega (arith, a.2, b.2, d.1)) (cases_order a.0 b.0) in
+      (b.0, ((b.1, (a.0, less, tie_there a.0 b.0 a.1 b.1 (subst (λ k. AreAlikeNodes p k (place b.0)) (sym a.2) (subst (AreAlikeNodes p d.0) (sym b.2) d.2))))), b.2)
+    where
+      before : (i j : ℕ) → i < count_of p → j < count_of p → place i < place j → (i ≡ j) ⊎ ((i < j) ⊎ (j < i)) → i < j
+      before i j h l less (inl e) = absurd (omega (arith, ap place e))
+      before i j h l less (inr (inl d)) = d
+      before i j h l less (inr (inr d)) = absurd (omega (arith, places_rise Pno p j i d h))
+
+  pub none_repeats : ((m : ℕ) → ¬ (Ties nodes.cmp (key_of p) (count_of p) m)) → (n : ℕ) → ¬ (RepeatsAnEarlier p n)
+  none_repeats none n d = let t = tying_member n d in none t.0 t.1
+
+  pub least_repeats : (m : ℕ) → Ties nodes.cmp (key_of p) (count_of p) m → ((n : ℕ) → Ties nodes.cmp (key_of p) (count_of p) n → m ≤ n) → RepeatsAnEarlier p (place m) × ((k : ℕ) → RepeatsAnEarlier p k → place m ≤ k)
+  least_repeats m tie least =
+      let i = tie.1.0 in
+      ((place i, places_rise Pno p i m tie.1.1 tie.0, alike_there i m (omega (arith, tie.0, tie.1.1)) tie.0 tie.1.2),
+      λ k d. let t = tying_member k d in behind t.0 t.1.0 k t.2 (least t.0 t.1) (cases_order m t.0))
+    where
+      behind : (j : ℕ) → j < count_of p → (k : ℕ) → place j ≡ k → m ≤ j → (m ≡ j) ⊎ ((m < j) ⊎ (j < m)) → place m ≤ k
+      behind j h k e le (inl same) = omega (arith, ap place same, e)
+      behind j h k e le (inr (inl less)) = omega (arith, places_rise Pno p m j less h, e)
+      behind j h k e le (inr (inr more)) = absurd (omega arith)
+
+-- the numbers by the derived order are those by the written one
+pub ranking_of : (p q : Drawing) (numbers : List ℕ) → q ≡ p → IsRanking nodes.cmp (key_of q) (count_of q) numbers → IsNodeRanking p numbers
+ranking_of p q numbers e h = subst (λ r. IsRanking node_key_cmp (key_of r) (count_of r) numbers) e (subst (λ cmp. IsRanking cmp (key_of q) (count_of q) numbers) (λ i a b. node_order a b i) h)
+
+-- in a sound plan no two nodes tie
+pub no_tie : (p q : Drawing) (m : ℕ) → q ≡ p → IsWhole p → IsUnbroken (BreaksTopologyRule p) → IsTie nodes.cmp (key_of q) (count_of q) (Tie m) → ⊥
+no_tie p q m e whole sound tie =
+    let t : IsTie nodes.cmp (key_of p) (count_of p) (Tie m) = subst (λ r. IsTie nodes.cmp (key_of r) (count_of r) (Tie m)) e tie in
+    let d = (least_repeats p whole m t.0 t.1).0 in
+    sound 403 (suc (get_or (places_of Pno p) m 0)) (repeats_node refl (d.0, get_or (places_of Pno p) m 0, refl, d.1, d.2))

@@ -1,0 +1,6 @@
+pub mod TopologyRules
+pub mod TopologyRefusal
+pub mod NodeKeys
+pub mod Ranking
+pub mod Keyed
+pub mod Nodes

@@ -1,0 +1,33 @@
+-- Members in the order of their keys.
+use Rattle.std.specs.Prelude.{◌≡◌, ℕ, zero, suc, ◌+◌, ◌<◌, ◌≤◌, List, length, slice_index, if◌then◌else◌, ⊤}
+use Rattle.std.specs.declared.cmp.Ordering.{Ordering}
+use Rattle.std.specs.declared.cmp.Ordering.TheVariants.{Equal}
+use Rattle.std.specs.Ordering.{is_lt}
+use Rattle.edi_topo.specs.declared.fault.TieFault.{TieFault}
+use Rattle.edi_topo.specs.declared.fault.TieFault.TheVariants.{Memory, Tie}
+
+-- the sum over the numbers below n
+abbrev pub sum_below : ℕ → (ℕ → ℕ) → ℕ
+sum_below zero f = 0
+sum_below (suc n) f = f n + sum_below n f
+
+module _ {K : Type 0} (cmp : K → K → Ordering) (key : ℕ → K) (size : ℕ) where
+  -- one more than the count of lesser keys
+  abbrev pub rank : ℕ → ℕ
+  rank m = sum_below size (λ n. if is_lt (cmp (key n) (key m)) then 1 else 0) + 1
+
+  -- a member with the key of an earlier one
+  abbrev pub Ties : ℕ → Type 0
+  Ties m = (m < size) × ((earlier : ℕ) × (earlier < m) × (cmp (key earlier) (key m) ≡ Equal))
+
+  -- no two keys are equal, and each member has its number; these are the numbers from 1 to the count
+  pub record IsRanking (numbers : List ℕ) : Type 0 where
+    pub distinct : (m : ℕ) → ¬ (Ties m)
+    pub all : length numbers ≡ size
+    pub each : (m : ℕ) → m < size → slice_index numbers m ≡ rank m
+    pub onto : (i : ℕ) → i < size → (m : ℕ) × (m < size) × (slice_index numbers m ≡ i + 1)
+
+  -- a fault other than want of memory names the least member with the key of an earlier one
+  abbrev pub IsTie : TieFault → Type 0
+  IsTie (Memory e) = ⊤
+  IsTie (Tie m) = Ties m × ((n : ℕ) → Ties n → m ≤ n)

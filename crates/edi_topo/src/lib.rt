@@ -1,0 +1,18 @@
+//! The rules of topology.
+#![tactic(auto)]
+
+pub mod fault;
+pub mod layer;
+pub mod node_key;
+pub mod nodes;
+pub mod numbers;
+pub mod ranking;
+pub mod sound;
+
+pub use fault::{TieFault, TopoFault};
+pub use layer::Layer;
+pub use node_key::{NodeKey, node_key_at};
+pub use nodes::PlanNodes;
+pub use numbers::Ranks;
+pub use ranking::ranks;
+pub use sound::Sound;

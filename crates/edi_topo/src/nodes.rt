@@ -1,0 +1,86 @@
+//! The nodes of a plan, by their keys.
+
+ghost use Rattle.std.specs.Prelude.{◌≡◌, ◌<◌, ◌≤◌, ℕ, length, slice_index, slice_index_or, map, IfOk, MatchOption, Some};
+ghost use Rattle.edi_record.specs.declared.record.Kind.TheVariants.{Pno};
+ghost use Rattle.edi_plan.specs.Places.{places_of};
+ghost use Rattle.edi_plan.specs.Plans.{IsPlace, record_at};
+ghost use Rattle.edi_topo.specs.NodeKeys.{node_keys, no_node};
+ghost use Rattle.edi_topo.specs.TopologyRules.{AreAlikeNodes};
+ghost use Rattle.edi_topo.specs.Nodes.{IsFirstRepeatIfAny};
+
+use crate::fault::TieFault;
+use crate::layer::Layer;
+use crate::node_key::{NodeKey, node_key_at};
+use crate::ranking::ranks;
+use edi_plan::Plan;
+use edi_record::Kind;
+use std::alloc::{AllocError, Global};
+use std::marker::Model;
+
+/// The nodes of a plan, in file order.
+#[derive(Drop)]
+pub struct PlanNodes<'a> {
+    plan: &'a Plan,
+    places: Vec<u32>,
+}
+
+impl<'a> Model for PlanNodes<'a> {
+    ghost use Rattle.std.specs.Prelude.{List, map, ◌≡◌, ◌≤◌, length};
+    ghost use Rattle.edi_record.specs.declared.record.Kind.TheVariants.{Pno};
+    ghost use Rattle.edi_plan.specs.Places.{places_of};
+    ghost use Rattle.edi_plan.specs.Plans.{Drawing};
+
+    ghost Value = { Drawing };
+
+    ghost view = { λ n. n.plan.now };
+
+    ghost invariant = { λ n. n.places.items ≡ places_of Pno n.plan.now };
+}
+
+impl<'a> PlanNodes<'a> {
+    /// The nodes of a plan.
+    pub fn of(alloc: Global, plan: &'a Plan) -> Result<PlanNodes<'a>, AllocError>
+        ensures { IfOk result (λ nodes. nodes ≡ plan.now) }
+    {
+        let places = plan.places(alloc, Kind::Pno)?;
+        Ok(PlanNodes { plan, places })
+    }
+
+    /// The place of a node.
+    pub fn place(&self, member: u32) -> u32
+        requires { member < length (places_of Pno self.now) }
+        ensures { result ≡ slice_index (places_of Pno self.now) member }
+    {
+        self.places[member as usize]
+    }
+}
+
+impl Layer for PlanNodes<'_> {
+    type Key = NodeKey;
+
+    ghost size = { λ n. length (places_of Pno n) };
+
+    ghost key_of = { λ n m. slice_index_or (node_keys n) m no_node };
+
+    fn len(&self) -> u32 {
+        self.plan.keeps();
+        self.places.len() as u32
+    }
+
+    fn key(&self, alloc: Global, member: u32) -> Result<NodeKey, AllocError> {
+        node_key_at(alloc, self.plan, self.place(member))
+    }
+}
+
+/// The first node that is alike an earlier one, if there is one.
+pub(crate) fn first_repeat(alloc: Global, plan: &Plan) -> Result<Option<u32>, AllocError>
+    ensures { IfOk result (IsFirstRepeatIfAny plan.now) }
+{
+    plan.keeps();
+    let nodes = PlanNodes::of(alloc, plan)?;
+    match ranks(alloc, &nodes) {
+        Ok(_) => Ok(None),
+        Err(TieFault::Tie(member)) => Ok(Some(nodes.place(member))),
+        Err(TieFault::Memory(error)) => Err(error),
+    }
+}

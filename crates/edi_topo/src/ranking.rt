@@ -1,0 +1,130 @@
+//! Numbers of members, by their keys.
+
+ghost use Rattle.std.specs.Prelude.{◌≡◌, ◌≢◌, ◌<◌, ◌≤◌, ◌+◌, ◌-◌, ◌^◌, ℕ, length, slice_index, All, AllPairs, IfOk, IfErr, IsErrOf, IsPermutation, MatchBool, MatchOption, min, IsSorted, OnOk};
+ghost use Rattle.std.specs.List.{slice_index_or};
+ghost use Rattle.std.specs.Ordering.{nat_cmp, ordering_then};
+ghost use Rattle.edi_topo.specs.Keyed.{keyed, AllApart, IsFirstTie, IsLeastRepeatIfAny};
+ghost use Rattle.edi_topo.specs.Ranking.{IsRanking, IsTie, rank};
+
+use crate::fault::TieFault;
+use crate::layer::Layer;
+use crate::numbers::Ranks;
+use edi_line::Sequence;
+use std::alloc::{AllocError, Global};
+use std::cmp::Ordering;
+
+/// Each member with its key, in their order.
+fn keyed_members<L: Layer>(alloc: Global, layer: &L) -> Result<Vec<(L::Key, u32)>, AllocError>
+    ensures { IfOk result (λ pairs. pairs.items ≡ keyed (L.key_of layer.now) (L.size layer.now)) }
+{
+    let mut pairs = Vec::new(alloc);
+    for member in 0..layer.len() {
+        let key = layer.key(alloc, member)?;
+        pairs.push((key, member))?;
+    }
+    Ok(pairs)
+}
+
+/// Each member with its key, in the order of the keys, and of members where keys tie.
+fn members_by_key<L: Layer>(alloc: Global, layer: &L) -> Result<Vec<(L::Key, u32)>, AllocError>
+    ensures few { OnOk result (L.size layer.now < 2 ^ 32) }
+    ensures permutation { IfOk result (λ pairs. IsPermutation (keyed (L.key_of layer.now) (L.size layer.now)) pairs.items) }
+    ensures sorted { IfOk result (λ pairs. IsSorted (λ x y. ordering_then (L.Key.cmp x.0 y.0) (nat_cmp x.1 y.1)) pairs.items) }
+{
+    let _count = layer.len();
+    let mut pairs = keyed_members(alloc, layer)?;
+    pairs.sort_unstable();
+    Ok(pairs)
+}
+
+/// The numbers of the members, which are one more than their places in this order.
+fn number_members<K>(alloc: Global, pairs: &[(K, u32)]) -> Result<Vec<u32>, AllocError>
+    requires few { length pairs.now < 2 ^ 32 }
+    requires within { All (λ pair. pair.1 < length pairs.now) pairs.now }
+    requires apart { AllPairs (λ x y. x.1 ≢ y.1) pairs.now }
+    ensures length { IfOk result (λ numbers. length numbers.items ≡ length pairs.now) }
+    ensures places { IfOk result (λ numbers. (i : ℕ) (d : K × ℕ) → i < length pairs.now → slice_index numbers.items (slice_index_or pairs.now i d).1 ≡ i + 1) }
+{
+    let mut numbers = vec![in alloc; 0; pairs.len()]?;
+    let mut number: u32 = 0;
+    for pair in pairs {
+        number += 1;
+        numbers[pair.1 as usize] = number;
+    }
+    Ok(numbers)
+}
+
+/// The lesser of two members, of which the first may be missing.
+fn lesser(least: Option<u32>, member: u32) -> u32
+    ensures { MatchOption least (result ≡ member) (λ other. result ≡ min other member) }
+{
+    match least {
+        Some(other) => other.min(member),
+        None => member,
+    }
+}
+
+/// Whether the pair at a place has the key of the one before.
+fn is_repeat<K: Ord>(pairs: &[(K, u32)], i: usize) -> bool
+    requires low { 1 ≤ i }
+    requires within { i < length pairs.now }
+    ensures { MatchBool result ((d : K × ℕ) → K.cmp (slice_index_or pairs.now (i - 1) d).0 (slice_index_or pairs.now i d).0 ≡ Ordering.Equal)
+        ((d : K × ℕ) → K.cmp (slice_index_or pairs.now (i - 1) d).0 (slice_index_or pairs.now i d).0 ≢ Ordering.Equal) }
+{
+    pairs[i - 1].0.cmp(&pairs[i].0).is_eq()
+}
+
+/// The member at a place.
+fn member_at<K>(pairs: &[(K, u32)], i: usize) -> u32
+    requires { i < length pairs.now }
+    ensures { (d : K × ℕ) → (slice_index_or pairs.now i d).1 ≡ result }
+{
+    pairs[i].1
+}
+
+/// The least member that follows one with its key.
+fn first_tie<K: Ord>(pairs: &[(K, u32)]) -> Option<u32>
+    ensures { IsLeastRepeatIfAny K.cmp pairs.now (length pairs.now) result }
+{
+    let mut least = None;
+    for i in 1..pairs.len() {
+        if is_repeat(pairs, i) {
+            least = Some(lesser(least, member_at(pairs, i)));
+        }
+    }
+    least
+}
+
+/// The number of each member, in the members' order.
+fn numbers_by_key<L: Layer>(alloc: Global, layer: &L) -> Result<Vec<u32>, TieFault>
+    ensures numbers { IfOk result (λ numbers. (m : ℕ) → m < L.size layer.now → slice_index numbers.items m ≡ rank L.Key.cmp (L.key_of layer.now) (L.size layer.now) m) }
+    ensures length { IfOk result (λ numbers. length numbers.items ≡ L.size layer.now) }
+    ensures tie { (m : ℕ) → IsErrOf result (TieFault.Tie m) → IsFirstTie L.Key.cmp (L.key_of layer.now) (L.size layer.now) m }
+    ensures apart { OnOk result (AllApart L.Key.cmp (L.key_of layer.now) (L.size layer.now)) }
+    ensures onto { IfOk result (λ numbers. (i : ℕ) → i < L.size layer.now → (m : ℕ) × (m < L.size layer.now) × (slice_index numbers.items m ≡ i + 1)) }
+{
+    let pairs = match members_by_key(alloc, layer) {
+        Ok(pairs) => pairs,
+        Err(error) => return Err(TieFault::Memory(error)),
+    };
+    let sorted: &[(L::Key, u32)] = &pairs;
+    match first_tie(sorted) {
+        Some(member) => Err(TieFault::Tie(member)),
+        None => match number_members(alloc, sorted) {
+            Ok(numbers) => Ok(numbers),
+            Err(error) => Err(TieFault::Memory(error)),
+        },
+    }
+}
+
+/// The number of each member: one more than the count of lesser keys. Where a member has the key of an
+/// earlier one there are no numbers, and the least such member is named.
+pub fn ranks<L: Layer>(alloc: Global, layer: &L) -> Result<Ranks, TieFault>
+    ensures numbers { IfOk result (IsRanking L.Key.cmp (L.key_of layer.now) (L.size layer.now)) }
+    ensures tie { IfErr result (IsTie L.Key.cmp (L.key_of layer.now) (L.size layer.now)) }
+{
+    match numbers_by_key(alloc, layer) {
+        Ok(numbers) => Ok(Ranks::from_numbers(Sequence::from_vec(numbers))),
+        Err(fault) => Err(fault),
+    }
+}

@@ -1,0 +1,4 @@
+pub mod Putting
+pub mod Breaking
+pub mod Agreed
+pub mod WrittenNodes

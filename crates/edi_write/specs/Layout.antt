@@ -1,0 +1,86 @@
+-- The bytes of a plan whose records stand in their order.
+use Rattle.std.specs.Prelude.{ℕ, ◌+◌, List, [], ◌∷◌, ◌++◌, length, take, map, flat_map, count_by, option_map, option_to_list, unwrap_or, codes, decimal}
+use Rattle.edi_line.specs.Entry.{Entry}
+use Rattle.edi_line.specs.Printing.{zone_text, printed}
+use Rattle.edi_record.specs.Layout.{class_text, end_text, value_text, point_zone, set_zone, sns_zone, extra_zone, begin_zone, cse_zone, end_zone}
+use Rattle.edi_record.specs.declared.record.Kind.{Kind}
+use Rattle.edi_record.specs.declared.record.Kind.TheVariants.{Pno, Par, Pfe, Fea, Lnk}
+use Rattle.edi_record.specs.declared.name.Name.{Name}
+use Rattle.edi_record.specs.Shapes.{kind_code}
+use Rattle.edi_schema.specs.Classes.{Classes, name_at, class_at}
+use Rattle.edi_plan.specs.Plans.{Drawing, record_at, same_kind}
+use Rattle.edi_plan.specs.declared.record.PlanRecord.{PlanRecord}
+use Rattle.edi_plan.specs.declared.record.PlanAttribute.{PlanAttribute}
+use Rattle.edi_plan.specs.declared.record.PlanEnd.{PlanEnd}
+
+-- the name and the letter of a class
+
+abbrev pub no_name : Name
+no_name = record { rty = []; rid = [] }
+
+abbrev pub name_of : Classes → ℕ → Name
+name_of s class = unwrap_or (name_at s class) no_name
+
+abbrev pub letter_of : Classes → ℕ → ℕ
+letter_of s class = unwrap_or (option_map (λ c. c.letter) (class_at s class)) 65
+
+-- the identifier of a record: the letter of its type and its number
+
+abbrev pub kind_letter : Kind → List ℕ
+kind_letter Pno = codes "N"
+kind_letter Par = codes "A"
+kind_letter Pfe = codes "F"
+kind_letter Fea = codes "O"
+kind_letter Lnk = codes "L"
+
+abbrev pub identifier : Kind → ℕ → List ℕ
+identifier kind number = kind_letter kind ++ decimal number
+
+-- the zones of an attribute: its class, its character set if any, its value
+abbrev pub attribute_zones : Classes → PlanAttribute → List Entry
+attribute_zones s a = zone_text (codes "ATP") 67 80 (class_text (name_of s a.atp))
+    ∷ (map set_zone (option_to_list a.tex) ++ zone_text (codes "ATV") 83 (letter_of s a.atp) (value_text a.value) ∷ [])
+
+-- what stands in front of the body, and behind it
+
+abbrev pub head_zones : Classes → ℕ → PlanRecord → List Entry
+head_zones s number r = zone_text (codes "RTY") 83 65 (kind_code r.kind) ∷ zone_text (codes "RID") 83 65 (identifier r.kind number)
+    ∷ zone_text (codes "SCP") 67 80 (class_text (name_of s r.class)) ∷ []
+
+abbrev pub tail_zones : Classes → PlanRecord → List Entry
+tail_zones s r = zone_text (codes "ATC") 83 78 (decimal (length r.attributes)) ∷ (flat_map (attribute_zones s) r.attributes ++ map extra_zone r.extras)
+
+module _ (s : Classes) (p : Drawing) where
+  -- the number of a record: one more than the records of its type before it
+  abbrev pub number_in : ℕ → ℕ
+  number_in place = count_by (λ r. same_kind (record_at p place).kind r.kind) (take place p.list) + 1
+
+  abbrev pub name_in : ℕ → Name
+  name_in place = record { rty = kind_code (record_at p place).kind; rid = identifier (record_at p place).kind (number_in place) }
+
+  abbrev pub end_zones : PlanEnd → List Entry
+  end_zones e = zone_text (codes "FTP") 67 80 (end_text (name_in e.target)) ∷ map sns_zone (option_to_list e.sns)
+
+  -- what stands between the class and the attributes
+  abbrev pub body_zones : Kind → PlanRecord → List Entry
+  body_zones Pno r = map point_zone r.points
+  body_zones Par r = zone_text (codes "PTC") 83 78 (decimal (length r.points)) ∷ map point_zone r.points
+  body_zones Pfe r = []
+  body_zones Fea r = []
+  body_zones Lnk r = zone_text (codes "FTC") 83 78 (decimal (length r.ends)) ∷ flat_map end_zones r.ends
+
+  -- the zones of a record with this number
+  abbrev pub record_zones : ℕ → PlanRecord → List Entry
+  record_zones number r = head_zones s number r ++ (body_zones r.kind r ++ tail_zones s r)
+
+  -- the zones of the records from a place on
+  abbrev pub zones_from : ℕ → List PlanRecord → List Entry
+  zones_from place [] = []
+  zones_from place (r ∷ rs) = record_zones (number_in place) r ++ zones_from (place + 1) rs
+
+  abbrev pub sheet_zones : List Entry
+  sheet_zones = begin_zone ∷ (map cse_zone (option_to_list p.cse) ++ (zones_from 0 p.list ++ end_zone ∷ []))
+
+  -- the file of the records in their order
+  unfoldable pub layout : List ℕ
+  layout = printed sheet_zones

@@ -1,0 +1,68 @@
+//! The canonical bytes of a plan.
+
+ghost use Rattle.std.specs.Prelude.{◌≡◌, ◌++◌, ◌∷◌, map, option_copied, option_to_list, IfOk, OnOk};
+ghost use Rattle.edi_line.specs.Printing.{printed};
+ghost use Rattle.edi_record.specs.Layout.{begin_zone, cse_zone};
+ghost use Rattle.edi_plan.specs.Agreeing.{Agrees};
+ghost use Rattle.edi_plan.specs.Interim.{HasNodesAlone};
+ghost use Rattle.edi_rank.specs.Arranged.{arranged};
+ghost use Rattle.edi_rank.specs.Labelling.{AreLabels};
+ghost use Rattle.edi_write.specs.Layout.{layout};
+
+use crate::nodes::write_nodes;
+use crate::zones::{Head, write_zone};
+use edi_rank::Labels;
+use edi_record::Kind;
+use edi_schema::Schema;
+use edi_topo::Sound;
+use std::alloc::{AllocError, Global};
+
+const BEGIN: Head = Head {
+    code: *b"BOM",
+    nature: b'T',
+    format: b' ',
+};
+
+const CHARACTER_SET: Head = Head {
+    code: *b"CSE",
+    nature: b'T',
+    format: b' ',
+};
+
+const END: Head = Head {
+    code: *b"EOM",
+    nature: b'T',
+    format: b' ',
+};
+
+/// The bytes of a sound plan of nodes alone, turned and numbered by its labels: the layout of
+/// docs/FORMAT.md, "The canonical file". The schema is that which the plan was built under.
+pub fn write_canon(
+    alloc: Global,
+    schema: &Schema,
+    sound: &Sound,
+    labels: &Labels,
+) -> Result<Vec<u8>, AllocError>
+    requires agrees { Agrees schema.now sound.now }
+    requires labels { AreLabels schema.now sound.now labels.now }
+    requires alone { HasNodesAlone sound.now }
+    ensures { IfOk result (λ c. c.items ≡ layout schema.now (arranged schema.now labels.now sound.now)) }
+{
+    let plan = sound.plan();
+    let mut out = Vec::new(alloc);
+    write_begin(&mut out, plan.cse())?;
+    write_nodes(alloc, &mut out, schema, plan, labels.order(Kind::Pno))?;
+    write_zone(&mut out, END, b"")?;
+    Ok(out)
+}
+
+/// Writes what stands before the records: the first zone, and the character set if there is one.
+fn write_begin(out: &mut Vec<u8>, set: Option<&[u8]>) -> Result<(), AllocError>
+    ensures { OnOk result (out.new.items ≡ out.old.items ++ printed (begin_zone ∷ map cse_zone (option_to_list (option_copied set.entry)))) }
+{
+    write_zone(out, BEGIN, b"CANON.VEC")?;
+    match set {
+        Some(text) => write_zone(out, CHARACTER_SET, text),
+        None => Ok(()),
+    }
+}

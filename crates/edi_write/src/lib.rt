@@ -1,0 +1,11 @@
+//! Canonical bytes, and writing them.
+#![tactic(auto)]
+
+pub mod canon;
+mod nodes;
+mod parts;
+pub mod writing;
+mod zones;
+
+pub use canon::write_canon;
+pub use writing::{Written, put_all};

@@ -1,0 +1,58 @@
+//! The bytes of zones.
+
+ghost use Rattle.std.specs.Prelude.{◌≡◌, ℕ, List, ◌+◌, ◌<◌, ◌++◌, length, OnOk, IfOk};
+ghost use Rattle.edi_line.specs.Printing.{line_text, printed_zone, zone_text};
+ghost use Rattle.edi_write.specs.Heads.{headed};
+
+use std::alloc::AllocError;
+
+/// How many bytes of a value a line has at most.
+const LINE_ROOM: usize = 72;
+
+/// What stands before the length of a value.
+#[derive(Clone, Copy, Debug)]
+pub(crate) struct Head {
+    pub(crate) code: [u8; 3],
+    pub(crate) nature: u8,
+    pub(crate) format: u8,
+}
+
+const NEXT: Head = Head {
+    code: *b"NEX",
+    nature: b'T',
+    format: b' ',
+};
+
+/// Writes a line at the end.
+fn write_line(out: &mut Vec<u8>, head: Head, value: &[u8]) -> Result<(), AllocError>
+    requires { length value.now < 100 }
+    ensures { OnOk result (out.new.items ≡ out.old.items ++ line_text (headed head value.now)) }
+{
+    let len = value.len() as u8;
+    let middle = [
+        head.nature,
+        head.format,
+        b'0' + len / 10,
+        b'0' + len % 10,
+        b':',
+    ];
+    out.extend_from_slice(&head.code)?;
+    out.extend_from_slice(&middle)?;
+    out.extend_from_slice(value)?;
+    out.extend_from_slice(b"\r\n")
+}
+
+/// Writes a zone at the end, in lines of at most 72 bytes of its value.
+pub(crate) fn write_zone(out: &mut Vec<u8>, head: Head, value: &[u8]) -> Result<(), AllocError>
+    ensures { OnOk result (out.new.items ≡ out.old.items ++ printed_zone (headed head value.now)) }
+{
+    let mut line_head = head;
+    let mut rest = value;
+    while rest.len() > LINE_ROOM {
+        let (front, back) = rest.split_at(LINE_ROOM);
+        write_line(out, line_head, front)?;
+        line_head = NEXT;
+        rest = back;
+    }
+    write_line(out, line_head, rest)
+}
