@@ -15,8 +15,8 @@ use Rattle.edi_rank.proofs.SameLaws.{same_refl, same_sym, same_trans}
 use Rattle.edi_rank.proofs.Unique.{same_plan}
 use Rattle.edi_write.specs.Layout.{layout}
 use Rattle.edi_compare.specs.PlanOfFile.{IsSheetOf, IsPlanOfFile, StateSame}
-use Rattle.edi_compare.specs.Rules.{LinesHold, RecordsHold, Breaks, IsAccepted}
-use Rattle.edi_compare.specs.Rules.Breaks.{of_lines, of_records, of_references}
+use Rattle.edi_compare.specs.Rules.{LinesHold, RecordsHold, KindsHold, Breaks, IsAccepted}
+use Rattle.edi_compare.specs.Rules.Breaks.{of_lines, of_records, of_kinds, of_references}
 use Rattle.edi_compare.specs.Canonical.{IsCanonical}
 use Rattle.edi_compare.specs.Laws.{ReadingIsOne, IsAcceptedPlan, SameIsEquivalence}
 
@@ -29,8 +29,11 @@ module _ (s : Classes) (b : List ℕ) (accepted : IsAccepted s b) where
   records_hold : RecordsHold s b
   records_hold = (lines_hold, λ zones z rule at broken. accepted rule at (of_records zones lines_hold z broken))
 
+  kinds_hold : KindsHold s b
+  kinds_hold = (records_hold, λ sheet is rule at broken. accepted rule at (of_kinds sheet records_hold is broken))
+
   references_hold : (sheet : Sheet) → IsSheetOf b sheet → IsUnbroken (BreaksReferenceRule s sheet.list)
-  references_hold sheet is rule at broken = accepted rule at (of_references sheet records_hold is broken)
+  references_hold sheet is rule at broken = accepted rule at (of_references sheet kinds_hold is broken)
 
 pub plan_under : (s : Classes) (b : List ℕ) (p : Drawing) → IsSchema s → IsAccepted s b → IsPlanOfFile s b p → IsPlanUnder s p
 plan_under s b p keeps accepted states = record {

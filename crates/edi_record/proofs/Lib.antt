@@ -13,4 +13,8 @@ pub mod ListRead
 pub mod PrintedRecords
 pub mod Printable
 pub mod InStretches
+pub mod ReadZones
+pub mod ReadRecords
+pub mod Unnumbered
+pub mod Sound
 pub mod ValueOrder

@@ -8,3 +8,5 @@ pub mod Layout
 pub mod Orders
 pub mod Rows
 pub mod Stretches
+pub mod Readable
+pub mod Sound

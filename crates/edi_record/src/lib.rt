@@ -16,13 +16,15 @@ pub mod sheet;
 mod stating;
 
 pub use fault::RecordFault;
-pub use groups::{first_value, group_here, is_identifier, lacks_identifier, next_group, only_value};
+pub use groups::{
+    first_value, group_here, is_identifier, lacks_identifier, next_group, only_value,
+};
 pub use name::Name;
 pub use pointer::{Pointer, texts_are_in_parts};
 pub use reading::{
     attributes_and_ends_are_in_stretches, known_files_are_read, printed_records_break_no_rule,
-    records, records_are_read_again, records_are_unique, sheets_are_printable,
-    stated_records_have_names,
+    printed_sheets_are_sound, read_sheets_are_printable, records, records_are_read_again,
+    records_are_unique, sheets_are_printable, stated_records_have_names,
 };
 pub use record::{Attribute, End, Extra, Kind, Point, Record, Value};
 pub use sheet::Sheet;

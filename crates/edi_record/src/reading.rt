@@ -9,6 +9,8 @@ ghost use Rattle.edi_line.specs.Refusal.{IsUnbroken};
 ghost use Rattle.edi_record.specs.Records.{States, StatesSheet, value_of, IsValueOf};
 ghost use Rattle.edi_record.specs.Layout.{Letters, IsRecord, record_zones, settled_record, LayoutIsReadAgain, PrintedRecordsAreUnbroken, SheetsArePrintable};
 ghost use Rattle.edi_record.specs.Stretches.{AttributesAreInStretches, EndsAreInStretches};
+ghost use Rattle.edi_record.specs.Readable.{ReadSheetsArePrintable};
+ghost use Rattle.edi_record.specs.Sound.{PrintedSheetsAreSound};
 ghost use Rattle.edi_record.specs.Rows.{line, one_node, the_node, node_group, rules_of};
 ghost use Rattle.edi_record.specs.RecordRules.{BreaksRecordRule, has_no_kind, is_identifier, has_no_identifier, has_no_class};
 ghost use Rattle.edi_record.specs.RecordRefusal.{IsRecordRefusal};
@@ -94,6 +96,16 @@ pub fn attributes_and_ends_are_in_stretches()
 /// A sheet whose texts are each one line can be printed.
 pub fn sheets_are_printable()
     ensures { SheetsArePrintable }
+{}
+
+/// What was read from a file that breaks no rule can be printed and read again.
+pub fn read_sheets_are_printable()
+    ensures { ReadSheetsArePrintable }
+{}
+
+/// What is printed of such a sheet breaks no rule of lines and of records.
+pub fn printed_sheets_are_sound()
+    ensures { PrintedSheetsAreSound }
 {}
 
 /// The zones of a record that was read break no rule of records.

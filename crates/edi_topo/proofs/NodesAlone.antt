@@ -20,7 +20,7 @@ module _ (p : Drawing) (alone : HasNodesAlone p) where
   node_at : (i : ℕ) → IsPlace p i → (record_at p i).kind ≡ Pno
   node_at i h = all_at (λ r. r.kind ≡ Pno) p.list i blank h alone
 
-  no_other : (i : ℕ) (kind : Kind) → IsPlace p i → (record_at p i).kind ≡ kind → kind_rank kind ≡ 0
+  pub no_other : (i : ℕ) (kind : Kind) → IsPlace p i → (record_at p i).kind ≡ kind → kind_rank kind ≡ 0
   no_other i kind h is = ap kind_rank (sym is ∙ node_at i h)
 
   -- the rule of nodes is the one that is broken

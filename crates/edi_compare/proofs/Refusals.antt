@@ -1,0 +1,51 @@
+-- The faults of the phases are refusals of the sheet.
+use Rattle.std.proofs.Common.{◌≡◌, sym, subst, ℕ, List, Result, Ok, Err}
+use Rattle.std.specs.Result.{IsErrAnd, IfErr}
+use Rattle.edi_line.specs.Entry.{Entry}
+use Rattle.edi_line.specs.LineRules.{IsZonesOf, BreaksLineRule}
+use Rattle.edi_line.specs.Refusal.{IsLineRefusal}
+use Rattle.edi_line.specs.declared.fault.LineFault.{LineFault}
+use Rattle.edi_line.specs.declared.fault.LineFault.TheVariants as line
+use Rattle.edi_record.specs.RecordRefusal.{IsRecordRefusal}
+use Rattle.edi_record.specs.RecordRules.{BreaksRecordRule}
+use Rattle.edi_record.specs.declared.sheet.Sheet.{Sheet}
+use Rattle.edi_record.specs.declared.fault.RecordFault.{RecordFault}
+use Rattle.edi_record.specs.declared.fault.RecordFault.TheVariants as record_
+use Rattle.edi_schema.specs.Classes.{Classes}
+use Rattle.edi_plan.specs.Plans.{Drawing}
+use Rattle.edi_plan.specs.ReferenceRefusal.{IsReferenceRefusal}
+use Rattle.edi_plan.specs.ReferenceRules.{BreaksReferenceRule}
+use Rattle.edi_plan.specs.declared.fault.RefFault.{RefFault}
+use Rattle.edi_plan.specs.declared.fault.RefFault.TheVariants as reference
+use Rattle.edi_topo.specs.TopologyRefusal.{IsTopologyRefusal}
+use Rattle.edi_topo.specs.TopologyRules.{BreaksTopologyRule}
+use Rattle.edi_topo.specs.declared.fault.TopoFault.{TopoFault}
+use Rattle.edi_topo.specs.declared.fault.TopoFault.TheVariants as topology
+use Rattle.edi_compare.specs.Faults.{of_line, of_record, of_reference, of_topology}
+use Rattle.edi_compare.specs.PlanOfFile.{IsSheetOf, IsPlanOfFile}
+use Rattle.edi_compare.specs.Refused.{IsRefusal}
+use Rattle.edi_compare.specs.Rules.{LinesHold, RecordsHold, KindsHold, ReferencesHold}
+use Rattle.edi_compare.specs.declared.fault.Fault.{Fault}
+use Rattle.edi_compare.proofs.Phases.{line_refusal, record_refusal, reference_refusal, topology_refusal}
+
+-- the fault that is handed on
+pub err_kept : {T : Type 0} (r : Result T Fault) (fault : Fault) (P : Fault → Type 0) → IsErrAnd r (λ e. e ≡ fault) → P fault → IfErr r P
+err_kept (Ok x) fault P e h = tt
+err_kept (Err f) fault P e h = subst P (sym e) h
+
+module _ (s : Classes) (b : List ℕ) where
+  pub line_fault : (f : LineFault) → IsLineRefusal (BreaksLineRule b) f → IsRefusal s b (of_line f)
+  line_fault (line.Memory e) h = tt
+  line_fault (line.Broken rule at) h = line_refusal s b rule at h
+
+  pub record_fault : LinesHold s b → (zones : List Entry) → IsZonesOf b zones → (f : RecordFault) → IsRecordRefusal (BreaksRecordRule zones) f → IsRefusal s b (of_record f)
+  record_fault lines zones are (record_.Memory e) h = tt
+  record_fault lines zones are (record_.Broken rule at) h = record_refusal s b rule at lines zones are h
+
+  pub reference_fault : KindsHold s b → (sheet : Sheet) → IsSheetOf b sheet → (f : RefFault) → IsReferenceRefusal (BreaksReferenceRule s sheet.list) f → IsRefusal s b (of_reference f)
+  reference_fault kinds sheet states (reference.Memory e) h = tt
+  reference_fault kinds sheet states (reference.Broken rule at) h = reference_refusal s b rule at kinds sheet states h
+
+  pub topology_fault : ReferencesHold s b → (plan : Drawing) → IsPlanOfFile s b plan → (f : TopoFault) → IsTopologyRefusal (BreaksTopologyRule plan) f → IsRefusal s b (of_topology f)
+  topology_fault references plan states (topology.Memory e) h = tt
+  topology_fault references plan states (topology.Broken rule at) h = topology_refusal s b rule at references plan states h

@@ -1,0 +1,33 @@
+-- The faults of the single phases as faults of a sheet.
+use Rattle.edi_line.specs.declared.fault.LineFault.{LineFault}
+use Rattle.edi_line.specs.declared.fault.LineFault.TheVariants as line
+use Rattle.edi_record.specs.declared.fault.RecordFault.{RecordFault}
+use Rattle.edi_record.specs.declared.fault.RecordFault.TheVariants as record_
+use Rattle.edi_plan.specs.declared.fault.RefFault.{RefFault}
+use Rattle.edi_plan.specs.declared.fault.RefFault.TheVariants as reference
+use Rattle.edi_topo.specs.declared.fault.TopoFault.{TopoFault}
+use Rattle.edi_topo.specs.declared.fault.TopoFault.TheVariants as topology
+use Rattle.edi_rank.specs.declared.fault.RankFault.{RankFault}
+use Rattle.edi_rank.specs.declared.fault.RankFault.TheVariants as rank
+use Rattle.edi_compare.specs.declared.fault.Fault.{Fault}
+use Rattle.edi_compare.specs.declared.fault.Fault.TheVariants.{Memory, Line, Entry}
+
+abbrev pub of_line : LineFault → Fault
+of_line (line.Memory e) = Memory e
+of_line (line.Broken rule at) = Line rule at
+
+abbrev pub of_record : RecordFault → Fault
+of_record (record_.Memory e) = Memory e
+of_record (record_.Broken rule at) = Entry rule at
+
+abbrev pub of_reference : RefFault → Fault
+of_reference (reference.Memory e) = Memory e
+of_reference (reference.Broken rule at) = Entry rule at
+
+abbrev pub of_topology : TopoFault → Fault
+of_topology (topology.Memory e) = Memory e
+of_topology (topology.Broken rule at) = Entry rule at
+
+abbrev pub of_rank : RankFault → Fault
+of_rank (rank.Memory e) = Memory e
+of_rank (rank.Broken rule at) = Entry rule at
