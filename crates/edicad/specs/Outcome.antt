@@ -1,0 +1,108 @@
+-- The line and the status of each outcome.
+use Rattle.std.specs.Prelude.{◌≡◌, ℕ, ◌-◌, ◌<◌, List, [], ◌∷◌, ◌++◌, length, codes, ⊤, map, zero, suc, ◌==◌, if◌then◌else◌}
+use Rattle.std.proofs.Common.{Bor}
+use Rattle.std.specs.Fmt.{decimal}
+use Rattle.edi_schema.specs.declared.fault.Source.{Source}
+use Rattle.edi_schema.specs.declared.fault.Source.TheVariants.{Scd, Dic}
+use Rattle.edi_schema.specs.declared.fault.SchemaFault.{SchemaFault}
+use Rattle.edi_schema.specs.declared.fault.SchemaFault.TheVariants as schema
+use Rattle.edi_compare.specs.declared.fault.Fault.{Fault as SheetFault}
+use Rattle.edi_compare.specs.declared.fault.Fault.TheVariants as sheet
+use Rattle.edi_compare.specs.declared.fault.RunFault.{RunFault}
+use Rattle.edi_compare.specs.declared.fault.RunFault.TheVariants.{Memory, Read, TooLong, Schema, First, Second, Write}
+use Rattle.edicad.specs.declared.outcome.Outcome.{Outcome}
+use Rattle.edicad.specs.declared.outcome.Outcome.TheVariants.{Accepted, Same, Different, Fault}
+
+abbrev pub status_of_schema : SchemaFault → ℕ
+status_of_schema (schema.Memory e) = 5
+status_of_schema (schema.Line file rule at) = 2
+status_of_schema (schema.Entry file rule at) = 2
+status_of_schema schema.Kinds = 2
+
+abbrev pub status_of_sheet : SheetFault → ℕ
+status_of_sheet (sheet.Memory e) = 5
+status_of_sheet (sheet.Line rule at) = 2
+status_of_sheet (sheet.Entry rule at) = 2
+
+abbrev pub status_of_fault : RunFault → ℕ
+status_of_fault (Memory e) = 5
+status_of_fault (Read input) = 4
+status_of_fault (TooLong input) = 4
+status_of_fault (Schema f) = status_of_schema f
+status_of_fault (First f) = status_of_sheet f
+status_of_fault (Second f) = status_of_sheet f
+status_of_fault (Write w) = 4
+
+abbrev pub status_for : Outcome → ℕ
+status_for Accepted = 0
+status_for Same = 0
+status_for (Different line) = 1
+status_for (Fault fault) = status_of_fault fault
+
+-- the name at a place
+abbrev pub name_at : List (List ℕ) → ℕ → List ℕ
+name_at [] n = []
+name_at (name ∷ names) zero = name
+name_at (name ∷ names) (suc n) = name_at names n
+
+abbrev pub source_text : Source → List ℕ
+source_text Scd = codes "scd "
+source_text Dic = codes "dic "
+
+abbrev pub schema_text : SchemaFault → List ℕ
+schema_text (schema.Memory e) = codes "out of memory"
+schema_text (schema.Line file rule at) = codes "refused " ++ source_text file ++ decimal rule ++ codes " line " ++ decimal at
+schema_text (schema.Entry file rule at) = codes "refused " ++ source_text file ++ decimal rule ++ codes " record " ++ decimal at
+schema_text schema.Kinds = codes "refused kinds 604"
+
+-- the words of a refused sheet, with those that say which
+abbrev pub sheet_text : List ℕ → SheetFault → List ℕ
+sheet_text which (sheet.Memory e) = codes "out of memory"
+sheet_text which (sheet.Line rule at) = codes "refused " ++ which ++ decimal rule ++ codes " line " ++ decimal at
+sheet_text which (sheet.Entry rule at) = codes "refused " ++ which ++ decimal rule ++ codes " record " ++ decimal at
+
+-- five names are those of a comparison, which has a first sheet
+abbrev pub first_text : ℕ → List ℕ
+first_text count = if count == 5 then codes "first " else []
+
+abbrev pub words_of_fault : RunFault → List (List ℕ) → List ℕ
+words_of_fault (Memory e) names = codes "out of memory"
+words_of_fault (Read input) names = codes "cannot read " ++ name_at names (input - 1)
+words_of_fault (TooLong input) names = codes "too long " ++ name_at names (input - 1)
+words_of_fault (Schema f) names = schema_text f
+words_of_fault (First f) names = sheet_text (first_text (length names)) f
+words_of_fault (Second f) names = sheet_text (codes "second ") f
+words_of_fault (Write w) names = codes "cannot write " ++ name_at names (length names - 1)
+
+abbrev pub words_for : Outcome → List (List ℕ) → List ℕ
+words_for Accepted names = codes "accepted"
+words_for Same names = codes "same"
+words_for (Different line) names = codes "different at line " ++ decimal line
+words_for (Fault fault) names = words_of_fault fault names
+
+abbrev pub texts : List (Bor (List ℕ)) → List (List ℕ)
+texts names = map (λ (name : Bor (List ℕ)). name.now) names
+
+-- with a line feed
+abbrev pub ended : List ℕ → List ℕ
+ended words = words ++ 10 ∷ []
+
+abbrev pub line_for : Outcome → List (Bor (List ℕ)) → List ℕ
+line_for outcome names = ended (words_for outcome (texts names))
+
+-- an input has its name before the output's, and the output has one
+abbrev pub FaultHasNames : RunFault → ℕ → Type 0
+FaultHasNames (Memory e) count = ⊤
+FaultHasNames (Read input) count = (0 < input) × (input < count)
+FaultHasNames (TooLong input) count = (0 < input) × (input < count)
+FaultHasNames (Schema f) count = ⊤
+FaultHasNames (First f) count = ⊤
+FaultHasNames (Second f) count = ⊤
+FaultHasNames (Write w) count = 0 < count
+
+-- each name that the line needs is there
+abbrev pub HasNames : Outcome → List (Bor (List ℕ)) → Type 0
+HasNames Accepted names = ⊤
+HasNames Same names = ⊤
+HasNames (Different line) names = ⊤
+HasNames (Fault fault) names = FaultHasNames fault (length names)

@@ -1,0 +1,17 @@
+//! The command: canonical files of cadastral sheets.
+#![tactic(auto)]
+
+mod command;
+mod outcome;
+mod report;
+mod sheets;
+mod words;
+
+use std::process::ExitCode;
+
+fn main(rt: HostRuntime) -> ExitCode {
+    ExitCode::from(command::run(&rt))
+}
+
+#[cfg(test)]
+mod tests;

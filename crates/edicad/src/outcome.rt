@@ -1,0 +1,171 @@
+//! What a run came to, its line and its status.
+ghost use Rattle.std.specs.Prelude.{◌≡◌, ◌<◌, length, ◌∷◌, ◌++◌, [], codes, IfOk};
+ghost use Rattle.std.specs.Fmt.{decimal};
+ghost use Rattle.edicad.specs.Outcome.{HasNames, ended, first_text, line_for, name_at, schema_text, sheet_text, source_text, status_for, status_of_schema, status_of_sheet, texts};
+
+use edi_compare::{Fault, RunFault};
+use edi_schema::{SchemaFault, Source};
+use std::alloc::{AllocError, Global};
+
+/// What a run came to.
+#[derive(Debug, Drop)]
+pub enum Outcome {
+    /// The sheet is accepted.
+    Accepted,
+    /// The two sheets state the same plan.
+    Same,
+    /// The canonical files of the two sheets first differ at this line, counted from 1.
+    Different(u64),
+    /// The run gave no answer.
+    Fault(RunFault),
+}
+
+/// The exit status: 0 accepted or the same, 1 different, 2 refused, 4 not read or not written, 5 out of memory.
+pub fn status_of(outcome: &Outcome) -> u8
+    ensures { result ≡ status_for outcome.now }
+{
+    match outcome {
+        Outcome::Accepted | Outcome::Same => 0,
+        Outcome::Different(_) => 1,
+        Outcome::Fault(RunFault::Memory(_)) => 5,
+        Outcome::Fault(RunFault::Schema(fault)) => schema_status(fault),
+        Outcome::Fault(RunFault::First(fault) | RunFault::Second(fault)) => sheet_status(fault),
+        Outcome::Fault(RunFault::Read { .. } | RunFault::TooLong { .. } | RunFault::Write(_)) => 4,
+    }
+}
+
+fn schema_status(fault: &SchemaFault) -> u8
+    ensures { result ≡ status_of_schema fault.now }
+{
+    match fault {
+        SchemaFault::Memory(_) => 5,
+        SchemaFault::Line { .. } | SchemaFault::Entry { .. } | SchemaFault::Kinds => 2,
+    }
+}
+
+fn sheet_status(fault: &Fault) -> u8
+    ensures { result ≡ status_of_sheet fault.now }
+{
+    match fault {
+        Fault::Memory(_) => 5,
+        Fault::Line { .. } | Fault::Entry { .. } => 2,
+    }
+}
+
+/// The line that tells the outcome, ended by a line feed.
+///
+/// The names are those of the inputs in their order, and of the output last; five names are those of a comparison.
+pub fn line_of(alloc: Global, outcome: &Outcome, names: &[&[u8]]) -> Result<Vec<u8>, AllocError>
+    requires { HasNames outcome.now names.now }
+    ensures { IfOk result (λ line. line.items ≡ line_for outcome.now names.now) }
+{
+    match outcome {
+        Outcome::Accepted => named(alloc, b"accepted", b""),
+        Outcome::Same => named(alloc, b"same", b""),
+        Outcome::Different(line) => numbered(alloc, b"different at line ", *line),
+        Outcome::Fault(RunFault::Memory(_)) => named(alloc, b"out of memory", b""),
+        Outcome::Fault(RunFault::Read { input }) => {
+            named(alloc, b"cannot read ", name_of(names, *input as usize - 1))
+        }
+        Outcome::Fault(RunFault::TooLong { input }) => {
+            named(alloc, b"too long ", name_of(names, *input as usize - 1))
+        }
+        Outcome::Fault(RunFault::Schema(fault)) => schema_line(alloc, fault),
+        Outcome::Fault(RunFault::First(fault)) => {
+            sheet_line(alloc, first_words(names.len()), fault)
+        }
+        Outcome::Fault(RunFault::Second(fault)) => sheet_line(alloc, b"second ", fault),
+        Outcome::Fault(RunFault::Write(_)) => {
+            named(alloc, b"cannot write ", name_of(names, names.len() - 1))
+        }
+    }
+}
+
+// The line of a refused schema.
+fn schema_line(alloc: Global, fault: &SchemaFault) -> Result<Vec<u8>, AllocError>
+    ensures { IfOk result (λ line. line.items ≡ ended (schema_text fault.now)) }
+{
+    match fault {
+        SchemaFault::Memory(_) => named(alloc, b"out of memory", b""),
+        SchemaFault::Line { file, rule, at } => {
+            refused(alloc, source_words(*file), *rule, b" line ", *at)
+        }
+        SchemaFault::Entry { file, rule, at } => {
+            refused(alloc, source_words(*file), *rule, b" record ", *at)
+        }
+        SchemaFault::Kinds => named(alloc, b"refused kinds 604", b""),
+    }
+}
+
+// The line of a refused sheet, with the words that say which.
+fn sheet_line(alloc: Global, which: &[u8], fault: &Fault) -> Result<Vec<u8>, AllocError>
+    ensures { IfOk result (λ line. line.items ≡ ended (sheet_text which.now fault.now)) }
+{
+    match fault {
+        Fault::Memory(_) => named(alloc, b"out of memory", b""),
+        Fault::Line { rule, at } => refused(alloc, which, *rule, b" line ", *at),
+        Fault::Entry { rule, at } => refused(alloc, which, *rule, b" record ", *at),
+    }
+}
+
+// Which of a schema's files.
+fn source_words(file: Source) -> &'static [u8]
+    ensures { result.now ≡ source_text file }
+{
+    match file {
+        Source::Scd => b"scd ",
+        Source::Dic => b"dic ",
+    }
+}
+
+// Which sheet, where there are two.
+fn first_words(count: usize) -> &'static [u8]
+    ensures { result.now ≡ first_text count }
+{
+    if count == 5 { b"first " } else { b"" }
+}
+
+// The name at a place.
+fn name_of<'a>(names: &[&'a [u8]], place: usize) -> &'a [u8]
+    requires { place < length names.now }
+    ensures { result.now ≡ name_at (texts names.now) place }
+{
+    names[place]
+}
+
+// A rule that is broken, and where.
+fn refused(
+    alloc: Global,
+    which: &[u8],
+    rule: u16,
+    place: &[u8],
+    at: u64,
+) -> Result<Vec<u8>, AllocError>
+    ensures { IfOk result (λ line. line.items ≡ ended (codes "refused " ++ which.now ++ decimal rule ++ place.now ++ decimal at)) }
+{
+    let mut line = Vec::from_slice(alloc, b"refused ")?;
+    line.extend_from_slice(which)?;
+    line.extend_from_slice(rule.to_string(alloc)?.as_bytes())?;
+    line.extend_from_slice(place)?;
+    line.extend_from_slice(at.to_string(alloc)?.as_bytes())?;
+    line.push(b'\n')?;
+    Ok(line)
+}
+
+// Some words and a name.
+fn named(alloc: Global, words: &[u8], name: &[u8]) -> Result<Vec<u8>, AllocError>
+    ensures { IfOk result (λ line. line.items ≡ ended (words.now ++ name.now)) }
+{
+    let mut line = Vec::from_slice(alloc, words)?;
+    line.extend_from_slice(name)?;
+    line.push(b'\n')?;
+    Ok(line)
+}
+
+// Some words and a number.
+fn numbered(alloc: Global, words: &[u8], number: u64) -> Result<Vec<u8>, AllocError>
+    ensures { IfOk result (λ line. line.items ≡ ended (words.now ++ decimal number)) }
+{
+    let digits = number.to_string(alloc)?;
+    named(alloc, words, digits.as_bytes())
+}

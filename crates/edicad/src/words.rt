@@ -1,0 +1,147 @@
+//! What the words of the command line ask for.
+use crate::report;
+use clap::error::ErrorKind;
+use clap::{Arg, ArgMatches, Command, Error};
+use edi_schema::Kinds;
+use std::alloc::{AllocError, Global};
+
+const USAGE_STATUS: u8 = 3;
+
+/// The files of a sheet: of classes, of words, and the sheet's own.
+#[derive(Clone, Copy, Debug)]
+pub struct SheetFiles<'a> {
+    pub scd: &'a str,
+    pub dic: &'a str,
+    pub vec: &'a str,
+}
+
+/// What is asked for.
+#[derive(Debug, Drop)]
+pub enum Request<'a> {
+    /// The canonical file of the bundle on standard input.
+    Bundle,
+    /// Whether a sheet is accepted.
+    Check {
+        kinds: Kinds<'a>,
+        files: SheetFiles<'a>,
+    },
+    /// The canonical file of a sheet.
+    Canon {
+        kinds: Kinds<'a>,
+        files: SheetFiles<'a>,
+        out: &'a str,
+    },
+    /// Nothing more: the words were answered on standard error, and this is the exit status.
+    Answered(u8),
+}
+
+/// What the words ask for, of which the first is the program's name.
+pub fn asked<'a, R: Eprint + AllocGlobal>(rt: &R, words: &'a [String]) -> Request<'a> {
+    let parsed = match command(rt.alloc()) {
+        Ok(command) => command.try_get_matches_from(words),
+        Err(error) => Err(Error::from(error)),
+    };
+    match parsed {
+        Ok(matches) => meant(rt, &matches),
+        Err(error) => Request::Answered(refused(rt, &error)),
+    }
+}
+
+// The command and its subcommands.
+fn command<'a>(alloc: Global) -> Result<Command<'a>, AllocError> {
+    let out = Arg::new(alloc, "OUT").required(true).help(
+        "Where the canonical sheet goes; left as it is unless the sheet is accepted",
+    );
+    Command::new(alloc, "edicad")
+        .about(
+            "Checks cadastral sheets of exchange files and writes them in their canonical form. Without a subcommand, reads SCD, DIC and VEC one after the other from standard input, and writes the canonical sheet to standard output.",
+        )
+        .subcommand(over_files(alloc, "check")?.about("Tells whether a sheet breaks no rule"))?
+        .subcommand(
+            over_files(alloc, "canon")?
+                .about(
+                    "Writes the canonical form of a sheet: the same plan, with its records renamed, turned and put in order",
+                )
+                .arg(out)?,
+        )
+}
+
+// A subcommand over the files of a sheet.
+fn over_files<'a>(alloc: Global, name: &'a str) -> Result<Command<'a>, AllocError> {
+    let kinds = Arg::new(alloc, "kinds")
+        .long("kinds")
+        .value_name("I,F,L,R")
+        .help(
+            "The KND codes of links to an arc's initial node, final node, left face and right face [usually IND,FND,LPO,RPO]",
+        );
+    let scd = Arg::new(alloc, "SCD")
+        .required(true)
+        .help("The file of the classes");
+    let dic = Arg::new(alloc, "DIC")
+        .required(true)
+        .help("The file of the dictionary");
+    let vec = Arg::new(alloc, "VEC")
+        .required(true)
+        .help("The sheet: nodes, arcs, faces, objects and links");
+    Command::new(alloc, name)
+        .arg(kinds)?
+        .arg(scd)?
+        .arg(dic)?
+        .arg(vec)
+}
+
+// What words in good form ask for.
+fn meant<'a, R: Eprint>(rt: &R, matches: &ArgMatches<'a>) -> Request<'a> {
+    let Some((name, given)) = matches.subcommand() else {
+        return Request::Bundle;
+    };
+    let Some(kinds) = kinds_of(given.get_str("kinds")) else {
+        let _ = rt.eprint("bad kinds\n");
+        return Request::Answered(USAGE_STATUS);
+    };
+    let files = SheetFiles {
+        scd: path(given, "SCD"),
+        dic: path(given, "DIC"),
+        vec: path(given, "VEC"),
+    };
+    match name {
+        "check" => Request::Check { kinds, files },
+        _ => Request::Canon {
+            kinds,
+            files,
+            out: path(given, "OUT"),
+        },
+    }
+}
+
+fn path<'a>(given: &ArgMatches<'a>, name: &str) -> &'a str {
+    given.get_str(name).unwrap_or("")
+}
+
+// Four codes parted by commas, or the usual ones where none are given.
+fn kinds_of(text: Option<&str>) -> Option<Kinds<'_>> {
+    let Some(text) = text else {
+        return Some(Kinds::usual());
+    };
+    let mut codes = text.split(',');
+    let (initial, final_node) = (codes.next()?, codes.next()?);
+    let (left, right) = (codes.next()?, codes.next()?);
+    match codes.next() {
+        Some(_) => None,
+        None => Kinds::new(
+            initial.as_bytes(),
+            final_node.as_bytes(),
+            left.as_bytes(),
+            right.as_bytes(),
+        ),
+    }
+}
+
+// Says what is wrong with the words, or the help that they ask for.
+fn refused<R: Eprint>(rt: &R, error: &Error) -> u8 {
+    if error.kind() == ErrorKind::OutOfMemory {
+        return report::out_of_memory(rt);
+    }
+    let _ = rt.eprint(error);
+    if error.use_stderr() { USAGE_STATUS } else { 0 }
+}
