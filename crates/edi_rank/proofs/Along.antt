@@ -36,15 +36,17 @@ all_there (x ∷ xs) = ap (λ ys. x ∷ ys) (all_there xs)
 pub places_permuted : (to : ℕ → ℕ) (n m : ℕ) → OneToOne to n m → IsPermutation (map to (places_from n 0)) (places_from m 0)
 places_permuted to n m places =
     IsPermutation-trans (map to (places_from n 0)) (sort_by nat_cmp (map to (places_from n 0))) (places_from m 0) (IsPermutation-sym _ _ (IsPermutation-sort_by nat_cmp nat_cmp_total (map to (places_from n 0))))
-        (subst (λ zs. IsPermutation zs (places_from m 0)) (sym (sort_by-same nat_cmp nat_cmp_total exact_unsigned (map to (places_from n 0)) (places_from m 0) counts)) (IsPermutation-sort_by nat_cmp nat_cmp_total (places_from m 0)))
+    (subst (λ zs. IsPermutation zs (places_from m 0)) (sym (sort_by-same nat_cmp nat_cmp_total exact_unsigned (map to (places_from n 0)) (places_from m 0) counts)) (IsPermutation-sort_by nat_cmp nat_cmp_total (places_from m 0)))
   where
     long : OneToOne to (length (places_from n 0)) (length (places_from m 0))
     long = subst (λ k. OneToOne to k (length (places_from m 0))) (sym (places_long n 0)) (subst (OneToOne to n) (sym (places_long m 0)) places)
+
     same : (i : ℕ) → i < length (places_from n 0) → Some (to (get_or (places_from n 0) i 0)) ≡ Some (get_or (places_from m 0) (to i) 0)
     same i l =
         let l' : i < n = subst (λ k. i < k) (places_long n 0) l in
         ap Some (ap to (place_here n i l') ∙ sym (place_here m (to i) (places.within i l')))
+
     counts : SameCounts (map to (places_from n 0)) (places_from m 0)
     counts = subst (λ xs. SameCounts xs (places_from m 0)) (all_kept to (places_from n 0))
         (subst (SameCounts (filter_map (λ i. Some (to i)) (places_from n 0))) (all_there (places_from m 0))
-            (gathered_alike to (places_from n 0) (places_from m 0) 0 long (λ i. Some (to i)) (λ i. Some i) same))
+        (gathered_alike to (places_from n 0) (places_from m 0) 0 long (λ i. Some (to i)) (λ i. Some i) same))

@@ -177,8 +177,10 @@ module _ (s : Classes) (p q : Drawing) (under : IsPlanUnder s p) (under' : IsPla
       where
         role : (record_at p k).role ≡ role_of s (record_at p k).class
         role = role_at s p under k join.there
+
         class : (record_at q (to k)).class ≡ cond (turned a) (partner_of s (record_at p k).class) (record_at p k).class
         class = (c.each k join.there).class ∙ rw (join.not_plain, told_by_arc)
+
         by_class : (t : Bool) → role_of s (cond t (partner_of s (record_at p k).class) (record_at p k).class) ≡ role_turned t (role_of s (record_at p k).class)
         by_class true = under.paired.exchanges (record_at p k).class (ap is_plain (sym role) ∙ join.not_plain)
         by_class false = refl
@@ -219,6 +221,7 @@ module _ (s : Classes) (p q : Drawing) (under : IsPlanUnder s p) (under' : IsPla
     where
       there : HasPoints q Pno (to n) (place ∷ [])
       there = straight_kept Pno n (place ∷ []) refl node
+
       go : (t : Bool) → HasPoints q Par (to a) (directed t (first ∷ others)) → Side q (to a) (role_turned t Initial) (to n) → Broken q
       go false points d = (401, suc (to a), starts_elsewhere refl (to a, to n, first, place, others, refl, points, d, there, ne))
       go true points d = (402, suc (to a), ends_elsewhere refl (to a, to n, first, place, reverse others, refl, subst (HasPoints q Par (to a)) (reverse-cons first others) points, d, there, ne))
@@ -228,6 +231,7 @@ module _ (s : Classes) (p q : Drawing) (under : IsPlanUnder s p) (under' : IsPla
     where
       there : HasPoints q Pno (to n) (place ∷ [])
       there = straight_kept Pno n (place ∷ []) refl node
+
       go : (t : Bool) → HasPoints q Par (to a) (directed t (others ++ last ∷ [])) → Side q (to a) (role_turned t Final) (to n) → Broken q
       go false points d = (402, suc (to a), ends_elsewhere refl (to a, to n, last, place, others, refl, points, d, there, ne))
       go true points d = (401, suc (to a), starts_elsewhere refl (to a, to n, last, place, reverse others, refl, subst (HasPoints q Par (to a)) (reverse-append others (last ∷ [])) points, d, there, ne))
@@ -291,9 +295,11 @@ module _ (s : Classes) (p q : Drawing) (under : IsPlanUnder s p) (under' : IsPla
           left : (a : ℕ) (t : Bool) → Side q (to a) (role_turned t Left) (to x) → ⊥
           left a false d = free (to a) (inl (subst (Side q (to a) Left) e d))
           left a true d = free (to a) (inr (subst (Side q (to a) Right) e d))
+
           right : (a : ℕ) (t : Bool) → Side q (to a) (role_turned t Right) (to x) → ⊥
           right a false d = free (to a) (inr (subst (Side q (to a) Right) e d))
           right a true d = free (to a) (inl (subst (Side q (to a) Left) e d))
+
           none : (a : ℕ) → ¬ (Side p a Left x ⊎ Side p a Right x)
           none a (inl d) = left a (turned a) (side_kept a x Left d)
           none a (inr d) = right a (turned a) (side_kept a x Right d)
@@ -305,8 +311,10 @@ module _ (s : Classes) (p q : Drawing) (under : IsPlanUnder s p) (under' : IsPla
     where
       role : (record_at p i).role ≡ role_of s (record_at p i).class
       role = role_at s p under i h
+
       role' : is_plain (record_at q (to i)).role ≡ is_plain (role_of s (record_at q (to i)).class)
       role' = ap is_plain (role_at s q under' (to i) (c.places.within i h))
+
       go : (b t : Bool) → is_plain (record_at p i).role ≡ b
           → (record_at q (to i)).class ≡ cond b (record_at p i).class (cond t (partner_of s (record_at p i).class) (record_at p i).class) → is_plain (record_at q (to i)).role ≡ b
       go true t e f = role' ∙ (ap (λ k. is_plain (role_of s k)) f ∙ (ap is_plain (sym role) ∙ e))
@@ -334,6 +342,7 @@ module _ (s : Classes) (p q : Drawing) (under : IsPlanUnder s p) (under' : IsPla
             is_link = sym (kind_kept i h) ∙ (ap (λ j. (record_at q j).kind) e ∙ join.is_link);
             not_plain = sym (plain_kept i h) ∙ (ap (λ j. is_plain (record_at q j).role) e ∙ join.not_plain);
           }
+
           d : JoinsArc p i
           d = joined.joins i before
 
@@ -341,9 +350,9 @@ module _ (s : Classes) (p q : Drawing) (under : IsPlanUnder s p) (under' : IsPla
       → HasEnds p j a x → HasEnds p k a y → j ≡ k
   one_side_before joined j k a x y first second same arc ends ends' = c.places.apart j k first.there second.there
       (joined.one_side (to j) (to k) (to a) (to x) (to y) (join_kept j a x first arc ends) (join_kept k a y second arc ends')
-          (role_kept j a x first arc ends ∙ (ap (role_turned (turned a)) same ∙ sym (role_kept k a y second arc ends')))
-          (kind_kept a (ends_there j a x first.there ends).0 ∙ arc)
-          (ends_kept j a x first.there ends) (ends_kept k a y second.there ends'))
+      (role_kept j a x first arc ends ∙ (ap (role_turned (turned a)) same ∙ sym (role_kept k a y second arc ends')))
+      (kind_kept a (ends_there j a x first.there ends).0 ∙ arc)
+      (ends_kept j a x first.there ends) (ends_kept k a y second.there ends'))
 
 -- what q breaks, p breaks
 

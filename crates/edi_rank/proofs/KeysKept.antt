@@ -40,11 +40,11 @@ one_left x [] same = absurd (omega (arith, length_permutation _ _ same))
 one_left x (y ∷ []) same = ap (λ z. z ∷ []) (recursion_from_All (λ z. z ≡ x) (y ∷ []) (All-permutation (λ z. z ≡ x) (x ∷ []) (y ∷ []) same (All-from_recursion (λ z. z ≡ x) (x ∷ []) (refl, tt)))).0
 one_left x (y ∷ z ∷ ys) same = absurd (omega (arith, length_permutation _ _ same))
 
-count_by-map : {X Y : Type 0} (test : Y → Bool) (f : X → Y) (xs : List X) → count_by test (map f xs) ≡ count_by (λ x. test (f x)) xs
+pub count_by-map : {X Y : Type 0} (test : Y → Bool) (f : X → Y) (xs : List X) → count_by test (map f xs) ≡ count_by (λ x. test (f x)) xs
 count_by-map test f [] = refl
 count_by-map test f (x ∷ xs) = count_by-cons test (f x) (map f xs) ∙ (ap (λ k. cond (test (f x)) 1 0 + k) (count_by-map test f xs) ∙ sym (count_by-cons (λ x. test (f x)) x xs))
 
-counted_alike : {X : Type 0} (P : X → Type 0) (t u : X → Bool) → ((x : X) → P x → t x ≡ u x) → (xs : List X) → AllByRecursion P xs → count_by t xs ≡ count_by u xs
+pub counted_alike : {X : Type 0} (P : X → Type 0) (t u : X → Bool) → ((x : X) → P x → t x ≡ u x) → (xs : List X) → AllByRecursion P xs → count_by t xs ≡ count_by u xs
 counted_alike P t u same [] all = refl
 counted_alike P t u same (x ∷ xs) all = count_by-cons t x xs ∙ (rw (same x all.0, counted_alike P t u same xs all.1) (sym (count_by-cons u x xs)))
 
@@ -116,8 +116,8 @@ module _ (p q : Drawing) (whole : IsWhole p) (to : ℕ → ℕ) (places : OneToO
           let both : z ∷ [] ≡ moved to w ∷ [] = one_left (moved to w) (z ∷ []) h in
           let second : z ≡ moved to w = cc in
           rw (first, second, (kept x.target all.0).kind, (kept w.target all.1.0).kind, same_place w.target face all.1.0 there, same_place x.target face all.0 there)
-              (if_arc (is_arc (record_at p x.target).kind) (w.target == face) (np x.target) (nq (to x.target)) _ _ (arcs x.target all.0)
-                  (if_arc (is_arc (record_at p w.target).kind) (x.target == face) (np w.target) (nq (to w.target)) _ _ (arcs w.target all.1.0) refl))
+          (if_arc (is_arc (record_at p x.target).kind) (w.target == face) (np x.target) (nq (to x.target)) _ _ (arcs x.target all.0)
+          (if_arc (is_arc (record_at p w.target).kind) (x.target == face) (np w.target) (nq (to w.target)) _ _ (arcs w.target all.1.0) refl))
 
       side_kept : (i : ℕ) → i < length p.list → side_by p np face (record_at p i) ≡ side_by q nq (to face) (record_at q (to i))
       side_kept i h = sym (rw ((kept i h).role, beside_kept (record_at p i).ends (record_at q (to i)).ends (ends_there i h) (kept i h).origin (kept i h).others))
@@ -138,6 +138,7 @@ one_passes {X} P t only (x ∷ xs) one any = go (P x) (t x) refl refl (sym (coun
         first : (b : Bool) → P y ≡ b → cond b 1 0 + count_by P ys ≡ 0 → (count_by P ys ≡ 0 → AllByRecursion (λ x. (t x ≡ true) ⊎ (P x ≡ false)) ys) → AllByRecursion (λ x. (t x ≡ true) ⊎ (P x ≡ false)) (y ∷ ys)
         first true e h more = absurd (omega arith)
         first false e h more = (inr e, more (omega arith))
+
     go : (b c : Bool) → P x ≡ b → t x ≡ c → cond b 1 0 + count_by P xs ≡ 1 → c || list_any t xs ≡ true
         → (count_by P xs ≡ 1 → list_any t xs ≡ true → AllByRecursion (λ x. (t x ≡ true) ⊎ (P x ≡ false)) xs)
         → (count_by P xs ≡ 0 → AllByRecursion (λ x. (t x ≡ true) ⊎ (P x ≡ false)) xs)
@@ -222,5 +223,5 @@ module _ (p q : Drawing) (whole : IsWhole p) (to : ℕ → ℕ) (places : OneToO
       let k = kept object there in
       let t = sym (sort_by-same attribute_cmp attribute_total attribute_exact (record_at p object).attributes (record_at q (to object)).attributes (counts_from_permutation _ _ k.attributes)) in
       let x = sym (sort_by-same link_key_cmp link_key_total link_key_exact (filter_map (piece_by p np object) p.list) (filter_map (piece_by q nq (to object)) q.list)
-          (gathered_alike to p.list q.list blank places (piece_by p np object) (piece_by q nq (to object)) piece_kept)) in
+      (gathered_alike to p.list q.list blank places (piece_by p np object) (piece_by q nq (to object)) piece_kept)) in
       λ i. record { class = k.class i; attributes = t i; extras = k.extras i; pieces = x i }

@@ -8,3 +8,12 @@ pub mod Kept
 pub mod UpTo
 pub mod Along
 pub mod NodeLabels
+pub mod Arranging
+pub mod ArrangedUnder
+pub mod ArrangedOrder
+pub mod ArrangedNodes
+pub mod ObjectsKept
+pub mod ObjectKeys
+pub mod Renumbered
+pub mod ArrangedRises
+pub mod RankedApart

@@ -40,7 +40,7 @@ turned_there partner turned place [] i h = absurd (omega arith)
 turned_there partner turned place (r ∷ rs) zero h = let e : place ≡ place + 0 = omega arith in ap (λ k. turned_record partner turned k r) e
 turned_there partner turned place (r ∷ rs) (suc i) h = turned_there partner turned (place + 1) rs i (omega arith) ∙ (let e : (place + 1) + i ≡ place + suc i = omega arith in ap (λ k. turned_record partner turned k (get_or rs i blank)) e)
 
-turned_long : (partner : ℕ → ℕ) (turned : ℕ → Bool) (place : ℕ) (rs : List PlanRecord) → length (turned_from partner turned place rs) ≡ length rs
+pub turned_long : (partner : ℕ → ℕ) (turned : ℕ → Bool) (place : ℕ) (rs : List PlanRecord) → length (turned_from partner turned place rs) ≡ length rs
 turned_long partner turned place [] = refl
 turned_long partner turned place (r ∷ rs) = ap suc (turned_long partner turned (place + 1) rs)
 
@@ -86,10 +86,13 @@ module _ (p : Drawing) (alone : HasNodesAlone p) where
           where
             there : m < size
             there = omega (arith, ranking.all)
+
             there' : n < size
             there' = omega (arith, ranking.all)
+
             ranks : rank node_key_cmp key size m ≡ rank node_key_cmp key size n
             ranks = sym (ranking.each m there) ∙ (e ∙ ranking.each n there')
+
             go : (m ≡ n) ⊎ ((m < n) ⊎ (n < m)) → m ≡ n
             go (inl same) = same
             go (inr (inl less)) = absurd (ranking.distinct n (there', (m, less, Rattle.edi_topo.proofs.RankOrder.equal_ranks node_key_cmp node_key_total key size m n there there' ranks)))
@@ -146,8 +149,10 @@ module _ (p : Drawing) (alone : HasNodesAlone p) where
               go [] none true = refl
               go [] none false = refl
               go (x ∷ xs) none b = let e : suc (length xs) ≡ 0 = Rattle.std.proofs.Common.eqb-true _ _ none in absurd (omega (arith, e))
+
           points : Rattle.edi_rank.specs.Same.directed (turned_at turned i) (record_at p i).points ≡ (record_at p i).points
           points = ap (λ t. Rattle.edi_rank.specs.Same.directed t (record_at p i).points) (never_turned i h)
+
           same : node_key (turned_record (partner_of s) (turned_at turned) i (record_at p i)) ≡ node_key (record_at p i)
           same = λ j. record { point = get_or (points j) 0 no_point; class = class j; attributes = (node_key (record_at p i)).attributes; extras = (record_at p i).extras }
 
@@ -167,9 +172,9 @@ module _ (p : Drawing) (alone : HasNodesAlone p) where
             let first = node_stays i h in
             let second = node_stays k l in
             subst (λ x. node_key_cmp x (node_key (record_at (turned_by s labels p) k)) ≡ Less) (sym first ∙ refl) (subst (λ x. node_key_cmp (node_key (record_at p i)) x ≡ Less) (sym second)
-                (subst (λ x. node_key_cmp x (node_key (record_at p k)) ≡ Less) (key_is i h) (subst (λ x. node_key_cmp (key i) x ≡ Less) (key_is k l)
-                    (rank_rises node_key_cmp node_key_total key size i k (omega (arith, count_is)) (omega (arith, count_is))
-                        (omega (arith, b.lesser, ranking.each i (omega (arith, count_is)), ranking.each k (omega (arith, count_is))))))))
+            (subst (λ x. node_key_cmp x (node_key (record_at p k)) ≡ Less) (key_is i h) (subst (λ x. node_key_cmp (key i) x ≡ Less) (key_is k l)
+            (rank_rises node_key_cmp node_key_total key size i k (omega (arith, count_is)) (omega (arith, count_is))
+            (omega (arith, b.lesser, ranking.each i (omega (arith, count_is)), ranking.each k (omega (arith, count_is))))))))
 
       pub labels_are : AreLabels s p labels
       labels_are = record {

@@ -48,11 +48,12 @@ sum_below-renamed to n m places f g same =
     sum_below-same n f (λ i. sum_below m (λ j. only_at (to i) j (g j))) (λ i h. same i h ∙ sym (one_at m (to i) g (places.within i h)))
     ∙ (exchange n m (λ i j. only_at (to i) j (g j))
     ∙ sum_below-same m (λ j. sum_below n (λ i. only_at (to i) j (g j))) g (λ j h.
-        sum_below-same n (λ i. only_at (to i) j (g j)) (λ i. only_at (back j) i (g j)) (λ i l. turned_round i j l h)
-        ∙ one_at n (back j) (λ _. g j) (from_within to n m places j h)))
+    sum_below-same n (λ i. only_at (to i) j (g j)) (λ i. only_at (back j) i (g j)) (λ i l. turned_round i j l h)
+    ∙ one_at n (back j) (λ _. g j) (from_within to n m places j h)))
   where
     back : ℕ → ℕ
     back = from to n m places
+
     turned_round : (i j : ℕ) → i < n → j < m → only_at (to i) j (g j) ≡ only_at (back j) i (g j)
     turned_round i j h l = go (cases_eq (to i) j)
       where

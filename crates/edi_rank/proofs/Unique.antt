@@ -123,7 +123,7 @@ links_from_keys s p (e ∷ es) all = go (is_link e.kind) refl (links_from_keys s
     go false h more = rw h more
 
 -- what holds of each place, by recursion
-all_places : {X : Type 0} (P : X → Type 0) (xs : List X) (d : X) → ((i : ℕ) → i < length xs → P (get_or xs i d)) → AllByRecursion P xs
+pub all_places : {X : Type 0} (P : X → Type 0) (xs : List X) (d : X) → ((i : ℕ) → i < length xs → P (get_or xs i d)) → AllByRecursion P xs
 all_places P [] d h = tt
 all_places P (x ∷ xs) d h = (h 0 (omega arith), all_places P xs d (λ i l. h (suc i) (omega arith)))
 
@@ -134,7 +134,7 @@ keys_never_fall : (p : Drawing) (es : List PlanRecord) (d : PlanRecord)
 keys_never_fall p [] d up = tt
 keys_never_fall p (e ∷ es) d up =
     go (is_link e.kind) refl (keys_never_fall p es d (λ i k l h. up (suc i) (suc k) (omega arith) (omega arith)))
-        (λ link. kept_keys es (all_places (λ f. f.kind ≡ Lnk → is_gt (link_key_cmp (link_key p suc e) (link_key p suc f)) ≡ false) es d (λ i l. up 0 (suc i) (omega arith) (omega arith) link)))
+    (λ link. kept_keys es (all_places (λ f. f.kind ≡ Lnk → is_gt (link_key_cmp (link_key p suc e) (link_key p suc f)) ≡ false) es d (λ i l. up 0 (suc i) (omega arith) (omega arith) link)))
   where
     kept_keys : (es : List PlanRecord) → AllByRecursion (λ f. f.kind ≡ Lnk → is_gt (link_key_cmp (link_key p suc e) (link_key p suc f)) ≡ false) es
         → AllByRecursion (λ k. is_gt (link_key_cmp (link_key p suc e) k) ≡ false) (filter_map (key_or_none p) es)
@@ -145,6 +145,7 @@ keys_never_fall p (e ∷ es) d up =
             → AllByRecursion (λ k. is_gt (link_key_cmp (link_key p suc e) k) ≡ false) (filter_map (key_or_none p) (f ∷ fs))
         one true h more = rw h (all.0 (is_link_then f.kind h), more)
         one false h more = rw h more
+
     go : (b : Bool) → is_link e.kind ≡ b → NeverFalls link_key_cmp (filter_map (key_or_none p) es) → (e.kind ≡ Lnk → AllByRecursion (λ k. is_gt (link_key_cmp (link_key p suc e) k) ≡ false) (filter_map (key_or_none p) es))
         → NeverFalls link_key_cmp (filter_map (key_or_none p) (e ∷ es))
     go true h more first = rw h (first (is_link_then e.kind h), more)
@@ -230,27 +231,36 @@ module _ (s : Classes) (p q : Drawing) (up : IsInOrder p) (up' : IsInOrder q) (u
     where
       here : i < length p.list
       here = omega arith
+
       kind_there : (record_at q i).kind ≡ kind_at k
       kind_there = ap (λ j. (record_at q j).kind) (sym e) ∙ (kept k h).kind
+
       alike : kind_at k ≡ kind_at i
       alike = one_kind _ _ (omega (arith, up.by_type i k less h, up'.by_type i (to i) behind (c.places.within i here), ap kind_rank kind_there, ap kind_rank (kept i here).kind))
+
       lower_kept : (t : ℕ) → t < length p.list → kind_rank (kind_at t) < kind_rank (kind_at i) → suc (to t) ≡ suc t
       lower_kept t l d = ap suc (fix t (lower i t here l d))
+
       both : (kind : Kind) → kind_at i ≡ kind → Both p suc kind i k
       both kind is = record { first = here; second = h; first_kind = is; second_kind = alike ∙ is; lesser = omega arith }
+
       both' : (kind : Kind) → kind_at i ≡ kind → Both q suc kind i (to i)
       both' kind is = record { first = omega (arith, c.places.within i here); second = c.places.within i here; first_kind = kind_there ∙ (alike ∙ is); second_kind = (kept i here).kind ∙ is; lesser = omega arith }
+
       by_points : points_cmp (record_at p i).points (record_at p k).points ≡ Less → points_cmp (record_at q i).points (record_at q (to i)).points ≡ Less → ⊥
       by_points l l' = not_both_less points_total (record_at p i).points (record_at p k).points l
           (subst (λ x. points_cmp x (record_at p i).points ≡ Less) (ap (λ j. (record_at q j).points) (sym e) ∙ (kept k h).points) (subst (λ x. points_cmp (record_at q i).points x ≡ Less) (kept i here).points l'))
+
       node_kept : (t : ℕ) → t < length p.list → node_key (record_at q (to t)) ≡ node_key (record_at p t)
       node_kept t l =
           let k = kept t l in
           let x = sym (sort_by-same attribute_cmp attribute_total attribute_exact (record_at p t).attributes (record_at q (to t)).attributes (counts_from_permutation _ _ k.attributes)) in
           λ j. record { point = get_or (k.points j) 0 no_point; class = k.class j; attributes = x j; extras = k.extras j }
+
       by_place : node_key_cmp (node_key (record_at p i)) (node_key (record_at p k)) ≡ Less → node_key_cmp (node_key (record_at q i)) (node_key (record_at q (to i))) ≡ Less → ⊥
       by_place l l' = not_both_less node_key_total (node_key (record_at p i)) (node_key (record_at p k)) l
           (subst (λ x. node_key_cmp x (node_key (record_at p i)) ≡ Less) (ap (λ j. node_key (record_at q j)) (sym e) ∙ node_kept k h) (subst (λ x. node_key_cmp (node_key (record_at q i)) x ≡ Less) (node_kept i here) l'))
+
       go : (kind : Kind) → kind_at i ≡ kind → ⊥
       go Pno is = by_place (up.rise.nodes i k (both Pno is)) (up'.rise.nodes i (to i) (both' Pno is))
       go Par is = by_points (up.rise.arcs i k (both Par is)) (up'.rise.arcs i (to i) (both' Par is))
@@ -259,13 +269,13 @@ module _ (s : Classes) (p q : Drawing) (up : IsInOrder p) (up' : IsInOrder q) (u
           let x : least_side q suc (to i) ≡ least_side p suc i = ap first_of (face_key_kept p q under.whole to c.places kept suc suc arcs i here) in
           let y : least_side q suc i ≡ least_side p suc k = ap (least_side q suc) (sym e) ∙ ap first_of (face_key_kept p q under.whole to c.places kept suc suc arcs k h) in
           not_both_less face_options_total (least_side p suc i) (least_side p suc k) (up.rise.faces i k (both Pfe is))
-              (subst (λ v. option_cmp face_key_cmp v (least_side p suc i) ≡ Less) y (subst (λ v. option_cmp face_key_cmp (least_side q suc i) v ≡ Less) x (up'.rise.faces i (to i) (both' Pfe is))))
+          (subst (λ v. option_cmp face_key_cmp v (least_side p suc i) ≡ Less) y (subst (λ v. option_cmp face_key_cmp (least_side q suc i) v ≡ Less) x (up'.rise.faces i (to i) (both' Pfe is))))
       go Fea is =
           let below = λ (t : ℕ) (l : t < length p.list) (d : kind_rank (kind_at t) < 3). lower_kept t l (omega (arith, ap kind_rank is)) in
           let x = object_key_kept p q under.whole to c.places kept suc suc below i here (ap is_object is) in
           let y = ap (object_key q suc) (sym e) ∙ object_key_kept p q under.whole to c.places kept suc suc below k h (ap is_object (alike ∙ is)) in
           not_both_less object_key_total (object_key p suc i) (object_key p suc k) (up.rise.objects i k (both Fea is))
-              (subst (λ v. object_key_cmp v (object_key p suc i) ≡ Less) y (subst (λ v. object_key_cmp (object_key q suc i) v ≡ Less) x (up'.rise.objects i (to i) (both' Fea is))))
+          (subst (λ v. object_key_cmp v (object_key p suc i) ≡ Less) y (subst (λ v. object_key_cmp (object_key q suc i) v ≡ Less) x (up'.rise.objects i (to i) (both' Fea is))))
       go Lnk is = true≢false (sym (ap is_link is) ∙ plain)
 
   one_fixed : (i : ℕ) → i < length p.list → is_link (kind_at i) ≡ false → ((j : ℕ) → j < i → to j ≡ j) → to i ≡ i
@@ -275,6 +285,7 @@ module _ (s : Classes) (p q : Drawing) (up : IsInOrder p) (up' : IsInOrder q) (u
       came behind k l e (inl d) = ap to (sym d) ∙ e
       came behind k l e (inr (inl d)) = absurd (omega (arith, fix k d))
       came behind k l e (inr (inr d)) = absurd (no_exchange i k d l plain e behind fix)
+
       go : (to i ≡ i) ⊎ ((to i < i) ⊎ (i < to i)) → to i ≡ i
       go (inl e) = e
       go (inr (inl d)) = c.places.apart (to i) i (omega arith) h (fix (to i) d)
@@ -309,8 +320,8 @@ module _ (s : Classes) (p q : Drawing) (up : IsInOrder p) (up' : IsInOrder q) (u
           let first : y ≡ moved to x = cc in
           let place : to x.target ≡ x.target = ap pred all.0.1 in
           let keys : map (numbered q suc) ys ≡ map (numbered p suc) xs =
-              sym (sort_by-in_order end_cmp end_total end_exact (map (numbered q suc) ys) u')
-              ∙ (others_kept p q under.whole to c.places kept suc suc xs ys all.1 same ∙ sort_by-in_order end_cmp end_total end_exact (map (numbered p suc) xs) u) in
+          sym (sort_by-in_order end_cmp end_total end_exact (map (numbered q suc) ys) u')
+          ∙ (others_kept p q under.whole to c.places kept suc suc xs ys all.1 same ∙ sort_by-in_order end_cmp end_total end_exact (map (numbered p suc) xs) u) in
           ap₂ ◌∷◌ (first ∙ ap (λ t. record { target = t; sns = x.sns }) place) (sym (ends_back q ys) ∙ (ap (map end_of) keys ∙ ends_back p xs))
 
   -- each record is the same in both plans, wherever it stands
@@ -319,7 +330,7 @@ module _ (s : Classes) (p q : Drawing) (up : IsInOrder p) (up' : IsInOrder q) (u
       let k = kept i h in
       let x = ends_same i h in
       let t = same_order attribute_cmp attribute_total attribute_exact (record_at q (to i)).attributes (record_at p i).attributes (up'.attributes (to i) (c.places.within i h)) (up.attributes i h)
-          (λ test. sym (counts_from_permutation _ _ k.attributes test)) in
+      (λ test. sym (counts_from_permutation _ _ k.attributes test)) in
       λ j. record { kind = k.kind j; class = k.class j; role = k.role j; points = k.points j; attributes = t j; extras = k.extras j; ends = x j }
 
   link_keys_same : filter_map (key_or_none p) p.list ≡ filter_map (key_or_none q) q.list

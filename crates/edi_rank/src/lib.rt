@@ -4,8 +4,8 @@
 pub mod fault;
 pub mod keys;
 pub mod labels;
-pub mod layers;
 pub mod laws;
+pub mod layers;
 
 pub use edi_topo::{Layer, Ranks, TieFault, ranks};
 pub use fault::RankFault;

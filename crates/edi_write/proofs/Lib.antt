@@ -2,3 +2,4 @@ pub mod Putting
 pub mod Breaking
 pub mod Agreed
 pub mod WrittenNodes
+pub mod WrittenRecords

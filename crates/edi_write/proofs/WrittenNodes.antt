@@ -32,7 +32,7 @@ none_in : {X : Type 0} (xs : List X) → ((i : ℕ) (x : X) → slice_get xs i �
 none_in [] h = refl
 none_in (x ∷ xs) h = absurd (h 0 x refl)
 
-all_counted : (kind : Kind) (rs : List PlanRecord) → AllByRecursion (λ r. r.kind ≡ Pno) rs → kind ≡ Pno → count_by (λ r. same_kind kind r.kind) rs ≡ length rs
+pub all_counted : (kind : Kind) (rs : List PlanRecord) → AllByRecursion (λ r. r.kind ≡ Pno) rs → kind ≡ Pno → count_by (λ r. same_kind kind r.kind) rs ≡ length rs
 all_counted kind [] all is = refl
 all_counted kind (r ∷ rs) all is =
     let here : same_kind kind r.kind ≡ true = rw (is, all.0) refl in
@@ -130,5 +130,5 @@ pub joined_parts : (begin : List Entry) (middle : List Entry) (end : Entry) (a b
 joined_parts begin middle end a b c d e f g h =
     let left : d ≡ (printed begin ++ printed middle) ++ printed_zone end = h ∙ ap (λ x. x ++ printed_zone end) (g ∙ ap (λ x. x ++ printed middle) (f ∙ ap (λ x. x ++ printed begin) e)) in
     let right : printed (begin ++ (middle ++ end ∷ [])) ≡ printed begin ++ (printed middle ++ printed_zone end) =
-        flat_map-append printed_zone begin (middle ++ end ∷ []) ∙ ap (λ x. printed begin ++ x) (flat_map-append printed_zone middle (end ∷ []) ∙ ap (λ x. printed middle ++ x) (append-nil (printed_zone end))) in
+    flat_map-append printed_zone begin (middle ++ end ∷ []) ∙ ap (λ x. printed begin ++ x) (flat_map-append printed_zone middle (end ∷ []) ∙ ap (λ x. printed middle ++ x) (append-nil (printed_zone end))) in
     left ∙ (append_assoc (printed begin) (printed middle) (printed_zone end) ∙ sym right)

@@ -53,8 +53,11 @@ empty_sheet_file = refl
 
 -- a node, and an arc from it to it
 abbrev looped_arc : Drawing
-looped_arc = record { cse = None; list = bare Pno 2 (point 0 0 ∷ []) ∷ bare Par 0 (point 0 0 ∷ point 0 1000000 ∷ point 1000000 0 ∷ point 0 0 ∷ [])
-    ∷ link 4 Final 1 0 ∷ link 6 Initial 1 0 ∷ [] }
+looped_arc = record {
+  cse = None;
+  list = bare Pno 2 (point 0 0 ∷ []) ∷ bare Par 0 (point 0 0 ∷ point 0 1000000 ∷ point 1000000 0 ∷ point 0 0 ∷ [])
+      ∷ link 4 Final 1 0 ∷ link 6 Initial 1 0 ∷ [];
+}
 
 looped_arc_file : layout known_schema looped_arc ≡ lines (codes "BOMT 09:CANON.VEC" ∷ codes "RTYSA03:PNO" ∷ codes "RIDSA02:N1" ∷ codes "SCPCP19:CANON;SD;PGE;NOD_id"
     ∷ codes "CORCC06:+0;+0;" ∷ codes "ATCSN01:0" ∷ codes "RTYSA03:PAR" ∷ codes "RIDSA02:A1" ∷ codes "SCPCP19:CANON;SD;PGE;ARC_id" ∷ codes "PTCSN01:4"

@@ -2,6 +2,7 @@
 #![tactic(auto)]
 
 pub mod canon;
+pub mod laws;
 mod nodes;
 mod parts;
 pub mod writing;

@@ -42,7 +42,12 @@ const ATTRIBUTES: Head = Head {
     format: b'N',
 };
 
-fn write_number(alloc: Global, out: &mut Vec<u8>, head: Head, number: usize) -> Result<(), AllocError>
+fn write_number(
+    alloc: Global,
+    out: &mut Vec<u8>,
+    head: Head,
+    number: usize,
+) -> Result<(), AllocError>
     ensures { OnOk result (out.new.items ≡ out.old.items ++ printed_zone (headed head (decimal number))) }
 {
     let text = number.to_string(alloc)?;

@@ -59,11 +59,7 @@ fn class_pointer(alloc: Global, class: &Name) -> Result<Vec<u8>, AllocError>
 }
 
 /// Writes a place.
-pub(crate) fn write_point(
-    alloc: Global,
-    out: &mut Vec<u8>,
-    point: Point,
-) -> Result<(), AllocError>
+pub(crate) fn write_point(alloc: Global, out: &mut Vec<u8>, point: Point) -> Result<(), AllocError>
     ensures { OnOk result (out.new.items ≡ out.old.items ++ printed_zone (point_zone point)) }
 {
     let text = place_text(alloc, point)?;
@@ -126,11 +122,7 @@ pub(crate) fn write_attribute(
 }
 
 /// Writes an extra zone.
-pub(crate) fn write_extra(
-    alloc: Global,
-    out: &mut Vec<u8>,
-    extra: &Extra,
-) -> Result<(), AllocError>
+pub(crate) fn write_extra(alloc: Global, out: &mut Vec<u8>, extra: &Extra) -> Result<(), AllocError>
     ensures { OnOk result (out.new.items ≡ out.old.items ++ printed_zone (extra_zone extra.now)) }
 {
     let head = Head {

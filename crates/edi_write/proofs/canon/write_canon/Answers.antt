@@ -13,16 +13,16 @@ pub write_nodes-requires-clause-nodes : goal.write_nodes-requires-clause-nodes
 write_nodes-requires-clause-nodes c =
     let p = c.plan-plan.ensures in
     subst (λ (q : Drawing). AllByRecursion (λ k. IsPlace q k × ((record_at q k).kind ≡ Pno)) c.order.result.now) (sym p.plan)
-        (subst (AllByRecursion (λ k. IsPlace c.args.sound.now k × ((record_at c.args.sound.now k).kind ≡ Pno))) (sym c.order.ensures)
-            (places_there c.args.schema.now c.args.sound.now c.args.labels.now p.whole c.requires.alone c.requires.labels))
+    (subst (AllByRecursion (λ k. IsPlace c.args.sound.now k × ((record_at c.args.sound.now k).kind ≡ Pno))) (sym c.order.ensures)
+    (places_there c.args.schema.now c.args.sound.now c.args.labels.now p.whole c.requires.alone c.requires.labels))
 
 pub returns : goal.returns
 returns c =
     let p = c.plan-plan.ensures in
     let s = c.args.schema.now in
     let written = joined_parts (begin_zone ∷ map cse_zone (option_to_list (option_copied c.cse.result))) (nodes_from s c.plan-plan.result.now 1 c.order.result.now) end_zone
-        c.new-out.result.items c.write_begin.new.out.items c.write_nodes.new.out.items c.write_zone.new.out.items
-        c.new-out.ensures.items c.in_ok-write_begin.ensures c.in_ok-write_nodes.ensures c.in_ok-write_zone.ensures in
+    c.new-out.result.items c.write_begin.new.out.items c.write_nodes.new.out.items c.write_zone.new.out.items
+    c.new-out.ensures.items c.in_ok-write_begin.ensures c.in_ok-write_nodes.ensures c.in_ok-write_zone.ensures in
     written ∙ (ap (λ set. printed (begin_zone ∷ (map cse_zone (option_to_list set) ++ (nodes_from s c.plan-plan.result.now 1 c.order.result.now ++ end_zone ∷ [])))) c.cse.ensures
     ∙ (ap (λ (q : Drawing). printed (begin_zone ∷ (map cse_zone (option_to_list q.cse) ++ (nodes_from s q 1 c.order.result.now ++ end_zone ∷ [])))) p.plan
     ∙ (ap (λ ks. printed (begin_zone ∷ (map cse_zone (option_to_list c.args.sound.now.cse) ++ (nodes_from s c.args.sound.now 1 ks ++ end_zone ∷ [])))) c.order.ensures

@@ -12,4 +12,4 @@ pub write_attributes-requires : goal.write_attributes-requires
 write_attributes-requires c =
     let agrees = all_at (RecordAgrees c.args.schema.now) c.args.plan.now.list c.args.place blank c.requires.place c.requires.agrees in
     subst (AllByRecursion (AttributeAgrees c.args.schema.now)) (sym (c.deref.ensures.value ∙ (c.in_ok-attributes.ensures ∙ ap (sort_by attribute_cmp) c.attributes.ensures)))
-        (sorted_agree c.args.schema.now (record_at c.args.plan.now c.args.place).attributes agrees.attributes)
+    (sorted_agree c.args.schema.now (record_at c.args.plan.now c.args.place).attributes agrees.attributes)

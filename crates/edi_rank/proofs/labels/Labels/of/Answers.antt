@@ -18,7 +18,7 @@ returns-clause-labels c =
     let is = c.in_ok-numbers.ensures in
     let long : length order ≡ length numbers = c.in_ok-order.ensures.length ∙ ap length c.as_slice.ensures in
     let placed : (m : ℕ) → m < length numbers → get_or order (get_or numbers m 0 - 1) 0 ≡ m =
-        subst (λ ns. (m : ℕ) → m < length ns → get_or order (get_or ns m 0 - 1) 0 ≡ m) c.as_slice.ensures c.in_ok-order.ensures.places in
+    subst (λ ns. (m : ℕ) → m < length ns → get_or order (get_or ns m 0 - 1) 0 ≡ m) c.as_slice.ensures c.in_ok-order.ensures.places in
     let straight : turned ≡ replicate (length order) false = c.in_ok-turned.ensures.items_if_clones_equal (λ y e. e) ∙ ap (λ n. replicate n false) (ap length c.as_slice-2.ensures.value) in
     subst (AreLabels c.args.schema.now c.args.sound.now) (λ i. record {
       numbers = numbers;

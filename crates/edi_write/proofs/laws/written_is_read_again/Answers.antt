@@ -1,0 +1,11 @@
+use Rattle.edi_write.proofs.WrittenRecords.{written_layout, written_plan, written_references}
+use Rattle.edi_write.proofs.laws.written_is_read_again.Goals as goal
+
+pub returns-clause-layout : goal.returns-clause-layout
+returns-clause-layout c = written_layout
+
+pub returns-clause-plan : goal.returns-clause-plan
+returns-clause-plan c = written_plan
+
+pub returns-clause-references : goal.returns-clause-references
+returns-clause-references c = written_references
