@@ -61,10 +61,15 @@ module _ (ones : ReadingIsOne) (s : Classes) (keeps : IsSchema s) where
 
   states_trans : (a b c : List ℕ) → IsAccepted s a → IsAccepted s b → IsAccepted s c → StateSame s a b → StateSame s b c → StateSame s a c
   states_trans a b c h g k first second =
-      let e : second.0 ≡ first.1 = one_plan b second.0 first.1 second.2 first.3 in
-      (first.0, second.1, first.2, second.3, same_trans s first.0 first.1 second.1
-          (plan_under s a first.0 keeps h first.2) (plan_under s b first.1 keeps g first.3) (plan_under s c second.1 keeps k second.3)
-          first.4 (subst (λ p. Same s p second.1) e second.4))
+      let e : second.0 ≡ first.1 = one_plan b second.0 first.1 second.2 first.3 in (
+        first.0,
+        second.1,
+        first.2,
+        second.3,
+        same_trans s first.0 first.1 second.1
+            (plan_under s a first.0 keeps h first.2) (plan_under s b first.1 keeps g first.3) (plan_under s c second.1 keeps k second.3)
+            first.4 (subst (λ p. Same s p second.1) e second.4),
+      )
 
   -- of two canonical sheets with one plan the bytes are the same
   pub unique : (c d : List ℕ) (p q : Drawing) (to : ℕ → ℕ) (turned : ℕ → Bool) → IsCanonical s c → IsCanonical s d → IsPlanOfFile s c p → IsPlanOfFile s d q → Carries s to turned p q → c ≡ d
@@ -79,12 +84,14 @@ module _ (ones : ReadingIsOne) (s : Classes) (keeps : IsSchema s) where
   one_canonical c d h g same = unique c d same.0 same.1 same.4.0 same.4.1 h g same.2 same.3 same.4.2
 
   pub decide : (b c : List ℕ) → IsAccepted s b → IsCanonical s c → StateSame s b c → (d : List ℕ) → IsCanonical s d → StateSame s b d ↔ (d ≡ c)
-  decide b c accepted canonical same d h =
-      (λ g. one_canonical d c h canonical (states_trans d b c h.accepted accepted canonical.accepted (states_sym b d accepted h.accepted g) same),
-       λ e. subst (StateSame s b) (sym e) same)
+  decide b c accepted canonical same d h = (
+    λ g. one_canonical d c h canonical (states_trans d b c h.accepted accepted canonical.accepted (states_sym b d accepted h.accepted g) same),
+    λ e. subst (StateSame s b) (sym e) same,
+  )
 
   -- the sentence on two sheets
   pub equal_if_same : (a b c d : List ℕ) → IsAccepted s a → IsAccepted s b → IsCanonical s c → StateSame s a c → IsCanonical s d → StateSame s b d → (c ≡ d) ↔ StateSame s a b
-  equal_if_same a b c d h g canonical same canonical' same' =
-      (λ e. states_trans a c b h canonical.accepted g same (subst (λ x. StateSame s x b) (sym e) (states_sym b d g canonical'.accepted same')),
-       λ both. one_canonical c d canonical canonical' (states_trans c a d canonical.accepted h canonical'.accepted (states_sym a c h canonical.accepted same) (states_trans a b d h g canonical'.accepted both same')))
+  equal_if_same a b c d h g canonical same canonical' same' = (
+    λ e. states_trans a c b h canonical.accepted g same (subst (λ x. StateSame s x b) (sym e) (states_sym b d g canonical'.accepted same')),
+    λ both. one_canonical c d canonical canonical' (states_trans c a d canonical.accepted h canonical'.accepted (states_sym a c h canonical.accepted same) (states_trans a b d h g canonical'.accepted both same')),
+  )

@@ -225,6 +225,7 @@ module _ (s : Classes) (sheet : Sheet) (p : Drawing) (is : IsPlanOf s sheet p) w
         any_at : (es : List End) (i : ℕ) (d : End) → i < length es → slice_get es i ≡ Some d → ((place : ℕ) (kind : Kind) → Names s sheet.list d place kind → kind ≡ Lnk)
             → Any (λ e. (place : ℕ) (kind : Kind) → Names s sheet.list e place kind → kind ≡ Lnk) es
         any_at es i d l is_d only = (i, d, l, get_or_from_slice_get es i d d is_d, only)
+
         each : (ds : List End) (es : List PlanEnd) → AllZip (StatesPlanEnd sheet.list) ds es
             → ((i : ℕ) (d : End) → i < length ds → slice_get ds i ≡ Some d → ((place : ℕ) (kind : Kind) → Names s sheet.list d place kind → kind ≡ Lnk) → ⊥)
             → AllByRecursion (λ e. is_link (record_at p e.target).kind ≡ false) es
@@ -248,6 +249,7 @@ module _ (s : Classes) (sheet : Sheet) (p : Drawing) (is : IsPlanOf s sheet p) w
         arc_or e n k x names st =
             let same : x.target ≡ n = same_Some x.target n (sym st.target ∙ names.1) in
             ap is_arc (ap (λ t. (record_at p t).kind) same ∙ (kind_there n names.0 names.2 ∙ names.3))
+
         two : (d e : End) (es : List PlanEnd) → AllZip (StatesPlanEnd sheet.list) (d ∷ e ∷ []) es
             → ((x : PlanEnd) → StatesPlanEnd sheet.list d x → (y : PlanEnd) → StatesPlanEnd sheet.list e y → cond (is_arc (record_at p x.target).kind) 1 0 + cond (is_arc (record_at p y.target).kind) 1 0 ≤ 1)
             → count_by (λ e. is_arc (record_at p e.target).kind) es ≤ 1
@@ -257,6 +259,7 @@ module _ (s : Classes) (sheet : Sheet) (p : Drawing) (is : IsPlanOf s sheet p) w
         two d e (x ∷ y ∷ []) all few =
             let test = λ (e : PlanEnd). is_arc (record_at p e.target).kind in
             omega (arith, few x all.0 y all.1.0, count-cons test x (y ∷ []), count-cons test y [])
+
         go : ((r.ends ≡ joins.0 ∷ joins.1 ∷ []) ⊎ (r.ends ≡ joins.1 ∷ joins.0 ∷ [])) → count_by (λ e. is_arc (record_at p e.target).kind) q.ends ≤ 1
         go (inl e) = two joins.0 joins.1 q.ends (subst (λ es. AllZip (StatesPlanEnd sheet.list) es q.ends) e all)
             (λ x sx y sy. rw (arc_or joins.1 joins.3 kind y joins.6 sy, other, arc_or joins.0 joins.2 Par x joins.5 sx) (omega arith))
@@ -276,21 +279,37 @@ module _ (s : Classes) (sheet : Sheet) (p : Drawing) (is : IsPlanOf s sheet p) w
       where
         few : ℕ
         few = count_by (λ e. is_arc (record_at p e.target).kind) (record_at p k).ends
+
         at : (r : Record) × (slice_get sheet.list k ≡ Some r) × StatesPlanRecord s sheet.list r (record_at p k)
         at = stated k h
+
         place : suc k - 1 ≡ k
         place = omega arith
+
         joined : (role : Role) → (record_at p k).role ≡ role → is_plain role ≡ false → (record_at p k).kind ≡ Lnk → Dec (few ≤ 1) → few ≤ 1
         joined role is plain link (yes less) = less
         joined Plain is plain link (no more) = absurd (true≢false plain)
-        joined Initial is plain link (no more) = absurd (hold 306 (suc k) (joins_wrong refl (at.0, (omega arith, rw place at.1),
-            inl (inl (sym at.2.kind ∙ link, at.2.role ∙ ap Some is), λ joins. more (joins_count Pno refl at.0 (record_at p k) at.2.ends joins)))))
-        joined Final is plain link (no more) = absurd (hold 306 (suc k) (joins_wrong refl (at.0, (omega arith, rw place at.1),
-            inl (inr (sym at.2.kind ∙ link, at.2.role ∙ ap Some is), λ joins. more (joins_count Pno refl at.0 (record_at p k) at.2.ends joins)))))
-        joined Left is plain link (no more) = absurd (hold 306 (suc k) (joins_wrong refl (at.0, (omega arith, rw place at.1),
-            inr (inl (sym at.2.kind ∙ link, at.2.role ∙ ap Some is), λ joins. more (joins_count Pfe refl at.0 (record_at p k) at.2.ends joins)))))
-        joined Right is plain link (no more) = absurd (hold 306 (suc k) (joins_wrong refl (at.0, (omega arith, rw place at.1),
-            inr (inr (sym at.2.kind ∙ link, at.2.role ∙ ap Some is), λ joins. more (joins_count Pfe refl at.0 (record_at p k) at.2.ends joins)))))
+        joined Initial is plain link (no more) = absurd (hold 306 (suc k) (joins_wrong refl (
+          at.0,
+          (omega arith, rw place at.1),
+          inl (inl (sym at.2.kind ∙ link, at.2.role ∙ ap Some is), λ joins. more (joins_count Pno refl at.0 (record_at p k) at.2.ends joins)),
+        )))
+        joined Final is plain link (no more) = absurd (hold 306 (suc k) (joins_wrong refl (
+          at.0,
+          (omega arith, rw place at.1),
+          inl (inr (sym at.2.kind ∙ link, at.2.role ∙ ap Some is), λ joins. more (joins_count Pno refl at.0 (record_at p k) at.2.ends joins)),
+        )))
+        joined Left is plain link (no more) = absurd (hold 306 (suc k) (joins_wrong refl (
+          at.0,
+          (omega arith, rw place at.1),
+          inr (inl (sym at.2.kind ∙ link, at.2.role ∙ ap Some is), λ joins. more (joins_count Pfe refl at.0 (record_at p k) at.2.ends joins)),
+        )))
+        joined Right is plain link (no more) = absurd (hold 306 (suc k) (joins_wrong refl (
+          at.0,
+          (omega arith, rw place at.1),
+          inr (inr (sym at.2.kind ∙ link, at.2.role ∙ ap Some is), λ joins. more (joins_count Pfe refl at.0 (record_at p k) at.2.ends joins)),
+        )))
+
         go : ((record_at p k).kind ≡ Lnk) ⊎ (length (record_at p k).ends ≡ 0) → few ≤ 1
         go (inl link) = joined (record_at p k).role refl kind link (dec_le few 1)
         go (inr none) = omega (arith, none, Rattle.std.proofs.lemmas.List.Sums.count_by-le-length (λ (e : PlanEnd). is_arc (record_at p e.target).kind) (record_at p k).ends)

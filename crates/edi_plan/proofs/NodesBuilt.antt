@@ -45,6 +45,7 @@ distinct_apart (x ∷ xs) apart zero (suc j) m n less first second e =
   where
     same_some : {X : Type 0} {a b : X} → Some a ≡ Some b → a ≡ b
     same_some h = cc
+
     other : (ys : List Name) (k : ℕ) (n : Name) → slice_get ys k ≡ Some n → AllByRecursion (λ u. is_name x u ≡ false) ys → x ≡ n → ⊥
     other [] k n found all e = let h = slice_get_within [] k n found in omega (arith, h)
     other (y ∷ ys) zero n found all e =
@@ -70,7 +71,7 @@ map_get f xs k x found = Rattle.std.proofs.lemmas.Option.slice_get-map f xs k �
 named_apart : (list : List Record) (n : ℕ) → AreNamedApart (take n list) → (i j : ℕ) (q r : Record) → i < j → j < n → slice_get list i ≡ Some q → slice_get list j ≡ Some r → own_name q ≡ own_name r → ⊥
 named_apart list n apart i j q r less below first second e =
     distinct_apart (map own_name (take n list)) apart i j (own_name q) (own_name r) less
-        (map_get own_name (take n list) i q (take_get n list i q (omega arith) first)) (map_get own_name (take n list) j r (take_get n list j r below second)) e
+    (map_get own_name (take n list) i q (take_get n list i q (omega arith) first)) (map_get own_name (take n list) j r (take_get n list j r below second)) e
 
 -- an earlier record of the name
 
@@ -230,6 +231,7 @@ module _ (s : Classes) (list : List Record) (alone : HoldsNodesAlone list) (endl
       where
         found_earlier : (d : IsFirstRepeat list stop.place) → (i : ℕ) × (q : Record) × (i < stop.place) × (slice_get list i ≡ Some q) × (own_name q ≡ own_name d.again)
         found_earlier d = let f = found_in (take stop.place list) (own_name d.again) d.repeats in let t = get_taken stop.place list f.0 f.1 f.2 in (f.0, f.1, t.0, t.1, f.3)
+
         earlier_at : (i : ℕ) (q : Record) → slice_get list i ≡ Some q → slice_get list (suc i - 1) ≡ Some q
         earlier_at i q h = let f : i ≡ suc i - 1 = omega arith in subst (λ j. slice_get list j ≡ Some q) f h
     there_is (inr (other, inl h)) = lacks_class h.0 (stop.node, is_at, h.1)

@@ -76,7 +76,7 @@ found_from kind place (r ∷ rs) (suc i) h e = go (same_kind kind r.kind) (found
   where
     go : (b : Bool) → (m : ℕ) × (m < length (places_from kind (place + 1) rs)) × (get_or (places_from kind (place + 1) rs) m 0 ≡ (place + 1) + i)
         → (m : ℕ) × (m < length (cond b (place ∷ places_from kind (place + 1) rs) (places_from kind (place + 1) rs)))
-            × (get_or (cond b (place ∷ places_from kind (place + 1) rs) (places_from kind (place + 1) rs)) m 0 ≡ place + suc i)
+        × (get_or (cond b (place ∷ places_from kind (place + 1) rs) (places_from kind (place + 1) rs)) m 0 ≡ place + suc i)
     go true d = (suc d.0, omega (arith, d.1), omega (arith, d.2))
     go false d = (d.0, d.1, omega (arith, d.2))
 

@@ -27,6 +27,7 @@ role_there s name k e = ap (option_map (λ (c : Class). c.role)) found.1 ∙ som
   where
     found : (k < Rattle.std.proofs.Common.length s) × (class_named s name ≡ class_at s k)
     found = named_at s name k e
+
     some : option_map (λ (c : Class). c.role) (class_at s k) ≡ Some (role_of s k)
     some = go (slice_get s k) (slice_get-get_or s k (record { rty = []; rid = [] }, record { role = Plain; letter = 0; is_number = Rattle.std.proofs.Common.false }) found.0)
       where

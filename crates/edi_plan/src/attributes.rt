@@ -32,7 +32,10 @@ fn copied(alloc: Global, attributes: &[PlanAttribute]) -> Result<Vec<PlanAttribu
 }
 
 /// The attributes in their order.
-pub fn sorted_attributes(alloc: Global, attributes: &[PlanAttribute]) -> Result<Vec<PlanAttribute>, AllocError>
+pub fn sorted_attributes(
+    alloc: Global,
+    attributes: &[PlanAttribute],
+) -> Result<Vec<PlanAttribute>, AllocError>
     ensures { IfOk result (λ sorted. sorted.items ≡ sort_by attribute_cmp attributes.now) }
 {
     let mut sorted = copied(alloc, attributes)?;

@@ -4,10 +4,9 @@
 pub mod attributes;
 pub mod fault;
 pub mod laws;
+mod nodes;
 pub mod plan;
 pub mod record;
-
-mod nodes;
 mod repeats;
 
 pub use attributes::sorted_attributes;

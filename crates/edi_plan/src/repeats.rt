@@ -27,10 +27,7 @@ fn name_of(record: &Record) -> RecordName<'_>
 }
 
 /// The first record with the name of an earlier one, at a place from 0, if there is one.
-pub(crate) fn first_repeat(
-    alloc: Global,
-    records: &[Record],
-) -> Result<Option<usize>, AllocError>
+pub(crate) fn first_repeat(alloc: Global, records: &[Record]) -> Result<Option<usize>, AllocError>
     ensures { IfOk result (IsFirstRepeatIfAny records.now) }
 {
     let mut names = IndexSet::new(alloc);

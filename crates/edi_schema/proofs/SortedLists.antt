@@ -87,6 +87,7 @@ module _ {X : Type 0} (cmp : X → X → Ordering) (total : IsTotalOrder cmp) wh
       turned Less h = absurd (true≢false (sym h))
       turned Equal h = absurd (true≢false (sym h))
       turned Greater h = refl
+
       go : (b : Bool) → is_gt (cmp new x) ≡ b → NeverFalls cmp (insert_sorted cmp new xs) → NeverFalls cmp (cond b (x ∷ insert_sorted cmp new xs) (new ∷ x ∷ xs))
       go true e more = (all-insert_sorted (AtMost x) new xs (ap is_gt (total.antisymm x new) ∙ turned (cmp new x) e) up.0, more)
       go false e more = ((e, above_head new x e xs up.0), up)

@@ -61,9 +61,10 @@ module _ (p : Drawing) (whole : IsWhole p) where
 
   pub least_repeats : (m : ℕ) → Ties nodes.cmp (key_of p) (count_of p) m → ((n : ℕ) → Ties nodes.cmp (key_of p) (count_of p) n → m ≤ n) → RepeatsAnEarlier p (place m) × ((k : ℕ) → RepeatsAnEarlier p k → place m ≤ k)
   least_repeats m tie least =
-      let i = tie.1.0 in
-      ((place i, places_rise Pno p i m tie.1.1 tie.0, alike_there i m (omega (arith, tie.0, tie.1.1)) tie.0 tie.1.2),
-      λ k d. let t = tying_member k d in behind t.0 t.1.0 k t.2 (least t.0 t.1) (cases_order m t.0))
+      let i = tie.1.0 in (
+        (place i, places_rise Pno p i m tie.1.1 tie.0, alike_there i m (omega (arith, tie.0, tie.1.1)) tie.0 tie.1.2),
+        λ k d. let t = tying_member k d in behind t.0 t.1.0 k t.2 (least t.0 t.1) (cases_order m t.0),
+      )
     where
       behind : (j : ℕ) → j < count_of p → (k : ℕ) → place j ≡ k → m ≤ j → (m ≡ j) ⊎ ((m < j) ⊎ (j < m)) → place m ≤ k
       behind j h k e le (inl same) = omega (arith, ap place same, e)

@@ -101,8 +101,8 @@ module _ {K : Type 0} (cmp : K → K → Ordering) (total : IsTotalOrder cmp) (k
       let k = (get_or xs j d).0 in
       let own : key (get_or xs j d).1 ≡ k = sym (each_member j d h).1 in
       let counted : sum_below n (λ i. less_than cmp k (key i)) ≡ j =
-          sym (sum_by-keyed key (less_than cmp k) n) ∙ (sym (sum_by-IsPermutation (λ (x : K × ℕ). less_than cmp k x.0) (keyed key n) xs same) ∙ (sum_by-below (λ (x : K × ℕ). less_than cmp k x.0) xs d
-          ∙ below_count (length xs) j (λ i. less_than cmp k (get_or xs i d).0) (λ i l. ap (λ (o : Ordering). cond {A = ℕ} (is_lt o) 1 0) (all_rise i j d l h)) (λ i l g. ap (λ (b : Bool). cond {A = ℕ} b 1 0) (not_less i j d l g)) (omega arith))) in
+      sym (sum_by-keyed key (less_than cmp k) n) ∙ (sym (sum_by-IsPermutation (λ (x : K × ℕ). less_than cmp k x.0) (keyed key n) xs same) ∙ (sum_by-below (λ (x : K × ℕ). less_than cmp k x.0) xs d
+      ∙ below_count (length xs) j (λ i. less_than cmp k (get_or xs i d).0) (λ i l. ap (λ (o : Ordering). cond {A = ℕ} (is_lt o) 1 0) (all_rise i j d l h)) (λ i l g. ap (λ (b : Bool). cond {A = ℕ} b 1 0) (not_less i j d l g)) (omega arith))) in
       subst (λ x. sum_below n (λ i. less_than cmp x (key i)) + 1 ≡ j + 1) (sym own) (ap (λ (s : ℕ). s + 1) counted)
 
   -- the place of a member
@@ -115,10 +115,13 @@ module _ {K : Type 0} (cmp : K → K → Ordering) (total : IsTotalOrder cmp) (k
     where
       x : (j : ℕ) × (j < length xs) × (get_or xs j (key i, i) ≡ (key i, i))
       x = place_of i (omega arith)
+
       y : (j : ℕ) × (j < length xs) × (get_or xs j (key k, k) ≡ (key k, k))
       y = place_of k h
+
       y-is : get_or xs y.0 (key i, i) ≡ (key k, k)
       y-is = get_or_default xs y.0 (key i, i) (key k, k) y.1 ∙ y.2
+
       go : (x.0 ≡ y.0) ⊎ ((x.0 < y.0) ⊎ (y.0 < x.0)) → ⊥
       go (inl same) = let f : i ≡ k = ap (λ (p : K × ℕ). p.1) (sym x.2 ∙ (ap (λ j. get_or xs j (key i, i)) same ∙ y-is)) in omega arith
       go (inr (inl less)) =

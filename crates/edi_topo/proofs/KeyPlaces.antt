@@ -13,8 +13,10 @@ places_more {K} pairs numbers index pair here read within apart long before i d 
   where
     is : (e : K × ℕ) → pair ≡ get_or pairs index e
     is e = get_or_read pairs index pair here read e
+
     fits : pair.1 < length numbers
     fits = subst (λ (x : K × ℕ). x.1 < length numbers) (sym (is d)) (omega (arith, within index d here))
+
     go : (i ≡ index) ⊎ (i ≡ index → ⊥) → get_or (set numbers pair.1 (index + 1)) (get_or pairs i d).1 0 ≡ i + 1
     go (inl e) = subst (λ k. get_or (set numbers pair.1 (index + 1)) (get_or pairs k d).1 0 ≡ k + 1) (sym e)
         (subst (λ (x : K × ℕ). get_or (set numbers pair.1 (index + 1)) x.1 0 ≡ index + 1) (is d) (get_or-set_same numbers pair.1 (index + 1) 0 fits))
@@ -44,7 +46,11 @@ module _ {K : Type 0} (cmp : K → K → Ordering) (pairs : List (K × ℕ)) (i 
       tied_last : (k : ℕ) (d : K × ℕ) → k + 1 ≡ i → cmp (get_or pairs k d).0 (get_or pairs (k + 1) d).0 ≡ Equal → cmp (get_or pairs (i - 1) d).0 (get_or pairs i d).0 ≡ Equal
       tied_last k d last e = let f : k ≡ i - 1 = omega arith in subst (λ j. cmp (get_or pairs (i - 1) d).0 (get_or pairs j d).0 ≡ Equal) last (subst (λ j. cmp (get_or pairs j d).0 (get_or pairs (k + 1) d).0 ≡ Equal) f e)
   untied_more (Some m) apart before = record {
-    place = before.place; within = before.within; seen = omega (arith, before.seen); repeats = before.repeats; is = before.is;
+    place = before.place;
+    within = before.within;
+    seen = omega (arith, before.seen);
+    repeats = before.repeats;
+    is = before.is;
     least = λ k d h e. ⊎_elim (λ less. before.least k d less e) (λ last. absurd (apart d (tied_last k d last e))) (cases_seen k h);
   }
     where
@@ -63,7 +69,10 @@ module _ {K : Type 0} (cmp : K → K → Ordering) (pairs : List (K × ℕ)) (i 
 
     new_least : (r : ℕ) → r ≡ member → ((k : ℕ) (d : K × ℕ) → k + 1 < i → cmp (get_or pairs k d).0 (get_or pairs (k + 1) d).0 ≡ Equal → r ≤ (get_or pairs (k + 1) d).1) → IsLeastRepeat cmp pairs (i + 1) r
     new_least r e below = record {
-      place = i - 1; within = subst (λ j. j < length pairs) (sym round) here; seen = omega arith; repeats = tied_here;
+      place = i - 1;
+      within = subst (λ j. j < length pairs) (sym round) here;
+      seen = omega arith;
+      repeats = tied_here;
       is = λ d. ap (λ j. (get_or pairs j d).1) round ∙ (is d ∙ sym e);
       least = λ k d h t. ⊎_elim (λ less. below k d less t) (λ last. omega (arith, member_last k d last)) (cases_seen k h);
     }
@@ -76,7 +85,11 @@ module _ {K : Type 0} (cmp : K → K → Ordering) (pairs : List (K × ℕ)) (i 
         go (inl less) =
             let same : m ≡ r = omega arith in
             record {
-              place = before.place; within = before.within; seen = omega (arith, before.seen); repeats = before.repeats; is = λ d. before.is d ∙ same;
+              place = before.place;
+              within = before.within;
+              seen = omega (arith, before.seen);
+              repeats = before.repeats;
+              is = λ d. before.is d ∙ same;
               least = λ k d h t. ⊎_elim (λ l. omega (arith, before.least k d l t)) (λ last. omega (arith, member_last k d last)) (cases_seen k h);
             }
         go (inr more) = new_least r (omega arith) (λ k d h t. omega (arith, before.least k d h t))
@@ -84,6 +97,10 @@ module _ {K : Type 0} (cmp : K → K → Ordering) (pairs : List (K × ℕ)) (i 
 pub at_the_end : {K : Type 0} (cmp : K → K → Ordering) (pairs : List (K × ℕ)) (i : ℕ) → length pairs ≤ i → (1 ≤ length pairs → i ≤ length pairs) → (least : Option ℕ) → IsLeastRepeatIfAny cmp pairs i least → IsLeastRepeatIfAny cmp pairs (length pairs) least
 at_the_end cmp pairs i past not_past None h = λ k d l. h k d (omega arith)
 at_the_end cmp pairs i past not_past (Some m) h = record {
-  place = h.place; within = h.within; seen = h.within; repeats = h.repeats; is = h.is;
+  place = h.place;
+  within = h.within;
+  seen = h.within;
+  repeats = h.repeats;
+  is = h.is;
   least = λ k d l. h.least k d (omega arith);
 }

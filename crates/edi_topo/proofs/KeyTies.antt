@@ -104,14 +104,19 @@ module _ {K : Type 0} (cmp : K → K → Ordering) (total : IsTotalOrder cmp) (k
       where
         x : (j : ℕ) × (j < length xs) × (at j ≡ (key t.0, t.0))
         x = place_of t.0 (omega (arith, t.1))
+
         y : (j : ℕ) × (j < length xs) × (at j ≡ (key i, i))
         y = place_of i h
+
         tie : cmp (at x.0).0 (at y.0).0 ≡ Equal
         tie = subst (λ (p : K × ℕ). cmp p.0 (at y.0).0 ≡ Equal) (sym x.2) (subst (λ (p : K × ℕ). cmp (key t.0) p.0 ≡ Equal) (sym y.2) t.2)
+
         member : (at y.0).1 ≡ i
         member = ap (λ (p : K × ℕ). p.1) y.2
+
         earlier_member : (at x.0).1 ≡ t.0
         earlier_member = ap (λ (p : K × ℕ). p.1) x.2
+
         go : (x.0 ≡ y.0) ⊎ ((x.0 < y.0) ⊎ (y.0 < x.0)) → ⊥
         go (inl e) = omega (arith, t.1, sym member ∙ (ap (λ j. (at j).1) (sym e) ∙ earlier_member))
         go (inr (inl less)) =

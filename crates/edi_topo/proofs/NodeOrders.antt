@@ -46,7 +46,7 @@ node_key_exact a b h =
 pub node_order : (a b : NodeKey) → nodes.cmp a b ≡ node_key_cmp a b
 node_order a b =
     λ i. ordering_then (point_cmp a.point b.point) (ordering_then (nat_cmp a.class b.class)
-        (ordering_then (slice_cmp (λ (x y : PlanAttribute). attribute_order x y i) a.attributes b.attributes) (slice_cmp (λ (x y : Extra). extra_order x y i) a.extras b.extras)))
+    (ordering_then (slice_cmp (λ (x y : PlanAttribute). attribute_order x y i) a.attributes b.attributes) (slice_cmp (λ (x y : Extra). extra_order x y i) a.extras b.extras)))
 
 one_point : (points : List Point) → may_have_points Pno (length points) ≡ true → points ≡ get_or points 0 no_point ∷ []
 one_point [] h = absurd (true≢false (sym h))

@@ -54,6 +54,7 @@ module _ {K : Type 0} (cmp : K → K → Ordering) (total : IsTotalOrder cmp) (k
         where
           back : (x : K) → cmp x (key m) ≡ cmp x (key n)
           back x = total.antisymm x (key m) ∙ (ap ordering_reverse (total.congr (key m) (key n) x e) ∙ sym (total.antisymm x (key n)))
+
       go : (o : Ordering) → cmp (key m) (key n) ≡ o → o ≡ Less
       go Less e = refl
       go Equal e = absurd (omega (arith, same e size))

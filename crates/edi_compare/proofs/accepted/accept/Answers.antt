@@ -18,7 +18,7 @@ pub returns-in_err-plan-clause-refusal : goal.returns-in_err-plan-clause-refusal
 returns-in_err-plan-clause-refusal c =
     let s = c.args.schema.now in let b = c.args.bytes.now in let f = c.in_err-plan.field-0.0 in
     err_kept _ (of_reference f) (IsRefusal s b) c.from_residual-in_err-plan.ensures.1
-        (reference_fault s b (c.in_ok-sheet.ensures.held s) c.in_ok-sheet.sheet c.in_ok-sheet.ensures.sheet f c.in_err-plan.ensures.least)
+    (reference_fault s b (c.in_ok-sheet.ensures.held s) c.in_ok-sheet.sheet c.in_ok-sheet.ensures.sheet f c.in_err-plan.ensures.least)
 
 pub check-requires : goal.check-requires
 check-requires c = plan_of_nodes c.args.schema.now c.in_ok-sheet.sheet c.in_ok-plan.plan c.in_ok-sheet.ensures.alone c.in_ok-plan.ensures.plan
@@ -28,8 +28,8 @@ returns-in_err-sound-clause-refusal c =
     let s = c.args.schema.now in let b = c.args.bytes.now in let f = c.in_err-sound.field-0.0 in
     let sheet = c.in_ok-sheet.sheet in
     err_kept _ (of_topology f) (IsRefusal s b) c.from_residual-in_err-sound.ensures.1
-        (topology_fault s b (references_held s b (c.in_ok-sheet.ensures.held s) sheet c.in_ok-sheet.ensures.sheet c.in_ok-plan.ensures.sound)
-            c.in_ok-plan.plan (sheet, c.in_ok-sheet.ensures.sheet, c.in_ok-plan.ensures.plan) f c.in_err-sound.ensures.least)
+    (topology_fault s b (references_held s b (c.in_ok-sheet.ensures.held s) sheet c.in_ok-sheet.ensures.sheet c.in_ok-plan.ensures.sound)
+    c.in_ok-plan.plan (sheet, c.in_ok-sheet.ensures.sheet, c.in_ok-plan.ensures.plan) f c.in_err-sound.ensures.least)
 
 pub returns-clause-plan : goal.returns-clause-plan
 returns-clause-plan c = subst (IsPlanOfFile c.args.schema.now c.args.bytes.now) (sym c.in_ok-sound.ensures.plan) (c.in_ok-sheet.sheet, c.in_ok-sheet.ensures.sheet, c.in_ok-plan.ensures.plan)
@@ -44,4 +44,4 @@ returns-clause-accepted c =
     let states : IsPlanOfFile s b plan = (sheet, c.in_ok-sheet.ensures.sheet, c.in_ok-plan.ensures.plan) in
     let references = references_held s b (c.in_ok-sheet.ensures.held s) sheet c.in_ok-sheet.ensures.sheet c.in_ok-plan.ensures.sound in
     all_held s b (topology_held s b references plan states c.in_ok-sound.ensures.sound) plan states
-        (plan_of_nodes s sheet plan c.in_ok-sheet.ensures.alone c.in_ok-plan.ensures.plan)
+    (plan_of_nodes s sheet plan c.in_ok-sheet.ensures.alone c.in_ok-plan.ensures.plan)

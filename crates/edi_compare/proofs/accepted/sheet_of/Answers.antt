@@ -17,7 +17,7 @@ pub returns-in_err-sheet-clause-refusal : goal.returns-in_err-sheet-clause-refus
 returns-in_err-sheet-clause-refusal c =
     let f = c.in_err-sheet.field-0.0 in
     err_kept _ (of_record f) (λ fault. (s : Classes) → IsRefusal s c.args.bytes.now fault) c.from_residual-in_err-sheet.ensures.1
-        (λ s. record_fault s c.args.bytes.now c.in_ok-zones.ensures.sound (entries c.deref.result.now) (subst (λ zs. IsZonesOf c.args.bytes.now (entries zs)) (sym c.deref.ensures.value) c.in_ok-zones.ensures.zones) f c.in_err-sheet.ensures.least)
+    (λ s. record_fault s c.args.bytes.now c.in_ok-zones.ensures.sound (entries c.deref.result.now) (subst (λ zs. IsZonesOf c.args.bytes.now (entries zs)) (sym c.deref.ensures.value) c.in_ok-zones.ensures.zones) f c.in_err-sheet.ensures.least)
 
 pub returns-clause-held : goal.returns-clause-held
 returns-clause-held c s = records_held s c.args.bytes.now c.in_ok-zones.ensures.sound (entries c.deref.result.now) (subst (λ zs. IsZonesOf c.args.bytes.now (entries zs)) (sym c.deref.ensures.value) c.in_ok-zones.ensures.zones) c.in_ok-sheet.ensures.sound

@@ -8,7 +8,7 @@ pub returns-in-Some-clause-refusal : goal.returns-in-Some-clause-refusal
 returns-in-Some-clause-refusal c s =
     let list = c.in_ok-sheet.sheet.list in
     kind_refusal s c.args.bytes.now 201 (c.in-Some.place + 1) (c.in_ok-sheet.ensures.held s) c.in_ok-sheet.sheet c.in_ok-sheet.ensures.sheet
-        (least_other list c.in-Some.place (sym (c.first_other.ensures ∙ ap (position is_other) c.as_slice.ensures) ∙ c.in-Some.is))
+    (least_other list c.in-Some.place (sym (c.first_other.ensures ∙ ap (position is_other) c.as_slice.ensures) ∙ c.in-Some.is))
 
 pub returns-in-None-clause-alone : goal.returns-in-None-clause-alone
 returns-in-None-clause-alone c = nodes_alone c.in_ok-sheet.sheet.list (sym (c.first_other.ensures ∙ ap (position is_other) c.as_slice.ensures) ∙ c.in-None.is)

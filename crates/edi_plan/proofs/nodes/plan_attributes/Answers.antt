@@ -7,4 +7,4 @@ use Rattle.edi_plan.proofs.nodes.plan_attributes.Goals as goal
 pub loop-attribute-preserved : goal.loop-attribute-preserved
 loop-attribute-preserved c =
     subst (AllZip (Resolves c.args.schema.now) (c.loop-attribute.yielded ++ c.in-Some.attribute ∷ [])) (sym c.in_ok-push-in-Some-plan_attribute.ensures.items)
-        (AllZip-push (Resolves c.args.schema.now) c.loop-attribute.yielded c.loop-attribute.done.items c.in-Some.attribute c.in-Some-plan_attribute.attribute c.loop-attribute.invariant c.in-Some-plan_attribute.ensures)
+    (AllZip-push (Resolves c.args.schema.now) c.loop-attribute.yielded c.loop-attribute.done.items c.in-Some.attribute c.in-Some-plan_attribute.attribute c.loop-attribute.invariant c.in-Some-plan_attribute.ensures)

@@ -12,8 +12,8 @@ returns-then-is_place-clause-err c =
     let next = subst (λ r. into_iter_steps c.loop-node.node-iterator r c.next.new.self) c.in-Some.is c.next.ensures.steps in
     let i = c.loop-node.invariant in
     subst (StopsIfBroken (StopsAtNode c.args.schema.now c.args.nodes c.args.repeat)) (sym c.broken.ensures)
-        (stops_here c.args.schema.now c.args.nodes c.args.repeat c.loop-node.yielded (into_iter_items c.loop-node.node-iterator) (into_iter_items c.next.new.self) c.in-Some.node c.loop-node.done.items c.loop-node.place
-            i.whole next.0 i.counted i.zipped i.no_earlier 301 (inl (refl, c.is_place.ensures.0 c.if-is_place.true)))
+    (stops_here c.args.schema.now c.args.nodes c.args.repeat c.loop-node.yielded (into_iter_items c.loop-node.node-iterator) (into_iter_items c.next.new.self) c.in-Some.node c.loop-node.done.items c.loop-node.place
+    i.whole next.0 i.counted i.zipped i.no_earlier 301 (inl (refl, c.is_place.ensures.0 c.if-is_place.true)))
 
 pub returns-in-Err-Broken-clause-err : goal.returns-in-Err-Broken-clause-err
 returns-in-Err-Broken-clause-err c =
@@ -22,7 +22,7 @@ returns-in-Err-Broken-clause-err c =
     let breaks = subst (IsUnresolved (BreaksAtNode c.args.schema.now c.in-Some.node)) c.in-Err-Broken.field-0-is c.in-Err-Broken.ensures.err in
     let elsewhere = λ (e : c.args.repeat ≡ Some c.loop-node.place). Rattle.std.proofs.Common.true≢false (sym (c.is_place.ensures.1 e) ∙ c.if-is_place.false) in
     let stops = stops_here c.args.schema.now c.args.nodes c.args.repeat c.loop-node.yielded (into_iter_items c.loop-node.node-iterator) (into_iter_items c.next.new.self) c.in-Some.node c.loop-node.done.items c.loop-node.place
-            i.whole next.0 i.counted i.zipped i.no_earlier c.in-Err-Broken.rule (inr (elsewhere, breaks)) in
+    i.whole next.0 i.counted i.zipped i.no_earlier c.in-Err-Broken.rule (inr (elsewhere, breaks)) in
     subst (StopsIfBroken (StopsAtNode c.args.schema.now c.args.nodes c.args.repeat)) (sym c.broken-in-Err-Broken.ensures) (rw c.in-Err-Broken.field-0-is stops)
 
 passed : (place k : ℕ) → (place ≡ k → ⊥) → place ≤ k → place + 1 ≤ k

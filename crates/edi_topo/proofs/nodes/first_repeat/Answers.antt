@@ -13,8 +13,8 @@ returns-in-Ok c = none_repeats c.args.plan.now c.keeps.ensures
 pub returns-in-Err-Tie : goal.returns-in-Err-Tie
 returns-in-Err-Tie c =
     let tie : IsTie nodes.cmp (key_of c.args.plan.now) (count_of c.args.plan.now) (Tie c.in-Err-Tie.member) =
-        subst (λ q. IsTie nodes.cmp (key_of q) (count_of q) (Tie c.in-Err-Tie.member)) c.in_ok-nodes.ensures
-            (subst (λ f. IsTie nodes.cmp (key_of c.in_ok-nodes.nodes) (count_of c.in_ok-nodes.nodes) f) c.in-Err-Tie.field-0-is c.in-Err-Tie.ensures.tie) in
+    subst (λ q. IsTie nodes.cmp (key_of q) (count_of q) (Tie c.in-Err-Tie.member)) c.in_ok-nodes.ensures
+    (subst (λ f. IsTie nodes.cmp (key_of c.in_ok-nodes.nodes) (count_of c.in_ok-nodes.nodes) f) c.in-Err-Tie.field-0-is c.in-Err-Tie.ensures.tie) in
     let place = subst (λ q. c.place.result ≡ Rattle.std.proofs.Common.get_or (Rattle.edi_plan.specs.Places.places_of Rattle.edi_record.specs.declared.record.Kind.TheVariants.Pno q) c.in-Err-Tie.member 0) c.in_ok-nodes.ensures c.place.ensures in
     subst (λ n. RepeatsAnEarlier c.args.plan.now n × ((k : ℕ) → RepeatsAnEarlier c.args.plan.now k → n ≤ k)) (sym place)
-        (least_repeats c.args.plan.now c.keeps.ensures c.in-Err-Tie.member tie.0 tie.1)
+    (least_repeats c.args.plan.now c.keeps.ensures c.in-Err-Tie.member tie.0 tie.1)

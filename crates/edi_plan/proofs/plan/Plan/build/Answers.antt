@@ -22,14 +22,17 @@ plan_nodes-requires-clause-endless c = endless c.args.sheet.list c.requires c.ar
 pub returns-in_err-records-clause-least : goal.returns-in_err-records-clause-least
 returns-in_err-records-clause-least c =
     err_kept _ c.in_err-records.field-0.0 (IsReferenceRefusal (BreaksReferenceRule c.args.schema.now c.args.sheet.list)) c.from_residual-in_err-records.ensures.1
-        (refusal_of c.args.schema.now c.args.sheet.list c.requires (endless c.args.sheet.list c.requires c.args.sheet.in_shape) c.in_ok-repeat.repeat
-            (subst (λ list. IsFirstRepeatIfAny list c.in_ok-repeat.repeat) c.as_slice.ensures c.in_ok-repeat.ensures) c.in_err-records.field-0.0 c.in_err-records.ensures.err)
+    (refusal_of c.args.schema.now c.args.sheet.list c.requires (endless c.args.sheet.list c.requires c.args.sheet.in_shape) c.in_ok-repeat.repeat
+    (subst (λ list. IsFirstRepeatIfAny list c.in_ok-repeat.repeat) c.as_slice.ensures c.in_ok-repeat.ensures) c.in_err-records.field-0.0 c.in_err-records.ensures.err)
 
 pub returns-clause-plan : goal.returns-clause-plan
 returns-clause-plan c =
     let ends = endless c.args.sheet.list c.requires c.args.sheet.in_shape in
-    record { set = refl; each = subst (AllZip (StatesPlanRecord c.args.schema.now c.args.sheet.list) c.args.sheet.list) (sym c.from_vec.ensures)
-        (planned c.args.schema.now c.args.sheet.list c.args.sheet.list c.in_ok-records.records.items ends c.in_ok-records.ensures.ok.0) }
+    record {
+      set = refl;
+      each = subst (AllZip (StatesPlanRecord c.args.schema.now c.args.sheet.list) c.args.sheet.list) (sym c.from_vec.ensures)
+          (planned c.args.schema.now c.args.sheet.list c.args.sheet.list c.in_ok-records.records.items ends c.in_ok-records.ensures.ok.0);
+    }
 
 pub returns-clause-sound : goal.returns-clause-sound
 returns-clause-sound c = none_broken c.args.schema.now c.args.sheet.list c.requires (endless c.args.sheet.list c.requires c.args.sheet.in_shape) c.in_ok-records.records.items c.in_ok-records.ensures.ok.0
