@@ -1,5 +1,5 @@
 -- Attributes in order agree with a schema where the attributes do.
-use Rattle.std.proofs.Common.{List, IsPermutation}
+use Rattle.std.proofs.Common.{List}
 use Rattle.std.specs.List.{AllByRecursion}
 use Rattle.std.proofs.lemmas.List.Elements.{recursion_from_All, All-from_recursion}
 use Rattle.std.proofs.lemmas.List.Sorted.{All-permutation, IsPermutation-sym}

@@ -4,7 +4,7 @@ use Rattle.std.specs.Prelude.{flat_map}
 use Rattle.std.proofs.lemmas.Bool.{le-leb, lt-leb, cases_lt}
 use Rattle.std.proofs.lemmas.List.{append-nil, length-drop}
 use Rattle.edi_line.specs.Entry.{Entry}
-use Rattle.edi_line.specs.Printing.{line_text, next_zone, broken_into, printed_zone, with_value, zone_text}
+use Rattle.edi_line.specs.Printing.{line_text, next_zone, broken_into, printed_zone, with_value}
 
 -- enough turns are as good as more
 same_lines : (t u : ℕ) (z : Entry) → length z.value ≤ t → length z.value ≤ u → broken_into t z ≡ broken_into u z

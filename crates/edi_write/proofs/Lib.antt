@@ -3,3 +3,5 @@ pub mod Breaking
 pub mod Agreed
 pub mod WrittenNodes
 pub mod WrittenRecords
+pub mod WrittenPrinted
+pub mod ArrangedNodes

@@ -1,5 +1,5 @@
 -- The zones of an arranged plan of nodes alone.
-use Rattle.std.proofs.Common.{append_assoc, ◌≡◌, ℕ, zero, suc, ◌+◌, ◌-◌, ◌<◌, ◌≤◌, Bool, true, false, cond, ◌&&◌, not, ap₂, List, [], ◌∷◌, ◌++◌, length, map, take, drop, get_or, count_by, append-nil, Option, Some, None, refl, sym, ap, ◌∙◌, subst, arith, eqb-true}
+use Rattle.std.proofs.Common.{append_assoc, ◌≡◌, ℕ, suc, ◌+◌, ◌<◌, Bool, true, false, cond, ◌&&◌, not, ap₂, List, [], ◌∷◌, ◌++◌, length, map, take, count_by, append-nil, Some, refl, sym, ap, ◌∙◌, subst, arith, eqb-true}
 use Rattle.std.specs.List.{AllByRecursion, list_any, slice_get}
 use Rattle.std.specs.Prelude.{option_to_list}
 use Rattle.std.proofs.lemmas.Grind.{flat_map-append}
@@ -24,8 +24,13 @@ use Rattle.edi_topo.proofs.NodesAlone.{all_at}
 use Rattle.edi_rank.specs.Arranged.{arranged, arranged_record, old_places}
 use Rattle.edi_rank.specs.Labelling.{Labelling, AreLabels, order_of, turned_at}
 use Rattle.edi_rank.specs.Same.{class_after, directed}
-use Rattle.edi_write.specs.Layout.{record_zones, zones_from, number_in, body_zones, tail_zones, identifier, name_of, layout, sheet_zones}
+use Rattle.edi_write.specs.Layout.{record_zones, zones_from, number_in, body_zones, tail_zones, identifier, name_of, layout}
 use Rattle.edi_write.specs.Nodes.{node_zones, nodes_from}
+use Rattle.edi_write.specs.Written.{IsRearranged, Rearranges}
+use Rattle.edi_plan.specs.Orders.{attribute_cmp}
+use Rattle.edi_plan.proofs.Orders.{attribute_total}
+use Rattle.edi_schema.proofs.SortedLists.{IsPermutation-sort_by}
+use Rattle.std.proofs.lemmas.List.Sorted.{IsPermutation-sym}
 
 -- a list without elements
 none_in : {X : Type 0} (xs : List X) → ((i : ℕ) (x : X) → slice_get xs i ≡ Some x → ⊥) → xs ≡ []
@@ -39,7 +44,7 @@ all_counted kind (r ∷ rs) all is =
     count_by-cons (λ r. same_kind kind r.kind) r rs ∙ (ap (λ b. cond b 1 0 + count_by (λ r. same_kind kind r.kind) rs) here ∙ (let more = all_counted kind rs all.1 is in omega (arith, more)))
 
 module _ (s : Classes) (p : Drawing) (l : Labelling) (whole : IsWhole p) (alone : HasNodesAlone p) (labels : AreLabels s p l) where
-  node_at : (i : ℕ) → IsPlace p i → (record_at p i).kind ≡ Pno
+  pub node_at : (i : ℕ) → IsPlace p i → (record_at p i).kind ≡ Pno
   node_at i h = all_at (λ r. r.kind ≡ Pno) p.list i blank h alone
 
   no_other : (kind : Kind) → (kind ≡ Pno → ⊥) → order_of l kind ≡ []
@@ -52,7 +57,7 @@ module _ (s : Classes) (p : Drawing) (l : Labelling) (whole : IsWhole p) (alone 
       other n e is = let f = ap kind_rank is in omega (arith, e, f)
 
   -- what is written of the record at a place
-  class_stays : (k : ℕ) → IsPlace p k → class_after (partner_of s) (turned_at l.turned) (record_at p k) ≡ (record_at p k).class
+  pub class_stays : (k : ℕ) → IsPlace p k → class_after (partner_of s) (turned_at l.turned) (record_at p k) ≡ (record_at p k).class
   class_stays k h = go (record_at p k).ends (subst (λ kind. may_have_ends kind (length (record_at p k).ends) ≡ true) (node_at k h) (whole.ends k h)) (is_plain (record_at p k).role)
     where
       go : (xs : List PlanEnd) → may_have_ends Pno (length xs) ≡ true → (b : Bool) → cond b (record_at p k).class (cond (list_any (λ (x : PlanEnd). turned_at l.turned x.target) xs) (partner_of s (record_at p k).class) (record_at p k).class) ≡ (record_at p k).class
@@ -60,7 +65,7 @@ module _ (s : Classes) (p : Drawing) (l : Labelling) (whole : IsWhole p) (alone 
       go [] none false = refl
       go (x ∷ xs) none b = let e : suc (length xs) ≡ 0 = eqb-true _ _ none in absurd (omega (arith, e))
 
-  points_stay : (k : ℕ) → IsPlace p k → directed (turned_at l.turned k) (record_at p k).points ≡ (record_at p k).points
+  pub points_stay : (k : ℕ) → IsPlace p k → directed (turned_at l.turned k) (record_at p k).points ≡ (record_at p k).points
   points_stay k h = ap (λ t. directed t (record_at p k).points) (labels.turned k h ∙ ap (λ kind. is_arc kind && not (Rattle.edi_rank.specs.Turned.is_forward (record_at p k).points)) (node_at k h))
 
   written : (q : Drawing) (number k : ℕ) → IsPlace p k → record_zones s q number (arranged_record s l p k) ≡ node_zones s number (record_at p k)
@@ -88,14 +93,14 @@ module _ (s : Classes) (p : Drawing) (l : Labelling) (whole : IsWhole p) (alone 
   pub places_there : AllByRecursion (λ k. IsPlace p k × ((record_at p k).kind ≡ Pno)) l.nodes
   places_there = ordered_there l.nodes (λ i k e. let d = labels.orders Pno i k e in (d.0, d.1))
 
-  firsts : (A B : ℕ → Type 0) (ks : List ℕ) → AllByRecursion (λ k. A k × B k) ks → AllByRecursion A ks
+  pub firsts : (A B : ℕ → Type 0) (ks : List ℕ) → AllByRecursion (λ k. A k × B k) ks → AllByRecursion A ks
   firsts A B [] all = tt
   firsts A B (k ∷ ks) all = (all.0.0, firsts A B ks all.1)
 
   abbrev after : Drawing
   after = arranged s l p
 
-  after_nodes : after.list ≡ map (arranged_record s l p) l.nodes
+  pub after_nodes : after.list ≡ map (arranged_record s l p) l.nodes
   after_nodes = ap (map (arranged_record s l p)) nodes_alone
 
   mapped_nodes : (ks : List ℕ) → AllByRecursion (λ k. IsPlace p k × ((record_at p k).kind ≡ Pno)) ks → AllByRecursion (λ r. r.kind ≡ Pno) (map (arranged_record s l p) ks)
@@ -105,7 +110,7 @@ module _ (s : Classes) (p : Drawing) (l : Labelling) (whole : IsWhole p) (alone 
   pub after_alone : HasNodesAlone after
   after_alone = subst (AllByRecursion (λ r. r.kind ≡ Pno)) (sym after_nodes) (mapped_nodes l.nodes places_there)
 
-  after_long : length after.list ≡ length l.nodes
+  pub after_long : length after.list ≡ length l.nodes
   after_long = ap length after_nodes ∙ length-map l.nodes (arranged_record s l p)
 
   numbers : (j : ℕ) → j < length l.nodes → number_in s after (0 + j) ≡ (0 + 1) + j
@@ -124,6 +129,27 @@ module _ (s : Classes) (p : Drawing) (l : Labelling) (whole : IsWhole p) (alone 
   unfolding layout
   laid_out = ap (λ zs. printed (begin_zone ∷ (map cse_zone (option_to_list p.cse) ++ (zs ++ end_zone ∷ []))))
       (ap (zones_from s after 0) after_nodes ∙ written_from after 0 l.nodes (firsts (IsPlace p) (λ k. (record_at p k).kind ≡ Pno) l.nodes places_there) numbers)
+
+  -- the records of the arranged plan are those of the plan
+  rearranged : (k : ℕ) → IsPlace p k → IsRearranged (record_at p k) (arranged_record s l p k)
+  rearranged k h = record {
+    kind = refl;
+    class = class_stays k h;
+    points = points_stay k h;
+    attributes = IsPermutation-sym _ _ (IsPermutation-sort_by attribute_cmp attribute_total (record_at p k).attributes);
+    extras = refl;
+  }
+
+  rearranged_each : (ks : List ℕ) → AllByRecursion (IsPlace p) ks → AllByRecursion (λ y. (k : ℕ) × IsPlace p k × IsRearranged (record_at p k) y) (map (arranged_record s l p) ks)
+  rearranged_each [] all = tt
+  rearranged_each (k ∷ ks) all = ((k, all.0, rearranged k all.0), rearranged_each ks all.1)
+
+  pub after_rearranges : Rearranges p after
+  after_rearranges = record {
+    cse = refl;
+    each = subst (AllByRecursion (λ y. (k : ℕ) × IsPlace p k × IsRearranged (record_at p k) y)) (sym after_nodes)
+        (rearranged_each l.nodes (firsts (IsPlace p) (λ k. (record_at p k).kind ≡ Pno) l.nodes places_there));
+  }
 
 -- the parts that were written one behind the other
 pub joined_parts : (begin : List Entry) (middle : List Entry) (end : Entry) (a b c d : List ℕ) → a ≡ [] → b ≡ a ++ printed begin → c ≡ b ++ printed middle → d ≡ c ++ printed_zone end → d ≡ printed (begin ++ (middle ++ end ∷ []))

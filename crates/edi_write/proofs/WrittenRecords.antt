@@ -7,8 +7,7 @@ use Rattle.std.proofs.lemmas.Bool.{lt-ltb}
 use Rattle.std.proofs.lemmas.Fmt.{decimal_injective}
 use Rattle.std.proofs.lemmas.List.{length-map, length-take}
 use Rattle.std.proofs.lemmas.List.Elements.{recursion_from_All, All-from_recursion, All-take}
-use Rattle.std.proofs.lemmas.Option.{same_Some, none-some, slice_get_within, slice_get-get_or}
-use Rattle.edi_line.specs.Entry.{Entry}
+use Rattle.std.proofs.lemmas.Option.{same_Some, none-some, slice_get-get_or}
 use Rattle.edi_line.specs.Number.{number}
 use Rattle.edi_line.specs.Printing.{zone_text, printed}
 use Rattle.edi_line.specs.Refusal.{IsUnbroken}
@@ -20,14 +19,13 @@ use Rattle.edi_record.specs.Records.{value_of}
 use Rattle.edi_record.specs.Shapes.{may_have_ends, kind_code}
 use Rattle.edi_record.specs.declared.name.Name.{Name}
 use Rattle.edi_record.specs.declared.record.Kind.{Kind}
-use Rattle.edi_record.specs.declared.record.Kind.TheVariants.{Pno, Par, Pfe, Fea, Lnk}
-use Rattle.edi_record.specs.declared.record.Attribute.{Attribute}
+use Rattle.edi_record.specs.declared.record.Kind.TheVariants.{Pno}
 use Rattle.edi_record.specs.declared.record.Record.{Record}
 use Rattle.edi_record.specs.declared.record.Value.{Value}
 use Rattle.edi_record.specs.declared.record.Value.TheVariants.{Number, Bytes}
 use Rattle.edi_record.specs.declared.sheet.Sheet.{Sheet}
 use Rattle.edi_record.proofs.Stated.{own_again}
-use Rattle.edi_schema.specs.Classes.{Classes, IsSchema, is_name, name_cmp, name_at, place_of, class_at, class_named, is_number_of, is_number_named, letter_named, role_named, role_of}
+use Rattle.edi_schema.specs.Classes.{Classes, IsSchema, is_name, name_cmp, place_of, is_number_of}
 use Rattle.edi_schema.specs.Sorted.{AlwaysRises}
 use Rattle.edi_schema.specs.declared.class.Class.{Class}
 use Rattle.edi_schema.proofs.Names.{name_itself, other_name, same_name}
@@ -36,7 +34,7 @@ use Rattle.edi_plan.specs.Agreeing.{AttributeAgrees, RecordAgrees, Agrees}
 use Rattle.edi_plan.specs.Interim.{HasNodesAlone}
 use Rattle.edi_plan.specs.Nodes.{Resolves, ResolvesNode}
 use Rattle.edi_plan.specs.PlanOf.{IsPlanOf, StatesPlanAttribute, StatesPlanEnd, StatesPlanRecord, own_name}
-use Rattle.edi_plan.specs.Plans.{Drawing, IsPlace, record_at, blank, same_kind}
+use Rattle.edi_plan.specs.Plans.{Drawing, record_at, blank}
 use Rattle.edi_plan.specs.ReferenceRules.{BreaksReferenceRule}
 use Rattle.edi_plan.specs.Repeats.{AreNamedApart}
 use Rattle.edi_plan.specs.Whole.{IsWhole}
@@ -47,7 +45,7 @@ use Rattle.edi_plan.proofs.Built.{named_at}
 use Rattle.edi_plan.proofs.NodesBuilt.{none_broken}
 use Rattle.edi_plan.proofs.Resolved.{role_there}
 use Rattle.edi_topo.proofs.NodesAlone as nodes
-use Rattle.edi_write.specs.Layout.{record_zones, attribute_zones, body_zones, zones_from, number_in, letter_of, name_of, no_name, identifier, layout, sheet_zones}
+use Rattle.edi_write.specs.Layout.{record_zones, attribute_zones, body_zones, zones_from, number_in, letter_of, name_of, no_name, identifier, layout}
 use Rattle.edi_write.specs.Written.{letters, written_attribute, written_record, written_from, written_records, HasAttributeClasses}
 use Rattle.edi_write.proofs.WrittenNodes.{all_counted}
 
@@ -159,7 +157,7 @@ states_attributes s keeps [] agree = tt
 states_attributes s keeps (a ∷ xs) agree = (states_attribute s keeps a agree.0, states_attributes s keeps xs agree.1)
 
 -- a node without ends that agrees with the schema
-abbrev IsEndless : PlanRecord → Type 0
+abbrev pub IsEndless : PlanRecord → Type 0
 IsEndless r = (r.kind ≡ Pno) × (r.ends ≡ [])
 
 states_record : (s : Classes) → IsSchema s → (list : List Record) (number : ℕ) (r : PlanRecord) → RecordAgrees s r → r.ends ≡ [] → StatesPlanRecord s list (settled_record (letters s) (written_record s number r)) r

@@ -1,9 +1,9 @@
 -- Known files against the layout.
-use Rattle.std.specs.Prelude.{◌≡◌, ℕ, pos, negsuc, Bool, false, true, List, [], ◌∷◌, ◌++◌, Some, None, codes, refl, flat_map, Option}
+use Rattle.std.specs.Prelude.{◌≡◌, ℕ, pos, false, List, [], ◌∷◌, ◌++◌, Some, None, codes, refl, flat_map}
 use Rattle.std.specs.Fmt.{digits}
 use Rattle.edi_record.specs.declared.name.Name.{Name}
 use Rattle.edi_record.specs.declared.record.Kind.{Kind}
-use Rattle.edi_record.specs.declared.record.Kind.TheVariants.{Pno, Par, Pfe, Fea, Lnk}
+use Rattle.edi_record.specs.declared.record.Kind.TheVariants.{Pno, Par, Lnk}
 use Rattle.edi_record.specs.declared.record.Point.{Point}
 use Rattle.edi_schema.specs.declared.role.Role.{Role}
 use Rattle.edi_schema.specs.declared.role.Role.TheVariants.{Plain, Initial, Final, Left, Right}
@@ -11,7 +11,6 @@ use Rattle.edi_schema.specs.declared.class.Class.{Class}
 use Rattle.edi_schema.specs.Classes.{Classes}
 use Rattle.edi_plan.specs.Plans.{Drawing}
 use Rattle.edi_plan.specs.declared.record.PlanRecord.{PlanRecord}
-use Rattle.edi_plan.specs.declared.record.PlanEnd.{PlanEnd}
 use Rattle.edi_line.specs.Number.{fraction_digits, size_text, whole_number, fraction_number, number}
 use Rattle.edi_line.specs.Printing.{printed_zone, broken_into, content_text, line_text, next_zone}
 use Rattle.edi_record.specs.Texts.{pointer_text, point_text}

@@ -1,11 +1,12 @@
 -- The records that are written of a plan of nodes alone.
-use Rattle.std.specs.Prelude.{◌≡◌, ℕ, ◌+◌, false, List, [], ◌∷◌, map, unwrap_or, codes}
+use Rattle.std.specs.Prelude.{◌≡◌, ℕ, ◌+◌, false, List, [], ◌∷◌, map, unwrap_or, codes, Option, IfSome, IsPermutation}
 use Rattle.std.specs.List.{AllByRecursion}
-use Rattle.edi_record.specs.Layout.{Letters, value_text}
+use Rattle.edi_line.specs.Printing.{IsOneLine}
+use Rattle.edi_record.specs.Layout.{Letters, value_text, IsRecord, IsLineRecord, KeepsRules}
 use Rattle.edi_record.specs.declared.record.Record.{Record}
 use Rattle.edi_record.specs.declared.record.Attribute.{Attribute}
 use Rattle.edi_schema.specs.Classes.{Classes, letter_named, is_number_named}
-use Rattle.edi_plan.specs.Plans.{Drawing}
+use Rattle.edi_plan.specs.Plans.{Drawing, IsPlace, record_at}
 use Rattle.edi_plan.specs.declared.record.PlanRecord.{PlanRecord}
 use Rattle.edi_plan.specs.declared.record.PlanAttribute.{PlanAttribute}
 use Rattle.edi_write.specs.Layout.{name_of, identifier}
@@ -42,3 +43,23 @@ written_records s p = written_from s 1 p.list
 -- each attribute's class is of type ATT
 abbrev pub HasAttributeClasses : Classes → Drawing → Type 0
 HasAttributeClasses s p = AllByRecursion (λ r. AllByRecursion (λ a. (name_of s a.atp).rty ≡ codes "ATT") r.attributes) p.list
+
+-- the record with its attributes in some order
+pub record IsRearranged (x y : PlanRecord) : Type 0 where
+  pub kind : y.kind ≡ x.kind
+  pub class : y.class ≡ x.class
+  pub points : y.points ≡ x.points
+  pub attributes : IsPermutation x.attributes y.attributes
+  pub extras : y.extras ≡ x.extras
+
+-- each record of the plan q is one of the plan p, with its attributes in some order
+pub record Rearranges (p q : Drawing) : Type 0 where
+  pub cse : q.cse ≡ p.cse
+  pub each : AllByRecursion (λ y. (k : ℕ) × IsPlace p k × IsRearranged (record_at p k) y) q.list
+
+-- what records and their character set need to be printed and read again
+pub record CanBePrinted (cse : Option (List ℕ)) (rs : List Record) : Type 0 where
+  pub set : IfSome cse IsOneLine
+  pub records : AllByRecursion IsRecord rs
+  pub lines : AllByRecursion IsLineRecord rs
+  pub rules : AllByRecursion KeepsRules rs

@@ -1,103 +1,137 @@
 //! The table of outcomes, and the words of a command.
+ghost use Rattle.edicad.specs.Outcome.{HasNames};
+
 use crate::command::answered;
 use crate::outcome::{Outcome, line_of, status_of};
 use crate::words::asked;
-use edi_compare::{Fault, RunFault};
-use edi_schema::{SchemaFault, Source};
+use edi_compare::{Fault, RunFault, run_bundle};
+use edi_line::{FromRead, ToWrite};
+use edi_schema::{Kinds, SchemaFault, Source};
 use edi_write::Written;
 use std::alloc::AllocError;
 use std::fs;
+use std::process::Abort;
 use std::test::Fail;
 
-const NAMES: [&[u8]; 5] = [b"s", b"d", b"a", b"b", b"standard output"];
+// The file of classes of a schema.
+const CLASSES: &[u8] = b"\
+    BOMT 12:EDAB01SE.SCD\n\
+    CSET 03:IRV\n\
+    RTYSA03:PGE\n\
+    RIDSA06:NOD_id\n\
+    RTYSA03:PGE\n\
+    RIDSA06:ARC_id\n\
+    RTYSA03:PGE\n\
+    RIDSA06:FAC_id\n\
+    RTYSA03:OBJ\n\
+    RIDSA11:PARCELLE_id\n\
+    RTYSA03:ATT\n\
+    RIDSA06:SUP_id\n\
+    DIPCP22:EDAB01;SeDIC;DIA;SUP_n\n\
+    RTYSA03:ATT\n\
+    RIDSA06:NOM_id\n\
+    DIPCP22:EDAB01;SeDIC;DIA;NOM_n\n\
+    RTYSA03:REL\n\
+    RIDSA06:INI_id\n\
+    KNDSA03:IND\n\
+    RTYSA03:REL\n\
+    RIDSA06:FIN_id\n\
+    KNDSA03:FND\n\
+    RTYSA03:REL\n\
+    RIDSA06:GCH_id\n\
+    KNDSA03:LPO\n\
+    RTYSA03:REL\n\
+    RIDSA06:DRT_id\n\
+    KNDSA03:RPO\n\
+    RTYSA03:REL\n\
+    RIDSA06:CMP_id\n\
+    KNDSA03:ICO\n\
+    EOMT 00:\n\
+";
 
-// Each outcome of a run, with its line and its status.
-#[test]
-fn tells_each_outcome(rt: HostRuntime) -> Result<(), Fail> {
-    let rows: [(Outcome, &[u8], u8); 14] = [
-        (Outcome::Accepted, b"accepted\n", 0),
-        (Outcome::Same, b"same\n", 0),
-        (Outcome::Different(60), b"different at line 60\n", 1),
-        (
-            Outcome::Fault(RunFault::First(Fault::Line { rule: 106, at: 7 })),
-            b"refused first 106 line 7\n",
-            2,
-        ),
-        (
-            Outcome::Fault(RunFault::First(Fault::Entry { rule: 403, at: 7 })),
-            b"refused first 403 record 7\n",
-            2,
-        ),
-        (
-            Outcome::Fault(RunFault::Second(Fault::Entry { rule: 305, at: 8 })),
-            b"refused second 305 record 8\n",
-            2,
-        ),
-        (
-            Outcome::Fault(RunFault::Schema(SchemaFault::Line {
-                file: Source::Scd,
-                rule: 106,
-                at: 1,
-            })),
-            b"refused scd 106 line 1\n",
-            2,
-        ),
-        (
-            Outcome::Fault(RunFault::Schema(SchemaFault::Entry {
-                file: Source::Dic,
-                rule: 602,
-                at: 2,
-            })),
-            b"refused dic 602 record 2\n",
-            2,
-        ),
-        (
-            Outcome::Fault(RunFault::Schema(SchemaFault::Kinds)),
-            b"refused kinds 604\n",
-            2,
-        ),
-        (
-            Outcome::Fault(RunFault::Read { input: 4 }),
-            b"cannot read b\n",
-            4,
-        ),
-        (
-            Outcome::Fault(RunFault::TooLong { input: 1 }),
-            b"too long s\n",
-            4,
-        ),
-        (
-            Outcome::Fault(RunFault::Write(Written { count: 5 })),
-            b"cannot write standard output\n",
-            4,
-        ),
-        (
-            Outcome::Fault(RunFault::Memory(AllocError)),
-            b"out of memory\n",
-            5,
-        ),
-        (
-            Outcome::Fault(RunFault::Second(Fault::Line { rule: 102, at: 4 })),
-            b"refused second 102 line 4\n",
-            2,
-        ),
-    ];
-    for (outcome, line, status) in rows.iter() {
-        assert_eq!(rt; line_of(rt.alloc(), outcome, &NAMES)?.as_slice(), *line);
-        assert_eq!(rt; status_of(outcome), *status);
-    }
+// The line and the status of an outcome.
+fn is_told<R: Abort + AllocGlobal>(
+    rt: &R,
+    outcome: &Outcome,
+    names: &[&[u8]],
+    line: &[u8],
+    status: u8,
+) -> Result<(), Fail>
+    requires { HasNames outcome.now names.now }
+{
+    assert_eq!(rt; line_of(rt.alloc(), outcome, names)?.as_slice(), line);
+    assert_eq!(rt; status_of(outcome), status);
     Ok(())
 }
 
-// With two or four names there is no first sheet.
 #[test]
-fn one_sheet_is_no_first(rt: HostRuntime) -> Result<(), Fail> {
-    let outcome = Outcome::Fault(RunFault::First(Fault::Line { rule: 106, at: 7 }));
-    for count in [2, 4] {
-        let line = line_of(rt.alloc(), &outcome, &NAMES[..count])?;
-        assert_eq!(rt; line.as_slice(), b"refused 106 line 7\n".as_slice());
+fn tells_answers(rt: HostRuntime) -> Result<(), Fail> {
+    let names: [&[u8]; 5] = [b"s", b"d", b"a", b"b", b"standard output"];
+    is_told(&rt, &Outcome::Accepted, &names, b"accepted\n", 0)?;
+    is_told(&rt, &Outcome::Same, &names, b"same\n", 0)?;
+    is_told(
+        &rt,
+        &Outcome::Different(60),
+        &names,
+        b"different at line 60\n",
+        1,
+    )
+}
+
+#[test]
+fn tells_refusals(rt: HostRuntime) -> Result<(), Fail> {
+    let names: [&[u8]; 5] = [b"s", b"d", b"a", b"b", b"standard output"];
+    let first = Outcome::Fault(RunFault::First(Fault::Entry { rule: 403, at: 7 }));
+    is_told(&rt, &first, &names, b"refused first 403 record 7\n", 2)?;
+    is_told(&rt, &first, &names[..4], b"refused 403 record 7\n", 2)?;
+    is_told(&rt, &first, &names[..2], b"refused 403 record 7\n", 2)?;
+    let second = Outcome::Fault(RunFault::Second(Fault::Line { rule: 106, at: 1 }));
+    is_told(&rt, &second, &names, b"refused second 106 line 1\n", 2)?;
+    let (file, rule, at) = (Source::Scd, 602, 2);
+    let schema = Outcome::Fault(RunFault::Schema(SchemaFault::Entry { file, rule, at }));
+    is_told(&rt, &schema, &names, b"refused scd 602 record 2\n", 2)?;
+    let kinds = Outcome::Fault(RunFault::Schema(SchemaFault::Kinds));
+    is_told(&rt, &kinds, &names, b"refused kinds 604\n", 2)
+}
+
+#[test]
+fn tells_failures(rt: HostRuntime) -> Result<(), Fail> {
+    let names: [&[u8]; 5] = [b"s", b"d", b"a", b"b", b"standard output"];
+    let unread = Outcome::Fault(RunFault::Read { input: 4 });
+    is_told(&rt, &unread, &names, b"cannot read b\n", 4)?;
+    let too_long = Outcome::Fault(RunFault::TooLong { input: 1 });
+    is_told(&rt, &too_long, &names, b"too long s\n", 4)?;
+    let unwritten = Outcome::Fault(RunFault::Write(Written { count: 5 }));
+    is_told(
+        &rt,
+        &unwritten,
+        &names,
+        b"cannot write standard output\n",
+        4,
+    )?;
+    let memory = Outcome::Fault(RunFault::Memory(AllocError));
+    is_told(&rt, &memory, &names, b"out of memory\n", 5)
+}
+
+// A bundle that ends after its first file has an empty dictionary, and nothing goes out.
+#[test]
+fn tells_the_dictionary_that_is_missing(rt: HostRuntime) -> Result<(), Fail> {
+    let names: [&[u8]; 2] = [b"standard input", b"standard output"];
+    let mut taken = Vec::new(rt.alloc());
+    let mut writer = ToWrite::new(&mut taken);
+    let run = run_bundle(
+        rt.alloc(),
+        &Kinds::usual(),
+        &mut FromRead::new(CLASSES),
+        &mut writer,
+    );
+    match run {
+        Ok(()) => is_told(&rt, &Outcome::Accepted, &names, b"", 2),
+        Err(fault) => {
+            let outcome = Outcome::Fault(fault);
+            is_told(&rt, &outcome, &names, b"refused dic 106 line 1\n", 2)
+        }
     }
-    Ok(())
 }
 
 // The words of a command line, with the program's name.

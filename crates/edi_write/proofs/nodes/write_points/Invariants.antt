@@ -1,5 +1,4 @@
 use Rattle.std.proofs.Common.{◌≡◌, ◌++◌, map, take}
-use Rattle.std.specs.Prelude.{flat_map}
 use Rattle.edi_line.specs.Printing.{printed}
 use Rattle.edi_record.specs.Layout.{point_zone}
 use Rattle.edi_write.proofs.nodes.write_points.Given as goal

@@ -1,4 +1,4 @@
-use Rattle.std.proofs.Common.{rules, ◌≡◌, ◌++◌, append_assoc, arith}
+use Rattle.std.proofs.Common.{arith}
 use Rattle.std.proofs.lemmas.Result.{IfOk-equal}
 use Rattle.edi_write.specs.Heads.{headed}
 use Rattle.edi_line.specs.Printing.{next_zone}
