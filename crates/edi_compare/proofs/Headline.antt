@@ -29,10 +29,10 @@ module _ (s : Classes) (b : List ℕ) (accepted : IsAccepted s b) where
   records_hold : RecordsHold s b
   records_hold = (lines_hold, λ zones z rule at broken. accepted rule at (of_records zones lines_hold z broken))
 
-  kinds_hold : KindsHold s b
+  pub kinds_hold : KindsHold s b
   kinds_hold = (records_hold, λ sheet is rule at broken. accepted rule at (of_kinds sheet records_hold is broken))
 
-  references_hold : (sheet : Sheet) → IsSheetOf b sheet → IsUnbroken (BreaksReferenceRule s sheet.list)
+  pub references_hold : (sheet : Sheet) → IsSheetOf b sheet → IsUnbroken (BreaksReferenceRule s sheet.list)
   references_hold sheet is rule at broken = accepted rule at (of_references sheet kinds_hold is broken)
 
 pub plan_under : (s : Classes) (b : List ℕ) (p : Drawing) → IsSchema s → IsAccepted s b → IsPlanOfFile s b p → IsPlanUnder s p

@@ -53,6 +53,25 @@ at_place (q ∷ list) (suc i) r all e = at_place list i r all.1 e
 pub no_others : (list : List Record) → HoldsNodesAlone list → IsUnbroken (HoldsAnother list)
 no_others list all rule at h = h.kind (at_place list h.place h.record_there all h.there)
 
+-- where no record is another, all are nodes
+pub all_nodes : (list : List Record) → IsUnbroken (HoldsAnother list) → HoldsNodesAlone list
+all_nodes [] none = tt
+all_nodes (r ∷ list) none = (
+  go (is_other r) refl,
+  all_nodes list (λ rule at h. none rule (suc at) (record {
+    place = suc h.place;
+    record_there = h.record_there;
+    rule_is = h.rule_is;
+    at_is = ap suc h.at_is;
+    there = h.there;
+    kind = h.kind;
+  })),
+)
+  where
+    go : (b : Bool) → is_other r ≡ b → r.kind ≡ Pno
+    go false e = node_kind r.kind e
+    go true e = absurd (none 201 1 (record { place = 0; record_there = r; rule_is = refl; at_is = refl; there = refl; kind = other_kind r.kind e }))
+
 -- the first is the least
 pub least_other : (list : List Record) (i : ℕ) → position is_other list ≡ Some i → IsLeastBroken (HoldsAnother list) 201 (i + 1)
 least_other [] i e = cc
