@@ -19,6 +19,3 @@ pub use fault::{SchemaFault, Source};
 pub use kinds::Kinds;
 pub use role::Role;
 pub use schema::Schema;
-
-#[cfg(test)]
-mod tests;
