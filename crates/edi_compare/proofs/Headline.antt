@@ -8,15 +8,19 @@ use Rattle.edi_schema.specs.Classes.{Classes, IsSchema}
 use Rattle.edi_schema.proofs.Paired.{paired}
 use Rattle.edi_plan.specs.Plans.{Drawing}
 use Rattle.edi_plan.specs.ReferenceRules.{BreaksReferenceRule}
+use Rattle.edi_plan.specs.Joined.{IsJoined}
 use Rattle.edi_plan.proofs.Built.{plans_whole, plans_agreeing, one_plan_of}
+use Rattle.edi_plan.proofs.JoinedLemmas.{plans_joined}
+use Rattle.edi_topo.specs.TopologyRules.{BreaksTopologyRule}
+use Rattle.edi_rank.specs.Alike.{BreaksObjectRule}
 use Rattle.edi_rank.specs.Same.{Carries, Same}
 use Rattle.edi_rank.specs.Laws.{IsPlanUnder}
 use Rattle.edi_rank.proofs.SameLaws.{same_refl, same_sym, same_trans}
 use Rattle.edi_rank.proofs.Unique.{same_plan}
 use Rattle.edi_write.specs.Layout.{layout}
 use Rattle.edi_compare.specs.PlanOfFile.{IsSheetOf, IsPlanOfFile, StateSame}
-use Rattle.edi_compare.specs.Rules.{LinesHold, RecordsHold, KindsHold, Breaks, IsAccepted}
-use Rattle.edi_compare.specs.Rules.Breaks.{of_lines, of_records, of_kinds, of_references}
+use Rattle.edi_compare.specs.Rules.{LinesHold, RecordsHold, ReferencesHold, TopologyHolds, Breaks, IsAccepted}
+use Rattle.edi_compare.specs.Rules.Breaks.{of_lines, of_records, of_references, of_topology, of_objects}
 use Rattle.edi_compare.specs.Canonical.{IsCanonical}
 use Rattle.edi_compare.specs.Laws.{ReadingIsOne, IsAcceptedPlan, SameIsEquivalence}
 
@@ -26,14 +30,23 @@ module _ (s : Classes) (b : List ℕ) (accepted : IsAccepted s b) where
   lines_hold : LinesHold s b
   lines_hold rule at broken = accepted rule at (of_lines broken)
 
-  records_hold : RecordsHold s b
+  pub records_hold : RecordsHold s b
   records_hold = (lines_hold, λ zones z rule at broken. accepted rule at (of_records zones lines_hold z broken))
 
-  pub kinds_hold : KindsHold s b
-  kinds_hold = (records_hold, λ sheet is rule at broken. accepted rule at (of_kinds sheet records_hold is broken))
-
   pub references_hold : (sheet : Sheet) → IsSheetOf b sheet → IsUnbroken (BreaksReferenceRule s sheet.list)
-  references_hold sheet is rule at broken = accepted rule at (of_references sheet kinds_hold is broken)
+  references_hold sheet is rule at broken = accepted rule at (of_references sheet records_hold is broken)
+
+  references_hold_all : ReferencesHold s b
+  references_hold_all = (records_hold, references_hold)
+
+  pub topology_hold : (p : Drawing) → IsPlanOfFile s b p → IsUnbroken (BreaksTopologyRule p)
+  topology_hold p states rule at broken = accepted rule at (of_topology p references_hold_all states broken)
+
+  pub objects_hold : (p : Drawing) → IsPlanOfFile s b p → IsUnbroken (BreaksObjectRule p)
+  objects_hold p states rule at broken = accepted rule at (of_objects p (references_hold_all, topology_hold) states broken)
+
+pub plan_joined : (s : Classes) (b : List ℕ) (p : Drawing) → IsAccepted s b → IsPlanOfFile s b p → IsJoined p
+plan_joined s b p accepted states = plans_joined s states.0 p states.2 (references_hold s b accepted states.0 states.1)
 
 pub plan_under : (s : Classes) (b : List ℕ) (p : Drawing) → IsSchema s → IsAccepted s b → IsPlanOfFile s b p → IsPlanUnder s p
 plan_under s b p keeps accepted states = record {

@@ -13,7 +13,6 @@ use Rattle.edi_record.specs.declared.record.Kind.TheVariants.{Pno, Fea}
 use Rattle.edi_record.specs.declared.record.Record.{Record}
 use Rattle.edi_record.specs.declared.sheet.Sheet.{Sheet}
 use Rattle.edi_schema.specs.Classes.{Classes}
-use Rattle.edi_plan.specs.Interim.{HasNodesAlone, HoldsNodesAlone}
 use Rattle.edi_plan.specs.Plans.{Drawing, IsPlace, record_at, kind_rank}
 use Rattle.edi_plan.specs.PlanOf.{IsPlanOf, StatesPlanRecord}
 use Rattle.edi_plan.specs.ReferenceRules.{BreaksReferenceRule}
@@ -22,13 +21,11 @@ use Rattle.edi_plan.specs.declared.record.PlanRecord.{PlanRecord}
 use Rattle.edi_plan.proofs.Built.{one_plan_of}
 use Rattle.edi_topo.specs.TopologyRules.{BreaksTopologyRule}
 use Rattle.edi_topo.specs.TopologyRules.BreaksTopologyRule.{starts_elsewhere, ends_elsewhere, repeats_node, equals_reverse, repeats_arc, bounds_nothing}
-use Rattle.edi_topo.proofs.NodesAlone.{no_other}
 use Rattle.edi_rank.specs.Alike.{BreaksObjectRule}
 use Rattle.edi_rank.specs.Alike.BreaksObjectRule.{repeats_object}
-use Rattle.edi_compare.specs.Interim.{HoldsAnother}
 use Rattle.edi_compare.specs.PlanOfFile.{IsSheetOf, IsPlanOfFile}
-use Rattle.edi_compare.specs.Rules.{LinesHold, RecordsHold, KindsHold, ReferencesHold, TopologyHolds, Breaks, IsAccepted}
-use Rattle.edi_compare.specs.Rules.Breaks.{of_lines, of_records, of_kinds, of_references, of_topology, of_objects}
+use Rattle.edi_compare.specs.Rules.{LinesHold, RecordsHold, ReferencesHold, TopologyHolds, Breaks, IsAccepted}
+use Rattle.edi_compare.specs.Rules.Breaks.{of_lines, of_records, of_references, of_topology, of_objects}
 use Rattle.edi_compare.proofs.Reading.{reading_is_one}
 
 -- ---- the numbers of the rules
@@ -77,6 +74,9 @@ reference_above s list rule place (names_nothing e h) = omega (arith, e)
 reference_above s list rule place (joins_wrong e h) = omega (arith, e)
 reference_above s list rule place (repeats_side e h) = omega (arith, e)
 
+object_above : (p : Drawing) (rule place : ℕ) → BreaksObjectRule p rule place → 200 ≤ rule
+object_above p rule place (repeats_object e at less h) = omega (arith, e)
+
 topology_above : (p : Drawing) (rule place : ℕ) → BreaksTopologyRule p rule place → 200 ≤ rule
 topology_above p rule place (starts_elsewhere e h) = omega (arith, e)
 topology_above p rule place (ends_elsewhere e h) = omega (arith, e)
@@ -93,20 +93,6 @@ one_list b sheet other h g = (reading_is_one.sheets b sheet other h g).1
 pub one_plan : (s : Classes) (b : List ℕ) (p q : Drawing) → IsPlanOfFile s b p → IsPlanOfFile s b q → p ≡ q
 one_plan s b p q h g = let e = reading_is_one.sheets b h.0 g.0 h.1 g.1 in one_plan_of s h.0 g.0 p q e.0 e.1 h.2 g.2
 
--- the plan of a sheet of nodes has nodes alone
-kinds_kept : (s : Classes) (whole list : List Record) (plan : List PlanRecord) → AllZip (StatesPlanRecord s whole) list plan → AllByRecursion (λ r. r.kind ≡ Pno) list → AllByRecursion (λ r. r.kind ≡ Pno) plan
-kinds_kept s whole [] [] zip all = tt
-kinds_kept s whole [] (p ∷ plan) zip all = absurd zip
-kinds_kept s whole (r ∷ list) [] zip all = tt
-kinds_kept s whole (r ∷ list) (p ∷ plan) zip all = (zip.0.kind ∙ all.0, kinds_kept s whole list plan zip.1 all.1)
-
-pub plan_of_nodes : (s : Classes) (sheet : Sheet) (p : Drawing) → HoldsNodesAlone sheet.list → IsPlanOf s sheet p → HasNodesAlone p
-plan_of_nodes s sheet p alone is = kinds_kept s sheet.list sheet.list p.list is.each alone
-
--- a plan of nodes has no objects that are alike
-no_objects : (p : Drawing) → HasNodesAlone p → IsUnbroken (BreaksObjectRule p)
-no_objects p alone rule at (repeats_object {m = m} e f less h) = absurd (omega (arith, no_other p alone m Fea h.first h.first_object))
-
 -- ---- the least of a phase is the least of all
 
 module _ (s : Classes) (b : List ℕ) where
@@ -115,10 +101,9 @@ module _ (s : Classes) (b : List ℕ) where
         → (r p : ℕ) → Breaks s b r p → (at < p) ⊎ ((at ≡ p) × (rule ≤ r))
     after_lines is least r p (of_lines g) = least r p g
     after_lines is least r p (of_records zones held z g) = absurd (held rule at is)
-    after_lines is least r p (of_kinds sheet held z g) = absurd (held.0 rule at is)
-    after_lines is least r p (of_references sheet held z g) = absurd (held.0.0 rule at is)
-    after_lines is least r p (of_topology plan held z g) = absurd (held.0.0.0 rule at is)
-    after_lines is least r p (of_objects plan held z g) = absurd (held.0.0.0.0 rule at is)
+    after_lines is least r p (of_references sheet held z g) = absurd (held.0 rule at is)
+    after_lines is least r p (of_topology plan held z g) = absurd (held.0.0 rule at is)
+    after_lines is least r p (of_objects plan held z g) = absurd (held.0.0.0 rule at is)
 
     pub line_refusal : IsLeastBroken (BreaksLineRule b) rule at → (rule < 200) × IsLeastBroken (Breaks s b) rule at
     line_refusal h = (line_rule_below b rule at h.is, record { is = of_lines h.is; least = after_lines h.is h.least })
@@ -128,46 +113,30 @@ module _ (s : Classes) (b : List ℕ) where
           → (r p : ℕ) → Breaks s b r p → (at < p) ⊎ ((at ≡ p) × (rule ≤ r))
       after_records is least r p (of_lines g) = absurd (lines r p g)
       after_records is least r p (of_records others held z g) = least r p (subst (λ zs. BreaksRecordRule zs r p) (z.is ∙ sym are.is) g)
-      after_records is least r p (of_kinds sheet held z g) = absurd (held.1 zones are rule at is)
-      after_records is least r p (of_references sheet held z g) = absurd (held.0.1 zones are rule at is)
-      after_records is least r p (of_topology plan held z g) = absurd (held.0.0.1 zones are rule at is)
-      after_records is least r p (of_objects plan held z g) = absurd (held.0.0.0.1 zones are rule at is)
+      after_records is least r p (of_references sheet held z g) = absurd (held.1 zones are rule at is)
+      after_records is least r p (of_topology plan held z g) = absurd (held.0.1 zones are rule at is)
+      after_records is least r p (of_objects plan held z g) = absurd (held.0.0.1 zones are rule at is)
 
       pub record_refusal : IsLeastBroken (BreaksRecordRule zones) rule at → (200 ≤ rule) × IsLeastBroken (Breaks s b) rule at
       record_refusal h = (group_above h.is.group rule h.is.breaks, record { is = of_records zones lines are h.is; least = after_records h.is h.least })
 
     module _ (records : RecordsHold s b) (sheet : Sheet) (states : IsSheetOf b sheet) where
-      after_kinds : HoldsAnother sheet.list rule at → ((r p : ℕ) → HoldsAnother sheet.list r p → (at < p) ⊎ ((at ≡ p) × (rule ≤ r)))
-          → (r p : ℕ) → Breaks s b r p → (at < p) ⊎ ((at ≡ p) × (rule ≤ r))
-      after_kinds is least r p (of_lines g) = absurd (records.0 r p g)
-      after_kinds is least r p (of_records others held z g) = absurd (records.1 others z r p g)
-      after_kinds is least r p (of_kinds other held z g) = least r p (subst (λ list. HoldsAnother list r p) (one_list b other sheet z states) g)
-      after_kinds is least r p (of_references other held z g) = absurd (held.1 sheet states rule at is)
-      after_kinds is least r p (of_topology plan held z g) = absurd (held.0.1 sheet states rule at is)
-      after_kinds is least r p (of_objects plan held z g) = absurd (held.0.0.1 sheet states rule at is)
-
-      pub kind_refusal : IsLeastBroken (HoldsAnother sheet.list) rule at → (200 ≤ rule) × IsLeastBroken (Breaks s b) rule at
-      kind_refusal h = (omega (arith, h.is.rule_is), record { is = of_kinds sheet records states h.is; least = after_kinds h.is h.least })
-
-    module _ (kinds : KindsHold s b) (sheet : Sheet) (states : IsSheetOf b sheet) where
       after_references : BreaksReferenceRule s sheet.list rule at → ((r p : ℕ) → BreaksReferenceRule s sheet.list r p → (at < p) ⊎ ((at ≡ p) × (rule ≤ r)))
           → (r p : ℕ) → Breaks s b r p → (at < p) ⊎ ((at ≡ p) × (rule ≤ r))
-      after_references is least r p (of_lines g) = absurd (kinds.0.0 r p g)
-      after_references is least r p (of_records others held z g) = absurd (kinds.0.1 others z r p g)
-      after_references is least r p (of_kinds other held z g) = absurd (kinds.1 other z r p g)
+      after_references is least r p (of_lines g) = absurd (records.0 r p g)
+      after_references is least r p (of_records others held z g) = absurd (records.1 others z r p g)
       after_references is least r p (of_references other held z g) = least r p (subst (λ list. BreaksReferenceRule s list r p) (one_list b other sheet z states) g)
       after_references is least r p (of_topology plan held z g) = absurd (held.1 sheet states rule at is)
       after_references is least r p (of_objects plan held z g) = absurd (held.0.1 sheet states rule at is)
 
       pub reference_refusal : IsLeastBroken (BreaksReferenceRule s sheet.list) rule at → (200 ≤ rule) × IsLeastBroken (Breaks s b) rule at
-      reference_refusal h = (reference_above s sheet.list rule at h.is, record { is = of_references sheet kinds states h.is; least = after_references h.is h.least })
+      reference_refusal h = (reference_above s sheet.list rule at h.is, record { is = of_references sheet records states h.is; least = after_references h.is h.least })
 
     module _ (references : ReferencesHold s b) (plan : Drawing) (states : IsPlanOfFile s b plan) where
       after_topology : BreaksTopologyRule plan rule at → ((r p : ℕ) → BreaksTopologyRule plan r p → (at < p) ⊎ ((at ≡ p) × (rule ≤ r)))
           → (r p : ℕ) → Breaks s b r p → (at < p) ⊎ ((at ≡ p) × (rule ≤ r))
-      after_topology is least r p (of_lines g) = absurd (references.0.0.0 r p g)
-      after_topology is least r p (of_records others held z g) = absurd (references.0.0.1 others z r p g)
-      after_topology is least r p (of_kinds other held z g) = absurd (references.0.1 other z r p g)
+      after_topology is least r p (of_lines g) = absurd (references.0.0 r p g)
+      after_topology is least r p (of_records others held z g) = absurd (references.0.1 others z r p g)
       after_topology is least r p (of_references other held z g) = absurd (references.1 other z r p g)
       after_topology is least r p (of_topology other held z g) = least r p (subst (λ q. BreaksTopologyRule q r p) (one_plan s b other plan z states) g)
       after_topology is least r p (of_objects other held z g) = absurd (held.1 plan states rule at is)
@@ -175,24 +144,32 @@ module _ (s : Classes) (b : List ℕ) where
       pub topology_refusal : IsLeastBroken (BreaksTopologyRule plan) rule at → (200 ≤ rule) × IsLeastBroken (Breaks s b) rule at
       topology_refusal h = (topology_above plan rule at h.is, record { is = of_topology plan references states h.is; least = after_topology h.is h.least })
 
+    module _ (topology : TopologyHolds s b) (plan : Drawing) (states : IsPlanOfFile s b plan) where
+      after_objects : ((r p : ℕ) → BreaksObjectRule plan r p → (at < p) ⊎ ((at ≡ p) × (rule ≤ r)))
+          → (r p : ℕ) → Breaks s b r p → (at < p) ⊎ ((at ≡ p) × (rule ≤ r))
+      after_objects least r p (of_lines g) = absurd (topology.0.0.0 r p g)
+      after_objects least r p (of_records others held z g) = absurd (topology.0.0.1 others z r p g)
+      after_objects least r p (of_references other held z g) = absurd (topology.0.1 other z r p g)
+      after_objects least r p (of_topology other held z g) = absurd (topology.1 other z r p g)
+      after_objects least r p (of_objects other held z g) = least r p (subst (λ q. BreaksObjectRule q r p) (one_plan s b other plan z states) g)
+
+      pub object_refusal : IsLeastBroken (BreaksObjectRule plan) rule at → (200 ≤ rule) × IsLeastBroken (Breaks s b) rule at
+      object_refusal h = (object_above plan rule at h.is, record { is = of_objects plan topology states h.is; least = after_objects h.least })
+
   -- ---- the phases hold
 
   pub records_held : LinesHold s b → (zones : List Entry) → IsZonesOf b zones → IsUnbroken (BreaksRecordRule zones) → RecordsHold s b
   records_held lines zones are none = (lines, λ others z. subst (λ zs. IsUnbroken (BreaksRecordRule zs)) (are.is ∙ sym z.is) none)
 
-  pub kinds_held : RecordsHold s b → (sheet : Sheet) → IsSheetOf b sheet → IsUnbroken (HoldsAnother sheet.list) → KindsHold s b
-  kinds_held records sheet states none = (records, λ other z. subst (λ list. IsUnbroken (HoldsAnother list)) (one_list b sheet other states z) none)
-
-  pub references_held : KindsHold s b → (sheet : Sheet) → IsSheetOf b sheet → IsUnbroken (BreaksReferenceRule s sheet.list) → ReferencesHold s b
-  references_held kinds sheet states none = (kinds, λ other z. subst (λ list. IsUnbroken (BreaksReferenceRule s list)) (one_list b sheet other states z) none)
+  pub references_held : RecordsHold s b → (sheet : Sheet) → IsSheetOf b sheet → IsUnbroken (BreaksReferenceRule s sheet.list) → ReferencesHold s b
+  references_held records sheet states none = (records, λ other z. subst (λ list. IsUnbroken (BreaksReferenceRule s list)) (one_list b sheet other states z) none)
 
   pub topology_held : ReferencesHold s b → (plan : Drawing) → IsPlanOfFile s b plan → IsUnbroken (BreaksTopologyRule plan) → TopologyHolds s b
   topology_held references plan states none = (references, λ other z. subst (λ q. IsUnbroken (BreaksTopologyRule q)) (one_plan s b plan other states z) none)
 
-  pub all_held : TopologyHolds s b → (plan : Drawing) → IsPlanOfFile s b plan → HasNodesAlone plan → IsAccepted s b
-  all_held held plan states alone r p (of_lines g) = held.0.0.0.0 r p g
-  all_held held plan states alone r p (of_records others _ z g) = held.0.0.0.1 others z r p g
-  all_held held plan states alone r p (of_kinds other _ z g) = held.0.0.1 other z r p g
-  all_held held plan states alone r p (of_references other _ z g) = held.0.1 other z r p g
-  all_held held plan states alone r p (of_topology other _ z g) = held.1 other z r p g
-  all_held held plan states alone r p (of_objects other _ z g) = no_objects plan alone r p (subst (λ q. BreaksObjectRule q r p) (one_plan s b other plan z states) g)
+  pub all_held : TopologyHolds s b → (plan : Drawing) → IsPlanOfFile s b plan → IsUnbroken (BreaksObjectRule plan) → IsAccepted s b
+  all_held held plan states none r p (of_lines g) = held.0.0.0 r p g
+  all_held held plan states none r p (of_records others _ z g) = held.0.0.1 others z r p g
+  all_held held plan states none r p (of_references other _ z g) = held.0.1 other z r p g
+  all_held held plan states none r p (of_topology other _ z g) = held.1 other z r p g
+  all_held held plan states none r p (of_objects other _ z g) = none r p (subst (λ q. BreaksObjectRule q r p) (one_plan s b other plan z states) g)

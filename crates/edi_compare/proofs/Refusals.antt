@@ -21,12 +21,16 @@ use Rattle.edi_topo.specs.TopologyRefusal.{IsTopologyRefusal}
 use Rattle.edi_topo.specs.TopologyRules.{BreaksTopologyRule}
 use Rattle.edi_topo.specs.declared.fault.TopoFault.{TopoFault}
 use Rattle.edi_topo.specs.declared.fault.TopoFault.TheVariants as topology
-use Rattle.edi_compare.specs.Faults.{of_line, of_record, of_reference, of_topology}
+use Rattle.edi_rank.specs.Alike.{BreaksObjectRule}
+use Rattle.edi_rank.specs.RankRefusal.{IsRankRefusal}
+use Rattle.edi_rank.specs.declared.fault.RankFault.{RankFault}
+use Rattle.edi_rank.specs.declared.fault.RankFault.TheVariants as rank
+use Rattle.edi_compare.specs.Faults.{of_line, of_record, of_reference, of_topology, of_rank}
 use Rattle.edi_compare.specs.PlanOfFile.{IsSheetOf, IsPlanOfFile}
 use Rattle.edi_compare.specs.Refused.{IsRefusal}
-use Rattle.edi_compare.specs.Rules.{LinesHold, RecordsHold, KindsHold, ReferencesHold}
+use Rattle.edi_compare.specs.Rules.{LinesHold, RecordsHold, ReferencesHold, TopologyHolds}
 use Rattle.edi_compare.specs.declared.fault.Fault.{Fault}
-use Rattle.edi_compare.proofs.Phases.{line_refusal, record_refusal, reference_refusal, topology_refusal}
+use Rattle.edi_compare.proofs.Phases.{line_refusal, record_refusal, reference_refusal, topology_refusal, object_refusal}
 
 -- the fault that is handed on
 pub err_kept : {T : Type 0} (r : Result T Fault) (fault : Fault) (P : Fault → Type 0) → IsErrAnd r (λ e. e ≡ fault) → P fault → IfErr r P
@@ -42,10 +46,14 @@ module _ (s : Classes) (b : List ℕ) where
   record_fault lines zones are (record_.Memory e) h = tt
   record_fault lines zones are (record_.Broken rule at) h = record_refusal s b rule at lines zones are h
 
-  pub reference_fault : KindsHold s b → (sheet : Sheet) → IsSheetOf b sheet → (f : RefFault) → IsReferenceRefusal (BreaksReferenceRule s sheet.list) f → IsRefusal s b (of_reference f)
-  reference_fault kinds sheet states (reference.Memory e) h = tt
-  reference_fault kinds sheet states (reference.Broken rule at) h = reference_refusal s b rule at kinds sheet states h
+  pub reference_fault : RecordsHold s b → (sheet : Sheet) → IsSheetOf b sheet → (f : RefFault) → IsReferenceRefusal (BreaksReferenceRule s sheet.list) f → IsRefusal s b (of_reference f)
+  reference_fault records sheet states (reference.Memory e) h = tt
+  reference_fault records sheet states (reference.Broken rule at) h = reference_refusal s b rule at records sheet states h
 
   pub topology_fault : ReferencesHold s b → (plan : Drawing) → IsPlanOfFile s b plan → (f : TopoFault) → IsTopologyRefusal (BreaksTopologyRule plan) f → IsRefusal s b (of_topology f)
   topology_fault references plan states (topology.Memory e) h = tt
   topology_fault references plan states (topology.Broken rule at) h = topology_refusal s b rule at references plan states h
+
+  pub rank_fault : TopologyHolds s b → (plan : Drawing) → IsPlanOfFile s b plan → (f : RankFault) → IsRankRefusal (BreaksObjectRule plan) f → IsRefusal s b (of_rank f)
+  rank_fault topology plan states (rank.Memory e) h = tt
+  rank_fault topology plan states (rank.Broken rule at) h = object_refusal s b rule at topology plan states h

@@ -11,7 +11,6 @@ use Rattle.edi_plan.specs.Plans.{Drawing}
 use Rattle.edi_plan.specs.ReferenceRules.{BreaksReferenceRule}
 use Rattle.edi_topo.specs.TopologyRules.{BreaksTopologyRule}
 use Rattle.edi_rank.specs.Alike.{BreaksObjectRule}
-use Rattle.edi_compare.specs.Interim.{HoldsAnother}
 use Rattle.edi_compare.specs.PlanOfFile.{IsSheetOf, IsPlanOfFile}
 
 module _ (s : Classes) (b : List ℕ) where
@@ -22,12 +21,8 @@ module _ (s : Classes) (b : List ℕ) where
   abbrev pub RecordsHold : Type 0
   RecordsHold = LinesHold × ((zones : List Entry) → IsZonesOf b zones → IsUnbroken (BreaksRecordRule zones))
 
-  -- until arcs, faces, objects and links are read: every record is a node
-  abbrev pub KindsHold : Type 0
-  KindsHold = RecordsHold × ((sheet : Sheet) → IsSheetOf b sheet → IsUnbroken (HoldsAnother sheet.list))
-
   abbrev pub ReferencesHold : Type 0
-  ReferencesHold = KindsHold × ((sheet : Sheet) → IsSheetOf b sheet → IsUnbroken (BreaksReferenceRule s sheet.list))
+  ReferencesHold = RecordsHold × ((sheet : Sheet) → IsSheetOf b sheet → IsUnbroken (BreaksReferenceRule s sheet.list))
 
   abbrev pub TopologyHolds : Type 0
   TopologyHolds = ReferencesHold × ((p : Drawing) → IsPlanOfFile s b p → IsUnbroken (BreaksTopologyRule p))
@@ -36,8 +31,7 @@ module _ (s : Classes) (b : List ℕ) where
   pub data Breaks (rule at : ℕ) : Type 0 where
     of_lines : BreaksLineRule b rule at → Breaks rule at
     of_records : (zones : List Entry) → LinesHold → IsZonesOf b zones → BreaksRecordRule zones rule at → Breaks rule at
-    of_kinds : (sheet : Sheet) → RecordsHold → IsSheetOf b sheet → HoldsAnother sheet.list rule at → Breaks rule at
-    of_references : (sheet : Sheet) → KindsHold → IsSheetOf b sheet → BreaksReferenceRule s sheet.list rule at → Breaks rule at
+    of_references : (sheet : Sheet) → RecordsHold → IsSheetOf b sheet → BreaksReferenceRule s sheet.list rule at → Breaks rule at
     of_topology : (p : Drawing) → ReferencesHold → IsPlanOfFile s b p → BreaksTopologyRule p rule at → Breaks rule at
     of_objects : (p : Drawing) → TopologyHolds → IsPlanOfFile s b p → BreaksObjectRule p rule at → Breaks rule at
 

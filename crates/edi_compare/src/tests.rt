@@ -1,10 +1,19 @@
 //! Known sheets.
+use crate::arc_cases::ARC_CASES;
+use crate::face_cases::FACE_CASES;
+use crate::link_cases::LINK_CASES;
+use crate::node_cases::NODE_CASES;
+use crate::object_cases::OBJECT_CASES;
+use crate::sheet_cases::SHEET_CASES;
 use crate::{Fault, canon};
+use edi_line::ScriptOut;
 use edi_schema::{Kinds, Schema, SchemaFault};
-use std::alloc::Global;
+use edi_write::put_all;
+use std::alloc::{AllocError, Global};
+use std::process::Abort;
 use std::test::Fail;
 
-// The classes: three places, an object, two attributes and five relations.
+// The classes but for the four kinds: three places, an object, two attributes.
 const CLASSES: &[u8] = b"BOMT 12:EDAB01SE.SCD\n\
 CSET 03:IRV\n\
 RTYSA03:PGE\n\
@@ -20,8 +29,10 @@ RIDSA06:SUP_id\n\
 DIPCP22:EDAB01;SeDIC;DIA;SUP_n\n\
 RTYSA03:ATT\n\
 RIDSA06:NOM_id\n\
-DIPCP22:EDAB01;SeDIC;DIA;NOM_n\n\
-RTYSA03:REL\n\
+DIPCP22:EDAB01;SeDIC;DIA;NOM_n\n";
+
+// The four kinds by their usual codes, and by others.
+const USUAL_KINDS: &[u8] = b"RTYSA03:REL\n\
 RIDSA06:INI_id\n\
 KNDSA03:IND\n\
 RTYSA03:REL\n\
@@ -32,11 +43,23 @@ RIDSA06:GCH_id\n\
 KNDSA03:LPO\n\
 RTYSA03:REL\n\
 RIDSA06:DRT_id\n\
-KNDSA03:RPO\n\
+KNDSA03:RPO\n";
+
+const OTHER_KINDS: &[u8] = b"RTYSA03:REL\n\
+RIDSA06:INI_id\n\
+KNDSA02:XA\n\
 RTYSA03:REL\n\
-RIDSA06:CMP_id\n\
-KNDSA03:ICO\n\
-EOMT 00:\n";
+RIDSA06:FIN_id\n\
+KNDSA02:XB\n\
+RTYSA03:REL\n\
+RIDSA06:GCH_id\n\
+KNDSA02:XC\n\
+RTYSA03:REL\n\
+RIDSA06:DRT_id\n\
+KNDSA02:XD\n";
+
+// A relation of no kind, and the end.
+const PLAIN_RELATION: &[u8] = b"RTYSA03:REL\nRIDSA06:CMP_id\nKNDSA03:ICO\nEOMT 00:\n";
 
 // The words of the two attributes.
 const WORDS: &[u8] = b"BOMT 12:EDAB01DI.DIC\n\
@@ -67,34 +90,6 @@ SCPCP19:CANON;SD;PGE;NOD_id\r\n\
 CORCC10:+10.5;+20;\r\n\
 ATCSN01:0\r\n\
 EOMT 00:\r\n";
-
-// What stands before the records of a sheet.
-const BEGIN: &[u8] = b"BOMT 12:EDAB01T1.VEC\nCSET 03:IRV\n";
-
-// A node, and what a second one has in its place.
-const NODE: &[u8] = b"RTYSA03:PNO\nRIDSA07:Noeud_1\nSCPCP22:EDAB01;SeSD;PGE;NOD_id\n\
-CORCC12:+10.50;+020;\n";
-
-const SAME_NODE: &[u8] = b"RTYSA03:PNO\nRIDSA07:Noeud_2\nSCPCP22:EDAB01;SeSD;PGE;NOD_id\n\
-CORCC11:+10.5;+020;\n";
-
-const SAME_NAME: &[u8] = b"RTYSA03:PNO\nRIDSA07:Noeud_1\nSCPCP22:EDAB01;SeSD;PGE;NOD_id\n\
-CORCC05:+1;+2\n";
-
-const OTHER_NODE: &[u8] = b"RTYSA03:PNO\nRIDSA07:Noeud_2\nSCPCP22:EDAB01;SeSD;PGE;NOD_id\n\
-CORCC05:+1;+2\n";
-
-const NAMELESS: &[u8] = b"RTYSA03:PNO\nSCPCP22:EDAB01;SeSD;PGE;NOD_id\nCORCC12:+10.50;+020;\n";
-
-const CLASSLESS: &[u8] = b"RTYSA03:PNO\nRIDSA07:Noeud_3\nSCPCP22:EDAB01;SeSD;PGE;NOX_id\n\
-CORCC05:+3;+4\n";
-
-const NO_ATTRIBUTE: &[u8] = b"RTYSA03:PNO\nRIDSA07:Noeud_3\nSCPCP22:EDAB01;SeSD;PGE;NOD_id\n\
-CORCC05:+3;+4\nATCSN01:1\nATPCP22:EDAB01;SeSD;ATT;NON_id\nATVSA01:x\n";
-
-const FACE: &[u8] = b"RTYSA03:PFE\nRIDSA06:Face_1\nSCPCP22:EDAB01;SeSD;PGE;FAC_id\n";
-
-const END: &[u8] = b"EOMT 00:\n";
 
 // Two nodes, of which the first has a name of four letters.
 const FIRST_SPELLING: &[u8] = b"BOMT 12:EDAB01T1.VEC\n\
@@ -153,22 +148,21 @@ enum Refusal {
     Entry(u16, u64),
 }
 
-// The schema of the classes and the words.
-fn schema(alloc: Global) -> Result<Schema, Fail> {
-    match Schema::load(alloc, CLASSES, WORDS, &Kinds::usual()) {
+// The schema of the classes and the words, with these kinds under these codes.
+fn schema_of(alloc: Global, kinds: &[u8], codes: &Kinds<'_>) -> Result<Schema, Fail> {
+    let mut classes = Vec::new(alloc);
+    classes.extend_from_slice(CLASSES)?;
+    classes.extend_from_slice(kinds)?;
+    classes.extend_from_slice(PLAIN_RELATION)?;
+    match Schema::load(alloc, &classes, WORDS, codes) {
         Ok(schema) => Ok(schema),
         Err(SchemaFault::Memory(fault)) => Err(fault.into()),
         Err(_) => Err("the schema is refused".into()),
     }
 }
 
-// The parts of a sheet, joined.
-fn joined(alloc: Global, parts: &[&[u8]]) -> Result<Vec<u8>, Fail> {
-    let mut bytes = Vec::new(alloc);
-    for part in parts {
-        bytes.extend_from_slice(part)?;
-    }
-    Ok(bytes)
+fn schema(alloc: Global) -> Result<Schema, Fail> {
+    schema_of(alloc, USUAL_KINDS, &Kinds::usual())
 }
 
 // The canonical file of a sheet, or the rule that it breaks.
@@ -199,34 +193,6 @@ fn writes_the_canonical_file_of_a_node(rt: HostRuntime) -> Result<(), Fail> {
 }
 
 #[test]
-fn refuses_the_least_broken_rule_of_a_sheet(rt: HostRuntime) -> Result<(), Fail> {
-    let alloc = rt.alloc();
-    let schema = schema(alloc)?;
-    let table: [(&[&[u8]], Option<Refusal>); 12] = [
-        (&[BEGIN, NODE, END], None),
-        (&[BEGIN, NODE, OTHER_NODE, END], None),
-        (&[BEGIN, NODE], Some(Refusal::Line(106, 7))),
-        (&[BEGIN, NAMELESS, END], Some(Refusal::Entry(202, 1))),
-        (&[BEGIN, NODE, SAME_NODE, END], Some(Refusal::Entry(403, 2))),
-        (&[BEGIN, NODE, SAME_NAME, END], Some(Refusal::Entry(301, 2))),
-        (&[BEGIN, CLASSLESS, END], Some(Refusal::Entry(302, 1))),
-        (&[BEGIN, NODE, CLASSLESS, END], Some(Refusal::Entry(302, 2))),
-        (&[BEGIN, NO_ATTRIBUTE, END], Some(Refusal::Entry(303, 1))),
-        (&[BEGIN, FACE, END], Some(Refusal::Entry(201, 1))),
-        (&[BEGIN, NODE, FACE, END], Some(Refusal::Entry(201, 2))),
-        (
-            &[BEGIN, NODE, SAME_NODE, CLASSLESS, END],
-            Some(Refusal::Entry(302, 3)),
-        ),
-    ];
-    for (parts, refusal) in &table {
-        let bytes = joined(alloc, parts)?;
-        assert_eq!(rt; answer(alloc, &schema, &bytes)?.err(), *refusal);
-    }
-    Ok(())
-}
-
-#[test]
 fn two_spellings_have_one_canonical_file(rt: HostRuntime) -> Result<(), Fail> {
     let alloc = rt.alloc();
     let schema = schema(alloc)?;
@@ -237,14 +203,104 @@ fn two_spellings_have_one_canonical_file(rt: HostRuntime) -> Result<(), Fail> {
     Ok(())
 }
 
+// What `canon` gives of a sheet, as text: the canonical file with its lines ended by LF alone, or the refusal.
+fn told(alloc: Global, schema: &Schema, bytes: &[u8]) -> Result<Vec<u8>, Fail> {
+    match answer(alloc, schema, bytes)? {
+        Ok(file) => Ok(without_returns(alloc, &file)?),
+        Err(Refusal::Line(rule, at)) => refused_line(alloc, rule, b" line ", at),
+        Err(Refusal::Entry(rule, at)) => refused_line(alloc, rule, b" record ", at),
+    }
+}
+
+// The bytes but for each CR.
+fn without_returns(alloc: Global, bytes: &[u8]) -> Result<Vec<u8>, AllocError> {
+    let mut kept = Vec::new(alloc);
+    for byte in bytes {
+        if *byte != b'\r' {
+            kept.push(*byte)?;
+        }
+    }
+    Ok(kept)
+}
+
+fn refused_line(alloc: Global, rule: u16, of: &[u8], at: u64) -> Result<Vec<u8>, Fail> {
+    let mut line = Vec::new(alloc);
+    line.extend_from_slice(b"refused ")?;
+    line.extend_from_slice(rule.to_string(alloc)?.as_bytes())?;
+    line.extend_from_slice(of)?;
+    line.extend_from_slice(at.to_string(alloc)?.as_bytes())?;
+    line.push(b'\n')?;
+    Ok(line)
+}
+
+// Each case gives what stands behind its `->`.
+fn are_answered<R: Abort + AllocGlobal>(rt: &R, cases: &str) -> Result<(), Fail> {
+    are_answered_under(rt, &schema(rt.alloc())?, cases)
+}
+
+fn are_answered_under<R: Abort + AllocGlobal>(
+    rt: &R,
+    schema: &Schema,
+    cases: &str,
+) -> Result<(), Fail> {
+    for case in cases.split("--\n") {
+        let (_title, sheet) = case.split_once("\n").ok_or("a case without a title")?;
+        let (sheet, wanted) = sheet.split_once("->\n").ok_or("a case without an answer")?;
+        let given = told(rt.alloc(), schema, sheet.as_bytes())?;
+        assert_eq!(rt; given.as_slice(), wanted.as_bytes());
+    }
+    Ok(())
+}
+
 #[test]
-fn nodes_at_other_places_have_another_file(rt: HostRuntime) -> Result<(), Fail> {
-    let alloc = rt.alloc();
-    let schema = schema(alloc)?;
-    let here = joined(alloc, &[BEGIN, NODE, END])?;
-    let there = joined(alloc, &[BEGIN, OTHER_NODE, END])?;
-    let first = file(alloc, &schema, &here)?;
-    let second = file(alloc, &schema, &there)?;
-    assert!(rt; first.as_slice() != second.as_slice());
+fn answers_sheets_of_nodes(rt: HostRuntime) -> Result<(), Fail> {
+    are_answered(&rt, NODE_CASES)
+}
+
+#[test]
+fn answers_sheets_of_arcs(rt: HostRuntime) -> Result<(), Fail> {
+    are_answered(&rt, ARC_CASES)
+}
+
+#[test]
+fn answers_sheets_with_links(rt: HostRuntime) -> Result<(), Fail> {
+    are_answered(&rt, LINK_CASES)
+}
+
+#[test]
+fn answers_sheets_with_faces(rt: HostRuntime) -> Result<(), Fail> {
+    are_answered(&rt, FACE_CASES)
+}
+
+#[test]
+fn answers_whole_sheets(rt: HostRuntime) -> Result<(), Fail> {
+    are_answered(&rt, SHEET_CASES)
+}
+
+#[test]
+fn answers_sheets_with_objects(rt: HostRuntime) -> Result<(), Fail> {
+    are_answered(&rt, OBJECT_CASES)
+}
+
+#[test]
+fn answers_whole_sheets_under_other_codes(rt: HostRuntime) -> Result<(), Fail> {
+    let codes = Kinds::new(b"XA", b"XB", b"XC", b"XD").ok_or("no codes")?;
+    let schema = schema_of(rt.alloc(), OTHER_KINDS, &codes)?;
+    are_answered_under(&rt, &schema, SHEET_CASES)?;
+    let codes = Kinds::new(b"INI_id", b"FIN_id", b"GCH_id", b"DRT_id").ok_or("no codes")?;
+    let schema = schema_of(rt.alloc(), USUAL_KINDS, &codes)?;
+    are_answered_under(&rt, &schema, SHEET_CASES)
+}
+
+#[test]
+fn tells_how_many_bytes_went_out(rt: HostRuntime) -> Result<(), Fail> {
+    let mut writer = ScriptOut::new(rt.alloc(), 1000, 5, 2)?;
+    assert_eq!(rt; put_all(&mut writer, CANON).err().map(|w| w.count), Some(5));
+    assert_eq!(rt; writer.out(), b"BOMT ".as_slice());
+    let mut full = ScriptOut::new(rt.alloc(), 0, 5, 0)?;
+    assert_eq!(rt; put_all(&mut full, CANON).err().map(|w| w.count), Some(0));
+    let mut whole = ScriptOut::new(rt.alloc(), 1000, 5, 0)?;
+    assert!(rt; put_all(&mut whole, CANON).is_ok());
+    assert_eq!(rt; whole.out(), CANON);
     Ok(())
 }

@@ -28,23 +28,35 @@ no_feed_before bytes n within before =
     let same : get_or (take n bytes) i 0 ≡ get_or bytes i 0 = get_or-take n bytes i 0 here in
     eqb-false _ _ (fails_before_first (λ c. eqb c 10) bytes i 0 (omega arith)) (sym same ∙ e)))
 
+pub ended_at_feed : (bytes : List ℕ) (feed : ℕ) → position (λ c. eqb c 10) bytes ≡ Some feed → IsEnded (take (feed + 1) bytes)
+ended_at_feed bytes feed e =
+    let found = position_at_Some (λ c. eqb c 10) bytes feed e in
+    let at : get_or bytes feed 0 ≡ 10 = eqb-true _ _ (subst (λ n. eqb (get_or bytes n 0) 10 ≡ true) found.0 (passes_at_first (λ c. eqb c 10) bytes 0 (omega arith))) in
+    record {
+      bytes = take feed bytes;
+      no_feed = no_feed_before bytes feed (omega arith) (omega arith);
+      ended = take_more bytes feed 0 found.1 ∙ ap (λ c. take feed bytes ++ c ∷ []) at;
+    }
+
+pub none_at_feed : (bytes : List ℕ) → position (λ c. eqb c 10) bytes ≡ None → HasNoFeed bytes
+none_at_feed bytes e =
+    let past = position_at_None (λ c. eqb c 10) bytes e in
+    subst HasNoFeed (take_all (length bytes) bytes (omega arith)) (no_feed_before bytes (length bytes) (omega arith) past)
+
+-- the lines of an ended line and of what follows it
+pub line_first : (line after : List ℕ) → IsEnded line → lines_of (line ++ after) ≡ line ∷ lines_of after
+line_first line after e =
+    ap (λ l. lines_of (l ++ after)) e.ended ∙ ap lines_of (append_assoc e.bytes (10 ∷ []) after) ∙ cut_at_feed e.bytes after e.no_feed ∙ ap (λ l. l ∷ lines_of after) (sym e.ended)
+
 pub first_at_feed : (bytes : List ℕ) (feed : ℕ) → position (λ c. eqb c 10) bytes ≡ Some feed → lines_of bytes ≡ take (feed + 1) bytes ∷ lines_of (drop (feed + 1) bytes)
 first_at_feed bytes feed e =
-    let found = position_at_Some (λ c. eqb c 10) bytes feed e in
-    let none = no_feed_before bytes feed (omega arith) (omega arith) in
-    let at : get_or bytes feed 0 ≡ 10 = eqb-true _ _ (subst (λ n. eqb (get_or bytes n 0) 10 ≡ true) found.0 (passes_at_first (λ c. eqb c 10) bytes 0 (omega arith))) in
-    let front : take (feed + 1) bytes ≡ take feed bytes ++ 10 ∷ [] = take_more bytes feed 0 found.1 ∙ ap (λ c. take feed bytes ++ c ∷ []) at in
-    let whole : bytes ≡ take feed bytes ++ 10 ∷ drop (feed + 1) bytes =
-    sym (take-append-drop (feed + 1) bytes) ∙ ap (λ xs. xs ++ drop (feed + 1) bytes) front ∙ append_assoc (take feed bytes) (10 ∷ []) (drop (feed + 1) bytes) in
-    ap lines_of whole ∙ cut_at_feed (take feed bytes) (drop (feed + 1) bytes) none ∙ ap (λ line. line ∷ lines_of (drop (feed + 1) bytes)) (sym front)
+    ap lines_of (sym (take-append-drop (feed + 1) bytes)) ∙ line_first (take (feed + 1) bytes) (drop (feed + 1) bytes) (ended_at_feed bytes feed e)
 
 pub first_of_one : (bytes : List ℕ) → 0 < length bytes → position (λ c. eqb c 10) bytes ≡ None → lines_of bytes ≡ take (length bytes) bytes ∷ lines_of (drop (length bytes) bytes)
 first_of_one bytes some e =
-    let past = position_at_None (λ c. eqb c 10) bytes e in
     let all : take (length bytes) bytes ≡ bytes = take_all (length bytes) bytes (omega arith) in
     let rest : drop (length bytes) bytes ≡ [] = drop_all (length bytes) bytes (omega arith) in
-    let none = subst HasNoFeed all (no_feed_before bytes (length bytes) (omega arith) past) in
-    one_line bytes none some ∙ ap (λ line. line ∷ []) (sym all) ∙ ap (λ xs. take (length bytes) bytes ∷ lines_of xs) (sym rest)
+    one_line bytes (none_at_feed bytes e) some ∙ ap (λ line. line ∷ []) (sym all) ∙ ap (λ xs. take (length bytes) bytes ∷ lines_of xs) (sym rest)
 
 -- ---- there is just one list of lines
 
@@ -54,10 +66,7 @@ lines_are_same (line ∷ []) (inl e) =
     ap lines_of (append-nil line ∙ e.ended) ∙ cut_at_feed e.bytes [] e.no_feed ∙ ap (λ l. l ∷ []) (sym e.ended)
 lines_are_same (line ∷ []) (inr u) = ap lines_of (append-nil line) ∙ one_line line u.no_feed u.some
 lines_are_same (line ∷ next ∷ lines) each =
-    let e = each.0 in
-    let rest = concat (next ∷ lines) in
-    ap (λ l. lines_of (l ++ rest)) e.ended ∙ ap lines_of (append_assoc e.bytes (10 ∷ []) rest) ∙ cut_at_feed e.bytes rest e.no_feed
-    ∙ ap (λ l. l ∷ lines_of rest) (sym e.ended) ∙ ap (λ ls. line ∷ ls) (lines_are_same (next ∷ lines) each.1)
+    line_first line (concat (next ∷ lines)) each.0 ∙ ap (λ ls. line ∷ ls) (lines_are_same (next ∷ lines) each.1)
 
 pub lines_unique : (bytes : List ℕ) (lines : List (List ℕ)) → IsLinesOf bytes lines → lines ≡ lines_of bytes
 lines_unique bytes lines h = sym (lines_are_same lines h.each) ∙ ap lines_of h.joined

@@ -5,6 +5,8 @@ pub mod Cut
 pub mod FirstBroken
 pub mod Rules
 pub mod Passes
+pub mod Ends
+pub mod Feeds
 pub mod Shape
 pub mod DeviceLemmas
 pub mod Heads

@@ -1,7 +1,7 @@
 //! The lines of a file.
 
-ghost use Rattle.std.specs.Prelude.{◌≡◌, ℕ, List, ◌+◌, ◌<◌, ◌≤◌, [], ◌∷◌, ◌++◌, length, ◌==◌, take, drop, position};
-ghost use Rattle.edi_line.specs.Lines.{IsLinesOf, lines_of, without_last, content_of};
+ghost use Rattle.std.specs.Prelude.{◌≡◌, ℕ, List, ◌+◌, ◌<◌, ◌≤◌, [], ◌∷◌, ◌++◌, length, ◌==◌, take, drop, position, IfSome, IsNone};
+ghost use Rattle.edi_line.specs.Lines.{HasNoFeed, IsEnded, IsLinesOf, lines_of, without_last, content_of};
 
 /// The first line, with its line feed if it has one, and the bytes behind it.
 pub(crate) fn first_line(bytes: &[u8]) -> (&[u8], &[u8])
@@ -10,6 +10,16 @@ pub(crate) fn first_line(bytes: &[u8]) -> (&[u8], &[u8])
     ensures shorter { length result.1.now < length bytes.now }
 {
     bytes.split_at(first_end(bytes))
+}
+
+/// The first line that has ended, with its line feed, and the bytes behind it, if a line has.
+pub(crate) fn first_ended(bytes: &[u8]) -> Option<(&[u8], &[u8])>
+    ensures none { IsNone result → HasNoFeed bytes.now }
+    ensures joined { IfSome result (λ cut. bytes.now ≡ cut.0.now ++ cut.1.now) }
+    ensures ended { IfSome result (λ cut. IsEnded cut.0.now) }
+{
+    let feed = feed_in(bytes)?;
+    Some(bytes.split_at(feed + 1))
 }
 
 /// Where the first line ends.

@@ -1,14 +1,15 @@
 //! The zones of a file.
 
-ghost use Rattle.std.specs.Prelude.{Option, Some, None, true, false, ◌≡◌, ℕ, List, ◌+◌, ◌^◌, ◌<◌, ◌≤◌, [], ◌∷◌, ◌++◌, length, map, OnOk, IfOk, IfErr, option_map, flat_map};
+ghost use Rattle.std.specs.Prelude.{Option, Some, None, true, false, ◌≡◌, ℕ, List, ◌+◌, ◌^◌, ◌<◌, ◌≤◌, [], ◌∷◌, ◌++◌, length, map, OnOk, IfOk, IfErr, option_map};
 ghost use Rattle.edi_line.specs.Entry.{Entry, entry, entries};
-ghost use Rattle.edi_line.specs.Zones.{kind_of as kind_in, zones_of, HasShape, IsFileOf, with_more, part_of, part_by, Part, whole_zones, IsZonesIn, groups_of, charset_of};
+ghost use Rattle.edi_line.specs.Zones.{kind_of as kind_in, zones_of, HasShape, IsFileOf, with_more, part_by, Part, whole_zones, IsZonesIn, groups_of, charset_of};
 ghost use Rattle.edi_line.specs.LineRules.{BreaksLineRule, IsZonesOf};
-ghost use Rattle.edi_line.specs.Refusal.{IsUnbroken, IsLeastBroken, IsLineRefusal, IfBroken};
+ghost use Rattle.edi_line.specs.Refusal.{IsUnbroken, IsLineRefusal, IfBroken};
 ghost use Rattle.std.specs.List.{AllByRecursion};
+ghost use Rattle.std.specs.Cow.{cow_slice_items};
 ghost use Rattle.edi_line.specs.Printing.{IsPrintable, printed, numbered};
-ghost use Rattle.edi_line.specs.Held.{rule_of, rule_of_kind, noted, noted_kind, Takes, Stands, Zoned, zoned, step, closed};
-ghost use Rattle.edi_line.specs.Spelling.{Reading, reading_of, spelling_shown};
+ghost use Rattle.edi_line.specs.Held.{rule_of_kind, noted_kind, opened, Steps, Takes, Refuses, Stands, zoned, step, closed};
+ghost use Rattle.edi_line.specs.Spelling.{reading_of, spelling_shown};
 
 use crate::fault::LineFault;
 use crate::lines;
@@ -20,7 +21,7 @@ use std::borrow::CowSlice;
 
 /// What is kept of the lines that have come.
 #[derive(Drop)]
-struct Reader<'a> {
+pub(crate) struct Reader<'a> {
     line: u64,
     order: Order,
     zones: Vec<Zone<'a>>,
@@ -28,7 +29,7 @@ struct Reader<'a> {
 }
 
 impl<'a> Reader<'a> {
-    fn new(alloc: Global) -> Reader<'a>
+    pub(crate) fn new(alloc: Global) -> Reader<'a>
         ensures { Stands [] result }
     {
         Reader {
@@ -39,17 +40,47 @@ impl<'a> Reader<'a> {
         }
     }
 
-    /// Takes the content of the next line.
+    /// Takes the content of the next line, whose value a zone that begins there is lent.
     fn take_line(&mut self, alloc: Global, content: &'a [u8]) -> Result<(), LineFault>
         requires line { self.old.line + 1 < 2 ^ 64 }
         requires records { self.old.order.records ≤ self.old.line }
         ensures ok { OnOk result (Takes self.old (reading_of content.now) self.new) }
-        ensures broken { IfErr result (IfBroken (λ rule at.
-            (at ≡ self.old.line + 1) × (rule_of self.old.order (reading_of content.now) ≡ Some rule))) }
+        ensures broken { IfErr result (IfBroken (Refuses self.old (reading_of content.now))) }
+    {
+        if let Some(spelled) = self.step(alloc, content)? {
+            self.begin(spelled, CowSlice::Borrowed(spelled.value));
+        }
+        Ok(())
+    }
+
+    /// Takes the content of the next line, of whose value a zone that begins there keeps a copy.
+    pub(crate) fn take_copied(&mut self, alloc: Global, content: &[u8]) -> Result<(), LineFault>
+        requires line { self.old.line + 1 < 2 ^ 64 }
+        requires records { self.old.order.records ≤ self.old.line }
+        ensures ok { OnOk result (Takes self.old (reading_of content.now) self.new) }
+        ensures broken { IfErr result (IfBroken (Refuses self.old (reading_of content.now))) }
+    {
+        if let Some(spelled) = self.step(alloc, content)? {
+            let value = Vec::from_slice(alloc, spelled.value)?;
+            self.begin(spelled, CowSlice::Owned(value));
+        }
+        Ok(())
+    }
+
+    /// Takes the content of the next line, but for the zone that begins there, which is given back.
+    fn step<'b>(
+        &mut self,
+        alloc: Global,
+        content: &'b [u8],
+    ) -> Result<Option<Spelled<'b>>, LineFault>
+        requires line { self.old.line + 1 < 2 ^ 64 }
+        requires records { self.old.order.records ≤ self.old.line }
+        ensures ok { IfOk result (λ begun. Steps self.old (reading_of content.now) (option_map spelling_shown begun) self.new) }
+        ensures broken { IfErr result (IfBroken (Refuses self.old (reading_of content.now))) }
     {
         self.line += 1;
         match read_content(content) {
-            Ok(None) => Ok(()),
+            Ok(None) => Ok(None),
             Ok(Some(spelled)) => self.take_spelled(alloc, spelled),
             Err(rule) => Err(LineFault::Broken {
                 rule,
@@ -58,13 +89,17 @@ impl<'a> Reader<'a> {
         }
     }
 
-    /// Takes what this line spells.
-    fn take_spelled(&mut self, alloc: Global, spelled: Spelled<'a>) -> Result<(), LineFault>
+    /// Takes what this line spells, but for the zone that it begins.
+    fn take_spelled<'b>(
+        &mut self,
+        alloc: Global,
+        spelled: Spelled<'b>,
+    ) -> Result<Option<Spelled<'b>>, LineFault>
         requires { self.old.order.records + 1 < 2 ^ 64 }
         ensures line { OnOk result (self.new.line ≡ self.old.line) }
         ensures no_rule { OnOk result (rule_of_kind self.old.order (kind_in spelled.entry.code) ≡ None) }
         ensures order { OnOk result (self.new.order ≡ noted_kind self.old.order (kind_in spelled.entry.code)) }
-        ensures zones { OnOk result (zoned self.new
+        ensures zones { IfOk result (λ begun. opened self.old.line (option_map spelling_shown begun) (zoned self.new)
             ≡ step (part_by (kind_in spelled.entry.code) self.old.line (spelling_shown spelled.entry)) (zoned self.old)) }
         ensures broken { IfErr result (IfBroken (λ rule at.
             (at ≡ self.old.line) × (rule_of_kind self.old.order (kind_in spelled.entry.code) ≡ Some rule))) }
@@ -77,37 +112,46 @@ impl<'a> Reader<'a> {
             });
         }
         self.order.note(kind);
-        self.take_part(alloc, kind, spelled)?;
-        Ok(())
+        Ok(self.take_part(alloc, kind, spelled)?)
     }
 
-    /// Continues the open zone, or closes it and perhaps opens the next.
-    fn take_part(
+    /// Continues the open zone, or closes it. The next one, if it begins, is given back.
+    fn take_part<'b>(
         &mut self,
         alloc: Global,
         kind: ZoneKind,
-        spelled: Spelled<'a>,
-    ) -> Result<(), AllocError>
+        spelled: Spelled<'b>,
+    ) -> Result<Option<Spelled<'b>>, AllocError>
         ensures line { OnOk result (self.new.line ≡ self.old.line) }
         ensures order { OnOk result (self.new.order ≡ self.old.order) }
-        ensures zones { OnOk result (zoned self.new
+        ensures zones { IfOk result (λ begun. opened self.old.line (option_map spelling_shown begun) (zoned self.new)
             ≡ step (part_by kind self.old.line (spelling_shown spelled.entry)) (zoned self.old)) }
     {
         match kind {
-            ZoneKind::Next => self.lengthen(alloc, spelled.value),
-            ZoneKind::Remark => self.close(),
+            ZoneKind::Next => self.lengthen(alloc, spelled.value)?,
+            ZoneKind::Remark => self.close()?,
             _ => {
                 self.close()?;
-                self.open_zone = Some(Zone {
-                    line: self.line,
-                    code: spelled.code,
-                    nature: spelled.nature,
-                    format: spelled.format,
-                    value: CowSlice::Borrowed(spelled.value),
-                });
-                Ok(())
+                return Ok(Some(spelled));
             }
         }
+        Ok(None)
+    }
+
+    /// Opens the zone that the last line begins, with its value.
+    fn begin(&mut self, spelled: Spelled<'_>, value: CowSlice<'a, u8>)
+        requires { cow_slice_items value ≡ spelled.value.now }
+        ensures line { self.new.line ≡ self.old.line }
+        ensures order { self.new.order ≡ self.old.order }
+        ensures zones { zoned self.new ≡ opened self.old.line (Some (spelling_shown spelled.entry)) (zoned self.old) }
+    {
+        self.open_zone = Some(Zone {
+            line: self.line,
+            code: spelled.code,
+            nature: spelled.nature,
+            format: spelled.format,
+            value,
+        });
     }
 
     /// Lengthens the open zone, if there is one.
@@ -136,7 +180,7 @@ impl<'a> Reader<'a> {
     }
 
     /// All lines have come.
-    fn finish(mut self) -> Result<Vec<Zone<'a>>, LineFault>
+    pub(crate) fn finish(mut self) -> Result<Vec<Zone<'a>>, LineFault>
         requires { self.line + 1 < 2 ^ 64 }
         ensures ok { IfOk result (λ zones. (entries zones.items ≡ closed (zoned self.entry)) × (self.entry.order.eom ≡ true)) }
         ensures broken { IfErr result (IfBroken (λ rule at. (rule ≡ 106) × (at ≡ self.entry.line + 1) × (self.entry.order.eom ≡ false))) }

@@ -1,7 +1,9 @@
 //! Known numbers, files and devices.
+ghost use Rattle.std.specs.Prelude.{◌+◌, ◌<◌, length};
+
 use crate::{
-    ByteIn, ByteOut, FromRead, LineFault, Num, ReadFault, ScriptIn, ScriptOut, Sequence, ToWrite,
-    Zone, read_all, zones,
+    ByteIn, ByteOut, Feed, FromRead, LineFault, Num, ReadFault, ScriptIn, ScriptOut, Sequence,
+    ToWrite, Zone, read_all, zones,
 };
 use std::alloc::Global;
 use std::borrow::CowSlice;
@@ -250,5 +252,99 @@ fn compares_sequences(rt: HostRuntime) -> Result<(), Fail> {
     assert!(rt; long.len() == 3 && !long.is_empty());
     assert_eq!(rt; long.into_vec().as_slice(), b"abc".as_slice());
     assert_eq!(rt; copy.as_slice(), b"ab".as_slice());
+    Ok(())
+}
+
+const SHEET: &[u8] =
+    b"BOMT 01:X\r\nRTYSA03:PNO\n\r\nREMT 02:hi\nATVSA02:ab\r\n \nNEXT 01:c\nEOMT 00:\r\n";
+
+// The rule and the line of a fault; 0 and 0 for want of memory.
+fn answer<T: Drop>(given: &Result<T, LineFault>) -> Result<(), (u16, u64)> {
+    match given {
+        Ok(_) => Ok(()),
+        Err(LineFault::Broken { rule, at }) => Err((*rule, *at)),
+        Err(LineFault::Memory(_)) => Err((0, 0)),
+    }
+}
+
+// What two pieces and the end are answered.
+fn fed_in_two(
+    alloc: Global,
+    front: &[u8],
+    behind: &[u8],
+) -> (
+    Result<(), LineFault>,
+    Result<(), LineFault>,
+    Result<Vec<Zone<'static>>, LineFault>,
+)
+    requires { length front.now + length behind.now < 1000 }
+{
+    let mut feed = Feed::new(alloc);
+    let first = feed.feed(front);
+    let second = feed.feed(behind);
+    (first, second, feed.finish())
+}
+
+// How many bytes were taken one by one, and what the end is answered.
+fn fed_in_bytes(alloc: Global, bytes: &[u8]) -> (usize, Result<Vec<Zone<'static>>, LineFault>)
+    requires { length bytes.now < 1000 }
+{
+    let mut feed = Feed::new(alloc);
+    let mut taken = 0;
+    for byte in bytes {
+        if feed.feed(&[*byte]).is_ok() {
+            taken += 1;
+        }
+    }
+    (taken, feed.finish())
+}
+
+fn are_same(left: &[Zone], right: &[Zone]) -> bool {
+    left.len() == right.len()
+        && left.iter().zip(right).all(|(one, other)| {
+            one.line == other.line
+                && one.code == other.code
+                && one.nature == other.nature
+                && one.format == other.format
+                && one.value.as_slice() == other.value.as_slice()
+        })
+}
+
+#[test]
+fn takes_a_sheet_in_pieces(rt: HostRuntime) -> Result<(), Fail> {
+    let alloc = rt.alloc();
+    let whole = zones(alloc, SHEET).ok().ok_or("no zones")?;
+    assert_eq!(rt; whole.len(), 4);
+    for cut in 0..=SHEET.len() {
+        let (front, behind) = SHEET.split_at(cut);
+        let (first, second, end) = fed_in_two(alloc, front, behind);
+        assert!(rt; first.is_ok() && second.is_ok());
+        assert!(rt;
+            are_same(&end.ok().ok_or("no zones")?, &whole),
+            "cut at {cut}"
+        );
+    }
+    let (taken, end) = fed_in_bytes(alloc, SHEET);
+    assert_eq!(rt; taken, SHEET.len());
+    assert!(rt; are_same(&end.ok().ok_or("no zones")?, &whole));
+    Ok(())
+}
+
+#[test]
+fn refuses_a_line_as_it_ends(rt: HostRuntime) -> Result<(), Fail> {
+    let alloc = rt.alloc();
+    let none = answer(&Feed::new(alloc).finish());
+    assert_eq!(rt; none, Err((106, 1)));
+    let (first, second, end) = fed_in_two(alloc, b"", b"BOMT 01:X\nx");
+    assert_eq!(rt; answer(&first), Ok(()));
+    assert_eq!(rt; answer(&second), Ok(()));
+    assert_eq!(rt; answer(&end), Err((101, 2)));
+    let (first, second, end) = fed_in_two(alloc, b"BOMT 01:X\nEOMT 00:\nEOMT 00:\n", b"BOM");
+    assert_eq!(rt; answer(&first), Err((107, 3)));
+    assert_eq!(rt; answer(&second), Err((107, 3)));
+    assert_eq!(rt; answer(&end), Err((107, 3)));
+    let (taken, end) = fed_in_bytes(alloc, b"BOMT 01:X\nx\n");
+    assert_eq!(rt; taken, 11);
+    assert_eq!(rt; answer(&end), Err((101, 2)));
     Ok(())
 }

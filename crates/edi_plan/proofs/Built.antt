@@ -3,13 +3,11 @@ use Rattle.std.proofs.Common.{◌≡◌, ◌≢◌, ℕ, zero, suc, ◌+◌, ◌
 use Rattle.std.specs.List.{AllZip, AllByRecursion, position_or_len, list_all}
 use Rattle.std.specs.Map.{lookup, keys_of}
 use Rattle.std.proofs.lemmas.Bool.{ltb-true}
-use Rattle.std.proofs.lemmas.Option.{same_Some, none-some, slice_get_within, slice_get-get_or, get_or_from_slice_get}
+use Rattle.std.proofs.lemmas.Option.{same_Some, none-some, get_or_from_slice_get}
 use Rattle.std.proofs.lemmas.List.Sums.{sum_by-cons}
 use native.Mathlib.Decide.{dec_le}
 use Rattle.edi_record.specs.Records.{value_of}
 use Rattle.edi_record.specs.declared.record.Attribute.{Attribute}
-use Rattle.edi_record.specs.declared.record.Value.{Value}
-use Rattle.edi_record.specs.declared.record.Value.TheVariants.{Number, Bytes}
 use Rattle.edi_plan.specs.Agreeing.{AttributeAgrees, RecordAgrees, Agrees}
 use Rattle.edi_plan.specs.ReferenceRules.BreaksReferenceRule.{names_nothing, joins_wrong}
 use Rattle.edi_schema.proofs.Paired.{count-cons}
@@ -28,8 +26,8 @@ use Rattle.edi_schema.specs.declared.role.Role.TheVariants.{Initial, Final, Left
 use Rattle.edi_schema.specs.declared.class.Class.{Class}
 use Rattle.edi_plan.specs.Plans.{Drawing, IsPlace, record_at, blank, is_arc, is_link}
 use Rattle.edi_plan.specs.Whole.{IsWhole}
-use Rattle.edi_plan.specs.PlanOf.{own_name, place_named, StatesPlanAttribute, StatesPlanEnd, StatesPlanRecord, IsPlanOf}
-use Rattle.edi_plan.specs.ReferenceRules.{BreaksReferenceRule, Names, HasRole, JoinsArcTo}
+use Rattle.edi_plan.specs.PlanOf.{place_named, StatesPlanAttribute, StatesPlanEnd, StatesPlanRecord, IsPlanOf}
+use Rattle.edi_plan.specs.ReferenceRules.{BreaksReferenceRule, Names, JoinsArcTo}
 use Rattle.edi_plan.specs.declared.record.PlanRecord.{PlanRecord}
 use Rattle.edi_plan.specs.declared.record.PlanAttribute.{PlanAttribute}
 use Rattle.edi_plan.specs.declared.record.PlanEnd.{PlanEnd}
@@ -77,7 +75,7 @@ both_true true true h = (refl, refl)
 both_true true false h = absurd (true≢false (sym h))
 both_true false b h = absurd (true≢false (sym h))
 
-link_is : (k : Kind) → is_link k ≡ true → k ≡ Lnk
+pub link_is : (k : Kind) → is_link k ≡ true → k ≡ Lnk
 link_is Pno h = absurd (true≢false (sym h))
 link_is Par h = absurd (true≢false (sym h))
 link_is Pfe h = absurd (true≢false (sym h))
@@ -86,7 +84,7 @@ link_is Lnk h = refl
 
 -- the first that passes
 
-position_some : {X : Type 0} (test : X → Bool) (xs : List X) (k : ℕ) → position test xs ≡ Some k → (k ≡ position_or_len test xs) × (k < length xs)
+pub position_some : {X : Type 0} (test : X → Bool) (xs : List X) (k : ℕ) → position test xs ≡ Some k → (k ≡ position_or_len test xs) × (k < length xs)
 position_some test xs k h = go (nat_lt (position_or_len test xs) (length xs)) refl h
   where
     go : (b : Bool) → nat_lt (position_or_len test xs) (length xs) ≡ b → cond b (Some (position_or_len test xs)) None ≡ Some k → (k ≡ position_or_len test xs) × (k < length xs)

@@ -2,6 +2,12 @@ pub mod Built
 pub mod Orders
 pub mod DerivedOrders
 pub mod PlaceLemmas
-pub mod Named
+pub mod NameLemmas
+pub mod TargetLemmas
 pub mod Resolved
-pub mod NodesBuilt
+pub mod RuleLemmas
+pub mod DoneLemmas
+pub mod StepLemmas
+pub mod RecordLemmas
+pub mod PlanLemmas
+pub mod JoinedLemmas

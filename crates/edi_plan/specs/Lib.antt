@@ -3,11 +3,14 @@ pub mod Whole
 pub mod PlanOf
 pub mod Agreeing
 pub mod Sides
+pub mod SideTable
+pub mod Joined
 pub mod ReferenceRules
 pub mod ReferenceRefusal
 pub mod Laws
 pub mod Orders
 pub mod Places
-pub mod Interim
-pub mod Repeats
-pub mod Nodes
+pub mod Names
+pub mod Targets
+pub mod Resolving
+pub mod Done

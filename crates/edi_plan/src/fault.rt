@@ -1,5 +1,6 @@
 ghost use Rattle.std.specs.Prelude.{◌≡◌, alloc_error};
 ghost use Rattle.edi_plan.specs.declared.fault.RefFault.TheVariants.{Memory};
+ghost use Rattle.edi_plan.specs.declared.fault.Unresolved.TheVariants.{Memory as NoMemory};
 
 use std::alloc::{AllocError, AllocFailed};
 use thiserror::Error;
@@ -26,5 +27,20 @@ impl<T: Drop> From<AllocFailed<T>> for RefFault {
 
     fn from(_fault: AllocFailed<T>) -> RefFault {
         RefFault::Memory(AllocError)
+    }
+}
+
+/// Why a record has no place in a plan: the least rule that it breaks, or want of memory.
+#[derive(Debug, Drop)]
+pub(crate) enum Unresolved {
+    Memory(AllocError),
+    Broken(u16),
+}
+
+impl<T: Drop> From<AllocFailed<T>> for Unresolved {
+    ghost from_gives = { λ _ e. e ≡ NoMemory alloc_error };
+
+    fn from(_fault: AllocFailed<T>) -> Unresolved {
+        Unresolved::Memory(AllocError)
     }
 }

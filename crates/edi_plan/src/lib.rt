@@ -4,10 +4,13 @@
 pub mod attributes;
 pub mod fault;
 pub mod laws;
-mod nodes;
+mod names;
 pub mod plan;
 pub mod record;
-mod repeats;
+mod records;
+mod references;
+mod sides;
+mod targets;
 
 pub use attributes::sorted_attributes;
 pub use fault::RefFault;

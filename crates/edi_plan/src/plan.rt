@@ -3,9 +3,10 @@ ghost use Rattle.edi_line.specs.Refusal.{IsUnbroken};
 ghost use Rattle.edi_plan.specs.Plans.{same_kind};
 
 use crate::fault::RefFault;
-use crate::nodes::plan_nodes;
 use crate::record::{PlanAttribute, PlanEnd, PlanRecord};
-use crate::repeats::first_repeat;
+use crate::records::plan_records;
+use crate::references::References;
+use crate::sides::ArcSides;
 use edi_line::Sequence;
 use edi_record::{Extra, Kind, Point, Sheet};
 use edi_schema::{ClassRef, Role, Schema};
@@ -17,44 +18,46 @@ use std::marker::Model;
 pub struct Plan {
     cse: Option<Sequence<u8>>,
     list: Sequence<PlanRecord>,
+    sides: Sequence<ArcSides>,
 }
 
 impl Model for Plan {
     ghost use Rattle.edi_plan.specs.Plans.{Drawing};
-    ghost use Rattle.edi_plan.specs.Whole.{IsWhole};
+    ghost use Rattle.edi_plan.specs.SideTable.{IsKept};
 
     ghost Value = { Drawing };
 
     ghost view = { λ p. record { cse = p.cse; list = p.list } };
 
-    ghost invariant = { λ p. IsWhole (record { cse = p.cse; list = p.list }) };
+    ghost invariant = { λ p. IsKept (record { cse = p.cse; list = p.list }) p.sides };
 }
 
 impl Plan {
     ghost use Rattle.edi_plan.specs.Agreeing.{Agrees};
-    ghost use Rattle.edi_plan.specs.Interim.{HoldsNodesAlone};
     ghost use Rattle.edi_plan.specs.PlanOf.{IsPlanOf};
     ghost use Rattle.edi_plan.specs.Plans.{IsPlace, record_at};
     ghost use Rattle.edi_plan.specs.Places.{places_of};
+    ghost use Rattle.edi_plan.specs.Sides.{IsSideIfAny};
+    ghost use Rattle.edi_plan.specs.Joined.{IsJoined};
     ghost use Rattle.edi_plan.specs.Whole.{IsWhole};
     ghost use Rattle.edi_plan.specs.ReferenceRules.{BreaksReferenceRule};
     ghost use Rattle.edi_plan.specs.ReferenceRefusal.{IsReferenceRefusal};
 
-    /// The plan of a sheet of nodes alone under a schema, or the least record that breaks a rule of
-    /// references (301 to 303) and the least rule there.
+    /// The plan of a sheet under a schema, or the least record that breaks a rule of references
+    /// (301 to 307) and the least rule there.
     pub fn build(alloc: Global, schema: &Schema, sheet: Sheet) -> Result<Plan, RefFault>
-        requires { HoldsNodesAlone sheet.list }
         ensures plan { IfOk result (IsPlanOf schema.now sheet) }
         ensures agrees { IfOk result (Agrees schema.now) }
         ensures sound { OnOk result (IsUnbroken (BreaksReferenceRule schema.now sheet.list)) }
         ensures least { IfErr result (IsReferenceRefusal (BreaksReferenceRule schema.now sheet.list)) }
     {
         let Sheet { cse, list } = sheet;
-        let repeat = first_repeat(alloc, list.as_slice())?;
-        let records = plan_nodes(alloc, schema, list, repeat)?;
+        let references = References::among(alloc, list.as_slice())?;
+        let planned = plan_records(alloc, schema, &references, list)?;
         Ok(Plan {
             cse,
-            list: Sequence::from_vec(records),
+            list: Sequence::from_vec(planned.list),
+            sides: Sequence::from_vec(planned.sides),
         })
     }
 
@@ -123,6 +126,14 @@ impl Plan {
         self.list.as_slice()[place as usize].ends.as_slice()
     }
 
+    /// The node or the face that an arc has by its link of a role, or `None` where it has no such link.
+    pub fn side(&self, place: u32, role: Role) -> Option<u32>
+        requires { IsPlace self.now place }
+        ensures { IsSideIfAny self.now place role result }
+    {
+        self.sides.as_slice()[place as usize].of(role)
+    }
+
     /// The places of the records of a kind, in file order.
     pub fn places(&self, alloc: Global, kind: Kind) -> Result<Vec<u32>, AllocError>
         ensures { IfOk result (λ places. places.items ≡ places_of kind self.now) }
@@ -138,7 +149,8 @@ impl Plan {
 
     /// What each plan keeps.
     pub fn keeps(&self)
-        ensures { IsWhole self.now }
+        ensures whole { IsWhole self.now }
+        ensures joined { IsJoined self.now }
     {
         let _ = &self.list;
     }

@@ -1,5 +1,5 @@
 -- A renaming of places is a permutation of them.
-use Rattle.std.proofs.Common.{◌≡◌, ℕ, zero, suc, ◌+◌, ◌<◌, List, [], ◌∷◌, map, filter_map, length, Option, Some, refl, sym, ap, ◌∙◌, subst, arith, IsPermutation, get_or, nat_cmp}
+use Rattle.std.proofs.Common.{◌≡◌, ℕ, zero, suc, ◌+◌, ◌<◌, List, [], ◌∷◌, map, filter_map, length, Some, refl, sym, ap, ◌∙◌, subst, arith, IsPermutation, get_or, nat_cmp}
 use Rattle.std.proofs.lemmas.Cmp.{nat_cmp_total}
 use Rattle.std.proofs.lemmas.List.Sorted.{IsPermutation-sym, IsPermutation-trans}
 use Rattle.edi_schema.specs.Sorted.{SameCounts, sort_by}

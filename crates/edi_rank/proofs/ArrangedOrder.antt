@@ -1,6 +1,5 @@
 -- The plan that labels make of a plan stands in order.
-use Rattle.std.proofs.Common.{◌≡◌, ℕ, zero, suc, ◌+◌, ◌-◌, ◌<◌, ◌≤◌, ◌⊎◌, inl, inr, Bool, true, false, List, [], ◌∷◌, map, length, get_or, Option, Some, None, refl, sym, ap, ◌∙◌, subst, arith, Less, eqb-true}
-use Rattle.std.specs.List.{AllByRecursion}
+use Rattle.std.proofs.Common.{◌≡◌, ℕ, suc, ◌+◌, ◌-◌, ◌<◌, ◌≤◌, ◌⊎◌, inl, inr, true, List, [], ◌∷◌, map, length, get_or, refl, sym, ap, ◌∙◌, subst, arith, Less, eqb-true}
 use Rattle.std.proofs.lemmas.Bool.{cases_lt}
 use Rattle.std.proofs.lemmas.Option.{slice_get_within}
 use Rattle.edi_record.specs.Orders.{points_cmp}
@@ -10,7 +9,6 @@ use Rattle.edi_record.specs.declared.record.Kind.TheVariants.{Pno, Par, Pfe, Fea
 use Rattle.edi_schema.specs.Classes.{Classes, partner_of}
 use Rattle.edi_schema.specs.Sorted.{sort_by, NeverFalls}
 use Rattle.edi_schema.proofs.SortedLists.{NeverFalls-sort_by, sort_by-in_order}
-use Rattle.edi_plan.specs.Interim.{HasNodesAlone}
 use Rattle.edi_plan.specs.Orders.{attribute_cmp}
 use Rattle.edi_plan.specs.Plans.{Drawing, IsPlace, record_at, blank, kind_rank, others_of}
 use Rattle.edi_plan.specs.Whole.{IsWhole}
@@ -18,16 +16,16 @@ use Rattle.edi_plan.specs.declared.record.PlanRecord.{PlanRecord}
 use Rattle.edi_plan.specs.declared.record.PlanEnd.{PlanEnd}
 use Rattle.edi_plan.proofs.Orders.{attribute_total, attribute_exact}
 use Rattle.edi_topo.specs.NodeKeys.{node_key, node_key_cmp, no_point}
-use Rattle.edi_topo.proofs.NodesAlone.{all_at}
-use Rattle.edi_rank.specs.Arranged.{offset, new_place, arranged_record, arranged}
+use Rattle.edi_topo.proofs.AtPlaces.{all_at}
+use Rattle.edi_rank.specs.Arranged.{offset, arranged_record, arranged}
 use Rattle.edi_rank.specs.InOrder.{Both, IsInOrder}
 use Rattle.edi_rank.specs.Keys.{end_cmp, numbered}
 use Rattle.edi_rank.specs.Labelling.{Labelling, AreLabels, order_of, number_of, turned_at, turned_by}
 use Rattle.edi_rank.specs.Same.{class_after, directed}
-use Rattle.edi_rank.specs.Turned.{turned_plan, turned_record}
+use Rattle.edi_rank.specs.Turned.{turned_record}
 use Rattle.edi_rank.proofs.Arranging.{From, came_from}
-use Rattle.edi_rank.proofs.ArrangedUnder.{alone_arranged, whole_arranged}
-use Rattle.edi_rank.proofs.NodeLabels.{record_turned, turned_long}
+use Rattle.edi_rank.proofs.ArrangedUnder.{whole_arranged}
+use Rattle.edi_rank.proofs.TurnedRecords.{record_turned, turned_long}
 
 -- the records of a kind stand before those of the kinds after it
 below_rank : (l : Labelling) (a b : Kind) → kind_rank a < kind_rank b → offset l a + length (order_of l a) ≤ offset l b
@@ -144,35 +142,3 @@ module _ (s : Classes) (p : Drawing) (l : Labelling) (labels : AreLabels s p l) 
       let v = from k both.second in
       subst (λ x. points_cmp x (record_at (arranged s l p) k).points ≡ Less) (sym (points_made i w))
       (subst (λ x. points_cmp (record_at (turned_by s l p) w.old).points x ≡ Less) (sym (points_made k v)) (labels.rise.arcs w.old v.old (both_before Par i k w v both)))
-
-  module _ (alone : HasNodesAlone p) (whole : IsWhole p) where
-    node_there : (i : ℕ) → IsPlace (arranged s l p) i → (record_at (arranged s l p) i).kind ≡ Pno
-    node_there i h = all_at (λ r. r.kind ≡ Pno) (arranged s l p).list i blank h (alone_arranged s p l labels alone)
-
-    no_other : (i : ℕ) (kind : Kind) → IsPlace (arranged s l p) i → (record_at (arranged s l p) i).kind ≡ kind → kind_rank kind ≡ 0
-    no_other i kind h is = ap kind_rank (sym is ∙ node_there i h)
-
-    pub nodes_in_order : IsInOrder (arranged s l p)
-    nodes_in_order = record {
-      by_type = by_type;
-      rise = record {
-        nodes = nodes_rise;
-        arcs = arcs_rise;
-        faces = λ i k b. absurd (omega (arith, no_other i Pfe b.first b.first_kind));
-        objects = λ i k b. absurd (omega (arith, no_other i Fea b.first b.first_kind));
-        links = λ i k b. absurd (omega (arith, no_other i Lnk b.first b.first_kind));
-      };
-      forward = λ i h is. absurd (omega (arith, no_other i Par h is));
-      attributes = attributes_in_order;
-      others = others;
-    }
-      where
-        whole_there : IsWhole (arranged s l p)
-        whole_there = whole_arranged s p l labels whole
-
-        others : (i : ℕ) → IsPlace (arranged s l p) i → NeverFalls end_cmp (map (numbered (arranged s l p) suc) (others_of (record_at (arranged s l p) i)))
-        others i h = go (record_at (arranged s l p) i).ends (no_ends (record_at (arranged s l p) i) (node_there i h) (whole_there.ends i h))
-          where
-            go : (xs : List PlanEnd) → xs ≡ [] → NeverFalls end_cmp (map (numbered (arranged s l p) suc) (Rattle.edi_plan.specs.Plans.rest_of xs))
-            go [] e = tt
-            go (x ∷ xs) e = cc

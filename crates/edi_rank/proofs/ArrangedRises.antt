@@ -9,13 +9,13 @@ use Rattle.edi_line.specs.Refusal.{IsUnbroken}
 use Rattle.edi_record.specs.Orders.{point_cmp, points_cmp}
 use Rattle.edi_record.specs.Shapes.{may_have_points, may_have_ends}
 use Rattle.edi_record.specs.declared.record.Kind.{Kind}
-use Rattle.edi_record.specs.declared.record.Kind.TheVariants.{Pno, Par, Pfe, Fea, Lnk}
+use Rattle.edi_record.specs.declared.record.Kind.TheVariants.{Par, Pfe, Fea, Lnk}
 use Rattle.edi_record.specs.declared.record.Point.{Point}
 use Rattle.edi_schema.specs.Classes.{Classes, partner_of}
 use Rattle.edi_schema.specs.Roles.{is_plain}
 use Rattle.edi_schema.specs.Sorted.{sort_by, NeverFalls}
 use Rattle.edi_schema.proofs.SortedLists.{NeverFalls-sort_by, IsPermutation-sort_by}
-use Rattle.edi_plan.specs.Plans.{Drawing, IsPlace, record_at, kind_rank, is_arc, is_object, is_link, first_of, rest_of, others_of}
+use Rattle.edi_plan.specs.Plans.{Drawing, IsPlace, record_at, is_arc, is_object, is_link, first_of, rest_of, others_of}
 use Rattle.edi_plan.specs.Whole.{IsWhole}
 use Rattle.edi_plan.specs.declared.record.PlanRecord.{PlanRecord}
 use Rattle.edi_plan.specs.declared.record.PlanEnd.{PlanEnd}
@@ -26,13 +26,13 @@ use Rattle.edi_rank.specs.Arranged.{offset, new_place, numbered_cmp, ordered_end
 use Rattle.edi_rank.specs.InOrder.{Both, IsInOrder}
 use Rattle.edi_rank.specs.Keys.{end_cmp, link_key_cmp, object_key_cmp, face_key_cmp, numbered, link_key, least_side, object_key}
 use Rattle.edi_rank.specs.Labelling.{Labelling, AreLabels, number_of, turned_at, turned_by}
-use Rattle.edi_rank.specs.Same.{OneToOne, moved, directed, Carries}
-use Rattle.edi_rank.specs.Turned.{is_forward, turned_plan, turned_record, role_after}
+use Rattle.edi_rank.specs.Same.{OneToOne, moved, directed}
+use Rattle.edi_rank.specs.Turned.{is_forward, turned_record, role_after}
 use Rattle.edi_rank.proofs.ArrangedOrder.{by_type, attributes_in_order, both_before, kind_from, nodes_rise, arcs_rise}
 use Rattle.edi_rank.proofs.ArrangedUnder.{all_along, directed_long, plain_after}
 use Rattle.edi_rank.proofs.Arranging.{From, came_from, new_places, record_placed, carries_record, carries_arranged, numbered_total}
 use Rattle.edi_rank.proofs.KeysKept.{Kept, all_weaker, two_hold, counted_alike, link_key_kept, face_key_kept, object_key_kept}
-use Rattle.edi_rank.proofs.NodeLabels.{record_turned, turned_long}
+use Rattle.edi_rank.proofs.TurnedRecords.{record_turned, turned_long}
 use Rattle.edi_rank.proofs.Renumbered.{up, shift, shift_cmp, link_shift, link_shift_cmp, object_shift, object_shift_cmp, face_shift, faces_shift_cmp, link_up, object_up, least_up, shifted, shifted_is, never-map}
 use Rattle.edi_rank.proofs.SameLaws.{map_alike, map-map, ends_moved}
 

@@ -1,6 +1,6 @@
 -- The plan that labels make of a plan is whole, agrees with the schema, and is of nodes alone, where the plan is.
-use Rattle.std.proofs.Common.{◌≡◌, ℕ, zero, suc, ◌+◌, ◌<◌, ◌≤◌, Bool, true, false, cond, true≢false, List, [], ◌∷◌, map, length, reverse, get_or, Option, Some, None, unwrap_or, refl, sym, ap, ◌∙◌, subst, arith, IsPermutation, count_by, nat_lt}
-use Rattle.std.specs.List.{AllByRecursion, list_any, position_or_len}
+use Rattle.std.proofs.Common.{◌≡◌, ℕ, zero, suc, ◌<◌, ◌≤◌, Bool, true, false, cond, true≢false, List, [], ◌∷◌, map, length, Some, None, unwrap_or, refl, sym, ap, ◌∙◌, subst, arith, IsPermutation, count_by, nat_lt}
+use Rattle.std.specs.List.{AllByRecursion, position_or_len}
 use Rattle.std.proofs.lemmas.Bool.{ltb-true}
 use Rattle.std.proofs.lemmas.List.{length-map, length-reverse}
 use Rattle.std.proofs.lemmas.List.Elements.{recursion_from_All, All-from_recursion}
@@ -14,14 +14,13 @@ use Rattle.edi_schema.specs.declared.role.Role.{Role}
 use Rattle.edi_schema.specs.declared.role.Role.TheVariants.{Initial, Final, Left, Right, Plain}
 use Rattle.edi_schema.proofs.SortedLists.{IsPermutation-sort_by, counts_from_permutation}
 use Rattle.edi_plan.specs.Agreeing.{AttributeAgrees, RecordAgrees, Agrees}
-use Rattle.edi_plan.specs.Interim.{HasNodesAlone}
 use Rattle.edi_plan.specs.Orders.{attribute_cmp}
 use Rattle.edi_plan.specs.Plans.{Drawing, IsPlace, record_at, blank, is_arc, is_link}
 use Rattle.edi_plan.specs.Whole.{IsWhole}
 use Rattle.edi_plan.specs.declared.record.PlanRecord.{PlanRecord}
 use Rattle.edi_plan.specs.declared.record.PlanEnd.{PlanEnd}
 use Rattle.edi_plan.proofs.Orders.{attribute_total}
-use Rattle.edi_topo.proofs.NodesAlone.{all_at}
+use Rattle.edi_topo.proofs.AtPlaces.{all_at}
 use Rattle.edi_topo.specs.Ranking.{sum_below}
 use Rattle.edi_rank.specs.Arranged.{new_place, arranged_record, arranged}
 use Rattle.edi_rank.specs.Labelling.{Labelling, AreLabels, turned_at}
@@ -120,9 +119,6 @@ module _ (s : Classes) (p : Drawing) (l : Labelling) (labels : AreLabels s p l) 
   -- what holds of what is made of each record holds at each place
   at_each : (P : PlanRecord → Type 0) → ((k : ℕ) → IsPlace p k → P (arranged_record s l p k)) → (j : ℕ) → IsPlace (arranged s l p) j → P (record_at (arranged s l p) j)
   at_each P each j h = let w = from j h in subst P (sym w.made) (each w.old w.there)
-
-  pub alone_arranged : HasNodesAlone p → HasNodesAlone (arranged s l p)
-  alone_arranged alone = all_places (λ r. r.kind ≡ Pno) (arranged s l p).list blank (at_each (λ r. r.kind ≡ Pno) (λ k h. all_at (λ r. r.kind ≡ Pno) p.list k blank h alone))
 
   pub agrees_arranged : IsPaired s → Agrees s p → Agrees s (arranged s l p)
   agrees_arranged paired agrees = all_places (RecordAgrees s) (arranged s l p).list blank (at_each (RecordAgrees s) each)

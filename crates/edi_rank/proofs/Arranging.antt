@@ -1,5 +1,5 @@
 -- A plan carries onto the plan that labels make of it.
-use Rattle.std.proofs.Common.{◌≡◌, ℕ, zero, suc, ◌+◌, ◌-◌, ◌<◌, ◌≤◌, ◌⊎◌, inl, inr, Bool, true, false, cond, true≢false, List, [], ◌∷◌, ◌++◌, map, length, length-append, get_or, Option, Some, None, option_map, refl, sym, ap, ◌∙◌, subst, arith, IsPermutation, ◌&&◌, not}
+use Rattle.std.proofs.Common.{◌≡◌, ℕ, zero, suc, ◌+◌, ◌-◌, ◌<◌, ◌≤◌, ◌⊎◌, inl, inr, Bool, true, true≢false, List, [], ◌∷◌, ◌++◌, map, length, length-append, get_or, Some, option_map, refl, sym, ap, ◌∙◌, subst, arith, IsPermutation, ◌&&◌, not}
 use Rattle.std.specs.Cmp.{IsTotalOrder}
 use Rattle.std.specs.List.{slice_get}
 use Rattle.std.proofs.lemmas.Bool.{cases_lt}
@@ -9,7 +9,7 @@ use Rattle.std.proofs.lemmas.List.Sorted.{IsPermutation-refl, IsPermutation-sym,
 use Rattle.std.proofs.lemmas.Option.{slice_get-get_or, get_or_from_slice_get, slice_get_within}
 use Rattle.edi_record.specs.declared.record.Kind.{Kind}
 use Rattle.edi_record.specs.declared.record.Kind.TheVariants.{Pno, Par, Pfe, Fea, Lnk}
-use Rattle.edi_schema.specs.Classes.{Classes, partner_of}
+use Rattle.edi_schema.specs.Classes.{Classes}
 use Rattle.edi_schema.proofs.SortedLists.{IsPermutation-sort_by}
 use Rattle.edi_plan.specs.Orders.{attribute_cmp}
 use Rattle.edi_plan.specs.Plans.{Drawing, IsPlace, record_at, blank, is_arc, first_of, rest_of}
@@ -19,7 +19,7 @@ use Rattle.edi_rank.specs.Arranged.{offset, new_place, old_places, numbered_cmp,
 use Rattle.edi_rank.specs.Keys.{numbered}
 use Rattle.edi_rank.specs.Labelling.{Labelling, AreLabels, order_of, number_of, turned_at}
 use Rattle.edi_rank.specs.Same.{OneToOne, moved, CarriesRecord, Carries}
-use Rattle.edi_rank.specs.Turned.{is_forward, is_backward}
+use Rattle.edi_rank.specs.Turned.{is_forward}
 use Rattle.edi_rank.proofs.Orders.{end_total}
 
 -- lists one behind the other

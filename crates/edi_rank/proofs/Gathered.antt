@@ -1,16 +1,9 @@
 -- What is gathered from the records of a plan, by their places.
-use Rattle.std.proofs.Common.{◌≡◌, ℕ, zero, suc, ◌+◌, ◌<◌, ◌≤◌, Bool, true, false, cond, not, List, [], ◌∷◌, map, filter_map, length, get_or, Option, Some, None, refl, sym, ap, ◌∙◌, subst, arith, sum_by, count_by, true≢false, zero-add, IsPermutation, IsSorted, Ordering, Less, Equal, Greater, is_lt, is_gt, is_eq}
-use Rattle.std.specs.List.{AllByRecursion}
-use Rattle.std.specs.Cmp.{IsTotalOrder}
-use Rattle.std.specs.Ordering.{ordering_reverse}
-use Rattle.std.proofs.lemmas.Cmp.{tied_itself, upto}
-use Rattle.std.proofs.lemmas.Map.Lookups.{CmpEqualImpliesEq}
+use Rattle.std.proofs.Common.{◌≡◌, ℕ, ◌+◌, ◌<◌, Bool, cond, List, [], ◌∷◌, filter_map, length, get_or, Option, Some, None, refl, sym, ap, ◌∙◌, sum_by, count_by, zero-add}
 use Rattle.std.proofs.lemmas.List.Sums.{sum_by-cons}
-use Rattle.std.proofs.lemmas.List.Sorted.{sum_by-IsPermutation, IsPermutation-refl, IsPermutation-cons, IsPermutation-trans, IsPermutation-middle}
-use Rattle.edi_schema.specs.Sorted.{insert_sorted, sort_by, NeverFalls, SameCounts}
-use Rattle.edi_topo.specs.Ranking.{sum_below}
+use Rattle.edi_schema.specs.Sorted.{SameCounts}
 use Rattle.edi_rank.specs.Same.{OneToOne}
-use Rattle.edi_topo.proofs.Sums.{sum_below-same, sum_by-below}
+use Rattle.edi_topo.proofs.Sums.{sum_by-below}
 use Rattle.edi_rank.proofs.Sums.{sum_below-renamed}
 use Rattle.edi_schema.proofs.SortedLists.{count_by-cons}
 

@@ -1,5 +1,5 @@
 -- What is kept from a plan to each plan that is the same: the sides of its arcs, the rules of topology, its joins.
-use Rattle.std.proofs.Common.{◌≡◌, ◌≢◌, ℕ, zero, suc, ◌+◌, ◌<◌, ◌≤◌, Bool, true, false, cond, ◌||◌, List, [], ◌∷◌, ◌++◌, map, reverse, length, option_map, refl, sym, ap, ap₂, ◌∙◌, subst, arith, ◌⊎◌, inl, inr, IsPermutation, All, count_by, true≢false, eqb-true}
+use Rattle.std.proofs.Common.{◌≡◌, ◌≢◌, ℕ, suc, ◌+◌, ◌<◌, ◌≤◌, Bool, true, false, cond, ◌||◌, List, [], ◌∷◌, ◌++◌, map, reverse, length, option_map, refl, sym, ap, ap₂, ◌∙◌, subst, arith, ◌⊎◌, inl, inr, IsPermutation, count_by, true≢false, eqb-true}
 use mathlib.Core.List.{reverse-cons}
 use Rattle.std.specs.List.{list_any, AllByRecursion}
 use Rattle.std.proofs.lemmas.Bool.{cases_order}
@@ -9,7 +9,7 @@ use Rattle.std.proofs.lemmas.List.Sorted.{All-permutation, length_permutation, I
 use Rattle.edi_line.specs.Refusal.{IsUnbroken}
 use Rattle.edi_record.specs.declared.record.Point.{Point}
 use Rattle.edi_record.specs.declared.record.Kind.{Kind}
-use Rattle.edi_record.specs.declared.record.Kind.TheVariants.{Pno, Par, Pfe, Fea, Lnk}
+use Rattle.edi_record.specs.declared.record.Kind.TheVariants.{Pno, Par, Pfe}
 use Rattle.edi_record.specs.Shapes.{may_have_ends}
 use Rattle.edi_schema.specs.Classes.{Classes, role_of, partner_of}
 use Rattle.edi_schema.specs.Roles.{is_plain, exchanged}
@@ -17,13 +17,12 @@ use Rattle.edi_schema.specs.declared.role.Role.{Role}
 use Rattle.edi_schema.specs.declared.role.Role.TheVariants.{Initial, Final, Left, Right, Plain}
 use Rattle.edi_plan.specs.Plans.{Drawing, IsPlace, record_at, is_arc, first_of, rest_of}
 use Rattle.edi_plan.specs.Sides.{Side, targets}
-use Rattle.edi_plan.specs.declared.record.PlanRecord.{PlanRecord}
 use Rattle.edi_plan.specs.declared.record.PlanEnd.{PlanEnd}
 use Rattle.edi_topo.specs.TopologyRules.{BreaksTopologyRule, HasPoints, AreAlikeNodes}
 use Rattle.edi_topo.specs.TopologyRules.BreaksTopologyRule.{starts_elsewhere, ends_elsewhere, repeats_node, equals_reverse, repeats_arc, bounds_nothing}
-use Rattle.edi_rank.specs.Same.{has_turned_arc, directed, moved, CarriesRecord, Carries, Same}
+use Rattle.edi_rank.specs.Same.{has_turned_arc, directed, moved, Carries, Same}
 use Rattle.edi_rank.specs.Laws.{IsPlanUnder}
-use Rattle.edi_rank.specs.Kept.{beside, HasEnds, JoinsArc, IsJoin, IsJoined}
+use Rattle.edi_plan.specs.Joined.{beside, HasEnds, JoinsArc, IsJoin, IsJoined}
 use Rattle.edi_rank.proofs.SameLaws.{list_any-map, not_true, role_at, same_sym}
 use Rattle.edi_schema.proofs.SortedLists.{count_by-cons}
 

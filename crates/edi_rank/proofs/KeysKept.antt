@@ -1,23 +1,20 @@
 -- What a renaming does not change: the keys, where it keeps the numbers of the layers below.
-use Rattle.std.proofs.Common.{◌≡◌, ◌≢◌, ℕ, zero, suc, ◌+◌, ◌<◌, ◌≤◌, Bool, true, false, cond, not, ◌||◌, ◌&&◌, ◌==◌, nat_eq, List, [], ◌∷◌, ◌++◌, map, reverse, length, get_or, filter_map, Option, Some, None, option_map, option_and_then, refl, sym, ap, ap₂, ◌∙◌, subst, arith, ◌⊎◌, inl, inr, IsPermutation, All, count_by, true≢false, Less, eq-eqb, ne_eqb, eqb-true}
+use Rattle.std.proofs.Common.{◌≡◌, ℕ, ◌+◌, ◌<◌, Bool, true, false, cond, ◌||◌, ◌&&◌, ◌==◌, nat_eq, List, [], ◌∷◌, map, length, filter_map, Option, Some, None, option_map, refl, sym, ap, ap₂, ◌∙◌, subst, arith, ◌⊎◌, inl, inr, IsPermutation, count_by, true≢false, eq-eqb, ne_eqb, eqb-true}
 use Rattle.std.specs.List.{list_any, AllByRecursion}
 use Rattle.std.proofs.lemmas.Bool.{cases_eq}
 use Rattle.std.proofs.lemmas.List.Elements.{recursion_from_All, All-from_recursion}
 use Rattle.std.proofs.lemmas.List.Sorted.{IsPermutation-map, IsPermutation-sym, All-permutation, length_permutation}
-use Rattle.std.proofs.lemmas.List.Sums.{sum_by-cons}
 use Rattle.edi_record.specs.declared.record.Kind.{Kind}
 use Rattle.edi_record.specs.declared.record.Kind.TheVariants.{Pno, Par, Pfe, Fea, Lnk}
-use Rattle.edi_schema.specs.Sorted.{sort_by, NeverFalls, SameCounts}
-use Rattle.edi_schema.specs.declared.role.Role.{Role}
-use Rattle.edi_plan.specs.Plans.{Drawing, IsPlace, record_at, blank, kind_rank, is_arc, is_object, is_link, first_of, rest_of, origin_of, others_of}
+use Rattle.edi_schema.specs.Sorted.{sort_by}
+use Rattle.edi_plan.specs.Plans.{Drawing, record_at, blank, kind_rank, is_arc, is_object, is_link, first_of, rest_of, origin_of, others_of}
 use Rattle.edi_plan.specs.Whole.{IsWhole}
 use Rattle.edi_plan.specs.declared.record.PlanRecord.{PlanRecord}
 use Rattle.edi_plan.specs.declared.record.PlanEnd.{PlanEnd}
-use Rattle.edi_rank.specs.Same.{OneToOne, moved, has_turned_arc, Carries, CarriesRecord}
+use Rattle.edi_rank.specs.Same.{OneToOne, moved}
 use Rattle.edi_plan.specs.Orders.{attribute_cmp}
-use Rattle.edi_rank.specs.Keys.{end_cmp, numbered, ends_key, link_key, link_key_cmp, side_of, arc_beside, side_by, face_key_cmp, sides_of, is_piece, marked, piece_by, object_key}
-use Rattle.edi_rank.specs.declared.keys.NumberedEnd.{NumberedEnd}
-use Rattle.edi_rank.proofs.SameLaws.{none_passes, list_any-map, passes_alike, map_alike, map-map, after_none, all_others, not_true, ends_moved, tested_before, Only, none_where_none}
+use Rattle.edi_rank.specs.Keys.{end_cmp, numbered, ends_key, link_key, link_key_cmp, arc_beside, side_by, face_key_cmp, sides_of, is_piece, marked, piece_by, object_key}
+use Rattle.edi_rank.proofs.SameLaws.{list_any-map, passes_alike, map_alike, map-map, none_where_none}
 use Rattle.edi_schema.proofs.SortedLists.{counts_from_permutation, count_by-cons, sort_by-same}
 use Rattle.edi_rank.proofs.Gathered.{gathered_alike}
 use Rattle.edi_plan.proofs.Orders.{attribute_total, attribute_exact}

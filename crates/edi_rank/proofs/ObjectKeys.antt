@@ -1,5 +1,5 @@
 -- The keys of two objects are equal exactly if the objects are alike.
-use Rattle.std.proofs.Common.{◌≡◌, ℕ, zero, suc, ◌+◌, ◌-◌, ◌<◌, Bool, true, false, cond, true≢false, ◌==◌, nat_eq, List, [], ◌∷◌, map, filter_map, length, get_or, Option, Some, None, option_map, refl, sym, ap, ap₂, ◌∙◌, subst, arith, IsPermutation, count_by, eqb-true, Ordering}
+use Rattle.std.proofs.Common.{◌≡◌, ℕ, ◌+◌, ◌-◌, ◌<◌, Bool, true, false, cond, true≢false, ◌==◌, nat_eq, List, [], ◌∷◌, map, filter_map, Option, Some, None, option_map, refl, sym, ap, ap₂, ◌∙◌, subst, arith, IsPermutation, count_by, eqb-true, Ordering}
 use Rattle.std.specs.Cmp.{IsTotalOrder}
 use Rattle.std.specs.List.{AllByRecursion, AllZip, list_any, slice_get}
 use Rattle.std.proofs.lemmas.List.Sorted.{IsPermutation-refl, IsPermutation-sym, IsPermutation-trans, IsPermutation-map}
@@ -25,7 +25,6 @@ use Rattle.edi_rank.proofs.ArrangedUnder.{all_along, all_mapped}
 use Rattle.edi_rank.proofs.KeysKept.{all_weaker, two_hold}
 use Rattle.edi_rank.proofs.ObjectsKept.{all_three}
 use Rattle.edi_rank.proofs.Orders.{end_total, end_exact, link_key_total, link_key_exact}
-use Rattle.edi_rank.proofs.SameLaws.{all_others}
 use Rattle.edi_rank.proofs.Unique.{all_places}
 use Rattle.edi_rank.proofs.UpTo.{zip_moved}
 
@@ -94,7 +93,7 @@ none_any t u only (x ∷ xs) all some = go (u x) refl (none_any t u only xs all.
     go false e more = more (sym (rw e refl) ∙ some)
 
 -- where one element passes t, and one passes u and so t, no other passes t
-only_own : {X : Type 0} (t u : X → Bool) → ((x : X) → u x ≡ true → t x ≡ true) → (xs : List X) → count_by t xs ≡ 1 → list_any u xs ≡ true → AllByRecursion (λ x. u x ≡ false → t x ≡ false) xs
+pub only_own : {X : Type 0} (t u : X → Bool) → ((x : X) → u x ≡ true → t x ≡ true) → (xs : List X) → count_by t xs ≡ 1 → list_any u xs ≡ true → AllByRecursion (λ x. u x ≡ false → t x ≡ false) xs
 only_own t u only [] one some = tt
 only_own t u only (x ∷ xs) one some = go (u x) (t x) refl refl (sym (count_by-cons t x xs) ∙ one) (only_own t u only xs)
   where

@@ -1,5 +1,5 @@
 -- A plan with no two objects alike is the same as such plans alone.
-use Rattle.std.proofs.Common.{◌≡◌, ℕ, zero, suc, ◌+◌, ◌<◌, ◌⊎◌, inl, inr, Bool, true, false, cond, true≢false, ◌&&◌, ◌||◌, ◌==◌, nat_eq, List, [], ◌∷◌, map, filter_map, length, get_or, Option, Some, None, option_map, refl, sym, ap, ◌∙◌, subst, arith, IsPermutation, count_by, eq-eqb, ne_eqb, eqb-true, nat_cmp}
+use Rattle.std.proofs.Common.{◌≡◌, ℕ, suc, ◌+◌, ◌<◌, ◌⊎◌, inl, inr, Bool, true, false, cond, true≢false, ◌&&◌, ◌||◌, ◌==◌, nat_eq, List, [], ◌∷◌, map, filter_map, length, get_or, Option, Some, None, option_map, refl, sym, ap, ◌∙◌, subst, arith, IsPermutation, count_by, eq-eqb, ne_eqb, eqb-true, nat_cmp}
 use Rattle.std.specs.List.{AllByRecursion, AllZip, list_any}
 use Rattle.std.proofs.lemmas.Bool.{cases_eq, cases_order}
 use Rattle.std.proofs.lemmas.Cmp.{nat_cmp_total}
@@ -15,15 +15,15 @@ use Rattle.edi_schema.specs.Sorted.{SameCounts, sort_by}
 use Rattle.edi_schema.specs.declared.role.Role.{Role}
 use Rattle.edi_schema.specs.declared.role.Role.TheVariants.{Initial, Final, Left, Right, Plain}
 use Rattle.edi_schema.proofs.SortedLists.{sort_by-same, IsPermutation-sort_by, counts_from_permutation}
-use Rattle.edi_plan.specs.Plans.{Drawing, IsPlace, record_at, blank, is_object, is_link, first_of, rest_of, others_of}
+use Rattle.edi_plan.specs.Plans.{Drawing, IsPlace, record_at, blank, is_object, is_link, first_of, others_of}
 use Rattle.edi_plan.specs.declared.record.PlanRecord.{PlanRecord}
 use Rattle.edi_plan.specs.declared.record.PlanEnd.{PlanEnd}
 use Rattle.edi_rank.specs.Alike.{Mark, mark, Piece, piece, pieces, SamePiece, SameUpTo, AreAlike, BreaksObjectRule}
 use Rattle.edi_rank.specs.Alike.BreaksObjectRule.{repeats_object}
 use Rattle.edi_rank.specs.Keys.{is_piece}
-use Rattle.edi_rank.specs.Kept.{beside, HasEnds, IsJoined}
+use Rattle.edi_plan.specs.Joined.{beside, HasEnds, IsJoined}
 use Rattle.edi_rank.specs.Laws.{IsPlanUnder}
-use Rattle.edi_rank.specs.Same.{OneToOne, moved, has_turned_arc, class_after, Carries, Same}
+use Rattle.edi_rank.specs.Same.{OneToOne, moved, has_turned_arc, Carries, Same}
 use Rattle.edi_rank.proofs.Along.{places_from, places_long, place_here}
 use Rattle.edi_rank.proofs.Gathered.{gathered_alike}
 use Rattle.edi_rank.proofs.Kept.{joins_kept}
@@ -44,14 +44,14 @@ all_three false true false h = absurd (true≢false (sym h))
 all_three false false true h = absurd (true≢false (sym h))
 all_three false false false h = absurd (true≢false (sym h))
 
-link_then : (k : Kind) → is_link k ≡ true → k ≡ Lnk
+pub link_then : (k : Kind) → is_link k ≡ true → k ≡ Lnk
 link_then Pno h = absurd (true≢false (sym h))
 link_then Par h = absurd (true≢false (sym h))
 link_then Pfe h = absurd (true≢false (sym h))
 link_then Fea h = absurd (true≢false (sym h))
 link_then Lnk h = refl
 
-no_object_beside : (r : Role) → is_object (beside r) ≡ false
+pub no_object_beside : (r : Role) → is_object (beside r) ≡ false
 no_object_beside Initial = refl
 no_object_beside Final = refl
 no_object_beside Left = refl

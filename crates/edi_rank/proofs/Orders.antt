@@ -1,31 +1,24 @@
 -- The orders of keys are total, and their ties are equal.
-use Rattle.std.proofs.Common.{◌≡◌, ℕ, zero, suc, Bool, true, false, List, [], ◌∷◌, Option, Some, None, refl, sym, ap, ap₂, ◌∙◌, true≢false, arith, nat_cmp, int_cmp, Ordering, Less, Equal, Greater}
+use Rattle.std.proofs.Common.{◌≡◌, ℕ, zero, suc, refl, sym, ap, ◌∙◌, Ordering, Less}
 use Rattle.std.specs.Cmp.{IsTotalOrder}
-use Rattle.std.specs.Cmp.Lexicographic.{slice_cmp, options_total}
+use Rattle.std.specs.Cmp.Lexicographic.{options_total}
 use Rattle.std.specs.Option.{option_cmp}
-use Rattle.std.specs.Ordering.{ordering_then, ordering_reverse, on, then_cmp}
-use Rattle.std.proofs.lemmas.Cmp.{then_total, on_total, lists_total, nat_cmp_total, int_cmp_total}
-use Rattle.std.proofs.lemmas.Map.Lookups.{CmpEqualImpliesEq, exact_unsigned, exact_signed}
-use Rattle.edi_record.specs.Orders.{bytes_cmp, text_cmp, point_cmp, points_cmp, value_cmp, extra_cmp}
-use Rattle.edi_record.specs.declared.record.Kind.{Kind}
-use Rattle.edi_record.specs.declared.record.Kind.TheVariants.{Pno, Par, Pfe, Fea, Lnk}
-use Rattle.edi_record.specs.declared.record.Point.{Point}
-use Rattle.edi_record.specs.declared.record.Extra.{Extra}
-use Rattle.edi_record.specs.declared.record.Value.{Value}
-use Rattle.edi_record.specs.declared.record.Value.TheVariants.{Number, Bytes}
+use Rattle.std.specs.Ordering.{ordering_reverse}
+use Rattle.std.proofs.lemmas.Cmp.{then_total, on_total, lists_total, nat_cmp_total}
+use Rattle.std.proofs.lemmas.Map.Lookups.{CmpEqualImpliesEq, exact_unsigned}
+use Rattle.edi_record.specs.Orders.{bytes_cmp, extra_cmp}
 use Rattle.edi_schema.specs.declared.role.Role.{Role}
 use Rattle.edi_schema.specs.declared.role.Role.TheVariants.{Initial, Final, Left, Right, Plain}
 use Rattle.edi_schema.specs.Roles.{role_rank}
 use Rattle.edi_plan.specs.Plans.{kind_rank}
 use Rattle.edi_plan.proofs.PlaceLemmas.{one_kind}
-use Rattle.edi_plan.specs.declared.record.PlanAttribute.{PlanAttribute}
 use Rattle.edi_rank.specs.declared.keys.NumberedEnd.{NumberedEnd}
 use Rattle.edi_rank.specs.declared.keys.LinkKey.{LinkKey}
 use Rattle.edi_rank.specs.declared.keys.ObjectKey.{ObjectKey}
 use Rattle.edi_rank.specs.declared.keys.FaceKey.{FaceKey}
 use Rattle.edi_plan.specs.Orders.{attribute_cmp}
 use Rattle.edi_rank.specs.Keys.{end_cmp, link_key_cmp, object_key_cmp, face_key_cmp}
-use Rattle.edi_plan.proofs.Orders.{first_tied, then_tied, exact_lists, exact_options, bytes_total, bytes_exact, point_total, point_exact, attribute_total, attribute_exact, extra_total, extra_exact}
+use Rattle.edi_plan.proofs.Orders.{first_tied, then_tied, exact_lists, exact_options, bytes_total, bytes_exact, attribute_total, attribute_exact, extra_total, extra_exact}
 
 pub role_by_rank : ℕ → Role
 role_by_rank zero = Initial

@@ -1,7 +1,6 @@
 -- A sum over places is the same after a renaming of the places.
 use Rattle.std.proofs.Common.{◌≡◌, ◌≢◌, ℕ, zero, suc, ◌+◌, ◌<◌, ◌≤◌, Bool, true, false, cond, List, [], ◌∷◌, length, get_or, refl, sym, ap, ◌∙◌, arith, sum_by, nat_eq, ◌⊎◌, inl, inr}
 use Rattle.std.proofs.lemmas.Bool.{cases_eq}
-use Rattle.std.proofs.lemmas.List.Sums.{sum_by-cons}
 use Rattle.edi_topo.specs.Ranking.{sum_below}
 use Rattle.edi_topo.proofs.Sums.{sum_below-same}
 use Rattle.edi_rank.specs.Same.{OneToOne}

@@ -1,33 +1,28 @@
 -- Two plans in order of which one carries onto the other are equal.
-use Rattle.std.proofs.Common.{◌≡◌, ◌≢◌, ℕ, zero, suc, pred, ◌+◌, ◌<◌, ◌≤◌, Bool, true, false, cond, nat_eq, List, [], ◌∷◌, ◌++◌, map, map-id, reverse, length, get_or, filter_map, Option, Some, None, option_map, refl, sym, ap, ap₂, ◌∙◌, subst, arith, ◌⊎◌, inl, inr, IsPermutation, true≢false, Ordering, Less, Equal, Greater, is_gt, is_lt, eqb-true}
-use Rattle.std.specs.List.{list_any, AllByRecursion}
+use Rattle.std.proofs.Common.{◌≡◌, ℕ, zero, suc, pred, ◌<◌, Bool, true, false, cond, List, [], ◌∷◌, map, reverse, length, get_or, filter_map, Option, Some, None, option_map, refl, sym, ap, ap₂, ◌∙◌, subst, arith, ◌⊎◌, inl, inr, IsPermutation, true≢false, Ordering, Less, Equal, Greater, is_gt, is_lt, eqb-true}
+use Rattle.std.specs.List.{AllByRecursion}
 use Rattle.std.specs.Option.{option_cmp}
-use Rattle.std.proofs.lemmas.Bool.{cases_eq, cases_lt, cases_order}
+use Rattle.std.proofs.lemmas.Bool.{cases_order}
 use Rattle.std.proofs.lemmas.List.{reverse-reverse}
-use Rattle.std.proofs.lemmas.List.Elements.{recursion_from_All}
 use Rattle.edi_record.specs.Orders.{points_cmp}
 use Rattle.edi_record.specs.Shapes.{may_have_points}
 use Rattle.edi_record.specs.declared.record.Kind.{Kind}
 use Rattle.edi_record.specs.declared.record.Kind.TheVariants.{Pno, Par, Pfe, Fea, Lnk}
 use Rattle.edi_record.specs.declared.record.Point.{Point}
 use Rattle.edi_schema.specs.Classes.{Classes, role_of}
-use Rattle.edi_schema.specs.Sorted.{sort_by, NeverFalls, SameCounts}
-use Rattle.edi_schema.specs.declared.role.Role.{Role}
-use Rattle.edi_schema.specs.declared.role.Role.TheVariants.{Plain}
-use Rattle.edi_plan.specs.Plans.{Drawing, IsPlace, record_at, blank, kind_rank, is_arc, is_object, is_link, first_of, rest_of, origin_of, others_of}
-use Rattle.edi_plan.specs.Whole.{IsWhole}
+use Rattle.edi_schema.specs.Sorted.{NeverFalls}
+use Rattle.edi_plan.specs.Plans.{Drawing, record_at, blank, kind_rank, is_arc, is_object, is_link, first_of, rest_of, others_of}
 use Rattle.edi_plan.specs.declared.record.PlanRecord.{PlanRecord}
 use Rattle.edi_plan.specs.declared.record.PlanEnd.{PlanEnd}
-use Rattle.edi_rank.specs.Same.{OneToOne, moved, has_turned_arc, Carries, CarriesRecord}
-use Rattle.edi_rank.specs.Turned.{is_forward}
+use Rattle.edi_rank.specs.Same.{moved, has_turned_arc, Carries}
 use Rattle.edi_rank.specs.Laws.{IsPlanUnder}
 use Rattle.edi_rank.specs.InOrder.{Both, IsInOrder}
 use Rattle.edi_plan.specs.Orders.{attribute_cmp}
 use Rattle.edi_topo.specs.NodeKeys.{no_point, node_key, node_key_cmp}
-use Rattle.edi_rank.specs.Keys.{end_cmp, numbered, ends_key, link_key, link_key_cmp, face_key_cmp, sides_of, least_side, object_key, object_key_cmp}
+use Rattle.edi_rank.specs.Keys.{end_cmp, numbered, ends_key, link_key, link_key_cmp, face_key_cmp, least_side, object_key, object_key_cmp}
 use Rattle.edi_rank.specs.declared.keys.NumberedEnd.{NumberedEnd}
 use Rattle.edi_rank.specs.declared.keys.LinkKey.{LinkKey}
-use Rattle.edi_rank.proofs.SameLaws.{none_passes, passes_alike, map_alike, map-map, after_none, all_others, ends_moved, role_at}
+use Rattle.edi_rank.proofs.SameLaws.{none_passes, passes_alike, after_none, ends_moved, role_at}
 use Rattle.edi_rank.proofs.Sums.{sum_below-renamed}
 use Rattle.edi_schema.proofs.SortedLists.{counts_from_permutation, same_order, sort_by-same, sort_by-in_order}
 use Rattle.edi_rank.proofs.Gathered.{gathered_alike}

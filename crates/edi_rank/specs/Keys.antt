@@ -1,10 +1,10 @@
 -- The keys by which the records of a plan are put in order, and their orders. They speak of other records by their numbers alone.
-use Rattle.std.specs.Prelude.{◌≡◌, ℕ, ◌==◌, ◌&&◌, Bool, List, [], ◌∷◌, Option, Some, None, map, option_map, option_and_then, if◌then◌else◌, count_by}
+use Rattle.std.specs.Prelude.{ℕ, ◌==◌, ◌&&◌, Bool, List, [], ◌∷◌, Option, Some, None, map, option_map, option_and_then, if◌then◌else◌, count_by}
 use Rattle.std.specs.List.{list_any, filter_map}
 use Rattle.std.specs.Ordering.{ordering_then, nat_cmp}
 use Rattle.std.specs.Cmp.Lexicographic.{slice_cmp}
 use Rattle.std.specs.declared.cmp.Ordering.{Ordering}
-use Rattle.edi_record.specs.Orders.{text_cmp, value_cmp, extra_cmp}
+use Rattle.edi_record.specs.Orders.{text_cmp, extra_cmp}
 use Rattle.edi_schema.specs.Sorted.{sort_by}
 use Rattle.edi_schema.specs.Roles.{role_rank}
 use Rattle.edi_schema.specs.declared.role.Role.{Role}
@@ -12,7 +12,6 @@ use Rattle.edi_schema.specs.declared.role.Role.TheVariants.{Initial, Final, Left
 use Rattle.edi_plan.specs.Orders.{attribute_cmp}
 use Rattle.edi_plan.specs.Plans.{Drawing, record_at, kind_rank, is_arc, is_object, is_link, first_of}
 use Rattle.edi_plan.specs.declared.record.PlanRecord.{PlanRecord}
-use Rattle.edi_plan.specs.declared.record.PlanAttribute.{PlanAttribute}
 use Rattle.edi_plan.specs.declared.record.PlanEnd.{PlanEnd}
 use Rattle.edi_rank.specs.declared.keys.NumberedEnd.{NumberedEnd}
 use Rattle.edi_rank.specs.declared.keys.LinkKey.{LinkKey}

@@ -5,6 +5,8 @@ pub mod InOrder
 pub mod Alike
 pub mod RankRefusal
 pub mod Layers
+pub mod Beside
+pub mod Pieces
 pub mod Labelling
 pub mod Arranged
 pub mod Laws

@@ -1,16 +1,30 @@
-ghost use Rattle.std.specs.Prelude.{◌≡◌, ◌≢◌, ◌<◌, ◌≤◌, ◌-◌, ℕ, length, slice_index, OnOk, IfOk, IfErr};
-ghost use Rattle.edi_record.specs.declared.record.Kind.TheVariants.{Pno};
+ghost use Rattle.std.specs.Prelude.{◌≡◌, ◌<◌, ◌-◌, ℕ, length, true, slice_index, slice_index_or, OnOk, IfOk, IfErr};
+ghost use Rattle.edi_plan.specs.Agreeing.{Agrees};
 ghost use Rattle.edi_plan.specs.Places.{places_of};
+ghost use Rattle.edi_plan.specs.Plans.{IsPlace, record_at, is_object};
+ghost use Rattle.edi_rank.specs.Alike.{BreaksObjectRule};
+ghost use Rattle.edi_rank.specs.Laws.{TellsApart};
+ghost use Rattle.edi_rank.specs.Pieces.{IsObjectRanking};
+ghost use Rattle.edi_rank.specs.RankRefusal.{IsRankRefusal};
 ghost use Rattle.edi_topo.specs.NodeKeys.{IsNodeRanking};
+ghost use Rattle.edi_record.specs.declared.record.Kind.TheVariants.{Pno, Par, Pfe};
+ghost use Rattle.edi_rank.specs.Layers.{IsArcRanking, IsFaceRanking, IsLinkRanking, ranked};
 ghost use Rattle.edi_rank.specs.Labelling.{NumbersEach};
 ghost use Rattle.edi_line.specs.Refusal.{IsUnbroken};
 
+use crate::arc_layer::ArcLayer;
+use crate::face_layer::FaceLayer;
 use crate::fault::RankFault;
+use crate::forward::turned_arcs;
 use crate::layers::NodeLayer;
+use crate::link_layer::LinkLayer;
+use crate::numbering::{number_kind, places_by_number};
+use crate::object_layer::ObjectLayer;
 use edi_line::Sequence;
+use edi_plan::Plan;
 use edi_record::Kind;
 use edi_schema::Schema;
-use edi_topo::{Sound, TieFault, ranks};
+use edi_topo::{Ranks, Sound, TieFault, ranks};
 use std::alloc::{AllocError, Global};
 use std::marker::Model;
 
@@ -37,30 +51,31 @@ impl Model for Labels {
 impl Labels {
     ghost use Rattle.edi_rank.specs.Labelling.{AreLabels, order_of, number_of, turned_at};
     ghost use Rattle.edi_plan.specs.Agreeing.{Agrees};
-    ghost use Rattle.edi_plan.specs.Interim.{HasNodesAlone};
-    ghost use Rattle.edi_rank.specs.Alike.{BreaksObjectRule};
-    ghost use Rattle.edi_rank.specs.RankRefusal.{IsRankRefusal};
 
-    /// The labels of a sound plan of nodes alone, under the schema that it was built under.
+    /// The labels of a sound plan under the schema that it was built under, or the first object that is alike an
+    /// earlier one (501), in class, attributes, extra zones and pieces.
     pub fn of(alloc: Global, schema: &Schema, sound: &Sound) -> Result<Labels, RankFault>
         requires agrees { Agrees schema.now sound.now }
-        requires alone { HasNodesAlone sound.now }
         ensures labels { IfOk result (AreLabels schema.now sound.now) }
         ensures distinct { OnOk result (IsUnbroken (BreaksObjectRule sound.now)) }
         ensures least { IfErr result (IsRankRefusal (BreaksObjectRule sound.now)) }
     {
-        let _plan = sound.plan();
-        let numbers = node_numbers(alloc, sound)?;
-        let order = places_by_number(alloc, numbers.as_slice())?;
-        let turned = vec![in alloc; false; order.as_slice().len()]?;
+        let plan = sound.plan();
+        let turned = turned_arcs(alloc, plan)?;
+        let lower = lower_ranks(alloc, sound)?;
+        let unnamed = lower_numbers(alloc, plan, &lower)?;
+        let objects = object_ranks(alloc, sound, &unnamed)?;
+        let unlinked = number_kind(plan, Kind::Fea, &objects, unnamed);
+        let links = link_ranks(alloc, schema, plan, &turned, &unlinked)?;
+        let numbers = number_kind(plan, Kind::Lnk, &links, unlinked);
         Ok(Labels {
-            numbers,
+            numbers: Sequence::from_vec(numbers),
             turned: Sequence::from_vec(turned),
-            nodes: Sequence::from_vec(order),
-            arcs: Sequence::new(alloc),
-            faces: Sequence::new(alloc),
-            objects: Sequence::new(alloc),
-            links: Sequence::new(alloc),
+            nodes: kind_by_number(alloc, plan, Kind::Pno, &lower.nodes)?,
+            arcs: kind_by_number(alloc, plan, Kind::Par, &lower.arcs)?,
+            faces: kind_by_number(alloc, plan, Kind::Pfe, &lower.faces)?,
+            objects: kind_by_number(alloc, plan, Kind::Fea, &objects)?,
+            links: kind_by_number(alloc, plan, Kind::Lnk, &links)?,
         })
     }
 
@@ -95,30 +110,134 @@ impl Labels {
 }
 
 /// The numbers of the nodes, in file order.
-fn node_numbers(alloc: Global, sound: &Sound) -> Result<Sequence<u32>, AllocError>
+fn node_ranks(alloc: Global, sound: &Sound) -> Result<Ranks, AllocError>
     ensures { IfOk result (IsNodeRanking sound.now) }
 {
     let _plan = sound.plan();
     let layer = NodeLayer::of(alloc, sound)?;
     match ranks(alloc, &layer) {
-        Ok(ranks) => Ok(ranks.into_numbers()),
+        Ok(ranks) => Ok(ranks),
         Err(TieFault::Memory(error)) => Err(error),
         Err(TieFault::Tie(_)) => unreachable!(),
     }
 }
 
-/// The members by their numbers.
-fn places_by_number(alloc: Global, numbers: &[u32]) -> Result<Vec<u32>, AllocError>
-    requires few { length numbers.now ≤ 9999999 }
-    requires each { NumbersEach numbers.now }
-    ensures length { IfOk result (λ places. length places.items ≡ length numbers.now) }
-    ensures places { IfOk result (λ places. (m : ℕ) → m < length numbers.now → slice_index places.items (slice_index numbers.now m - 1) ≡ m) }
+/// The numbers of the arcs, in file order.
+fn arc_ranks(alloc: Global, sound: &Sound) -> Result<Ranks, AllocError>
+    ensures { IfOk result (IsArcRanking sound.now) }
 {
-    let mut places = vec![in alloc; 0; numbers.len()]?;
-    let mut member: u32 = 0;
-    for number in numbers {
-        places[*number as usize - 1] = member;
-        member += 1;
+    let _plan = sound.plan();
+    let layer = ArcLayer::of(alloc, sound)?;
+    match ranks(alloc, &layer) {
+        Ok(ranks) => Ok(ranks),
+        Err(TieFault::Memory(error)) => Err(error),
+        Err(TieFault::Tie(_)) => unreachable!(),
     }
-    Ok(places)
+}
+
+/// The numbers of the faces, in file order.
+fn face_ranks(alloc: Global, sound: &Sound, arcs: &Ranks) -> Result<Ranks, AllocError>
+    requires { IsArcRanking sound.now arcs.now }
+    ensures { IfOk result (IsFaceRanking sound.now arcs.now) }
+{
+    let _plan = sound.plan();
+    let layer = FaceLayer::of(alloc, sound, arcs)?;
+    match ranks(alloc, &layer) {
+        Ok(ranks) => Ok(ranks),
+        Err(TieFault::Memory(error)) => Err(error),
+        Err(TieFault::Tie(_)) => unreachable!(),
+    }
+}
+
+/// The numbers of the objects, in file order, where the nodes, arcs and faces have these numbers, by place, and objects 0.
+fn object_ranks(alloc: Global, sound: &Sound, numbers: &[u32]) -> Result<Ranks, RankFault>
+    requires numbers { length numbers.now ≡ length sound.now.list }
+    requires objects { (k : ℕ) → IsPlace sound.now k → is_object (record_at sound.now k).kind ≡ true → slice_index_or numbers.now k 0 ≡ 0 }
+    requires apart { TellsApart sound.now (slice_index numbers.now) }
+    ensures ranks { IfOk result (IsObjectRanking (record { plan = sound.now; numbers = numbers.now })) }
+    ensures distinct { OnOk result (IsUnbroken (BreaksObjectRule sound.now)) }
+    ensures least { IfErr result (IsRankRefusal (BreaksObjectRule sound.now)) }
+{
+    let _plan = sound.plan();
+    let layer = ObjectLayer::of(alloc, sound, numbers)?;
+    match ranks(alloc, &layer) {
+        Ok(ranks) => Ok(ranks),
+        Err(TieFault::Memory(error)) => Err(RankFault::Memory(error)),
+        Err(TieFault::Tie(member)) => Err(RankFault::Broken {
+            rule: 501,
+            at: u64::from(layer.place(member)) + 1,
+        }),
+    }
+}
+
+/// The numbers of the links, in file order. No two are equal, since a link's place is in its key.
+fn link_ranks(
+    alloc: Global,
+    schema: &Schema,
+    plan: &Plan,
+    turned: &[bool],
+    numbers: &[u32],
+) -> Result<Ranks, AllocError>
+    requires agrees { Agrees schema.now plan.now }
+    requires turned { length turned.now ≡ length plan.now.list }
+    requires numbers { length numbers.now ≡ length plan.now.list }
+    ensures { IfOk result (IsLinkRanking (record { plan = plan.now; classes = schema.now; turned = turned.now; numbers = numbers.now })) }
+{
+    let layer = LinkLayer::of(alloc, schema, plan, turned, numbers)?;
+    match ranks(alloc, &layer) {
+        Ok(ranks) => Ok(ranks),
+        Err(TieFault::Memory(error)) => Err(error),
+        Err(TieFault::Tie(_)) => unreachable!(),
+    }
+}
+
+/// The numbers of the nodes, the arcs and the faces.
+#[derive(Drop)]
+struct LowerRanks {
+    nodes: Ranks,
+    arcs: Ranks,
+    faces: Ranks,
+}
+
+fn lower_ranks(alloc: Global, sound: &Sound) -> Result<LowerRanks, AllocError>
+    ensures nodes { IfOk result (λ lower. IsNodeRanking sound.now lower.nodes) }
+    ensures arcs { IfOk result (λ lower. IsArcRanking sound.now lower.arcs) }
+    ensures faces { IfOk result (λ lower. IsFaceRanking sound.now lower.arcs lower.faces) }
+{
+    let nodes = node_ranks(alloc, sound)?;
+    let arcs = arc_ranks(alloc, sound)?;
+    let faces = face_ranks(alloc, sound, &arcs)?;
+    Ok(LowerRanks { nodes, arcs, faces })
+}
+
+/// The numbers of the nodes, the arcs and the faces by place, and 0 at the places of other records.
+fn lower_numbers(alloc: Global, plan: &Plan, lower: &LowerRanks) -> Result<Vec<u32>, AllocError>
+    requires nodes { length lower.now.nodes ≡ length (places_of Pno plan.now) }
+    requires arcs { length lower.now.arcs ≡ length (places_of Par plan.now) }
+    requires faces { length lower.now.faces ≡ length (places_of Pfe plan.now) }
+    ensures length { IfOk result (λ numbers. length numbers.items ≡ length plan.now.list) }
+    ensures ranked { IfOk result (λ numbers. (k : ℕ) → IsPlace plan.now k → slice_index numbers.items k ≡ ranked plan.now lower.now.nodes lower.now.arcs lower.now.faces k) }
+{
+    let unnumbered = vec![in alloc; 0; plan.len() as usize]?;
+    let by_node = number_kind(plan, Kind::Pno, &lower.nodes, unnumbered);
+    let by_arc = number_kind(plan, Kind::Par, &lower.arcs, by_node);
+    Ok(number_kind(plan, Kind::Pfe, &lower.faces, by_arc))
+}
+
+/// The places of the records of a kind, by number.
+fn kind_by_number(
+    alloc: Global,
+    plan: &Plan,
+    kind: Kind,
+    ranks: &Ranks,
+) -> Result<Sequence<u32>, AllocError>
+    requires long { length ranks.now ≡ length (places_of kind plan.now) }
+    requires each { NumbersEach ranks.now }
+    ensures length { IfOk result (λ order. length order ≡ length (places_of kind plan.now)) }
+    ensures places { IfOk result (λ order. (m : ℕ) → m < length (places_of kind plan.now) → slice_index order (slice_index ranks.now m - 1) ≡ slice_index (places_of kind plan.now) m) }
+{
+    plan.keeps();
+    let places = plan.places(alloc, kind)?;
+    let order = places_by_number(alloc, &places, ranks)?;
+    Ok(Sequence::from_vec(order))
 }

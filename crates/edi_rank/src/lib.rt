@@ -1,14 +1,24 @@
 //! Directions, keys and numbers of records.
 #![tactic(auto)]
 
+pub mod arc_layer;
+pub mod face_layer;
 pub mod fault;
+pub mod forward;
 pub mod keys;
 pub mod labels;
 pub mod laws;
 pub mod layers;
+mod link_key;
+mod link_layer;
+mod numbering;
+pub mod object_layer;
 
-pub use edi_topo::{Layer, Ranks, TieFault, ranks};
+pub use arc_layer::ArcLayer;
+pub use edi_topo::{Layer, Ranks, TieFault, is_forward, ranks};
+pub use face_layer::FaceLayer;
 pub use fault::RankFault;
 pub use keys::{FaceKey, LinkKey, NumberedEnd, ObjectKey};
 pub use labels::Labels;
 pub use layers::NodeLayer;
+pub use object_layer::ObjectLayer;

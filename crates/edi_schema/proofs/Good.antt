@@ -1,19 +1,20 @@
 -- The schema of two files that break no rule keeps what each schema keeps.
 use Rattle.std.proofs.Common.{◌≡◌, ◌≢◌, ℕ, zero, suc, ◌+◌, ◌-◌, ◌<◌, ◌≤◌, Bool, true, false, cond, List, [], ◌∷◌, length, Option, Some, None, slice_get, count_by, refl, sym, ap, ◌∙◌, subst, arith, true≢false, ◌⊎◌, inl, inr}
-use Rattle.std.specs.List.{AllZip}
+use Rattle.std.specs.List.{AllZip, list_all}
 use Rattle.std.proofs.lemmas.List.Sorted.{sum_by-IsPermutation}
-use Rattle.edi_line.specs.Entry.{Entry}
 use Rattle.edi_record.specs.declared.name.Name.{Name}
 use Rattle.edi_record.specs.Records.{values, first}
 use Rattle.edi_schema.specs.declared.role.Role.{Role}
 use Rattle.edi_schema.specs.declared.role.Role.TheVariants.{Plain}
 use Rattle.edi_schema.specs.declared.class.Class.{Class}
-use Rattle.edi_schema.specs.declared.fault.Source.TheVariants.{Scd}
 use Rattle.edi_schema.specs.Roles.{KindCodes, is_plain, exchanged}
-use Rattle.edi_schema.specs.Classes.{Classes, IsSchema, has_role}
-use Rattle.edi_schema.specs.SchemaOf.{StatesClass, IsSchemaOf}
-use Rattle.edi_schema.specs.SchemaRules.{HasRole, BreaksKinds}
+use Rattle.edi_schema.specs.Classes.{Classes, IsSchema, has_role, is_pointable}
+use Rattle.edi_schema.specs.SchemaOf.{StatesClass}
+use Rattle.edi_schema.specs.SchemaRules.{HasRole}
 use Rattle.edi_schema.specs.SchemaRefusal.{IsGoodSchema}
+use Rattle.edi_schema.proofs.Letters.{all_letters}
+use Rattle.edi_schema.proofs.Pointable.{one_fails, not_all, by_unpointable}
+use Rattle.edi_schema.proofs.ReadNames.{group_lines, all_readable}
 use Rattle.edi_schema.proofs.Paired.{one_role, itself, twice, still_kind, count-cons, is_counted, found_at}
 
 none_counted : {X : Type 0} (test : X → Bool) (xs : List X) → ((k : ℕ) (x : X) → slice_get xs k ≡ Some x → test x ≡ true → ⊥) → count_by test xs ≡ 0
@@ -91,7 +92,7 @@ module _ (scd dic : List ℕ) (kinds : KindCodes) (s : Classes) (good : IsGoodSc
           omega (arith, none, is_counted (has_role (exchanged role)) stated (m - 1) class.0 class.1 passes)
 
       go : (n : ℕ) → count_by (has_role (exchanged role)) stated ≡ n → ((m : ℕ) × HasRole good.classes good.entries kinds m role) → 0 < count_by (has_role (exchanged role)) s
-      go zero e here = absurd (good.kinds_hold (inr (here.0, role, here.1, none_there e)))
+      go zero e here = absurd (good.kinds_hold (inr (inl (here.0, role, here.1, none_there e))))
       go (suc n) e here = omega (arith, counts (exchanged role), e)
 
   both : (role : Role) → is_plain role ≡ false → count_by (has_role role) s ≡ count_by (has_role (exchanged role)) s
@@ -108,5 +109,30 @@ module _ (scd dic : List ℕ) (kinds : KindCodes) (s : Classes) (good : IsGoodSc
           absurd (omega (arith, e, subst (λ r. 0 < count_by (has_role r) s) (twice role) back))
       go (suc m) (suc n) e f = omega (arith, e, f, one role kind, one (exchanged role) other_kind)
 
+  -- a stated class that no pointer can name breaks the rule of the kinds
+  unpointable_there : (k : ℕ) (e : Name × Class) → slice_get stated k ≡ Some e → is_pointable e ≡ false → ⊥
+  unpointable_there k e h not_pointable =
+      let group = zip_at (StatesClass kinds good.is.words) good.classes stated good.is.each_class k e h in
+      let place : suc k - 1 ≡ k = omega arith in
+      let kind = by_unpointable e not_pointable in
+      good.kinds_hold (inr (inr (suc k, e.1.role, (group.0, e.0, (omega arith, rw place group.1), group.2.named, sym group.2.role, not_plain e.1.role kind.0), kind.1)))
+
+  pointable : list_all is_pointable s ≡ true
+  pointable = go (list_all is_pointable s) refl
+    where
+      go : (b : Bool) → list_all is_pointable s ≡ b → b ≡ true
+      go true e = refl
+      go false e =
+          let found = one_fails is_pointable stated (not_all is_pointable stated s good.is.same e) in
+          absurd (unpointable_there found.0 found.1 found.2 found.3)
+
   pub keeps : length s ≤ 9999999 → IsSchema s
-  keeps few = record { few = few; in_order = good.is.in_order; one = one; both = both }
+  keeps few = record {
+    few = few;
+    letters = all_letters good.classes good.entries kinds s good.is;
+    in_order = good.is.in_order;
+    one = one;
+    both = both;
+    pointable = pointable;
+    readable = all_readable good.classes good.entries good.rules kinds s good.is (group_lines scd good.classes good.records.0 good.lines.0);
+  }

@@ -1,4 +1,7 @@
 pub mod Paired
+pub mod Letters
+pub mod ReadNames
+pub mod Pointable
 pub mod Good
 pub mod Ordered
 pub mod Defined

@@ -1,5 +1,6 @@
 -- The schema of two files, and its refusal, from the steps over what is read of them.
-use Rattle.std.proofs.Common.{◌≡◌, ℕ, ◌≤◌, List, length, map, Result, Ok, Err, IfOk, IfErr, OnOk, refl, sym, ap, ◌∙◌, subst, arith}
+use Rattle.std.proofs.Common.{◌≡◌, ℕ, ◌≤◌, List, length, map, Result, Ok, Err, IfOk, IfErr, OnOk, sym, ap, ◌∙◌, subst, arith}
+use Rattle.std.specs.List.{AllByRecursion}
 use Rattle.std.proofs.lemmas.List.{length-map}
 use Rattle.edi_line.specs.Entry.{Entry as Zone, entries}
 use Rattle.edi_line.specs.declared.zone.Zone.{Zone as ZoneOf}
@@ -11,16 +12,19 @@ use Rattle.edi_line.specs.LineRules.{BreaksLineRule}
 use Rattle.edi_line.specs.Refusal.{IsUnbroken}
 use Rattle.edi_line.proofs.Said.{file_said}
 use Rattle.edi_schema.specs.Roles.{KindCodes}
-use Rattle.edi_schema.specs.Classes.{Classes}
+use Rattle.edi_record.specs.declared.name.Name.{Name}
+use Rattle.edi_schema.specs.declared.class.Class.{Class}
+use Rattle.edi_schema.specs.Classes.{Classes, IsLetter, IsReadName}
 use Rattle.edi_schema.specs.Drafts.{Said, said, said_in, drafted}
-use Rattle.edi_schema.specs.Places.{AreUnpaired}
 use Rattle.edi_schema.specs.SchemaOf.{IsGroupsOf}
 use Rattle.edi_schema.specs.SchemaRefusal.{IsGoodSchema, IsSchemaRefusal}
-use Rattle.edi_schema.specs.Steps.{IfEntry, IfKinds, AreStated, AreMatched, StopsAt}
+use Rattle.edi_schema.specs.Steps.{IfEntry, IfKinds, AreStated, AreMatched, AreUnmatched, StopsAt}
 use Rattle.edi_schema.specs.declared.fault.SchemaFault.{SchemaFault}
 use Rattle.edi_schema.specs.declared.fault.SchemaFault.TheVariants.{Memory, Line, Entry, Kinds}
 use Rattle.edi_schema.proofs.FewGroups.{few_groups}
 use Rattle.edi_schema.proofs.Led.{groups_led}
+use Rattle.edi_schema.proofs.Letters.{all_letters}
+use Rattle.edi_schema.proofs.ReadNames.{group_lines, all_readable}
 use Rattle.edi_schema.proofs.Made.{schema_made, kinds_hold, kinds_break}
 use Rattle.edi_schema.proofs.StepsHold.{first_entry, entries_hold}
 use Rattle.edi_schema.proofs.Stopping.{few_classes}
@@ -66,6 +70,16 @@ module _ (scd dic : List ℕ) (kinds : KindCodes) (czs wzs : List Zone) (c : IsR
       let count : length cs ≡ length (groups_of czs) = ap length cs_are ∙ length-map (groups_of czs) said_in in
       few_classes kinds ws cs s (omega (arith, few, count)) are
 
+  pub letters_loaded : (s : Classes) → AreStated cs ws kinds s → AllByRecursion (λ (e : Name × Class). IsLetter e.1.letter) s
+  letters_loaded s are =
+      all_letters (groups_of czs) (groups_of wzs) kinds s (schema_made (groups_of czs) (groups_of wzs) (groups_led czs) (groups_led wzs) kinds s (stated_there s are))
+
+  pub readable_loaded : (s : Classes) → AreStated cs ws kinds s → AllByRecursion (λ (e : Name × Class). IsReadName e.0) s
+  readable_loaded s are =
+      let there = stated_there s are in
+      all_readable (groups_of czs) (groups_of wzs) (entries_hold (groups_of czs) (groups_of wzs) (groups_led czs) (groups_led wzs) kinds s there) kinds s
+      (schema_made (groups_of czs) (groups_of wzs) (groups_led czs) (groups_led wzs) kinds s there) (group_lines scd (groups_of czs) (groups_are scd czs c) c.sound)
+
   pub stop_refused : (fault : SchemaFault) → IfEntry (StopsAt cs ws kinds) fault → IsSchemaRefusal scd dic kinds fault
   stop_refused (Memory e) h = tt
   stop_refused (Line file rule at) h = absurd h
@@ -81,7 +95,7 @@ module _ (scd dic : List ℕ) (kinds : KindCodes) (czs wzs : List Zone) (c : IsR
   )
   stop_refused Kinds h = absurd h
 
-  pub kinds_refused : (s : Classes) (fault : SchemaFault) → AreStated cs ws kinds s → IfKinds (AreUnpaired s) fault → IsSchemaRefusal scd dic kinds fault
+  pub kinds_refused : (s : Classes) (fault : SchemaFault) → AreStated cs ws kinds s → IfKinds (AreUnmatched s) fault → IsSchemaRefusal scd dic kinds fault
   kinds_refused s (Memory e) are h = tt
   kinds_refused s (Line file rule at) are h = absurd h
   kinds_refused s (Entry file rule at) are h = absurd h

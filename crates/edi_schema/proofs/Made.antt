@@ -1,29 +1,30 @@
 -- The schema that records state, against the steps over what is read of them.
-use Rattle.std.proofs.Common.{◌≡◌, ◌≢◌, ◌⊎◌, ℕ, zero, suc, ◌+◌, ◌-◌, ◌<◌, ◌≤◌, Bool, true, false, cond, List, [], ◌∷◌, length, map, drop, Option, Some, None, option_map, slice_get, position, count_by, codes, refl, sym, ap, ◌∙◌, subst, arith, inl, inr}
+use Rattle.std.proofs.Common.{◌≡◌, ◌≢◌, ℕ, suc, ◌+◌, ◌-◌, ◌<◌, Bool, true, false, cond, List, [], ◌∷◌, map, drop, Option, Some, None, option_map, slice_get, count_by, codes, refl, sym, ap, ◌∙◌, subst, arith, true≢false, inl, inr}
 use Rattle.std.specs.Prelude.{find}
-use Rattle.std.specs.List.{AllByRecursion, AllZip}
+use Rattle.std.specs.List.{AllByRecursion, AllZip, list_all, list_any}
 use Rattle.std.specs.Map.{lookup}
 use Rattle.std.proofs.lemmas.Option.{same_Some, none-some}
-use Rattle.std.proofs.lemmas.List.Sorted.{sum_by-IsPermutation}
+use Rattle.std.proofs.lemmas.List.Sorted.{sum_by-IsPermutation, IsPermutation-sym}
 use Rattle.edi_line.specs.Entry.{Entry}
 use Rattle.edi_record.specs.declared.name.Name.{Name}
 use Rattle.edi_record.specs.Records.{values, first}
-use Rattle.edi_record.specs.Texts.{class_of}
+use Rattle.edi_record.specs.Texts.{is_semicolon}
 use Rattle.edi_schema.specs.Roles.{KindCodes, role_by, is_plain, same_role, exchanged}
-use Rattle.edi_schema.specs.Classes.{Classes, is_name, has_role}
-use Rattle.edi_schema.specs.Drafts.{Said, said_in, name_in, word_in, type_by, class_by, class_in}
-use Rattle.edi_schema.specs.Places.{AreUnpaired}
-use Rattle.edi_schema.specs.SchemaOf.{IsNamed, Words, StatesWord, HasType, StatesClass, IsSchemaOf}
+use Rattle.edi_schema.specs.Classes.{Classes, is_name, has_role, is_pointable}
+use Rattle.edi_schema.specs.Drafts.{Said, said_in, name_in, word_in, type_by, class_in}
+use Rattle.edi_schema.specs.SchemaOf.{IsNamed, StatesWord, HasType, StatesClass, IsSchemaOf}
 use Rattle.edi_schema.specs.SchemaOf.HasType.{none, some}
 use Rattle.edi_schema.specs.SchemaRules.{HasRole, BreaksKinds}
-use Rattle.edi_schema.specs.Steps.{AreIdentified, AreStated, AreMatched}
+use Rattle.edi_schema.specs.Steps.{AreIdentified, AreStated, AreMatched, AreUnmatched}
 use Rattle.edi_schema.specs.declared.class.Class.{Class}
 use Rattle.edi_schema.specs.declared.role.Role.{Role}
 use Rattle.edi_schema.specs.declared.role.Role.TheVariants.{Plain}
-use Rattle.edi_schema.proofs.Led.{IsLed, is_named, named_so}
+use Rattle.edi_schema.proofs.Led.{IsLed}
 use Rattle.edi_schema.proofs.StepsHold.{own_name, word_named, named_class}
+use Rattle.edi_schema.proofs.Ordered.{all_at}
 use Rattle.edi_schema.proofs.Paired.{one_role, itself, still_kind, count-cons, is_counted, one_place, found_at}
-use Rattle.edi_schema.proofs.Good.{not_plain}
+use Rattle.edi_schema.proofs.Good.{not_plain, zip_at, zip_back}
+use Rattle.edi_schema.proofs.Pointable.{each_passes, still_all, not_all, one_fails, by_pointable, by_unpointable}
 
 -- ---- words
 
@@ -109,13 +110,13 @@ module _ (cs ws : List (List Entry)) (cs_led : AllByRecursion IsLed cs) (ws_led 
 
   role_here : (k : ℕ) (role : Role) (p : Name × Class) → is_plain role ≡ false → slice_get are.stated k ≡ Some p → has_role role p ≡ true → HasRole cs ws kinds (suc k) role
   role_here k role p kind h passes =
-      let g = Rattle.edi_schema.proofs.Good.zip_at Stated cs are.stated each_class k p h in
+      let g = zip_at Stated cs are.stated each_class k p h in
       let place : suc k - 1 ≡ k = omega arith in
       (g.0, p.0, (omega arith, ap (slice_get cs) place ∙ g.1), g.2.named, sym g.2.role ∙ sym (one_role role p.1.role passes), not_plain role kind)
 
   class_here : (m : ℕ) (role : Role) → HasRole cs ws kinds m role → (p : Name × Class) × (slice_get are.stated (m - 1) ≡ Some p) × (has_role role p ≡ true)
   class_here m role h =
-      let p = Rattle.edi_schema.proofs.Good.zip_back Stated cs are.stated each_class (m - 1) h.0 h.2.1 in
+      let p = zip_back Stated cs are.stated each_class (m - 1) h.0 h.2.1 in
       let rid : h.1.rid ≡ p.0.0.rid = same_Some _ _ (sym h.3.rid ∙ p.2.named.rid) in
       let role_is : p.0.1.role ≡ role = p.2.role ∙ (ap (λ r. role_by kinds (first (values (codes "KND") h.0)) r) (sym rid) ∙ h.4) in
       (p.0, p.1, ap (same_role role) role_is ∙ itself role)
@@ -134,12 +135,21 @@ module _ (cs ws : List (List Entry)) (cs_led : AllByRecursion IsLed cs) (ws_led 
       let few = m.one b.2 (kind_of_role b.2 b.4.5) in
       let same = one_place (has_role b.2) are.stated (b.0 - 1) (b.1 - 1) one.0 two.0 (omega (arith, few, counts b.2)) one.1 two.1 one.2 two.2 in
       omega (arith, same, b.3, b.4.2.0)
-  kinds_hold m (inr b) =
+  kinds_hold m (inr (inl b)) =
       let one = class_here b.0 b.1 b.2 in
       let some_here = is_counted (has_role b.1) are.stated (b.0 - 1) one.0 one.1 one.2 in
       let kind = kind_of_role b.1 b.2.5 in
       let other = found_at (has_role (exchanged b.1)) are.stated (omega (arith, some_here, counts b.1, counts (exchanged b.1), m.both b.1 kind)) in
       b.3 (suc other.0) (role_here other.0 (exchanged b.1) other.1 (still_kind b.1 ∙ kind) other.3 other.4)
+  kinds_hold m (inr (inr b)) =
+      let one = zip_back Stated cs are.stated each_class (b.0 - 1) b.2.0 b.2.2.1 in
+      let named = one.2.named in
+      let rid : b.2.1.rid ≡ one.0.0.rid = same_Some _ _ (sym b.2.3.rid ∙ named.rid) in
+      let rty : b.2.1.rty ≡ one.0.0.rty = same_Some _ _ (sym b.2.3.rty ∙ named.rty) in
+      let role_is : one.0.1.role ≡ b.1 = one.2.role ∙ (ap (λ r. role_by kinds (first (values (codes "KND") b.2.0)) r) (sym rid) ∙ b.2.4) in
+      let kind : is_plain one.0.1.role ≡ false = ap is_plain role_is ∙ kind_of_role b.1 b.2.5 in
+      let pointable = all_at (λ e. is_pointable e ≡ true) are.stated (each_passes is_pointable are.stated (still_all is_pointable s are.stated (IsPermutation-sym are.stated s are.same) m.pointable)) (b.0 - 1) one.0 one.1 in
+      true≢false (sym b.3 ∙ (ap (list_any is_semicolon) rty ∙ by_pointable one.0 pointable kind))
 
   two_places : {X : Type 0} (test : X → Bool) (xs : List X) → 1 < count_by test xs → (i k : ℕ) × (x y : X) × (i < k) × (slice_get xs i ≡ Some x) × (slice_get xs k ≡ Some y) × (test x ≡ true) × (test y ≡ true)
   two_places test [] more = absurd (omega arith)
@@ -156,13 +166,23 @@ module _ (cs ws : List (List Entry)) (cs_led : AllByRecursion IsLed cs) (ws_led 
           let two = rest (omega (arith, total, more)) in
           (suc two.0, suc two.1, two.2, two.3, omega (arith, two.4), two.5, two.6, two.7, two.8)
 
-  pub kinds_break : AreUnpaired s → BreaksKinds cs ws kinds
-  kinds_break (role, kind, inl many) =
+  semicolon_here : (k : ℕ) (p : Name × Class) → slice_get are.stated k ≡ Some p → is_pointable p ≡ false → BreaksKinds cs ws kinds
+  semicolon_here k p h not_pointable =
+      let g = zip_at Stated cs are.stated each_class k p h in
+      let place : suc k - 1 ≡ k = omega arith in
+      let kind = by_unpointable p not_pointable in
+      inr (inr (suc k, p.1.role, (g.0, p.0, (omega arith, ap (slice_get cs) place ∙ g.1), g.2.named, sym g.2.role, not_plain p.1.role kind.0), kind.1))
+
+  pub kinds_break : AreUnmatched s → BreaksKinds cs ws kinds
+  kinds_break (inr not_pointable) =
+      let found = one_fails is_pointable are.stated (not_all is_pointable are.stated s are.same not_pointable) in
+      semicolon_here found.0 found.1 found.2 found.3
+  kinds_break (inl (role, kind, inl many)) =
       let two = two_places (has_role role) are.stated (omega (arith, many, counts role)) in
       inl (suc two.0, suc two.1, role, omega (arith, two.4), role_here two.0 role two.2 kind two.5 two.7, role_here two.1 role two.3 kind two.6 two.8)
-  kinds_break (role, kind, inr alone) =
+  kinds_break (inl (role, kind, inr alone)) =
       let one = found_at (has_role role) are.stated (omega (arith, alone.0, counts role)) in
-      inr (
+      inr (inl (
         suc one.0,
         role,
         role_here one.0 role one.1 kind one.3 one.4,
@@ -170,4 +190,4 @@ module _ (cs ws : List (List Entry)) (cs_led : AllByRecursion IsLed cs) (ws_led 
             let other = class_here m (exchanged role) h in
             let some_other = is_counted (has_role (exchanged role)) are.stated (m - 1) other.0 other.1 other.2 in
             omega (arith, some_other, alone.1, counts (exchanged role)),
-      )
+      ))

@@ -19,3 +19,8 @@ pub use fault::{SchemaFault, Source};
 pub use kinds::Kinds;
 pub use role::Role;
 pub use schema::Schema;
+
+#[cfg(test)]
+mod schema_cases;
+#[cfg(test)]
+mod tests;

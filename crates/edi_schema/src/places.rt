@@ -1,6 +1,8 @@
 //! The classes of the four kinds: rule 604.
 
 ghost use Rattle.std.specs.Prelude.{◌≡◌, ◌<◌, ◌≤◌, ◌^◌, true, false, map, length, MatchOption};
+ghost use Rattle.std.specs.List.{list_all};
+ghost use Rattle.edi_schema.specs.Classes.{is_pointable as pointable};
 ghost use Rattle.edi_schema.specs.Drafts.{drafted};
 ghost use Rattle.edi_schema.specs.Places.{place_in, IsNoted, are_alike as alike, are_paired, ArePlaces, AreUnpaired};
 ghost use Rattle.edi_schema.specs.declared.role.Role.{Role};
@@ -26,6 +28,20 @@ fn are_alike(one: Option<u32>, other: Option<u32>) -> bool
         (None, None) => true,
         _ => false,
     }
+}
+
+/// Whether a class is of none of the four kinds, or has a type without a semicolon.
+fn is_pointable(class: &Draft<'_>) -> bool
+    ensures { result ≡ pointable (drafted class.now) }
+{
+    class.class.role == Role::Plain || !class.title.rty.contains(&b';')
+}
+
+/// Whether a pointer can name each class of the four kinds.
+pub fn are_pointable(classes: &[Draft<'_>]) -> bool
+    ensures { result ≡ list_all pointable (map drafted classes.now) }
+{
+    classes.iter().all(is_pointable)
 }
 
 impl Places {

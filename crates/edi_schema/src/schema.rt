@@ -5,14 +5,14 @@ ghost use Rattle.edi_line.specs.Zones.{HasShape};
 ghost use Rattle.edi_line.specs.LineRules.{BreaksLineRule};
 ghost use Rattle.edi_line.specs.Refusal.{IsUnbroken, IsLeastBroken};
 ghost use Rattle.edi_schema.specs.Drafts.{said, drafted};
-ghost use Rattle.edi_schema.specs.Steps.{IfLine, IfEntry, IfKinds, AreStated, AreMatched, StopsAt};
+ghost use Rattle.edi_schema.specs.Steps.{IfLine, IfEntry, IfKinds, AreStated, AreMatched, AreUnmatched, StopsAt};
 
 use crate::class::{Class, ClassRef};
 use crate::definition::{Definition, definitions};
 use crate::draft::{Draft, Words, drafts};
 use crate::fault::{SchemaFault, Source};
 use crate::kinds::Kinds;
-use crate::places::Places;
+use crate::places::{Places, are_pointable};
 use crate::role::Role;
 use crate::sorting::{by_name, sorted_by_name};
 use crate::titles::{identified, titles};
@@ -79,9 +79,9 @@ fn stated<'a>(
 impl Schema {
     ghost use Rattle.edi_schema.specs.Classes.{Classes, IsSchema, place_of, name_at, class_at, role_of, partner_at};
     ghost use Rattle.std.specs.Map.{keys_of};
-    ghost use Rattle.edi_schema.specs.Classes.{name_cmp};
+    ghost use Rattle.edi_schema.specs.Classes.{name_cmp, IsLetter, IsReadName};
+    ghost use Rattle.std.specs.List.{AllByRecursion};
     ghost use Rattle.edi_schema.specs.Sorted.{AlwaysRises};
-    ghost use Rattle.edi_schema.specs.Places.{AreUnpaired};
     ghost use Rattle.edi_schema.specs.SchemaRefusal.{IsGoodSchema, IsSchemaRefusal};
 
     /// The schema of a file of classes, a dictionary and the codes of the four kinds.
@@ -89,7 +89,8 @@ impl Schema {
     /// The first broken step is told: 101 to 110 of the file of classes, then of the dictionary, by the least line;
     /// 601 (not exactly one identifier in form) of the classes, then of the dictionary; 602 (the name of an earlier
     /// record) of the classes, then of the dictionary; 603 (the DIP of a class names no record of the dictionary),
-    /// each by the least record from 1; then 604 (two classes of one kind, or a kind without that of its pair).
+    /// each by the least record from 1; then 604 (two classes of one of the four kinds, or a class of a kind without
+    /// one of the other of its pair, or a class of a kind whose type holds a semicolon, so that no pointer can name it).
     /// `Memory` comes at any step and says nothing of the files.
     pub fn load(
         alloc: Global,
@@ -112,10 +113,15 @@ impl Schema {
     fn of_classes(alloc: Global, classes: &[Draft<'_>]) -> Result<Schema, SchemaFault>
         requires few { length classes.now ≤ 9999999 }
         requires rises { AlwaysRises name_cmp (keys_of (map drafted classes.now)) }
+        requires letters { AllByRecursion (λ e. IsLetter e.1.letter) (map drafted classes.now) }
+        requires readable { AllByRecursion (λ e. IsReadName e.0) (map drafted classes.now) }
         ensures classes { IfOk result (λ s. s ≡ map drafted classes.now) }
         ensures paired { OnOk result (AreMatched (map drafted classes.now)) }
-        ensures unpaired { IfErr result (IfKinds (AreUnpaired (map drafted classes.now))) }
+        ensures unpaired { IfErr result (IfKinds (AreUnmatched (map drafted classes.now))) }
     {
+        if !are_pointable(classes) {
+            return Err(SchemaFault::Kinds);
+        }
         match Places::among(classes) {
             Some(places) => Ok(Schema {
                 classes: by_name(alloc, classes)?,

@@ -4,5 +4,9 @@ pub mod KeyOrder
 pub mod KeyTies
 pub mod NodeOrders
 pub mod FirstRepeat
-pub mod NodesAlone
 pub mod RankOrder
+pub mod FirstDifference
+pub mod FirstArcRepeat
+pub mod AtPlaces
+pub mod ArcEnds
+pub mod Marked

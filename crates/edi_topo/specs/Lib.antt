@@ -4,3 +4,7 @@ pub mod NodeKeys
 pub mod Ranking
 pub mod Keyed
 pub mod Nodes
+pub mod Directions
+pub mod Arcs
+pub mod Faces
+pub mod AtRecord

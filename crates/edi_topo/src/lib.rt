@@ -1,6 +1,11 @@
 //! The rules of topology.
 #![tactic(auto)]
 
+pub mod arcs;
+mod at_record;
+pub mod directions;
+mod ends;
+mod faces;
 pub mod fault;
 pub mod layer;
 pub mod node_key;
@@ -9,6 +14,8 @@ pub mod numbers;
 pub mod ranking;
 pub mod sound;
 
+pub use arcs::PlanArcs;
+pub use directions::is_forward;
 pub use fault::{TieFault, TopoFault};
 pub use layer::Layer;
 pub use node_key::{NodeKey, node_key_at};

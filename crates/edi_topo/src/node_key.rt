@@ -44,7 +44,7 @@ fn copied(alloc: Global, extras: &[Extra]) -> Result<Vec<Extra>, AllocError>
     Ok(copy)
 }
 
-fn first_point(points: &[Point]) -> Point
+pub(crate) fn first_point(points: &[Point]) -> Point
     requires { 0 < length points.now }
     ensures { result ≡ slice_index_or points.now 0 no_point }
 {

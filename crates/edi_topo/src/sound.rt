@@ -1,8 +1,8 @@
 ghost use Rattle.std.specs.Prelude.{◌≡◌, OnOk, IfOk, IfErr};
 ghost use Rattle.edi_line.specs.Refusal.{IsUnbroken};
 
+use crate::at_record::{Findings, first_broken};
 use crate::fault::TopoFault;
-use crate::nodes::first_repeat;
 use edi_plan::Plan;
 use std::alloc::Global;
 use std::marker::Model;
@@ -28,20 +28,22 @@ impl Model for Sound {
 
 impl Sound {
     ghost use Rattle.edi_topo.specs.TopologyRules.{BreaksTopologyRule};
-    ghost use Rattle.edi_plan.specs.Interim.{HasNodesAlone};
+    ghost use Rattle.edi_plan.specs.Joined.{IsJoined};
     ghost use Rattle.edi_plan.specs.Whole.{IsWhole};
     ghost use Rattle.edi_topo.specs.TopologyRefusal.{IsTopologyRefusal};
 
-    /// The plan, if it breaks no rule of topology.
+    /// The plan, if it breaks no rule of topology; or the least record that breaks one (401 to 406), and
+    /// there the least rule (docs/FORMAT.md, "The rules of a sheet").
     pub fn check(alloc: Global, plan: Plan) -> Result<Sound, TopoFault>
-        requires { HasNodesAlone plan }
         ensures plan { IfOk result (λ s. s ≡ plan) }
         ensures sound { OnOk result (IsUnbroken (BreaksTopologyRule plan)) }
         ensures least { IfErr result (IsTopologyRefusal (BreaksTopologyRule plan)) }
     {
-        match first_repeat(alloc, &plan)? {
-            Some(place) => Err(TopoFault::Broken {
-                rule: 403,
+        plan.keeps();
+        let findings = Findings::of(alloc, &plan)?;
+        match first_broken(&plan, &findings) {
+            Some((rule, place)) => Err(TopoFault::Broken {
+                rule,
                 at: u64::from(place) + 1,
             }),
             None => Ok(Sound { plan }),
@@ -52,6 +54,7 @@ impl Sound {
         ensures plan { result.now ≡ self.now }
         ensures sound { IsUnbroken (BreaksTopologyRule self.now) }
         ensures whole { IsWhole self.now }
+        ensures joined { IsJoined self.now }
     {
         self.plan.keeps();
         &self.plan

@@ -1,7 +1,11 @@
 pub mod Putting
 pub mod Breaking
 pub mod Agreed
-pub mod WrittenNodes
+pub mod Lent
+pub mod EndOrder
+pub mod LaidOut
+pub mod Naming
 pub mod WrittenRecords
+pub mod WrittenReferences
 pub mod WrittenPrinted
-pub mod ArrangedNodes
+pub mod KindNames

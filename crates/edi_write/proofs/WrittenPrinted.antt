@@ -1,14 +1,14 @@
 -- What is written of a plan that was read can be printed.
-use Rattle.std.proofs.Common.{◌≡◌, ℕ, zero, suc, ◌+◌, ◌-◌, ◌<◌, ◌≤◌, ◌^◌, ℤ, Bool, true, false, cond, not, ◌&&◌, eqb, true≢false, List, [], ◌∷◌, ◌++◌, length, map, get_or, Option, Some, None, option_map, unwrap_or, slice_get, position, refl, sym, ap, ap₂, ◌∙◌, subst, arith, nat_lt, IsPermutation, ◌⊎◌, inl, inr, Any}
+use Rattle.std.proofs.Common.{◌≡◌, ℕ, zero, suc, ◌+◌, ◌-◌, ◌<◌, ◌≤◌, ◌^◌, ℤ, Bool, true, false, cond, not, ◌&&◌, eqb, true≢false, List, [], ◌∷◌, ◌++◌, length, map, get_or, reverse, length-append, Option, Some, None, option_map, unwrap_or, slice_get, position, refl, sym, ap, ap₂, ◌∙◌, subst, arith, nat_lt, IsPermutation, ◌⊎◌, inl, inr, Any}
 use Rattle.std.specs.Prelude.{codes, decimal, All, IfSome, bytes_eq}
 use Rattle.std.specs.List.{AllByRecursion, AllZip, position_or_len}
 use Rattle.std.specs.Map.{keys_of}
-use Rattle.std.proofs.lemmas.Bool.{lt-ltb, ltb-true, le-leb}
+use Rattle.std.proofs.lemmas.Bool.{ltb-true, le-leb, ne_eqb}
 use Rattle.std.proofs.lemmas.Fmt.{decimal_is_IsNumeral, length-decimal-le}
 use Rattle.std.proofs.lemmas.List.{length-map}
 use Rattle.std.proofs.lemmas.List.Elements.{recursion_from_All, All-from_recursion, All-cons}
 use Rattle.std.proofs.lemmas.List.Folds.{list_any_none}
-use Rattle.std.proofs.lemmas.List.Sorted.{All-permutation, length_permutation}
+use Rattle.std.proofs.lemmas.List.Sorted.{All-permutation, length_permutation, IsPermutation-reverse}
 use Rattle.std.proofs.lemmas.Option.{same_Some, none-some, slice_get_within, get_or_from_slice_get}
 use Rattle.std.proofs.lemmas.Slice.Eq.{bytes_eq-Decides}
 use Rattle.edi_line.specs.Entry.{Entry}
@@ -19,19 +19,25 @@ use Rattle.edi_line.specs.Refusal.{IsUnbroken}
 use Rattle.edi_line.proofs.NumberRead.{number_is, number_lacks, digits_lack}
 use Rattle.edi_line.proofs.Numbers.{number_in_range}
 use Rattle.edi_line.proofs.Spelled.{plain_text_read}
-use Rattle.edi_record.specs.Layout.{value_text, HasPrintableLetters, settled_record, IsRecord, IsLineRecord, KeepsRules, IsName, IsPoint, IsExtra, IsLineName, IsLineAttribute, IsLineExtra}
+use Rattle.edi_record.specs.Layout.{value_text, HasPrintableLetters, settled_record, IsRecord, IsLineRecord, KeepsRules, IsName, IsPoint, IsExtra, IsLineName, IsLineAttribute, IsLineEnd, IsLineExtra}
 use Rattle.edi_record.specs.Readable.{IsPrintableSheet}
 use Rattle.edi_record.specs.RecordRules.{is_identifier}
-use Rattle.edi_record.specs.Records.{value_of, has_points, States, StatesSheet}
-use Rattle.edi_record.specs.Shapes.{may_have_points, may_have_ends}
+use Rattle.edi_record.specs.Records.{value_of, has_points, is_link, States, StatesSheet}
+use Rattle.edi_record.specs.Shapes.{kind_code, may_have_points, may_have_ends}
 use Rattle.edi_record.specs.Texts.{is_semicolon}
 use Rattle.edi_record.specs.declared.name.Name.{Name}
-use Rattle.edi_record.specs.declared.record.Kind.TheVariants.{Pno}
+use Rattle.edi_record.specs.declared.record.Kind.{Kind}
+use Rattle.edi_record.specs.declared.record.Kind.TheVariants.{Pno, Par, Pfe, Fea, Lnk}
+use Rattle.edi_record.specs.declared.record.End.{End}
+use Rattle.edi_record.specs.declared.record.Point.{Point}
 use Rattle.edi_record.specs.declared.record.Attribute.{Attribute}
 use Rattle.edi_record.specs.declared.record.Record.{Record}
 use Rattle.edi_record.specs.declared.record.Value.TheVariants.{Number, Bytes}
 use Rattle.edi_record.specs.declared.sheet.Sheet.{Sheet}
-use Rattle.edi_schema.specs.Classes.{Classes, IsSchema, is_name, place_of}
+use Rattle.edi_schema.specs.Classes.{IsLetter, Classes, IsSchema, IsPaired, is_name, partner_of, place_of, role_of}
+use Rattle.edi_schema.specs.Roles.{exchanged, is_plain}
+use Rattle.edi_schema.specs.declared.role.Role.{Role}
+use Rattle.edi_schema.specs.declared.role.Role.TheVariants.{Initial, Final, Left, Right, Plain}
 use Rattle.edi_schema.proofs.Names.{same_name}
 use Rattle.edi_record.proofs.Printable.{sheet_printable}
 use Rattle.edi_record.proofs.SheetStated.{sheet_again}
@@ -50,16 +56,24 @@ use Rattle.std.proofs.lemmas.Bool.{leb-true}
 use Rattle.edi_plan.specs.Agreeing.{Agrees}
 use Rattle.edi_plan.specs.ReferenceRules.{BreaksReferenceRule}
 use Rattle.edi_plan.specs.ReferenceRules.BreaksReferenceRule.{lacks_attribute_class}
-use Rattle.edi_plan.specs.Interim.{HasNodesAlone}
-use Rattle.edi_plan.specs.PlanOf.{IsPlanOf, StatesPlanAttribute, StatesPlanRecord}
+use Rattle.edi_plan.specs.PlanOf.{IsPlanOf, StatesPlanAttribute, StatesPlanEnd, StatesPlanRecord}
+use Rattle.edi_plan.specs.Joined.{IsJoined}
 use Rattle.edi_plan.specs.Plans.{Drawing, IsPlace, record_at, blank}
 use Rattle.edi_plan.specs.Whole.{IsWhole}
 use Rattle.edi_plan.specs.declared.record.PlanRecord.{PlanRecord}
 use Rattle.edi_plan.specs.declared.record.PlanAttribute.{PlanAttribute}
+use Rattle.edi_plan.specs.declared.record.PlanEnd.{PlanEnd}
+use Rattle.edi_plan.proofs.Resolved.{role_there}
+use Rattle.edi_rank.specs.Same.{Carries, CarriesRecord, Same, class_after, directed, has_turned_arc, moved}
+use Rattle.edi_rank.proofs.ArrangedUnder.{directed_long}
+use Rattle.edi_rank.proofs.SameLaws.{ends_moved}
+use Rattle.edi_rank.proofs.Unique.{all_places}
 use Rattle.edi_plan.proofs.Built.{both_true, zip_at, zip_length, zip_one, zip_weaker}
-use Rattle.edi_write.specs.Layout.{name_of, no_name, identifier, layout}
-use Rattle.edi_write.proofs.WrittenRecords.{written_layout, written_plan, written_references}
-use Rattle.edi_write.specs.Written.{letters, written_attribute, written_record, written_from, written_records, HasAttributeClasses, IsRearranged, Rearranges, CanBePrinted}
+use Rattle.edi_write.specs.Layout.{name_of, no_name, identifier, kind_letter, layout, number_in}
+use Rattle.edi_write.proofs.Naming.{number_few}
+use Rattle.edi_write.proofs.WrittenRecords.{none_there, written_at, written_count, written_layout, written_plan}
+use Rattle.edi_write.proofs.WrittenReferences.{written_references}
+use Rattle.edi_write.specs.Written.{letters, written_attribute, written_end, written_record, written_records, HasAttributeClasses, HasPrintableKinds, CanBePrinted}
 
 -- ---- the name of a class that was read
 
@@ -91,25 +105,82 @@ value_line false text h = h
 value_line true text h = go (number text) refl
   where
     plain : (m : ℤ) → number text ≡ Some m → IsOneLine (value_text (Number m))
-    plain m e = number_lacks 10 (λ c low high. Rattle.std.proofs.lemmas.Bool.ne_eqb c 10 (λ e. omega arith)) refl refl refl _ m (plain_text_read m (number_in_range text m ((number_is text m).0 e)))
+    plain m e = number_lacks 10 (λ c low high. ne_eqb c 10 (λ e. omega arith)) refl refl refl _ m (plain_text_read m (number_in_range text m ((number_is text m).0 e)))
 
     go : (o : Option ℤ) → number text ≡ o → IsOneLine (value_text (unwrap_or (option_map Number o) (Bytes text)))
     go (Some m) e = plain m e
     go None e = h
 
-node_lacks : (c number : ℕ) → ((x : ℕ) → 48 ≤ x → x ≤ 57 → eqb x c ≡ false) → eqb 78 c ≡ false → number < 2 ^ 64 → All (λ x. eqb x c ≡ false) (identifier Pno number)
-node_lacks c number apart other few = All-cons (λ x. eqb x c ≡ false) 78 (decimal number) other (digits_lack c apart (decimal number) (decimal_is_IsNumeral number few).0.1)
+abbrev Lacks : ℕ → List ℕ → Type 0
+Lacks c text = All (λ x. eqb x c ≡ false) text
 
-node_line : (number : ℕ) → number < 2 ^ 64 → IsOneLine (identifier Pno number)
-node_line number few = node_lacks 10 number (λ c low high. Rattle.std.proofs.lemmas.Bool.ne_eqb c 10 (λ e. omega arith)) refl few
+-- what no letter of a type is
+letter_lacks : (c : ℕ) → eqb 78 c ≡ false → eqb 65 c ≡ false → eqb 70 c ≡ false → eqb 79 c ≡ false → eqb 76 c ≡ false → (kind : Kind) (digits : List ℕ) → Lacks c digits → Lacks c (kind_letter kind ++ digits)
+letter_lacks c n a f o l Pno digits all = All-cons (λ x. eqb x c ≡ false) 78 digits n all
+letter_lacks c n a f o l Par digits all = All-cons (λ x. eqb x c ≡ false) 65 digits a all
+letter_lacks c n a f o l Pfe digits all = All-cons (λ x. eqb x c ≡ false) 70 digits f all
+letter_lacks c n a f o l Fea digits all = All-cons (λ x. eqb x c ≡ false) 79 digits o all
+letter_lacks c n a f o l Lnk digits all = All-cons (λ x. eqb x c ≡ false) 76 digits l all
 
-node_identifier : (number : ℕ) → number < 2 ^ 64 → is_identifier (identifier Pno number) ≡ true
-node_identifier number few =
+decimal_lacks : (c number : ℕ) → ((x : ℕ) → 48 ≤ x → x ≤ 57 → eqb x c ≡ false) → number < 2 ^ 64 → Lacks c (decimal number)
+decimal_lacks c number apart few = digits_lack c apart (decimal number) (decimal_is_IsNumeral number few).0.1
+
+identifier_line : (kind : Kind) (number : ℕ) → number < 2 ^ 64 → IsOneLine (identifier kind number)
+identifier_line kind number few = letter_lacks 10 refl refl refl refl refl kind (decimal number) (decimal_lacks 10 number (λ c low high. ne_eqb c 10 (λ e. omega arith)) few)
+
+identifier_part : (kind : Kind) (number : ℕ) → number < 2 ^ 64 → Lacks 59 (identifier kind number)
+identifier_part kind number few = letter_lacks 59 refl refl refl refl refl kind (decimal number) (decimal_lacks 59 number (λ c low high. ne_eqb c 59 (λ e. omega arith)) few)
+
+one_letter : (kind : Kind) → length (kind_letter kind) ≡ 1
+one_letter Pno = refl
+one_letter Par = refl
+one_letter Pfe = refl
+one_letter Fea = refl
+one_letter Lnk = refl
+
+identifier_good : (kind : Kind) (number : ℕ) → number < 2 ^ 64 → is_identifier (identifier kind number) ≡ true
+identifier_good kind number few =
     let short : length (decimal number) ≤ 20 = length-decimal-le 20 number (omega arith) (omega (arith, few)) few in
-    let low = le-leb 1 (length (identifier Pno number)) (omega arith) in
-    let high = le-leb (length (identifier Pno number)) 255 (omega (arith, short)) in
-    let none = list_any_none is_semicolon (identifier Pno number) (node_lacks 59 number (λ c low high. Rattle.std.proofs.lemmas.Bool.ne_eqb c 59 (λ e. omega arith)) refl few) in
+    let long : length (identifier kind number) ≡ length (kind_letter kind) + length (decimal number) = length-append (kind_letter kind) (decimal number) in
+    let one = one_letter kind in
+    let low = le-leb 1 (length (identifier kind number)) (omega (arith, long, one)) in
+    let high = le-leb (length (identifier kind number)) 255 (omega (arith, long, one, short)) in
+    let none = list_any_none is_semicolon (identifier kind number) (identifier_part kind number few) in
     ap₂ ◌&&◌ low (ap₂ ◌&&◌ high (ap not none))
+
+code_lacks : (kind : Kind) → Lacks 10 (kind_code kind) × Lacks 59 (kind_code kind)
+code_lacks Pno = (All-from_recursion (λ x. eqb x 10 ≡ false) (kind_code Pno) (refl, (refl, (refl, tt))), All-from_recursion (λ x. eqb x 59 ≡ false) (kind_code Pno) (refl, (refl, (refl, tt))))
+code_lacks Par = (All-from_recursion (λ x. eqb x 10 ≡ false) (kind_code Par) (refl, (refl, (refl, tt))), All-from_recursion (λ x. eqb x 59 ≡ false) (kind_code Par) (refl, (refl, (refl, tt))))
+code_lacks Pfe = (All-from_recursion (λ x. eqb x 10 ≡ false) (kind_code Pfe) (refl, (refl, (refl, tt))), All-from_recursion (λ x. eqb x 59 ≡ false) (kind_code Pfe) (refl, (refl, (refl, tt))))
+code_lacks Fea = (All-from_recursion (λ x. eqb x 10 ≡ false) (kind_code Fea) (refl, (refl, (refl, tt))), All-from_recursion (λ x. eqb x 59 ≡ false) (kind_code Fea) (refl, (refl, (refl, tt))))
+code_lacks Lnk = (All-from_recursion (λ x. eqb x 10 ≡ false) (kind_code Lnk) (refl, (refl, (refl, tt))), All-from_recursion (λ x. eqb x 59 ≡ false) (kind_code Lnk) (refl, (refl, (refl, tt))))
+
+-- ---- the ends that are written
+
+end_names : (s : Classes) (q : Drawing) → IsWhole q → (es : List PlanEnd) → AllByRecursion (λ e. IsName e.target) (map (written_end s q) es)
+end_names s q whole [] = tt
+end_names s q whole (e ∷ es) =
+    let kind = (record_at q e.target).kind in
+    (record { rty = (code_lacks kind).1; rid = identifier_part kind (number_in s q e.target) (number_few s q whole e.target) }, end_names s q whole es)
+
+end_lines : (s : Classes) (q : Drawing) → IsWhole q → (es : List PlanEnd) → AllByRecursion (λ e. IfSome e.sns IsOneLine) es → AllByRecursion IsLineEnd (map (written_end s q) es)
+end_lines s q whole [] lines = tt
+end_lines s q whole (e ∷ es) lines =
+    let kind = (record_at q e.target).kind in (
+      record { target = record { rty = (code_lacks kind).0; rid = identifier_line kind (number_in s q e.target) (number_few s q whole e.target) }; sns = lines.0 },
+      end_lines s q whole es lines.1,
+    )
+
+-- the SNS of the ends that were read
+senses_read : (list : List Record) (ds : List End) (es : List PlanEnd) → AllByRecursion IsLineEnd ds → AllZip (StatesPlanEnd list) ds es → AllByRecursion (λ e. IfSome e.sns IsOneLine) es
+senses_read list [] [] lines all = tt
+senses_read list [] (e ∷ es) lines all = absurd all
+senses_read list (d ∷ ds) [] lines all = absurd all
+senses_read list (d ∷ ds) (e ∷ es) lines all = (subst (λ t. IfSome t IsOneLine) (sym all.0.sns) lines.0.sns, senses_read list ds es lines.1 all.1)
+
+senses_moved : (to : ℕ → ℕ) (es : List PlanEnd) → AllByRecursion (λ e. IfSome e.sns IsOneLine) es → AllByRecursion (λ e. IfSome e.sns IsOneLine) (map (moved to) es)
+senses_moved to [] lines = tt
+senses_moved to (e ∷ es) lines = (lines.0, senses_moved to es lines.1)
 
 -- ---- an attribute that is written
 
@@ -151,99 +222,181 @@ lines_written s (a ∷ xs) all = (all.0.1, lines_written s xs all.1)
 abbrev CanPrint : Record → Type 0
 CanPrint r = IsRecord r × IsLineRecord r × KeepsRules r
 
-pub record_printable : (s : Classes) (list : List Record) (r : Record) (x y : PlanRecord) (number : ℕ) → IsRecord r → IsLineRecord r → KeepsRules r
-    → StatesPlanRecord s list r x → IsRearranged x y → y.kind ≡ Pno → number < 2 ^ 64
-    → IsRecord (written_record s number y) × IsLineRecord (written_record s number y) × KeepsRules (written_record s number y)
-record_printable s list r x y number is line keeps states same node few = (
-  record {
-    class = subst IsName class is.class;
-    points = subst (AllByRecursion IsPoint) points is.points;
-    no_points = λ e. sym points ∙ is.no_points (ap has_points kind ∙ e);
-    ends = tt;
-    no_ends = λ _. refl;
-    classes = names_written s y.attributes print;
-    extras = subst (λ k. AllByRecursion (IsExtra k) y.extras) kind (subst (AllByRecursion (IsExtra r.kind)) extras is.extras);
-  },
-  record {
-    rid = subst (λ k. IsOneLine (identifier k number)) (sym node) (node_line number few);
-    class = subst IsLineName class line.class;
-    points = subst (AllByRecursion IsPoint) points line.points;
-    ends = tt;
-    few = few_attributes line.few;
-    few_points = subst (λ ps. length ps < 2 ^ 64) points line.few_points;
-    few_ends = omega arith;
-    attributes = lines_written s y.attributes print;
-    extras = subst (AllByRecursion IsLineExtra) extras line.extras;
-  },
-  record {
-    identifier = subst (λ k. is_identifier (identifier k number) ≡ true) (sym node) (node_identifier number few);
-    shape = ap₂ ◌&&◌ (ap₂ (λ k ps. may_have_points k (length ps)) (sym kind) (sym points) ∙ (both_true _ _ keeps.shape).0) (ap (λ k. may_have_ends k 0) node);
-    few_attributes = few_attributes keeps.few_attributes;
-    few_points = subst (λ ps. length ps < 2 ^ 64) points keeps.few_points;
-    few_ends = omega arith;
-    pointers = subst (AllByRecursion (λ e. e.format ≡ 80 → value_text e.value ≡ [])) extras keeps.pointers;
-  },
-)
+-- a name that can be printed
+abbrev PrintsName : Name → Type 0
+PrintsName n = IsName n × IsLineName n
+
+still_kind : (r : Role) → is_plain (exchanged r) ≡ is_plain r
+still_kind Initial = refl
+still_kind Final = refl
+still_kind Left = refl
+still_kind Right = refl
+still_kind Plain = refl
+
+-- the class after the turns: that which was read, or its partner
+class_prints : (s : Classes) → IsPaired s → HasPrintableKinds s → (turned : ℕ → Bool) (x : PlanRecord) → x.role ≡ role_of s x.class → PrintsName (name_of s x.class) → PrintsName (name_of s (class_after (partner_of s) turned x))
+class_prints s paired kinds turned x role prints = go (is_plain x.role) (has_turned_arc turned x) refl
   where
-    kind : r.kind ≡ y.kind
-    kind = sym states.kind ∙ sym same.kind
+    go : (a t : Bool) → is_plain x.role ≡ a → PrintsName (name_of s (cond a x.class (cond t (partner_of s x.class) x.class)))
+    go true t e = prints
+    go false true e =
+        let kind : is_plain (role_of s x.class) ≡ false = ap is_plain (sym role) ∙ e in
+        kinds (partner_of s x.class) (ap is_plain (paired.exchanges x.class kind) ∙ (still_kind (role_of s x.class) ∙ kind))
+    go false false e = prints
 
-    class : r.scp ≡ name_of s y.class
-    class = sym (name_is s r.scp x.class states.class) ∙ ap (name_of s) (sym same.class)
+points_directed : (P : Point → Type 0) (t : Bool) (ps : List Point) → AllByRecursion P ps → AllByRecursion P (directed t ps)
+points_directed P true ps all = permuted P ps (reverse ps) (IsPermutation-reverse ps) all
+points_directed P false ps all = all
 
-    points : r.points ≡ y.points
-    points = sym states.points ∙ sym same.points
+no_points : (kind : Kind) (ps : List Point) → may_have_points kind (length ps) ≡ true → has_points kind ≡ false → ps ≡ []
+no_points Pno ps may none = absurd (true≢false none)
+no_points Par ps may none = absurd (true≢false none)
+no_points Pfe ps may none = none_there ps may
+no_points Fea ps may none = none_there ps may
+no_points Lnk ps may none = none_there ps may
 
-    extras : r.extras ≡ y.extras
-    extras = sym states.extras ∙ sym same.extras
+no_ends : (s : Classes) (q : Drawing) (kind : Kind) (es : List PlanEnd) → may_have_ends kind (length es) ≡ true → is_link kind ≡ false → map (written_end s q) es ≡ []
+no_ends s q Pno es may none = ap (map (written_end s q)) (none_there es may)
+no_ends s q Par es may none = ap (map (written_end s q)) (none_there es may)
+no_ends s q Pfe es may none = ap (map (written_end s q)) (none_there es may)
+no_ends s q Fea es may none = ap (map (written_end s q)) (none_there es may)
+no_ends s q Lnk es may none = absurd (true≢false none)
 
-    print : AllByRecursion (Prints s) y.attributes
-    print = permuted (Prints s) x.attributes y.attributes same.attributes (attributes_print s r.attributes x.attributes is.classes line.attributes states.attributes)
+module _ (s : Classes) (paired : IsPaired s) (kinds : HasPrintableKinds s) (q : Drawing) (whole : IsWhole q) where
+  -- the record y is the record x, which r states, carried to the place k
+  carried_printable : (list : List Record) (r : Record) (x : PlanRecord) (to : ℕ → ℕ) (turned : ℕ → Bool) (i k : ℕ) → IsRecord r → IsLineRecord r → KeepsRules r
+      → StatesPlanRecord s list r x → IsPlace q k → CarriesRecord s to turned i x (record_at q k) → CanPrint (written_record s q (number_in s q k) (record_at q k))
+  carried_printable list r x to turned i k is line keeps states there c = (
+    record {
+      class = prints.0;
+      points = points;
+      no_points = no_points y.kind y.points (whole.points k there);
+      ends = end_names s q whole y.ends;
+      no_ends = no_ends s q y.kind y.ends (whole.ends k there);
+      classes = names_written s y.attributes print;
+      extras = subst (λ kind. AllByRecursion (IsExtra kind) y.extras) kind (subst (AllByRecursion (IsExtra r.kind)) extras is.extras);
+    },
+    record {
+      rid = identifier_line y.kind (number_in s q k) (number_few s q whole k);
+      class = prints.1;
+      points = points;
+      ends = end_lines s q whole y.ends senses;
+      few = few_attributes line.few;
+      few_points = few_points line.few_points;
+      few_ends = few_ends line.few_ends;
+      attributes = lines_written s y.attributes print;
+      extras = subst (AllByRecursion IsLineExtra) extras line.extras;
+    },
+    record {
+      identifier = identifier_good y.kind (number_in s q k) (number_few s q whole k);
+      shape = ap₂ ◌&&◌ (whole.points k there) (ap (may_have_ends y.kind) (length-map y.ends (written_end s q)) ∙ whole.ends k there);
+      few_attributes = few_attributes keeps.few_attributes;
+      few_points = few_points keeps.few_points;
+      few_ends = few_ends keeps.few_ends;
+      pointers = subst (AllByRecursion (λ e. e.format ≡ 80 → value_text e.value ≡ [])) extras keeps.pointers;
+    },
+  )
+    where
+      y : PlanRecord
+      y = record_at q k
 
-    few_attributes : length r.attributes < 2 ^ 64 → length (map (written_attribute s) y.attributes) < 2 ^ 64
-    few_attributes h =
-        let a = length-map y.attributes (written_attribute s) in
-        let b = length_permutation x.attributes y.attributes same.attributes in
-        let c = zip_length (StatesPlanAttribute s) r.attributes x.attributes states.attributes in
-        omega (arith, a, b, c, h)
+      kind : r.kind ≡ y.kind
+      kind = sym states.kind ∙ sym c.kind
+
+      extras : r.extras ≡ y.extras
+      extras = sym states.extras ∙ sym c.extras
+
+      role : x.role ≡ role_of s x.class
+      role = same_Some x.role (role_of s x.class) (sym states.role ∙ role_there s r.scp x.class states.class)
+
+      prints : PrintsName (name_of s y.class)
+      prints = subst (λ class. PrintsName (name_of s class)) (sym c.class)
+          (class_prints s paired kinds turned x role (subst PrintsName (sym (name_is s r.scp x.class states.class)) (is.class, line.class)))
+
+      points : AllByRecursion IsPoint y.points
+      points = subst (AllByRecursion IsPoint) (sym c.points) (points_directed IsPoint (turned i) x.points (subst (AllByRecursion IsPoint) (sym states.points) is.points))
+
+      print : AllByRecursion (Prints s) y.attributes
+      print = permuted (Prints s) x.attributes y.attributes c.attributes (attributes_print s r.attributes x.attributes is.classes line.attributes states.attributes)
+
+      moved_ends : IsPermutation (map (moved to) x.ends) y.ends
+      moved_ends = ends_moved s to turned i x y c
+
+      senses : AllByRecursion (λ e. IfSome e.sns IsOneLine) y.ends
+      senses = permuted (λ e. IfSome e.sns IsOneLine) (map (moved to) x.ends) y.ends moved_ends (senses_moved to x.ends (senses_read list r.ends x.ends line.ends states.ends))
+
+      few_attributes : length r.attributes < 2 ^ 64 → length (map (written_attribute s) y.attributes) < 2 ^ 64
+      few_attributes h =
+          let a = length-map y.attributes (written_attribute s) in
+          let b = length_permutation x.attributes y.attributes c.attributes in
+          let d = zip_length (StatesPlanAttribute s) r.attributes x.attributes states.attributes in
+          omega (arith, a, b, d, h)
+
+      few_points : length r.points < 2 ^ 64 → length y.points < 2 ^ 64
+      few_points h =
+          let a = ap length c.points in
+          let b = directed_long (turned i) x.points in
+          let d = ap length states.points in
+          omega (arith, a, b, d, h)
+
+      few_ends : length r.ends < 2 ^ 64 → length (map (written_end s q) y.ends) < 2 ^ 64
+      few_ends h =
+          let a = length-map y.ends (written_end s q) in
+          let b = length_permutation (map (moved to) x.ends) y.ends moved_ends in
+          let d = length-map x.ends (moved to) in
+          let f = zip_length (StatesPlanEnd list) r.ends x.ends states.ends in
+          omega (arith, a, b, d, f, h)
+
+pub record_printable : (s : Classes) (list : List Record) (r : Record) (p q : Drawing) (to : ℕ → ℕ) (turned : ℕ → Bool) (k : ℕ) → IsPaired s → HasPrintableKinds s → IsRecord r → IsLineRecord r → KeepsRules r
+    → StatesPlanRecord s list r (record_at p k) → Carries s to turned p q → IsWhole q → IsPlace p k
+    → IsRecord (written_record s q (number_in s q (to k)) (record_at q (to k))) × IsLineRecord (written_record s q (number_in s q (to k)) (record_at q (to k)))
+    × KeepsRules (written_record s q (number_in s q (to k)) (record_at q (to k)))
+record_printable s list r p q to turned k paired kinds is line keeps states c whole there =
+    carried_printable s paired kinds q whole list r (record_at p k) to turned k (to k) is line keeps states (c.places.within k there) (c.each k there)
 
 -- ---- the sheet that is written
 
 at_place : {X : Type 0} (P : X → Type 0) (xs : List X) (k : ℕ) (x : X) → slice_get xs k ≡ Some x → AllByRecursion P xs → P x
 at_place P xs k x h all = Rattle.edi_schema.proofs.Ordered.all_at P xs all k x h
 
-records_printable : (s : Classes) (sheet : Sheet) (p : Drawing) → IsPrintableSheet sheet → IsPlanOf s sheet p → (number : ℕ) (ys : List PlanRecord) → number + length ys < 2 ^ 64
-    → AllByRecursion (λ y. (k : ℕ) × IsPlace p k × IsRearranged (record_at p k) y) ys → AllByRecursion (λ y. y.kind ≡ Pno) ys → AllByRecursion CanPrint (written_from s number ys)
-records_printable s sheet p printable plan number [] few each alone = tt
-records_printable s sheet p printable plan number (y ∷ ys) few each alone =
-    let k = each.0.0 in
-    let d = zip_at (StatesPlanRecord s sheet.list) sheet.list p.list plan.each k blank each.0.1 in (
-      record_printable s sheet.list d.0 (record_at p k) y number
-          (at_place IsRecord sheet.list k d.0 d.1 printable.records) (at_place IsLineRecord sheet.list k d.0 d.1 printable.lines) (at_place KeepsRules sheet.list k d.0 d.1 printable.rules)
-          d.2 each.0.2 alone.0 (omega (arith, few)),
-      records_printable s sheet p printable plan (number + 1) ys (omega (arith, few)) each.1 alone.1,
-    )
+all_found : {X : Type 0} (P : X → Type 0) (xs : List X) → ((k : ℕ) (x : X) → slice_get xs k ≡ Some x → P x) → AllByRecursion P xs
+all_found P [] h = tt
+all_found P (x ∷ xs) h = (h 0 x refl, all_found P xs (λ k y e. h (suc k) y e))
 
 each_of : {X : Type 0} (P Q : X → Type 0) → ((x : X) → P x → Q x) → (xs : List X) → AllByRecursion P xs → AllByRecursion Q xs
 each_of P Q f [] all = tt
 each_of P Q f (x ∷ xs) all = (f x all.0, each_of P Q f xs all.1)
 
-pub written_printable : (s : Classes) (sheet : Sheet) (p q : Drawing) → IsPrintableSheet sheet → IsPlanOf s sheet p → Rearranges p q → HasNodesAlone q → length q.list ≤ 9999999
+pub written_printable : (s : Classes) (sheet : Sheet) (p q : Drawing) → IsPaired s → HasPrintableKinds s → IsPrintableSheet sheet → IsPlanOf s sheet p → Same s p q → IsWhole q
     → CanBePrinted q.cse (written_records s q)
-written_printable s sheet p q printable plan same alone few =
-    let all = records_printable s sheet p printable plan 1 q.list (omega (arith, few)) same.each alone in
-    record {
-      set = subst (λ c. IfSome c IsOneLine) (sym (same.cse ∙ plan.set)) printable.cse;
-      records = each_of CanPrint IsRecord (λ r h. h.0) (written_records s q) all;
-      lines = each_of CanPrint IsLineRecord (λ r h. h.1) (written_records s q) all;
-      rules = each_of CanPrint KeepsRules (λ r h. h.2) (written_records s q) all;
-    }
+written_printable s sheet p q paired kinds printable plan same whole = record {
+  set = subst (λ c. IfSome c IsOneLine) (sym (c.cse ∙ plan.set)) printable.cse;
+  records = each_of CanPrint IsRecord (λ r h. h.0) (written_records s q) all;
+  lines = each_of CanPrint IsLineRecord (λ r h. h.1) (written_records s q) all;
+  rules = each_of CanPrint KeepsRules (λ r h. h.2) (written_records s q) all;
+}
+  where
+    c : Carries s same.0 same.1 p q
+    c = same.2
+
+    at_new : (i : ℕ) → IsPlace p i → CanPrint (written_record s q (number_in s q (same.0 i)) (record_at q (same.0 i)))
+    at_new i h =
+        let d = zip_at (StatesPlanRecord s sheet.list) sheet.list p.list plan.each i blank h in
+        record_printable s sheet.list d.0 p q same.0 same.1 i paired kinds
+        (at_place IsRecord sheet.list i d.0 d.1 printable.records) (at_place IsLineRecord sheet.list i d.0 d.1 printable.lines) (at_place KeepsRules sheet.list i d.0 d.1 printable.rules)
+        d.2 c whole h
+
+    all : AllByRecursion CanPrint (written_records s q)
+    all = all_found CanPrint (written_records s q) each
+      where
+        each : (k : ℕ) (r : Record) → slice_get (written_records s q) k ≡ Some r → CanPrint r
+        each k r e =
+            let within = slice_get_within (written_records s q) k r e in
+            let there : IsPlace q k = omega (arith, within, written_count s q) in
+            let from = c.places.onto k there in
+            subst CanPrint (same_Some _ r (sym (written_at s q k there) ∙ e)) (subst (λ j. CanPrint (written_record s q (number_in s q j) (record_at q j))) from.2 (at_new from.0 from.1))
 
 -- ---- the classes of attributes are of type ATT
-
-all_found : {X : Type 0} (P : X → Type 0) (xs : List X) → ((k : ℕ) (x : X) → slice_get xs k ≡ Some x → P x) → AllByRecursion P xs
-all_found P [] h = tt
-all_found P (x ∷ xs) h = (h 0 x refl, all_found P xs (λ k y e. h (suc k) y e))
 
 types_stated : (s : Classes) (bs : List Attribute) (xs : List PlanAttribute) → AllByRecursion (λ b. b.atp.rty ≡ codes "ATT") bs → AllZip (StatesPlanAttribute s) bs xs
     → AllByRecursion (λ a. (name_of s a.atp).rty ≡ codes "ATT") xs
@@ -269,76 +422,61 @@ module _ (s : Classes) (sheet : Sheet) (p : Drawing) (unbroken : IsUnbroken (Bre
       let d = zip_at (StatesPlanRecord s sheet.list) sheet.list p.list plan.each k blank h in
       types_stated s d.0.attributes (record_at p k).attributes (all_found (λ b. b.atp.rty ≡ codes "ATT") d.0.attributes (λ i b e. type_read k d.0 d.1 i b e)) d.2.attributes
 
-  types_each : (ys : List PlanRecord) → AllByRecursion (λ y. (k : ℕ) × IsPlace p k × IsRearranged (record_at p k) y) ys
-      → AllByRecursion (λ r. AllByRecursion (λ a. (name_of s a.atp).rty ≡ codes "ATT") r.attributes) ys
-  types_each [] each = tt
-  types_each (y ∷ ys) each =
-      (permuted (λ a. (name_of s a.atp).rty ≡ codes "ATT") (record_at p each.0.0).attributes y.attributes each.0.2.attributes (types_at each.0.0 each.0.1), types_each ys each.1)
-
-pub attribute_classes : (s : Classes) (sheet : Sheet) (p q : Drawing) → IsUnbroken (BreaksReferenceRule s sheet.list) → IsPlanOf s sheet p → Rearranges p q → HasAttributeClasses s q
-attribute_classes s sheet p q unbroken plan same = types_each s sheet p unbroken plan q.list same.each
+pub attribute_classes : (s : Classes) (sheet : Sheet) (p q : Drawing) → IsUnbroken (BreaksReferenceRule s sheet.list) → IsPlanOf s sheet p → Same s p q → HasAttributeClasses s q
+attribute_classes s sheet p q unbroken plan same = all_places (λ r. AllByRecursion (λ a. (name_of s a.atp).rty ≡ codes "ATT") r.attributes) q.list blank each
+  where
+    each : (k : ℕ) → IsPlace q k → AllByRecursion (λ a. (name_of s a.atp).rty ≡ codes "ATT") (record_at q k).attributes
+    each k h =
+        let from = same.2.places.onto k h in
+        subst (λ j. AllByRecursion (λ a. (name_of s a.atp).rty ≡ codes "ATT") (record_at q j).attributes) from.2
+        (permuted (λ a. (name_of s a.atp).rty ≡ codes "ATT") (record_at p from.0).attributes (record_at q (same.0 from.0)).attributes (same.2.each from.0 from.1).attributes (types_at s sheet p unbroken plan from.0 from.1))
 
 -- ---- the layout, read again
 
 one_sheet : (gs : List (List Entry)) (rs qs : List Record) → AllZip States gs rs → AllZip States gs qs → rs ≡ qs
 one_sheet gs rs qs h g = zip_one States States (λ x y z a b. states_one x y z a b) gs rs qs h g
 
-read_list : (s : Classes) (q : Drawing) (sheet : Sheet) → IsSchema s → HasPrintableLetters (letters s) → Agrees s q → HasNodesAlone q → CanBePrinted q.cse (written_records s q)
+read_list : (s : Classes) (q : Drawing) (sheet : Sheet) → IsSchema s → HasPrintableLetters (letters s) → IsWhole q → Agrees s q → CanBePrinted q.cse (written_records s q)
     → StatesSheet (zones_of (layout s q)) sheet → (sheet.cse ≡ q.cse) × (sheet.list ≡ map (settled_record (letters s)) (written_records s q))
-read_list s q sheet keeps printable agrees alone can states =
+read_list s q sheet keeps printable whole agrees can states =
     let rs = written_records s q in
     let again = sheet_again (letters s) q.cse rs (sheet_printable (letters s) q.cse rs printable can.set can.records can.lines) can.records in
-    let stated = subst (λ bytes. StatesSheet (zones_of bytes) sheet) (written_layout s q keeps agrees alone) states in
+    let stated = subst (λ bytes. StatesSheet (zones_of bytes) sheet) (written_layout s q keeps whole agrees) states in
     (stated.cse ∙ again.0, one_sheet _ sheet.list (map (settled_record (letters s)) rs) stated.records again.1)
 
-pub layout_plan : (s : Classes) (q : Drawing) (sheet : Sheet) → IsSchema s → HasPrintableLetters (letters s) → IsWhole q → Agrees s q → HasNodesAlone q → CanBePrinted q.cse (written_records s q)
+pub layout_plan : (s : Classes) (q : Drawing) (sheet : Sheet) → IsSchema s → HasPrintableLetters (letters s) → IsWhole q → Agrees s q → CanBePrinted q.cse (written_records s q)
     → StatesSheet (zones_of (layout s q)) sheet → IsPlanOf s sheet q
-layout_plan s q sheet keeps printable whole agrees alone can states =
-    let same = read_list s q sheet keeps printable agrees alone can states in
-    written_plan s q sheet keeps whole agrees alone same.0 same.1
+layout_plan s q sheet keeps printable whole agrees can states =
+    let same = read_list s q sheet keeps printable whole agrees can states in
+    written_plan s q sheet keeps whole agrees same.0 same.1
 
-pub layout_references : (s : Classes) (q : Drawing) (sheet : Sheet) → IsSchema s → HasPrintableLetters (letters s) → IsWhole q → Agrees s q → HasNodesAlone q → CanBePrinted q.cse (written_records s q)
-    → HasAttributeClasses s q → StatesSheet (zones_of (layout s q)) sheet → IsUnbroken (BreaksReferenceRule s sheet.list)
-layout_references s q sheet keeps printable whole agrees alone can types states =
-    subst (λ rs. IsUnbroken (BreaksReferenceRule s rs)) (sym (read_list s q sheet keeps printable agrees alone can states).1) (written_references s q keeps whole agrees alone types)
+pub layout_references : (s : Classes) (q : Drawing) (sheet : Sheet) → IsSchema s → HasPrintableLetters (letters s) → IsWhole q → Agrees s q → CanBePrinted q.cse (written_records s q)
+    → IsJoined q → HasAttributeClasses s q → StatesSheet (zones_of (layout s q)) sheet → IsUnbroken (BreaksReferenceRule s sheet.list)
+layout_references s q sheet keeps printable whole agrees can joined types states =
+    subst (λ rs. IsUnbroken (BreaksReferenceRule s rs)) (sym (read_list s q sheet keeps printable whole agrees can states).1) (written_references s q keeps whole agrees joined types)
 
-written_long : (s : Classes) (number : ℕ) (rs : List PlanRecord) → length (written_from s number rs) ≡ length rs
-written_long s number [] = refl
-written_long s number (r ∷ rs) = ap suc (written_long s (number + 1) rs)
-
-pub layout_sound : (s : Classes) (q : Drawing) → IsSchema s → HasPrintableLetters (letters s) → IsWhole q → Agrees s q → HasNodesAlone q → CanBePrinted q.cse (written_records s q)
+pub layout_sound : (s : Classes) (q : Drawing) → IsSchema s → HasPrintableLetters (letters s) → IsWhole q → Agrees s q → CanBePrinted q.cse (written_records s q)
     → IsZonesOf (layout s q) (zones_of (layout s q)) × IsUnbroken (BreaksLineRule (layout s q)) × IsUnbroken (BreaksRecordRule (zones_of (layout s q)))
-layout_sound s q keeps printable whole agrees alone can =
+layout_sound s q keeps printable whole agrees can =
     let rs = written_records s q in
-    let few : length rs ≤ 9999999 = let f = whole.few in omega (arith, f, written_long s 1 q.list) in
+    let few : length rs ≤ 9999999 = let f = whole.few in omega (arith, f, written_count s q) in
     let sound = sheet_sound (letters s) q.cse rs printable can.set can.records can.lines can.rules few in
     subst (λ bytes. IsZonesOf bytes (zones_of bytes) × IsUnbroken (BreaksLineRule bytes) × IsUnbroken (BreaksRecordRule (zones_of bytes)))
-    (sym (written_layout s q keeps agrees alone)) (sound.zones, sound.lines, sound.records)
+    (sym (written_layout s q keeps whole agrees)) (sound.zones, sound.lines, sound.records)
 
 -- ---- the letters of a schema
 
-letter_printable : (typ : Option (List ℕ)) → is_printable (schema.letter_of typ) ≡ true
-letter_printable None = refl
-letter_printable (Some []) = refl
-letter_printable (Some (c ∷ [])) = go (nat_le 65 c && nat_le c 90) refl
-  where
-    go : (b : Bool) → (nat_le 65 c && nat_le c 90) ≡ b → is_printable (cond b c 65) ≡ true
-    go true e =
-        let both = both_true (nat_le 65 c) (nat_le c 90) e in
-        ap₂ ◌&&◌ (le-leb 32 c (let low = leb-true 65 c both.0 in omega (arith, low))) (le-leb c 126 (let high = leb-true c 90 both.1 in omega (arith, high)))
-    go false e = refl
-letter_printable (Some (c ∷ d ∷ cs)) = refl
-
-letter_found : (n : Name) (s : Classes) → AllByRecursion (λ e. is_printable e.1.letter ≡ true) s → is_printable ((letters s).letter n) ≡ true
+letter_found : (n : Name) (s : Classes) → AllByRecursion (λ e. IsLetter e.1.letter) s → is_printable ((letters s).letter n) ≡ true
 letter_found n [] all = refl
 letter_found n (e ∷ es) all = go (is_name n e.0) (letter_found n es all.1)
   where
     go : (b : Bool) → is_printable (unwrap_or (option_map (λ (c : Class). c.letter) (lookup (is_name n) es)) 65) ≡ true
         → is_printable (unwrap_or (option_map (λ (c : Class). c.letter) (cond b (Some e.1) (lookup (is_name n) es))) 65) ≡ true
-    go true more = all.0
+    go true more =
+        let low = all.0.0 in
+        let high = all.0.1 in
+        ap₂ ◌&&◌ (le-leb 32 e.1.letter (omega (arith, low))) (le-leb e.1.letter 126 (omega (arith, high)))
     go false more = more
 
-pub letters_printable : (classes entries : List (List Entry)) (kinds : KindCodes) (s : Classes) → IsSchemaOf classes entries kinds s → HasPrintableLetters (letters s)
-letters_printable classes entries kinds s is n =
-    letter_found n s (permuted (λ (e : Name × Class). is_printable e.1.letter ≡ true) is.stated s is.same
-    (zip_weaker (StatesClass kinds is.words) (λ (e : Name × Class). is_printable e.1.letter ≡ true) (λ g e h. ap is_printable h.letter ∙ letter_printable h.typ) classes is.stated is.each_class))
+pub letters_printable : (s : Classes) → IsSchema s → HasPrintableLetters (letters s)
+letters_printable s keeps n = letter_found n s keeps.letters

@@ -1,25 +1,22 @@
--- The records that are written of a plan of nodes alone, and what is read of them.
-use Rattle.std.proofs.Common.{Less, ◌≡◌, ℕ, zero, suc, ◌+◌, ◌<◌, ◌≤◌, ◌^◌, ℤ, Bool, true, false, cond, not, true≢false, List, [], ◌∷◌, ◌++◌, length, map, take, append-nil, Option, Some, None, option_map, unwrap_or, slice_get, position, refl, sym, ap, ap₂, ◌∙◌, subst, arith, nat_lt, eqb-true}
+-- The records that are written of a plan, and what is read of them.
+use Rattle.std.proofs.Common.{Less, ◌≡◌, ℕ, zero, suc, ◌+◌, ◌<◌, ℤ, Bool, true, false, cond, true≢false, List, [], ◌∷◌, ◌++◌, length, map, append-nil, Option, Some, None, option_map, unwrap_or, slice_get, get_or, nat_eq, position, refl, sym, ap, ap₂, ◌∙◌, subst, arith, nat_lt, eqb-true}
 use Rattle.std.specs.Prelude.{codes, decimal, flat_map, option_to_list}
-use Rattle.std.specs.List.{AllByRecursion, AllZip, position_or_len, IsDistinct}
+use Rattle.std.specs.List.{AllByRecursion, AllZip, position_or_len}
 use Rattle.std.specs.Map.{keys_of}
 use Rattle.std.proofs.lemmas.Bool.{lt-ltb}
-use Rattle.std.proofs.lemmas.Fmt.{decimal_injective}
-use Rattle.std.proofs.lemmas.List.{length-map, length-take}
-use Rattle.std.proofs.lemmas.List.Elements.{recursion_from_All, All-from_recursion, All-take}
-use Rattle.std.proofs.lemmas.Option.{same_Some, none-some, slice_get-get_or}
+use Rattle.std.proofs.lemmas.List.{length-map}
+use Rattle.std.proofs.lemmas.Option.{same_Some, none-some, slice_get-get_or, slice_get_within, slice_get-map}
 use Rattle.edi_line.specs.Number.{number}
 use Rattle.edi_line.specs.Printing.{zone_text, printed}
-use Rattle.edi_line.specs.Refusal.{IsUnbroken}
 use Rattle.edi_line.proofs.NumberRead.{number_is}
 use Rattle.edi_line.proofs.Numbers.{number_in_range}
 use Rattle.edi_record.specs.Layout.{Letters, class_text, value_text, point_zone, set_zone, extra_zone, begin_zone, cse_zone, end_zone, settled, settled_record, settled_end, IsOwnValue}
 use Rattle.edi_record.specs.Layout as records
 use Rattle.edi_record.specs.Records.{value_of}
-use Rattle.edi_record.specs.Shapes.{may_have_ends, kind_code}
+use Rattle.edi_record.specs.Shapes.{may_have_points, may_have_ends, kind_code}
 use Rattle.edi_record.specs.declared.name.Name.{Name}
 use Rattle.edi_record.specs.declared.record.Kind.{Kind}
-use Rattle.edi_record.specs.declared.record.Kind.TheVariants.{Pno}
+use Rattle.edi_record.specs.declared.record.Kind.TheVariants.{Pno, Par, Pfe, Fea, Lnk}
 use Rattle.edi_record.specs.declared.record.Record.{Record}
 use Rattle.edi_record.specs.declared.record.Value.{Value}
 use Rattle.edi_record.specs.declared.record.Value.TheVariants.{Number, Bytes}
@@ -28,26 +25,21 @@ use Rattle.edi_record.proofs.Stated.{own_again}
 use Rattle.edi_schema.specs.Classes.{Classes, IsSchema, is_name, name_cmp, place_of, is_number_of}
 use Rattle.edi_schema.specs.Sorted.{AlwaysRises}
 use Rattle.edi_schema.specs.declared.class.Class.{Class}
-use Rattle.edi_schema.proofs.Names.{name_itself, other_name, same_name}
+use Rattle.edi_schema.proofs.Names.{name_itself, other_name}
 use Rattle.edi_schema.proofs.Ordered.{all_at}
 use Rattle.edi_plan.specs.Agreeing.{AttributeAgrees, RecordAgrees, Agrees}
-use Rattle.edi_plan.specs.Interim.{HasNodesAlone}
-use Rattle.edi_plan.specs.Nodes.{Resolves, ResolvesNode}
-use Rattle.edi_plan.specs.PlanOf.{IsPlanOf, StatesPlanAttribute, StatesPlanEnd, StatesPlanRecord, own_name}
-use Rattle.edi_plan.specs.Plans.{Drawing, record_at, blank}
-use Rattle.edi_plan.specs.ReferenceRules.{BreaksReferenceRule}
-use Rattle.edi_plan.specs.Repeats.{AreNamedApart}
+use Rattle.edi_plan.specs.PlanOf.{IsPlanOf, StatesPlanAttribute, StatesPlanEnd, StatesPlanRecord, own_name, place_named}
+use Rattle.edi_plan.specs.Plans.{Drawing, IsPlace, record_at, blank}
 use Rattle.edi_plan.specs.Whole.{IsWhole}
 use Rattle.edi_plan.specs.declared.record.PlanRecord.{PlanRecord}
 use Rattle.edi_plan.specs.declared.record.PlanAttribute.{PlanAttribute}
 use Rattle.edi_plan.specs.declared.record.PlanEnd.{PlanEnd}
 use Rattle.edi_plan.proofs.Built.{named_at}
-use Rattle.edi_plan.proofs.NodesBuilt.{none_broken}
 use Rattle.edi_plan.proofs.Resolved.{role_there}
-use Rattle.edi_topo.proofs.NodesAlone as nodes
-use Rattle.edi_write.specs.Layout.{record_zones, attribute_zones, body_zones, zones_from, number_in, letter_of, name_of, no_name, identifier, layout}
-use Rattle.edi_write.specs.Written.{letters, written_attribute, written_record, written_from, written_records, HasAttributeClasses}
-use Rattle.edi_write.proofs.WrittenNodes.{all_counted}
+use Rattle.edi_write.specs.Layout.{record_zones, attribute_zones, body_zones, end_zones, zones_from, name_in, number_in, letter_of, name_of, no_name, identifier, layout}
+use Rattle.edi_write.specs.Written.{letters, written_attribute, written_end, written_record, written_from, written_records}
+use Rattle.edi_write.proofs.Naming.{names_apart}
+use Rattle.edi_rank.proofs.Unique.{all_places}
 
 -- ---- a class by its name
 
@@ -110,39 +102,52 @@ attributes_same : (s : Classes) → IsSchema s → (xs : List PlanAttribute) →
 attributes_same s keeps [] agree = refl
 attributes_same s keeps (a ∷ xs) agree = ap₂ ◌++◌ (attribute_same s keeps a agree.0) (attributes_same s keeps xs agree.1)
 
-record_same : (s : Classes) → IsSchema s → (q : Drawing) (number : ℕ) (r : PlanRecord) → RecordAgrees s r → r.kind ≡ Pno
-    → record_zones s q number r ≡ records.record_zones (letters s) (written_record s number r)
-unfolding records.record_zones records.body_zones
-record_same s keeps q number r agrees is =
+ends_same : (s : Classes) (p : Drawing) (es : List PlanEnd) → flat_map (end_zones s p) es ≡ flat_map records.end_zones (map (written_end s p) es)
+unfolding records.end_zones
+ends_same s p [] = refl
+ends_same s p (e ∷ es) = ap (λ zs. end_zones s p e ++ zs) (ends_same s p es)
+
+-- a record with as many points and ends as its type has
+abbrev pub IsShaped : PlanRecord → Type 0
+IsShaped r = (may_have_points r.kind (length r.points) ≡ true) × (may_have_ends r.kind (length r.ends) ≡ true)
+
+pub none_there : {X : Type 0} (xs : List X) → nat_eq (length xs) 0 ≡ true → xs ≡ []
+none_there [] h = refl
+none_there (x ∷ xs) h = let e : suc (length xs) ≡ 0 = eqb-true _ _ h in absurd (omega (arith, e))
+
+body_same : (s : Classes) (p : Drawing) (r : PlanRecord) (kind : Kind) → may_have_points kind (length r.points) ≡ true → may_have_ends kind (length r.ends) ≡ true
+    → body_zones s p kind r ≡ records.body_zones kind r.points (map (written_end s p) r.ends)
+unfolding records.body_zones
+body_same s p r Pno points ends =
+    sym (append-nil (map point_zone r.points)) ∙ ap (λ es. map point_zone r.points ++ flat_map records.end_zones (map (written_end s p) es)) (sym (none_there r.ends ends))
+body_same s p r Par points ends =
+    ap (λ zs. zone_text (codes "PTC") 83 78 (decimal (length r.points)) ∷ zs)
+    (sym (append-nil (map point_zone r.points)) ∙ ap (λ es. map point_zone r.points ++ flat_map records.end_zones (map (written_end s p) es)) (sym (none_there r.ends ends)))
+body_same s p r Pfe points ends = ap₂ (λ ps es. map point_zone ps ++ flat_map records.end_zones (map (written_end s p) es)) (sym (none_there r.points points)) (sym (none_there r.ends ends))
+body_same s p r Fea points ends = ap₂ (λ ps es. map point_zone ps ++ flat_map records.end_zones (map (written_end s p) es)) (sym (none_there r.points points)) (sym (none_there r.ends ends))
+body_same s p r Lnk points ends =
+    ap₂ (λ n zs. zone_text (codes "FTC") 83 78 (decimal n) ∷ zs) (sym (length-map r.ends (written_end s p)))
+    (ends_same s p r.ends ∙ ap (λ ps. map point_zone ps ++ flat_map records.end_zones (map (written_end s p) r.ends)) (sym (none_there r.points points)))
+
+record_same : (s : Classes) → IsSchema s → (p : Drawing) (number : ℕ) (r : PlanRecord) → RecordAgrees s r → IsShaped r
+    → record_zones s p number r ≡ records.record_zones (letters s) (written_record s p number r)
+unfolding records.record_zones
+record_same s keeps p number r agrees shaped =
     ap (λ zs. zone_text (codes "RTY") 83 65 (kind_code r.kind) ∷ zone_text (codes "RID") 83 65 (identifier r.kind number) ∷ zone_text (codes "SCP") 67 80 (class_text (name_of s r.class)) ∷ zs)
-    (ap₂ ◌++◌ (body r.kind is) (ap₂ (λ n zs. zone_text (codes "ATC") 83 78 (decimal n) ∷ (zs ++ map extra_zone r.extras)) (sym (length-map r.attributes (written_attribute s))) (attributes_same s keeps r.attributes agrees.attributes)))
-  where
-    body : (kind : Kind) → kind ≡ Pno → body_zones s q kind r ≡ records.body_zones kind r.points []
-    body kind e = subst (λ k. body_zones s q k r ≡ records.body_zones k r.points []) (sym e) (sym (append-nil (map point_zone r.points)))
+    (ap₂ ◌++◌ (body_same s p r r.kind shaped.0 shaped.1) (ap₂ (λ n zs. zone_text (codes "ATC") 83 78 (decimal n) ∷ (zs ++ map extra_zone r.extras)) (sym (length-map r.attributes (written_attribute s))) (attributes_same s keeps r.attributes agrees.attributes)))
 
-zones_same : (s : Classes) → IsSchema s → (q : Drawing) (place : ℕ) (rs : List PlanRecord) → AllByRecursion (RecordAgrees s) rs → AllByRecursion (λ r. r.kind ≡ Pno) rs
-    → ((j : ℕ) → j < length rs → number_in s q (place + j) ≡ (place + 1) + j)
-    → zones_from s q place rs ≡ flat_map (records.record_zones (letters s)) (written_from s (place + 1) rs)
-zones_same s keeps q place [] agree alone numbers = refl
-zones_same s keeps q place (r ∷ rs) agree alone numbers =
-    let number : number_in s q place ≡ place + 1 = ap (number_in s q) (let z : place ≡ place + 0 = omega arith in z) ∙ (numbers 0 (omega arith) ∙ (let z : (place + 1) + 0 ≡ place + 1 = omega arith in z)) in
-    let later : (j : ℕ) → j < length rs → number_in s q ((place + 1) + j) ≡ ((place + 1) + 1) + j = λ j h. ap (number_in s q) (let z : (place + 1) + j ≡ place + suc j = omega arith in z) ∙ (numbers (suc j) (omega arith) ∙ (let z : (place + 1) + suc j ≡ ((place + 1) + 1) + j = omega arith in z)) in
-    ap₂ ◌++◌ (ap (λ n. record_zones s q n r) number ∙ record_same s keeps q (place + 1) r agree.0 alone.0) (zones_same s keeps q (place + 1) rs agree.1 alone.1 later)
+zones_same : (s : Classes) → IsSchema s → (p : Drawing) (place : ℕ) (rs : List PlanRecord) → AllByRecursion (RecordAgrees s) rs → AllByRecursion IsShaped rs
+    → zones_from s p place rs ≡ flat_map (records.record_zones (letters s)) (written_from s p place rs)
+zones_same s keeps p place [] agree shaped = refl
+zones_same s keeps p place (r ∷ rs) agree shaped = ap₂ ◌++◌ (record_same s keeps p (number_in s p place) r agree.0 shaped.0) (zones_same s keeps p (place + 1) rs agree.1 shaped.1)
 
-numbered : (s : Classes) (p : Drawing) → HasNodesAlone p → (j : ℕ) → j < length p.list → number_in s p (0 + j) ≡ (0 + 1) + j
-numbered s p alone j h =
-    let z : 0 + j ≡ j = omega arith in
-    let is : (record_at p j).kind ≡ Pno = nodes.all_at (λ r. r.kind ≡ Pno) p.list j blank h alone in
-    let count = all_counted (record_at p j).kind (take j p.list) (taken j p.list alone) is in
-    ap (number_in s p) z ∙ (let long = length-take j p.list in omega (arith, count, long, h))
-  where
-    taken : (n : ℕ) (rs : List PlanRecord) → AllByRecursion (λ r. r.kind ≡ Pno) rs → AllByRecursion (λ r. r.kind ≡ Pno) (take n rs)
-    taken n rs all = recursion_from_All (λ (r : PlanRecord). r.kind ≡ Pno) (take n rs) (All-take (λ (r : PlanRecord). r.kind ≡ Pno) n rs (All-from_recursion (λ (r : PlanRecord). r.kind ≡ Pno) rs all))
+pub all_shaped : (p : Drawing) → IsWhole p → AllByRecursion IsShaped p.list
+all_shaped p whole = all_places IsShaped p.list blank (λ k h. (whole.points k h, whole.ends k h))
 
-pub written_layout : (s : Classes) (p : Drawing) → IsSchema s → Agrees s p → HasNodesAlone p → layout s p ≡ records.layout (letters s) p.cse (written_records s p)
+pub written_layout : (s : Classes) (p : Drawing) → IsSchema s → IsWhole p → Agrees s p → layout s p ≡ records.layout (letters s) p.cse (written_records s p)
 unfolding layout
-written_layout s p keeps agrees alone =
-    ap (λ zs. printed (begin_zone ∷ (map cse_zone (option_to_list p.cse) ++ (zs ++ end_zone ∷ [])))) (zones_same s keeps p 0 p.list agrees alone (numbered s p alone))
+written_layout s p keeps whole agrees =
+    ap (λ zs. printed (begin_zone ∷ (map cse_zone (option_to_list p.cse) ++ (zs ++ end_zone ∷ [])))) (zones_same s keeps p 0 p.list agrees (all_shaped p whole))
 
 -- ---- the plan of what is read again
 
@@ -156,105 +161,114 @@ states_attributes : (s : Classes) → IsSchema s → (xs : List PlanAttribute) �
 states_attributes s keeps [] agree = tt
 states_attributes s keeps (a ∷ xs) agree = (states_attribute s keeps a agree.0, states_attributes s keeps xs agree.1)
 
--- a node without ends that agrees with the schema
-abbrev pub IsEndless : PlanRecord → Type 0
-IsEndless r = (r.kind ≡ Pno) × (r.ends ≡ [])
+-- what is read of what is written
+abbrev pub read_from : Classes → Drawing → ℕ → List PlanRecord → List Record
+read_from s p place rs = map (settled_record (letters s)) (written_from s p place rs)
 
-states_record : (s : Classes) → IsSchema s → (list : List Record) (number : ℕ) (r : PlanRecord) → RecordAgrees s r → r.ends ≡ [] → StatesPlanRecord s list (settled_record (letters s) (written_record s number r)) r
-states_record s keeps list number r agrees none = record {
+abbrev pub read_records : Classes → Drawing → List Record
+read_records s p = read_from s p 0 p.list
+
+abbrev pub read_record : Classes → Drawing → ℕ → Record
+read_record s p k = settled_record (letters s) (written_record s p (number_in s p k) (record_at p k))
+
+-- ---- each end finds what it names
+
+first_passing : {X : Type 0} (test : X → Bool) (xs : List X) (k : ℕ) (x : X) → slice_get xs k ≡ Some x → test x ≡ true → ((i : ℕ) (y : X) → i < k → slice_get xs i ≡ Some y → test y ≡ false)
+    → position_or_len test xs ≡ k
+first_passing test [] k x h is before = absurd (none-some x h)
+first_passing test (y ∷ ys) zero x h is before = let here : test y ≡ true = subst (λ z. test z ≡ true) (sym (same_Some y x h)) is in rw here refl
+first_passing test (y ∷ ys) (suc k) x h is before =
+    let other : test y ≡ false = before 0 y (omega arith) refl in
+    let more = first_passing test ys k x h is (λ i z less e. before (suc i) z (omega (arith, less)) e) in
+    rw other (omega (arith, more))
+
+written_long : (s : Classes) (p : Drawing) (place : ℕ) (rs : List PlanRecord) → length (written_from s p place rs) ≡ length rs
+written_long s p place [] = refl
+written_long s p place (r ∷ rs) = ap suc (written_long s p (place + 1) rs)
+
+pub written_count : (s : Classes) (p : Drawing) → length (written_records s p) ≡ length p.list
+written_count s p = written_long s p 0 p.list
+
+written_at_from : (s : Classes) (p : Drawing) (place : ℕ) (rs : List PlanRecord) (j : ℕ) → j < length rs → slice_get (written_from s p place rs) j ≡ Some (written_record s p (number_in s p (place + j)) (get_or rs j blank))
+written_at_from s p place [] j h = absurd (omega (arith, h))
+written_at_from s p place (r ∷ rs) zero h = ap (λ k. Some (written_record s p (number_in s p k) r)) (let z : place ≡ place + 0 = omega arith in z)
+written_at_from s p place (r ∷ rs) (suc j) h =
+    written_at_from s p (place + 1) rs j (omega (arith, h)) ∙ ap (λ k. Some (written_record s p (number_in s p k) (get_or rs j blank))) (let z : (place + 1) + j ≡ place + suc j = omega arith in z)
+
+pub written_at : (s : Classes) (p : Drawing) (k : ℕ) → IsPlace p k → slice_get (written_records s p) k ≡ Some (written_record s p (number_in s p k) (record_at p k))
+written_at s p k h = written_at_from s p 0 p.list k h ∙ ap (λ j. Some (written_record s p (number_in s p j) (record_at p k))) (let z : 0 + k ≡ k = omega arith in z)
+
+-- at each place of the plan a list has a record with the name that is written there
+record HasNames (s : Classes) (p : Drawing) (list : List Record) : Type 0 where
+  pub long : length list ≡ length p.list
+  pub at : (k : ℕ) → IsPlace p k → (r : Record) × (slice_get list k ≡ Some r) × (own_name r ≡ name_in s p k)
+
+named_place : (s : Classes) (p : Drawing) → IsWhole p → (list : List Record) → HasNames s p list → (k : ℕ) → IsPlace p k → place_named list (name_in s p k) ≡ Some k
+named_place s p whole list names k h =
+    let here = names.at k h in
+    let long = names.long in
+    position_is test list k (first_passing test list k here.0 here.1 (ap (is_name (name_in s p k)) here.2 ∙ name_itself (name_in s p k)) before) (omega (arith, h, long))
+  where
+    test : Record → Bool
+    test r = is_name (name_in s p k) (own_name r)
+
+    before : (i : ℕ) (y : Record) → i < k → slice_get list i ≡ Some y → is_name (name_in s p k) (own_name y) ≡ false
+    before i y less e =
+        let there : IsPlace p i = omega (arith, less, h) in
+        let at = names.at i there in
+        let same : y ≡ at.0 = same_Some y at.0 (sym e ∙ at.1) in
+        ap (is_name (name_in s p k)) (ap own_name same ∙ at.2) ∙ names_apart s p whole i k there h less
+
+pub written_named : (s : Classes) (p : Drawing) → IsWhole p → (k : ℕ) → IsPlace p k → place_named (written_records s p) (name_in s p k) ≡ Some k
+written_named s p whole = named_place s p whole (written_records s p) (record { long = written_count s p; at = λ k h. (written_record s p (number_in s p k) (record_at p k), written_at s p k h, refl) })
+
+pub read_at : (s : Classes) (p : Drawing) (k : ℕ) → IsPlace p k → slice_get (read_records s p) k ≡ Some (read_record s p k)
+read_at s p k h = slice_get-map (settled_record (letters s)) (written_records s p) k ∙ ap (option_map (settled_record (letters s))) (written_at s p k h)
+
+pub read_count : (s : Classes) (p : Drawing) → length (read_records s p) ≡ length p.list
+read_count s p = length-map (written_records s p) (settled_record (letters s)) ∙ written_count s p
+
+pub read_back : (s : Classes) (p : Drawing) (k : ℕ) (r : Record) → slice_get (read_records s p) k ≡ Some r → IsPlace p k × (r ≡ read_record s p k)
+read_back s p k r e =
+    let within = slice_get_within (read_records s p) k r e in
+    let long = read_count s p in
+    let there : IsPlace p k = omega (arith, within, long) in
+    (there, same_Some r (read_record s p k) (sym e ∙ read_at s p k there))
+
+pub read_named : (s : Classes) (p : Drawing) → IsWhole p → (k : ℕ) → IsPlace p k → place_named (read_records s p) (name_in s p k) ≡ Some k
+read_named s p whole = named_place s p whole (read_records s p) (record { long = read_count s p; at = λ k h. (read_record s p k, read_at s p k h, refl) })
+
+-- ---- the records that are read
+
+states_ends : (s : Classes) (p : Drawing) (list : List Record) → ((k : ℕ) → IsPlace p k → place_named list (name_in s p k) ≡ Some k) → (es : List PlanEnd) → AllByRecursion (λ e. IsPlace p e.target) es
+    → AllZip (StatesPlanEnd list) (map settled_end (map (written_end s p) es)) es
+states_ends s p list named [] there = tt
+states_ends s p list named (e ∷ es) there = (record { target = named e.target there.0; sns = refl }, states_ends s p list named es there.1)
+
+abbrev EndsThere : Drawing → PlanRecord → Type 0
+EndsThere p r = AllByRecursion (λ e. IsPlace p e.target) r.ends
+
+states_record : (s : Classes) → IsSchema s → (p : Drawing) (list : List Record) → ((k : ℕ) → IsPlace p k → place_named list (name_in s p k) ≡ Some k) → (number : ℕ) (r : PlanRecord) → RecordAgrees s r → EndsThere p r
+    → StatesPlanRecord s list (settled_record (letters s) (written_record s p number r)) r
+states_record s keeps p list named number r agrees there = record {
   kind = refl;
   class = place_there s keeps r.class agrees.known;
   role = role_there s (name_of s r.class) r.class (place_there s keeps r.class agrees.known) ∙ ap Some (sym agrees.role);
   points = refl;
   attributes = states_attributes s keeps r.attributes agrees.attributes;
   extras = refl;
-  ends = subst (AllZip (StatesPlanEnd list) []) (sym none) tt;
+  ends = states_ends s p list named r.ends there;
 }
 
-abbrev read_from : Classes → ℕ → List PlanRecord → List Record
-read_from s number rs = map (settled_record (letters s)) (written_from s number rs)
+states_each : (s : Classes) → IsSchema s → (p : Drawing) (list : List Record) → ((k : ℕ) → IsPlace p k → place_named list (name_in s p k) ≡ Some k) → (place : ℕ) (rs : List PlanRecord) → AllByRecursion (RecordAgrees s) rs → AllByRecursion (EndsThere p) rs
+    → AllZip (StatesPlanRecord s list) (read_from s p place rs) rs
+states_each s keeps p list named place [] agree there = tt
+states_each s keeps p list named place (r ∷ rs) agree there = (states_record s keeps p list named (number_in s p place) r agree.0 there.0, states_each s keeps p list named (place + 1) rs agree.1 there.1)
 
-states_each : (s : Classes) → IsSchema s → (list : List Record) (number : ℕ) (rs : List PlanRecord) → AllByRecursion (RecordAgrees s) rs → AllByRecursion IsEndless rs → AllZip (StatesPlanRecord s list) (read_from s number rs) rs
-states_each s keeps list number [] agree ends = tt
-states_each s keeps list number (r ∷ rs) agree ends = (states_record s keeps list number r agree.0 ends.0.1, states_each s keeps list (number + 1) rs agree.1 ends.1)
-
-pub endless : (p : Drawing) → IsWhole p → HasNodesAlone p → AllByRecursion IsEndless p.list
-endless p whole alone = go p.list (λ k h. whole.ends k h) alone
-  where
-    none : (es : List PlanEnd) → may_have_ends Pno (length es) ≡ true → es ≡ []
-    none [] h = refl
-    none (e ∷ es) h = let f : suc (length es) ≡ 0 = eqb-true _ _ h in absurd (omega (arith, f))
-
-    go : (rs : List PlanRecord) → ((k : ℕ) → k < length rs → may_have_ends (Rattle.std.proofs.Common.get_or rs k blank).kind (length (Rattle.std.proofs.Common.get_or rs k blank).ends) ≡ true)
-        → AllByRecursion (λ r. r.kind ≡ Pno) rs → AllByRecursion IsEndless rs
-    go [] ends alone = tt
-    go (r ∷ rs) ends alone = ((alone.0, none r.ends (subst (λ k. may_have_ends k (length r.ends) ≡ true) alone.0 (ends 0 (omega arith)))), go rs (λ k h. ends (suc k) (omega (arith, h))) alone.1)
-
-pub written_plan : (s : Classes) (p : Drawing) (sheet : Sheet) → IsSchema s → IsWhole p → Agrees s p → HasNodesAlone p
+pub written_plan : (s : Classes) (p : Drawing) (sheet : Sheet) → IsSchema s → IsWhole p → Agrees s p
     → sheet.cse ≡ p.cse → sheet.list ≡ map (settled_record (letters s)) (written_records s p) → IsPlanOf s sheet p
-written_plan s p sheet keeps whole agrees alone set list = record {
+written_plan s p sheet keeps whole agrees set list = record {
   set = sym set;
-  each = subst (λ rs. AllZip (StatesPlanRecord s sheet.list) rs p.list) (sym list) (states_each s keeps sheet.list 1 p.list agrees (endless p whole alone));
+  each = subst (λ rs. AllZip (StatesPlanRecord s rs) rs p.list) (sym list)
+      (states_each s keeps p (read_records s p) (read_named s p whole) 0 p.list agrees (all_places (EndsThere p) p.list blank whole.there));
 }
-
--- ---- what is read again breaks no rule of references
-
-resolves_attributes : (s : Classes) → IsSchema s → (xs : List PlanAttribute) → AllByRecursion (AttributeAgrees s) xs → AllByRecursion (λ a. (name_of s a.atp).rty ≡ codes "ATT") xs
-    → AllZip (Resolves s) (map (settled (letters s)) (map (written_attribute s) xs)) xs
-resolves_attributes s keeps [] agree types = tt
-resolves_attributes s keeps (a ∷ xs) agree types = (record { type = types.0; states = states_attribute s keeps a agree.0 }, resolves_attributes s keeps xs agree.1 types.1)
-
-resolves_each : (s : Classes) → IsSchema s → (number : ℕ) (rs : List PlanRecord) → AllByRecursion (RecordAgrees s) rs → AllByRecursion IsEndless rs
-    → AllByRecursion (λ r. AllByRecursion (λ a. (name_of s a.atp).rty ≡ codes "ATT") r.attributes) rs → AllZip (ResolvesNode s) (read_from s number rs) rs
-resolves_each s keeps number [] agree ends types = tt
-resolves_each s keeps number (r ∷ rs) agree ends types = (
-  record { states = states_record s keeps [] number r agree.0 ends.0.1; attributes = resolves_attributes s keeps r.attributes agree.0.attributes types.0 },
-  resolves_each s keeps (number + 1) rs agree.1 ends.1 types.1,
-)
-
-nodes_read : (s : Classes) (number : ℕ) (rs : List PlanRecord) → AllByRecursion IsEndless rs → AllByRecursion (λ r. r.kind ≡ Pno) (read_from s number rs)
-nodes_read s number [] ends = tt
-nodes_read s number (r ∷ rs) ends = (ends.0.0, nodes_read s (number + 1) rs ends.1)
-
-no_ends_read : (s : Classes) (number : ℕ) (rs : List PlanRecord) → AllByRecursion (λ r. r.ends ≡ []) (read_from s number rs)
-no_ends_read s number [] = tt
-no_ends_read s number (r ∷ rs) = (refl, no_ends_read s (number + 1) rs)
-
--- the name of a node with this number
-abbrev node_name : ℕ → Name
-node_name number = record { rty = kind_code Pno; rid = identifier Pno number }
-
-other_number : (m n : ℕ) → m < n → n < 2 ^ 64 → is_name (node_name m) (node_name n) ≡ false
-other_number m n less few = go (is_name (node_name m) (node_name n)) refl
-  where
-    go : (b : Bool) → is_name (node_name m) (node_name n) ≡ b → b ≡ false
-    go false e = refl
-    go true e =
-        let same : identifier Pno m ≡ identifier Pno n = ap (λ (x : Name). x.rid) (same_name (node_name m) (node_name n) e) in
-        let one : decimal m ≡ decimal n = ap (Rattle.std.proofs.Common.drop 1) same in
-        let is : m ≡ n = decimal_injective m n (omega (arith, less, few)) few one in
-        absurd (omega (arith, is, less))
-
-later_apart : (s : Classes) (m number : ℕ) (rs : List PlanRecord) → AllByRecursion IsEndless rs → m < number → number + length rs < 2 ^ 64
-    → AllByRecursion (λ u. is_name (node_name m) u ≡ false) (map own_name (read_from s number rs))
-later_apart s m number [] ends less few = tt
-later_apart s m number (r ∷ rs) ends less few = (
-  subst (λ k. is_name (node_name m) (record { rty = kind_code k; rid = identifier k number }) ≡ false) (sym ends.0.0) (other_number m number less (omega (arith, few))),
-  later_apart s m (number + 1) rs ends.1 (omega (arith, less)) (omega (arith, few)),
-)
-
-named_apart : (s : Classes) (number : ℕ) (rs : List PlanRecord) → AllByRecursion IsEndless rs → number + length rs < 2 ^ 64 → AreNamedApart (read_from s number rs)
-unfolding IsDistinct
-named_apart s number [] ends few = tt
-named_apart s number (r ∷ rs) ends few = (
-  subst (λ k. AllByRecursion (λ u. is_name (record { rty = kind_code k; rid = identifier k number }) u ≡ false) (map own_name (read_from s (number + 1) rs))) (sym ends.0.0)
-      (later_apart s number (number + 1) rs ends.1 (omega arith) (omega (arith, few))),
-  named_apart s (number + 1) rs ends.1 (omega (arith, few)),
-)
-
-pub written_references : (s : Classes) (p : Drawing) → IsSchema s → IsWhole p → Agrees s p → HasNodesAlone p → HasAttributeClasses s p
-    → IsUnbroken (BreaksReferenceRule s (map (settled_record (letters s)) (written_records s p)))
-written_references s p keeps whole agrees alone types =
-    let ends = endless p whole alone in
-    none_broken s (read_from s 1 p.list) (nodes_read s 1 p.list ends) (no_ends_read s 1 p.list) p.list (resolves_each s keeps 1 p.list agrees ends types)
-    (named_apart s 1 p.list ends (let few = whole.few in omega (arith, few)))

@@ -1,6 +1,6 @@
 pub mod Heads
 pub mod Laws
 pub mod Layout
-pub mod Nodes
+pub mod Numbered
 pub mod Rows
 pub mod Written

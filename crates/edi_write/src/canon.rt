@@ -4,15 +4,13 @@ ghost use Rattle.std.specs.Prelude.{◌≡◌, ◌++◌, ◌∷◌, map, option_
 ghost use Rattle.edi_line.specs.Printing.{printed};
 ghost use Rattle.edi_record.specs.Layout.{begin_zone, cse_zone};
 ghost use Rattle.edi_plan.specs.Agreeing.{Agrees};
-ghost use Rattle.edi_plan.specs.Interim.{HasNodesAlone};
 ghost use Rattle.edi_rank.specs.Arranged.{arranged};
 ghost use Rattle.edi_rank.specs.Labelling.{AreLabels};
 ghost use Rattle.edi_write.specs.Layout.{layout};
 
-use crate::nodes::write_nodes;
+use crate::records::write_records;
 use crate::zones::{Head, write_zone};
 use edi_rank::Labels;
-use edi_record::Kind;
 use edi_schema::Schema;
 use edi_topo::Sound;
 use std::alloc::{AllocError, Global};
@@ -35,7 +33,7 @@ const END: Head = Head {
     format: b' ',
 };
 
-/// The bytes of a sound plan of nodes alone, turned and numbered by its labels: the layout of
+/// The bytes of a sound plan, turned and numbered by its labels: the layout of
 /// docs/FORMAT.md, "The canonical file". The schema is that which the plan was built under.
 pub fn write_canon(
     alloc: Global,
@@ -45,13 +43,12 @@ pub fn write_canon(
 ) -> Result<Vec<u8>, AllocError>
     requires agrees { Agrees schema.now sound.now }
     requires labels { AreLabels schema.now sound.now labels.now }
-    requires alone { HasNodesAlone sound.now }
     ensures { IfOk result (λ c. c.items ≡ layout schema.now (arranged schema.now labels.now sound.now)) }
 {
     let plan = sound.plan();
     let mut out = Vec::new(alloc);
     write_begin(&mut out, plan.cse())?;
-    write_nodes(alloc, &mut out, schema, plan, labels.order(Kind::Pno))?;
+    write_records(alloc, &mut out, schema, plan, labels)?;
     write_zone(&mut out, END, b"")?;
     Ok(out)
 }

@@ -1,47 +1,53 @@
 //! Laws of what is written.
 ghost use Rattle.edi_write.specs.Laws.{
   WrittenLayout,
+  WrittenIsNamed,
   WrittenIsPlanOf,
   WrittenKeepsReferences,
   WrittenRecordIsPrintable,
   WrittenIsPrintable,
   WrittenHasAttributeClasses,
-  ArrangedIsRearranged,
   ArrangedIsPlan,
   LayoutHasPlan,
   LayoutKeepsReferences,
   LayoutIsSound,
+  SchemasHavePrintableKinds,
   SchemasHavePrintableLetters,
 };
 
-/// The layout of a plan of nodes alone is that of records; read again they break no rule of references, and their plan is that plan.
+/// The layout of a plan is that of records; each end finds what it names; read again they break no rule of references, and their plan is that plan.
 pub fn written_is_read_again()
     ensures layout { WrittenLayout }
+    ensures named { WrittenIsNamed }
     ensures plan { WrittenIsPlanOf }
     ensures references { WrittenKeepsReferences }
 {}
 
-/// What is written of a plan of nodes that was read can be printed, record by record and as a sheet, whatever the order of records and attributes.
+/// What is written of a plan that is the same as one that was read can be printed, record by record and as a sheet.
 pub fn written_is_printable()
-    ensures node { WrittenRecordIsPrintable }
+    ensures each { WrittenRecordIsPrintable }
     ensures sheet { WrittenIsPrintable }
 {}
 
-/// The plan in canonical order has the records of the plan that was read, and the classes of its attributes are of type ATT.
+/// The plan in canonical order keeps what each plan keeps; the classes of its attributes are of type ATT, where the plan that was read breaks no rule of references.
 pub fn written_is_from_what_was_read()
-    ensures arranged { ArrangedIsRearranged }
     ensures plan { ArrangedIsPlan }
     ensures classes { WrittenHasAttributeClasses }
 {}
 
-/// The bytes of a plan of nodes break no rule of lines, records and references, and each sheet that is read of them has that plan.
+/// The bytes of a plan break no rule of lines, records and references, and each sheet that is read of them has that plan.
 pub fn layout_is_read_again()
     ensures sound { LayoutIsSound }
     ensures references { LayoutKeepsReferences }
     ensures plan { LayoutHasPlan }
 {}
 
-/// The letters of a schema that was read can be printed.
+/// The letters of a schema can be printed.
 pub fn letters_can_be_printed()
     ensures { SchemasHavePrintableLetters }
+{}
+
+/// The names of the classes of the four kinds can be printed.
+pub fn kinds_can_be_printed()
+    ensures { SchemasHavePrintableKinds }
 {}

@@ -3,8 +3,10 @@
 
 pub mod canon;
 pub mod laws;
-mod nodes;
+mod links;
+mod names;
 mod parts;
+mod records;
 pub mod writing;
 mod zones;
 

@@ -5,7 +5,7 @@ use crate::command::answered;
 use crate::outcome::{Outcome, line_of, status_of};
 use crate::words::asked;
 use edi_compare::{Fault, RunFault, run_bundle};
-use edi_line::{FromRead, ToWrite};
+use edi_line::{FromRead, ScriptOut, ToWrite};
 use edi_schema::{Kinds, SchemaFault, Source};
 use edi_write::Written;
 use std::alloc::AllocError;
@@ -113,24 +113,43 @@ fn tells_failures(rt: HostRuntime) -> Result<(), Fail> {
     is_told(&rt, &memory, &names, b"out of memory\n", 5)
 }
 
-// A bundle that ends after its first file has an empty dictionary, and nothing goes out.
-#[test]
-fn tells_the_dictionary_that_is_missing(rt: HostRuntime) -> Result<(), Fail> {
+// A bundle is refused with this line, and nothing goes out.
+fn is_refused(rt: &HostRuntime, bundle: &[u8], line: &[u8]) -> Result<(), Fail> {
     let names: [&[u8]; 2] = [b"standard input", b"standard output"];
     let mut taken = Vec::new(rt.alloc());
     let mut writer = ToWrite::new(&mut taken);
-    let run = run_bundle(
-        rt.alloc(),
-        &Kinds::usual(),
-        &mut FromRead::new(CLASSES),
-        &mut writer,
-    );
-    match run {
-        Ok(()) => is_told(&rt, &Outcome::Accepted, &names, b"", 2),
-        Err(fault) => {
-            let outcome = Outcome::Fault(fault);
-            is_told(&rt, &outcome, &names, b"refused dic 106 line 1\n", 2)
-        }
+    let mut reader = FromRead::new(bundle);
+    match run_bundle(rt.alloc(), &Kinds::usual(), &mut reader, &mut writer) {
+        Ok(()) => is_told(rt, &Outcome::Accepted, &names, b"", 2),
+        Err(fault) => is_told(rt, &Outcome::Fault(fault), &names, line, 2),
+    }
+}
+
+// A bundle that ends after its first file has an empty dictionary.
+#[test]
+fn tells_what_a_bundle_lacks(rt: HostRuntime) -> Result<(), Fail> {
+    is_refused(&rt, CLASSES, b"refused dic 106 line 1\n")?;
+    is_refused(&rt, b"", b"refused scd 106 line 1\n")?;
+    is_refused(&rt, b"BOMT 01:X\nx\n", b"refused scd 101 line 2\n")
+}
+
+// A bundle whose canonical file can't be written.
+#[test]
+fn tells_an_output_that_fails(rt: HostRuntime) -> Result<(), Fail> {
+    let names: [&[u8]; 2] = [b"standard input", b"standard output"];
+    let bundle = format!(in rt.alloc(); "{PLACES}{WORDS}{SHEET}")?;
+    let mut writer = ScriptOut::new(rt.alloc(), 5, 5, 0)?;
+    let mut reader = FromRead::new(bundle.as_bytes());
+    let codes = Kinds::usual();
+    match run_bundle(rt.alloc(), &codes, &mut reader, &mut writer) {
+        Ok(()) => is_told(&rt, &Outcome::Accepted, &names, b"", 4),
+        Err(fault) => is_told(
+            &rt,
+            &Outcome::Fault(fault),
+            &names,
+            b"cannot write standard output\n",
+            4,
+        ),
     }
 }
 
@@ -168,5 +187,46 @@ fn makes_no_file_of_a_refused_sheet(rt: HostRuntime) -> Result<(), Fail> {
     assert_eq!(rt; status(&rt, refused)?, 2);
     assert!(rt; !fs::exists(&rt, "edicad_refused/out")?);
     fs::remove_dir_all(&rt, "edicad_refused")?;
+    Ok(())
+}
+
+const WORDS: &str = "BOMT 12:EDAB01DI.DIC\nEOMT 00:\n";
+
+const SHEET: &str =
+    "BOMT 12:EDAB01T1.VEC\nRTYSA03:PNO\nRIDSA07:Noeud_1\nSCPCP22:EDAB01;SeSD;PGE;NOD_id\nCORCC12:+10.50;+020;\nEOMT 00:\n";
+
+const PLACES: &str =
+    "BOMT 12:EDAB01SE.SCD\nRTYSA03:PGE\nRIDSA06:NOD_id\nRTYSA03:REL\nRIDSA06:INI_id\nKNDSA02:XA\nEOMT 00:\n";
+
+const CANON: &str =
+    "BOMT 09:CANON.VEC\r\nRTYSA03:PNO\r\nRIDSA02:N1\r\nSCPCP19:CANON;SD;PGE;NOD_id\r\nCORCC10:+10.5;+20;\r\nATCSN01:0\r\nEOMT 00:\r\n";
+
+// An accepted sheet is written, and a file that is there stays as it is where a sheet is refused.
+#[test]
+fn writes_an_accepted_sheet_alone(rt: HostRuntime) -> Result<(), Fail> {
+    fs::create_dir_all(&rt, "edicad_written")?;
+    fs::write(&rt, "edicad_written/s", PLACES)?;
+    fs::write(&rt, "edicad_written/d", WORDS)?;
+    fs::write(&rt, "edicad_written/v", SHEET)?;
+    let files = "edicad_written/s edicad_written/d edicad_written/v";
+    let accepted = format!(in rt.alloc(); "edicad canon {files} edicad_written/out")?;
+    assert_eq!(rt; status(&rt, &accepted)?, 0);
+    assert_eq!(rt;
+        fs::read_to_string(&rt, "edicad_written/out")?.as_str(),
+        CANON
+    );
+    let lone = format!(in rt.alloc();
+        "edicad canon --kinds XA,XB,XC,XD {files} edicad_written/out"
+    )?;
+    assert_eq!(rt; status(&rt, &lone)?, 2);
+    assert_eq!(rt;
+        fs::read_to_string(&rt, "edicad_written/out")?.as_str(),
+        CANON
+    );
+    let nowhere = format!(in rt.alloc(); "edicad canon {files} edicad_written/none/out")?;
+    assert_eq!(rt; status(&rt, &nowhere)?, 4);
+    let folder = "edicad check edicad_written/s edicad_written/d edicad_written";
+    assert_eq!(rt; status(&rt, folder)?, 4);
+    fs::remove_dir_all(&rt, "edicad_written")?;
     Ok(())
 }

@@ -50,17 +50,19 @@ pub fn asked<'a, R: Eprint + AllocGlobal>(rt: &R, words: &'a [String]) -> Reques
 // The command and its subcommands.
 fn command<'a>(alloc: Global) -> Result<Command<'a>, AllocError> {
     let out = Arg::new(alloc, "OUT").required(true).help(
-        "Where the canonical sheet goes; left as it is unless the sheet is accepted",
+        "Where the canonical file goes: made or emptied once the sheet is accepted",
     );
     Command::new(alloc, "edicad")
         .about(
-            "Checks cadastral sheets of exchange files and writes them in their canonical form. Without a subcommand, reads SCD, DIC and VEC one after the other from standard input, and writes the canonical sheet to standard output.",
+            "Checks EDIGeO sheets of the cadastral plan and writes their canonical files, which are equal exactly if two sheets state the same plan. Without a subcommand, reads SCD, DIC and VEC one after the other from standard input, and writes the canonical file to standard output. Exit status: 0 accepted, 2 refused (the first broken rule is printed, with its line or record), 3 words that can't be read, 4 a file that can't be read or written, 5 out of memory.",
         )
-        .subcommand(over_files(alloc, "check")?.about("Tells whether a sheet breaks no rule"))?
+        .subcommand(over_files(alloc, "check")?.about(
+            "Tells whether a sheet breaks no rule: prints accepted with status 0, or the first broken rule with status 2",
+        ))?
         .subcommand(
             over_files(alloc, "canon")?
                 .about(
-                    "Writes the canonical form of a sheet: the same plan, with its records renamed, turned and put in order",
+                    "Writes the canonical file of a sheet to OUT: the same plan, with its records renamed, turned and put in order. Prints accepted with status 0, or the first broken rule with status 2; OUT is then left as it is",
                 )
                 .arg(out)?,
         )
@@ -74,15 +76,15 @@ fn over_files<'a>(alloc: Global, name: &'a str) -> Result<Command<'a>, AllocErro
         .help(
             "The KND codes of links to an arc's initial node, final node, left face and right face [usually IND,FND,LPO,RPO]",
         );
-    let scd = Arg::new(alloc, "SCD")
-        .required(true)
-        .help("The file of the classes");
+    let scd = Arg::new(alloc, "SCD").required(true).help(
+        "The schema of the delivery: its classes, as a file of type SCD",
+    );
     let dic = Arg::new(alloc, "DIC")
         .required(true)
-        .help("The file of the dictionary");
-    let vec = Arg::new(alloc, "VEC")
-        .required(true)
-        .help("The sheet: nodes, arcs, faces, objects and links");
+        .help("The dictionary of the delivery, as a file of type DIC");
+    let vec = Arg::new(alloc, "VEC").required(true).help(
+        "The sheet: nodes, arcs, faces, objects and links, as a file of type VEC",
+    );
     Command::new(alloc, name)
         .arg(kinds)?
         .arg(scd)?

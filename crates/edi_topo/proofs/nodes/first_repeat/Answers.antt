@@ -7,7 +7,7 @@ use Rattle.edi_topo.proofs.FirstRepeat.{key_of, count_of, none_repeats, least_re
 use Rattle.edi_topo.proofs.nodes.first_repeat.Goals as goal
 
 pub returns-in-Ok : goal.returns-in-Ok
-returns-in-Ok c = none_repeats c.args.plan.now c.keeps.ensures
+returns-in-Ok c = none_repeats c.args.plan.now c.keeps.ensures.whole
     (subst (λ q. (m : ℕ) → ¬ (Ties nodes.cmp (key_of q) (count_of q) m)) c.in_ok-nodes.ensures c.in-Ok.ensures.numbers.distinct)
 
 pub returns-in-Err-Tie : goal.returns-in-Err-Tie
@@ -17,4 +17,4 @@ returns-in-Err-Tie c =
     (subst (λ f. IsTie nodes.cmp (key_of c.in_ok-nodes.nodes) (count_of c.in_ok-nodes.nodes) f) c.in-Err-Tie.field-0-is c.in-Err-Tie.ensures.tie) in
     let place = subst (λ q. c.place.result ≡ Rattle.std.proofs.Common.get_or (Rattle.edi_plan.specs.Places.places_of Rattle.edi_record.specs.declared.record.Kind.TheVariants.Pno q) c.in-Err-Tie.member 0) c.in_ok-nodes.ensures c.place.ensures in
     subst (λ n. RepeatsAnEarlier c.args.plan.now n × ((k : ℕ) → RepeatsAnEarlier c.args.plan.now k → n ≤ k)) (sym place)
-    (least_repeats c.args.plan.now c.keeps.ensures c.in-Err-Tie.member tie.0 tie.1)
+    (least_repeats c.args.plan.now c.keeps.ensures.whole c.in-Err-Tie.member tie.0 tie.1)

@@ -1,31 +1,172 @@
-use Rattle.std.proofs.Common.{◌≡◌, ◌<◌, ◌≤◌, ◌-◌, ℕ, sym, subst, ap, ◌∙◌, arith, length, get_or, replicate, false}
-use Rattle.edi_topo.specs.NodeKeys.{IsNodeRanking}
-use Rattle.edi_rank.specs.Labelling.{NumbersEach, AreLabels}
-use Rattle.edi_rank.proofs.NodeLabels.{count_is, numbers_each, labels_are}
+use Rattle.std.proofs.Common.{◌≡◌, ◌≢◌, ◌∙◌, ◌⊎◌, inl, inr, ℕ, true, false, true≢false, List, [], sym, subst, ap, length, get_or, refl}
+use Rattle.edi_line.specs.Refusal.{IsUnbroken}
+use Rattle.edi_record.specs.Orders.{points_cmp}
+use Rattle.edi_record.specs.declared.record.Kind.{Kind}
+use Rattle.edi_record.specs.declared.record.Kind.TheVariants.{Pno, Par, Pfe, Fea, Lnk}
+use Rattle.edi_plan.specs.Joined.{IsJoined}
+use Rattle.edi_plan.specs.Places.{places_of, member_of}
+use Rattle.edi_plan.specs.Plans.{Drawing, IsPlace, record_at, is_object}
+use Rattle.edi_plan.specs.Whole.{IsWhole}
+use Rattle.edi_plan.proofs.Orders.{points_total}
+use Rattle.edi_topo.specs.NodeKeys.{node_key_cmp, node_keys, no_node, IsNodeRanking}
+use Rattle.edi_topo.specs.TopologyRules.{BreaksTopologyRule}
+use Rattle.edi_topo.proofs.NodeOrders.{node_key_total}
+use Rattle.edi_rank.specs.Laws.{TellsApart}
+use Rattle.edi_rank.specs.Pieces.{ObjectSource, IsObjectRanking}
+use Rattle.edi_rank.specs.Keys.{face_key_cmp, object_key, object_key_cmp}
+use Rattle.edi_rank.specs.Labelling.{Labelling, AreLabels, order_of}
+use Rattle.edi_rank.specs.Layers.{arc_keys, face_keys, no_side, number_by, ranked, placed_link_cmp, placed_link_key, LinkSource, IsArcRanking, IsFaceRanking, IsLinkRanking}
+use Rattle.edi_rank.proofs.LabelsMade.{KindLabels, Ranked, ranks_of, kind_labels, lower_ranked, link_or_not, no_link, labels_made}
+use Rattle.edi_rank.proofs.LinksApart.{placed_total}
+use Rattle.edi_rank.proofs.Orders.{face_key_total, object_key_total}
+use Rattle.edi_rank.proofs.ObjectsRise.{objects_rise}
+use Rattle.edi_rank.proofs.RankedApart.{ranked_apart}
+use Rattle.edi_rank.proofs.Rankings.{ranks_each}
 use Rattle.edi_rank.proofs.labels.Labels.of.Goals as goal
 
-pub places_by_number-requires-clause-few : goal.places_by_number-requires-clause-few
-places_by_number-requires-clause-few c = omega (arith, ap length c.as_slice.ensures, c.in_ok-numbers.ensures.all, count_is c.args.sound.now c.requires.alone, c.plan-plan.ensures.whole.few)
+pub kind_by_number-requires-clause-each : goal.kind_by_number-requires-clause-each
+kind_by_number-requires-clause-each c =
+    ranks_each node_key_cmp node_key_total (λ m. get_or (node_keys c.args.sound.now) m no_node) (length (places_of Pno c.args.sound.now)) c.in_ok-lower.lower.nodes c.in_ok-lower.ensures.nodes
 
-pub places_by_number-requires-clause-each : goal.places_by_number-requires-clause-each
-places_by_number-requires-clause-each c = subst NumbersEach (sym c.as_slice.ensures) (numbers_each c.args.sound.now c.requires.alone c.in_ok-numbers.numbers c.in_ok-numbers.ensures)
+pub kind_by_number-requires-2-clause-each : goal.kind_by_number-requires-2-clause-each
+kind_by_number-requires-2-clause-each c =
+    ranks_each points_cmp points_total (λ m. get_or (arc_keys c.args.sound.now) m []) (length (places_of Par c.args.sound.now)) c.in_ok-lower.lower.arcs c.in_ok-lower.ensures.arcs
+
+pub kind_by_number-requires-3-clause-each : goal.kind_by_number-requires-3-clause-each
+kind_by_number-requires-3-clause-each c =
+    ranks_each face_key_cmp face_key_total (λ m. get_or (face_keys c.args.sound.now c.in_ok-lower.lower.arcs) m no_side) (length (places_of Pfe c.args.sound.now)) c.in_ok-lower.lower.faces c.in_ok-lower.ensures.faces
+
+pub kind_by_number-requires-4-clause-each : goal.kind_by_number-requires-4-clause-each
+kind_by_number-requires-4-clause-each c =
+    let p = c.args.sound.now in
+    ranks_each object_key_cmp object_key_total (λ m. object_key p (λ k. get_or c.deref.result.now k 0) (get_or (places_of Fea p) m 0)) (length (places_of Fea p)) c.in_ok-objects.objects c.in_ok-objects.ensures.ranks
+
+pub kind_by_number-requires-5-clause-each : goal.kind_by_number-requires-5-clause-each
+kind_by_number-requires-5-clause-each c =
+    let p = c.plan-plan.result.now in
+    let source : LinkSource = record { plan = p; classes = c.args.schema.now; turned = c.deref-2.result.now; numbers = c.deref-3.result.now } in
+    ranks_each placed_link_cmp placed_total (λ m. placed_link_key source (get_or (places_of Lnk p) m 0)) (length (places_of Lnk p)) c.in_ok-links.links c.in_ok-links.ensures
 
 pub returns-clause-labels : goal.returns-clause-labels
 returns-clause-labels c =
-    let numbers = c.in_ok-numbers.numbers in
-    let order = c.in_ok-order.order.items in
+    let p = c.plan-plan.result.now in
+    let s = c.args.schema.now in
+    let is = c.plan-plan.ensures.plan in
+    let whole : IsWhole p = subst IsWhole (sym is) c.plan-plan.ensures.whole in
+    let joined : IsJoined p = subst IsJoined (sym is) c.plan-plan.ensures.joined in
+    let sound : IsUnbroken (BreaksTopologyRule p) = subst (λ q. IsUnbroken (BreaksTopologyRule q)) (sym is) c.plan-plan.ensures.sound in
+    let lower = c.in_ok-lower.lower in
     let turned = c.in_ok-turned.turned.items in
-    let is = c.in_ok-numbers.ensures in
-    let long : length order ≡ length numbers = c.in_ok-order.ensures.length ∙ ap length c.as_slice.ensures in
-    let placed : (m : ℕ) → m < length numbers → get_or order (get_or numbers m 0 - 1) 0 ≡ m =
-    subst (λ ns. (m : ℕ) → m < length ns → get_or order (get_or ns m 0 - 1) 0 ≡ m) c.as_slice.ensures c.in_ok-order.ensures.places in
-    let straight : turned ≡ replicate (length order) false = c.in_ok-turned.ensures.items_if_clones_equal (λ y e. e) ∙ ap (λ n. replicate n false) (ap length c.as_slice-2.ensures.value) in
-    subst (AreLabels c.args.schema.now c.args.sound.now) (λ i. record {
-      numbers = numbers;
-      turned = sym c.from_vec.ensures i;
-      nodes = sym c.from_vec-2.ensures i;
-      arcs = sym c.new.ensures i;
-      faces = sym c.new-2.ensures i;
-      objects = sym c.new-3.ensures i;
-      links = sym c.new-4.ensures i;
-    }) (labels_are c.args.sound.now c.requires.alone numbers is c.args.schema.now c.plan-plan.ensures.whole order long placed turned straight)
+    let unnamed = c.in_ok-unnamed.unnamed.items in
+    let unlinked = c.number_kind-unlinked.result.items in
+    let numbered : c.from_vec.result ≡ c.number_kind-numbers.result.items = c.from_vec.ensures in
+    let directed : c.from_vec-2.result ≡ turned = c.from_vec-2.ensures in
+    let r : Ranked = record { nodes = lower.nodes; arcs = lower.arcs; faces = lower.faces; objects = c.in_ok-objects.objects; links = c.in_ok-links.links } in
+    let l : Labelling = record {
+      numbers = c.number_kind-numbers.result.items;
+      turned = turned;
+      nodes = c.in_ok-kind_by_number.field-0;
+      arcs = c.in_ok-kind_by_number-2.field-0;
+      faces = c.in_ok-kind_by_number-3.field-0;
+      objects = c.in_ok-kind_by_number-4.field-0;
+      links = c.in_ok-kind_by_number-5.field-0;
+    } in
+    let by_node : IsNodeRanking p lower.nodes = subst (λ q. IsNodeRanking q lower.nodes) (sym is) c.in_ok-lower.ensures.nodes in
+    let by_arc : IsArcRanking p lower.arcs = subst (λ q. IsArcRanking q lower.arcs) (sym is) c.in_ok-lower.ensures.arcs in
+    let by_face : IsFaceRanking p lower.arcs lower.faces = subst (λ q. IsFaceRanking q lower.arcs lower.faces) (sym is) c.in_ok-lower.ensures.faces in
+    let source : LinkSource = record { plan = p; classes = s; turned = turned; numbers = unlinked } in
+    let by_link : IsLinkRanking source c.in_ok-links.links = subst (λ (l : LinkSource). IsLinkRanking l c.in_ok-links.links)
+    (λ i. record { plan = p; classes = s; turned = c.deref-2.ensures.value i; numbers = c.deref-3.ensures.value i }) c.in_ok-links.ensures in
+    let by_object : IsObjectRanking (record { plan = p; numbers = unnamed }) c.in_ok-objects.objects = subst (λ (l : ObjectSource). IsObjectRanking l c.in_ok-objects.objects)
+    (λ i. record { plan = sym is i; numbers = c.deref.ensures.value i }) c.in_ok-objects.ensures.ranks in
+    let numbering = c.number_kind-numbers.ensures in
+    let named = c.number_kind-unlinked.ensures in
+    let objects : KindLabels p Fea r.objects l.objects = kind_labels object_key_cmp object_key_total (λ m. object_key p (λ k. get_or unnamed k 0) (get_or (places_of Fea p) m 0)) p Fea r.objects l.objects by_object
+    c.in_ok-kind_by_number-4.ensures.length c.in_ok-kind_by_number-4.ensures.places in
+    let made : AreLabels s p l = labels_made s p whole joined sound l r unlinked numbering.length c.in_ok-turned.ensures.length c.in_ok-turned.ensures.turned
+    (kinds p r l
+    (kind_labels node_key_cmp node_key_total (λ m. get_or (node_keys p) m no_node) p Pno lower.nodes l.nodes by_node c.in_ok-kind_by_number.ensures.length c.in_ok-kind_by_number.ensures.places)
+    (kind_labels points_cmp points_total (λ m. get_or (arc_keys p) m []) p Par lower.arcs l.arcs by_arc c.in_ok-kind_by_number-2.ensures.length c.in_ok-kind_by_number-2.ensures.places)
+    (kind_labels face_key_cmp face_key_total (λ m. get_or (face_keys p lower.arcs) m no_side) p Pfe lower.faces l.faces by_face c.in_ok-kind_by_number-3.ensures.length c.in_ok-kind_by_number-3.ensures.places)
+    objects
+    (kind_labels placed_link_cmp placed_total (λ m. placed_link_key source (get_or (places_of Lnk p) m 0)) p Lnk c.in_ok-links.links l.links by_link c.in_ok-kind_by_number-5.ensures.length c.in_ok-kind_by_number-5.ensures.places))
+    (λ k h. number_is p r l.numbers unlinked unnamed k h (numbering.each k h) (numbering.others k h) (named.each k h) (named.others k h) (c.in_ok-unnamed.ensures.ranked k h) (link_or_not (record_at p k).kind) (object_or_not (record_at p k).kind))
+    (λ k h e. numbering.others k h (no_link (record_at p k).kind e))
+    by_node by_arc by_face by_link
+    (objects_rise s p whole joined l r.objects l.objects unnamed (λ k h e f. numbering.others k h (no_link (record_at p k).kind e) ∙ named.others k h (no_object (record_at p k).kind f))
+    objects (λ k h e. numbering.others k h (λ f. object_link (sym e ∙ f)) ∙ named.each k h e) by_object) in
+    let last : Labelling = record { numbers = c.from_vec.result; turned = c.from_vec-2.result; nodes = l.nodes; arcs = l.arcs; faces = l.faces; objects = l.objects; links = l.links } in
+    subst (λ q. AreLabels s q last) is (subst (AreLabels s p) (λ i. record {
+      numbers = sym numbered i;
+      turned = sym directed i;
+      nodes = l.nodes;
+      arcs = l.arcs;
+      faces = l.faces;
+      objects = l.objects;
+      links = l.links;
+    }) made)
+  where
+    object_link : Fea ≡ Lnk → ⊥
+    object_link e = cc
+
+    no_object : (kind : Kind) → is_object kind ≡ false → kind ≢ Fea
+    no_object Pno h e = cc
+    no_object Par h e = cc
+    no_object Pfe h e = cc
+    no_object Fea h e = true≢false h
+    no_object Lnk h e = cc
+
+    object_or_not : (kind : Kind) → (kind ≡ Fea) ⊎ (kind ≢ Fea)
+    object_or_not Pno = inr (λ e. cc)
+    object_or_not Par = inr (λ e. cc)
+    object_or_not Pfe = inr (λ e. cc)
+    object_or_not Fea = inl refl
+    object_or_not Lnk = inr (λ e. cc)
+
+    kinds : (p : Drawing) (r : Ranked) (l : Labelling) → KindLabels p Pno r.nodes l.nodes → KindLabels p Par r.arcs l.arcs → KindLabels p Pfe r.faces l.faces → KindLabels p Fea r.objects l.objects → KindLabels p Lnk r.links l.links
+        → (kind : Kind) → KindLabels p kind (ranks_of r kind) (order_of l kind)
+    kinds p r l nodes arcs faces objects links Pno = nodes
+    kinds p r l nodes arcs faces objects links Par = arcs
+    kinds p r l nodes arcs faces objects links Pfe = faces
+    kinds p r l nodes arcs faces objects links Fea = objects
+    kinds p r l nodes arcs faces objects links Lnk = links
+
+    number_is : (p : Drawing) (r : Ranked) (numbers unlinked unnamed : List ℕ) (k : ℕ) → IsPlace p k
+        → ((record_at p k).kind ≡ Lnk → get_or numbers k 0 ≡ get_or r.links (member_of p k) 0) → ((record_at p k).kind ≢ Lnk → get_or numbers k 0 ≡ get_or unlinked k 0)
+        → ((record_at p k).kind ≡ Fea → get_or unlinked k 0 ≡ get_or r.objects (member_of p k) 0) → ((record_at p k).kind ≢ Fea → get_or unlinked k 0 ≡ get_or unnamed k 0)
+        → get_or unnamed k 0 ≡ number_by r.nodes r.arcs r.faces (record_at p k).kind (member_of p k)
+        → ((record_at p k).kind ≡ Lnk) ⊎ ((record_at p k).kind ≢ Lnk) → ((record_at p k).kind ≡ Fea) ⊎ ((record_at p k).kind ≢ Fea)
+        → get_or numbers k 0 ≡ get_or (ranks_of r (record_at p k).kind) (member_of p k) 0
+    number_is p r numbers unlinked unnamed k h links others objects rest ranked (inl e) either = links e ∙ sym (ap (λ kind. get_or (ranks_of r kind) (member_of p k) 0) e)
+    number_is p r numbers unlinked unnamed k h links others objects rest ranked (inr e) (inl f) = others e ∙ (objects f ∙ sym (ap (λ kind. get_or (ranks_of r kind) (member_of p k) 0) f))
+    number_is p r numbers unlinked unnamed k h links others objects rest ranked (inr e) (inr f) = others e ∙ (rest f ∙ (ranked ∙ lower_ranked r (record_at p k).kind (member_of p k) e f))
+
+pub object_ranks-requires-clause-objects : goal.object_ranks-requires-clause-objects
+object_ranks-requires-clause-objects c k h e =
+    let p = c.plan-plan.result.now in
+    let is = c.plan-plan.ensures.plan in
+    let there : IsPlace p k = subst (λ q. IsPlace q k) (sym is) h in
+    let object : is_object (record_at p k).kind ≡ true = subst (λ q. is_object (record_at q k).kind ≡ true) (sym is) e in
+    ap (λ xs. get_or xs k 0) c.deref.ensures.value ∙ (c.in_ok-unnamed.ensures.ranked k there ∙ zero_for (record_at p k).kind object)
+  where
+    zero_for : (kind : Kind) → is_object kind ≡ true → number_by c.in_ok-lower.lower.nodes c.in_ok-lower.lower.arcs c.in_ok-lower.lower.faces kind (member_of c.plan-plan.result.now k) ≡ 0
+    zero_for Pno f = absurd (true≢false (sym f))
+    zero_for Par f = absurd (true≢false (sym f))
+    zero_for Pfe f = absurd (true≢false (sym f))
+    zero_for Fea f = refl
+    zero_for Lnk f = absurd (true≢false (sym f))
+
+pub object_ranks-requires-clause-apart : goal.object_ranks-requires-clause-apart
+object_ranks-requires-clause-apart c =
+    let p = c.plan-plan.result.now in
+    let is = c.plan-plan.ensures.plan in
+    let lower = c.in_ok-lower.lower in
+    let by_node : IsNodeRanking p lower.nodes = subst (λ q. IsNodeRanking q lower.nodes) (sym is) c.in_ok-lower.ensures.nodes in
+    let by_arc : IsArcRanking p lower.arcs = subst (λ q. IsArcRanking q lower.arcs) (sym is) c.in_ok-lower.ensures.arcs in
+    let by_face : IsFaceRanking p lower.arcs lower.faces = subst (λ q. IsFaceRanking q lower.arcs lower.faces) (sym is) c.in_ok-lower.ensures.faces in
+    let ranks = ranked_apart p lower.nodes lower.arcs lower.faces
+    (ranks_each node_key_cmp node_key_total (λ m. get_or (node_keys p) m no_node) (length (places_of Pno p)) lower.nodes by_node) by_node.all
+    (ranks_each points_cmp points_total (λ m. get_or (arc_keys p) m []) (length (places_of Par p)) lower.arcs by_arc) by_arc.all
+    (ranks_each face_key_cmp face_key_total (λ m. get_or (face_keys p lower.arcs) m no_side) (length (places_of Pfe p)) lower.faces by_face) by_face.all in
+    let number : (k : ℕ) → IsPlace p k → get_or c.deref.result.now k 0 ≡ ranked p lower.nodes lower.arcs lower.faces k = λ k h. ap (λ xs. get_or xs k 0) c.deref.ensures.value ∙ c.in_ok-unnamed.ensures.ranked k h in
+    subst (λ q. TellsApart q (λ k. get_or c.deref.result.now k 0)) is (record { apart = λ i k h g kinds below e. ranks.apart i k h g kinds below (sym (number i h) ∙ (e ∙ number k g)) })

@@ -1,10 +1,10 @@
-use Rattle.std.proofs.Common.{◌≡◌, ◌∙◌, List, length, map, sym, ap}
+use Rattle.std.proofs.Common.{map}
 use Rattle.std.proofs.lemmas.Result.{err_from_is_err_and}
 use Rattle.edi_line.specs.Entry.{entries}
 use Rattle.edi_schema.specs.Drafts.{said, drafted}
 use Rattle.edi_schema.specs.Steps.{AreMatched}
 use Rattle.edi_schema.specs.SchemaRefusal.{IsGoodSchema, IsSchemaRefusal}
-use Rattle.edi_schema.proofs.Loaded.{is_read, all_said, few_drafts, stated_lent, ok_good, err_refused, few_loaded, stop_refused, kinds_refused, good_loaded}
+use Rattle.edi_schema.proofs.Loaded.{is_read, all_said, few_drafts, stated_lent, ok_good, err_refused, few_loaded, letters_loaded, readable_loaded, stop_refused, kinds_refused, good_loaded}
 use Rattle.edi_schema.proofs.schema.Schema.load.Goals as goal
 
 pub of_classes-requires-clause-few : goal.of_classes-requires-clause-few
@@ -17,6 +17,26 @@ of_classes-requires-clause-few c =
     (all_said c.deref-3.result.now c.in_ok-classes.classes.items _ c.deref-3.ensures.value c.in_ok-classes.ensures)
     (all_said c.deref-4.result.now c.in_ok-words.words.items _ c.deref-4.ensures.value c.in_ok-words.ensures)
     (map drafted c.in_ok-drafts.drafts.items) c.in_ok-drafts.ensures.stated)
+
+pub of_classes-requires-clause-letters : goal.of_classes-requires-clause-letters
+of_classes-requires-clause-letters c =
+    letters_loaded c.args.scd.now c.args.dic.now c.args.kinds.now (entries c.deref.result.now) (entries c.deref-2.result.now)
+    (is_read c.args.scd.now c.deref.result.now _ c.deref.ensures.value c.in_ok-class_zones.ensures.zones c.in_ok-class_zones.ensures.shape c.in_ok-class_zones.ensures.sound)
+    (is_read c.args.dic.now c.deref-2.result.now _ c.deref-2.ensures.value c.in_ok-word_zones.ensures.zones c.in_ok-word_zones.ensures.shape c.in_ok-word_zones.ensures.sound)
+    (map said c.deref-3.result.now) (map said c.deref-4.result.now)
+    (all_said c.deref-3.result.now c.in_ok-classes.classes.items _ c.deref-3.ensures.value c.in_ok-classes.ensures)
+    (all_said c.deref-4.result.now c.in_ok-words.words.items _ c.deref-4.ensures.value c.in_ok-words.ensures)
+    (map drafted c.deref-5.result.now) (stated_lent _ _ _ c.deref-5.result.now c.in_ok-drafts.drafts.items c.deref-5.ensures.value c.in_ok-drafts.ensures.stated)
+
+pub of_classes-requires-clause-readable : goal.of_classes-requires-clause-readable
+of_classes-requires-clause-readable c =
+    readable_loaded c.args.scd.now c.args.dic.now c.args.kinds.now (entries c.deref.result.now) (entries c.deref-2.result.now)
+    (is_read c.args.scd.now c.deref.result.now _ c.deref.ensures.value c.in_ok-class_zones.ensures.zones c.in_ok-class_zones.ensures.shape c.in_ok-class_zones.ensures.sound)
+    (is_read c.args.dic.now c.deref-2.result.now _ c.deref-2.ensures.value c.in_ok-word_zones.ensures.zones c.in_ok-word_zones.ensures.shape c.in_ok-word_zones.ensures.sound)
+    (map said c.deref-3.result.now) (map said c.deref-4.result.now)
+    (all_said c.deref-3.result.now c.in_ok-classes.classes.items _ c.deref-3.ensures.value c.in_ok-classes.ensures)
+    (all_said c.deref-4.result.now c.in_ok-words.words.items _ c.deref-4.ensures.value c.in_ok-words.ensures)
+    (map drafted c.deref-5.result.now) (stated_lent _ _ _ c.deref-5.result.now c.in_ok-drafts.drafts.items c.deref-5.ensures.value c.in_ok-drafts.ensures.stated)
 
 pub returns-in_err-drafts-clause-refusal : goal.returns-in_err-drafts-clause-refusal
 returns-in_err-drafts-clause-refusal c =

@@ -1,0 +1,111 @@
+-- The records of a sheet, read in their order.
+use Rattle.std.proofs.Common.{◌≡◌, ℕ, ◌+◌, ◌<◌, ◌≤◌, ◌⊎◌, inl, inr, List, [], ◌∷◌, ◌++◌, length, take, drop, flat_map, Option, Some, None, slice_get, refl, sym, ap, ◌∙◌, subst, arith, length-append}
+use Rattle.std.specs.List.{AllZip}
+use Rattle.std.proofs.lemmas.Bool.{cases_order}
+use Rattle.std.proofs.lemmas.Option.{slice_get-get_or, slice_get_within}
+use Rattle.std.proofs.Math.Seq.{get_or-append_seam}
+use Rattle.edi_record.specs.declared.record.End.{End}
+use Rattle.edi_record.specs.declared.record.Record.{Record}
+use Rattle.edi_schema.specs.Classes.{Classes}
+use Rattle.edi_plan.specs.Names.{RepeatsAt, IsFirstRepeatIfAny}
+use Rattle.edi_plan.specs.PlanOf.{StatesPlanEnd, StatesPlanRecord}
+use Rattle.edi_plan.specs.Resolving.{AreGiven, IsPlanned}
+use Rattle.edi_plan.specs.SideTable.{HaveEntries}
+use Rattle.edi_plan.specs.Targets.{IsTargetIfAny, AreTargets}
+use Rattle.edi_plan.specs.declared.record.PlanEnd.{PlanEnd}
+use Rattle.edi_plan.specs.declared.record.PlanRecord.{PlanRecord}
+use Rattle.edi_plan.specs.declared.sides.ArcSides.{ArcSides}
+use Rattle.edi_plan.specs.declared.targets.Target.{Target}
+
+-- lists side by side, in two parts
+
+pub zip_front : {A B : Type 0} (R : A → B → Type 0) (xs ws : List A) (ys : List B) → AllZip R (xs ++ ws) ys → AllZip R xs (take (length xs) ys)
+zip_front R [] ws ys all = tt
+zip_front R (x ∷ xs) ws [] all = absurd all
+zip_front R (x ∷ xs) ws (y ∷ ys) all = (all.0, zip_front R xs ws ys all.1)
+
+pub zip_back_of : {A B : Type 0} (R : A → B → Type 0) (xs ws : List A) (ys : List B) → AllZip R (xs ++ ws) ys → AllZip R ws (drop (length xs) ys)
+zip_back_of R [] ws ys all = all
+zip_back_of R (x ∷ xs) ws [] all = absurd all
+zip_back_of R (x ∷ xs) ws (y ∷ ys) all = zip_back_of R xs ws ys all.1
+
+pub zip_long : {A B : Type 0} (R : A → B → Type 0) (xs ws : List A) (ys : List B) → AllZip R (xs ++ ws) ys → length xs ≤ length ys
+zip_long R [] ws ys all = omega arith
+zip_long R (x ∷ xs) ws [] all = absurd all
+zip_long R (x ∷ xs) ws (y ∷ ys) all = let more = zip_long R xs ws ys all.1 in omega (arith, more)
+
+-- the targets of the next record, and of those behind it
+
+module _ (list : List Record) (items rest : List Record) (r : Record) (next : items ≡ r ∷ rest) (targets : List (Option Target)) (left : AreTargets list items targets) where
+  ends_left : AllZip (IsTargetIfAny list) (r.ends ++ flat_map (λ q. q.ends) rest) targets
+  ends_left = subst (λ (rs : List Record). AllZip (IsTargetIfAny list) (flat_map (λ q. q.ends) rs) targets) next left
+
+  pub own_targets : AllZip (IsTargetIfAny list) r.ends (take (length r.ends) targets)
+  own_targets = zip_front (IsTargetIfAny list) r.ends (flat_map (λ q. q.ends) rest) targets ends_left
+
+  pub later_targets : AreTargets list rest (drop (length r.ends) targets)
+  later_targets = zip_back_of (IsTargetIfAny list) r.ends (flat_map (λ q. q.ends) rest) targets ends_left
+
+  pub enough_targets : length r.ends ≤ length targets
+  enough_targets = zip_long (IsTargetIfAny list) r.ends (flat_map (λ q. q.ends) rest) targets ends_left
+
+pub entries_there : (list : List Record) (table : List ArcSides) (es : List End) (ts : List (Option Target)) → length table ≡ length list → AllZip (IsTargetIfAny list) es ts → HaveEntries table ts
+entries_there list table [] [] long all = tt
+entries_there list table [] (t ∷ ts) long all = absurd all
+entries_there list table (e ∷ es) [] long all = absurd all
+entries_there list table (e ∷ es) (None ∷ ts) long all = entries_there list table es ts long all.1
+entries_there list table (e ∷ es) (Some t ∷ ts) long all =
+    let within = slice_get_within list t.place all.0.there all.0.here in
+    (omega (arith, within, long), entries_there list table es ts long all.1)
+
+-- the record in the plan
+
+ends_stated : (list : List Record) (es : List End) (ts : List (Option Target)) (ps : List PlanEnd) → AllZip (IsTargetIfAny list) es ts → AreGiven ts es ps → AllZip (StatesPlanEnd list) es ps
+ends_stated list [] [] [] all given = tt
+ends_stated list [] [] (p ∷ ps) all given = absurd given
+ends_stated list [] (t ∷ ts) ps all given = absurd all
+ends_stated list (e ∷ es) [] ps all given = absurd all
+ends_stated list (e ∷ es) (t ∷ ts) [] all given = absurd given
+ends_stated list (e ∷ es) (None ∷ ts) (p ∷ ps) all given = absurd given.0
+ends_stated list (e ∷ es) (Some t ∷ ts) (p ∷ ps) all given =
+    (record { target = all.0.named ∙ ap Some (sym given.0.0); sns = given.0.1 }, ends_stated list es ts ps all.1 given.1)
+
+pub record_stated : (s : Classes) (list : List Record) (r : Record) (ts : List (Option Target)) (p : PlanRecord) → AllZip (IsTargetIfAny list) r.ends ts → IsPlanned s ts r p → StatesPlanRecord s list r p
+record_stated s list r ts p all d = record { kind = d.kind; class = d.class; role = d.role; points = d.points; attributes = d.attributes; extras = d.extras; ends = ends_stated list r.ends ts p.ends all d.ends }
+
+-- where the next record stands
+
+pub stands_at : (list yielded items rest : List Record) (r : Record) (place : ℕ) → yielded ++ items ≡ list → items ≡ r ∷ rest → place ≡ length yielded → slice_get list place ≡ Some r
+stands_at list yielded items rest r place whole next counted =
+    let joined : yielded ++ r ∷ rest ≡ list = ap (λ xs. yielded ++ xs) (sym next) ∙ whole in
+    ap (λ xs. slice_get xs place) (sym joined) ∙ (ap (slice_get (yielded ++ r ∷ rest)) counted ∙ at_seam yielded)
+  where
+    at_seam : (xs : List Record) → slice_get (xs ++ r ∷ rest) (length xs) ≡ Some r
+    at_seam xs = slice_get-get_or (xs ++ r ∷ rest) (length xs) r (omega (arith, length-append xs (r ∷ rest))) ∙ ap Some (get_or-append_seam xs r rest r)
+
+-- repeats
+
+pub fresh_at : (list : List Record) (place : ℕ) (repeat : Option ℕ) → IsFirstRepeatIfAny list repeat → ((k : ℕ) → repeat ≡ Some k → place ≤ k) → (repeat ≡ Some place → ⊥) → ¬ (RepeatsAt list place)
+fresh_at list place None none ahead other = none place
+fresh_at list place (Some k) first ahead other = go (cases_order place k)
+  where
+    go : (place ≡ k) ⊎ ((place < k) ⊎ (k < place)) → ¬ (RepeatsAt list place)
+    go (inl same) d = other (ap Some (sym same))
+    go (inr (inl less)) d = first.none_before place less d
+    go (inr (inr more)) d = let le = ahead k refl in absurd (omega (arith, le, more))
+
+pub repeats_here : (list : List Record) (place : ℕ) (repeat : Option ℕ) → IsFirstRepeatIfAny list repeat → repeat ≡ Some place → RepeatsAt list place
+repeats_here list place repeat first e = (subst (IsFirstRepeatIfAny list) e first).repeats
+
+pub ahead_more : (place : ℕ) (repeat : Option ℕ) → ((k : ℕ) → repeat ≡ Some k → place ≤ k) → (repeat ≡ Some place → ⊥) → (k : ℕ) → repeat ≡ Some k → place + 1 ≤ k
+ahead_more place repeat ahead other k e = go (cases_order place k)
+  where
+    go : (place ≡ k) ⊎ ((place < k) ⊎ (k < place)) → place + 1 ≤ k
+    go (inl same) = absurd (other (e ∙ ap Some (sym same)))
+    go (inr (inl less)) = omega arith
+    go (inr (inr more)) = let le = ahead k e in absurd (omega (arith, le, more))
+
+-- what a call wrote through a slice is all that there is
+pub written : {X : Type 0} (new old : List X) (n : ℕ) → n ≡ length old → length new ≡ length old → take n (new ++ drop (length new) old) ≡ new
+written new old n whole long =
+    (λ i. take ((whole ∙ sym long) i) (new ++ drop (length new) old)) ∙ Rattle.std.proofs.Math.Seq.take-append_seam new (drop (length new) old)

@@ -1,0 +1,12 @@
+use Rattle.std.specs.Map.{lookup}
+use Rattle.edi_plan.specs.Names.{named}
+use Rattle.edi_plan.specs.declared.names.RecordName.{RecordName}
+use Rattle.edi_plan.specs.contracts.names.RecordNamePartialEq.TheImpl.{ghosts as names}
+use Rattle.edi_plan.proofs.NameLemmas.{FirstTo, RepeatTo}
+use Rattle.edi_plan.proofs.names.Names.among.Given as goal
+
+abbrev pub invariant-loop-place : goal.invariant-loop-place
+invariant-loop-place l = record {
+  first : (q : RecordName) → FirstTo l.records l.place (named q) (lookup (names.eq q) l.places.entries);
+  repeat : RepeatTo l.records l.place l.repeat;
+}

@@ -1,6 +1,0 @@
-use Rattle.std.specs.List.{AllZip}
-use Rattle.edi_plan.specs.Nodes.{Resolves}
-use Rattle.edi_plan.proofs.nodes.plan_attributes.Given as goal
-
-abbrev pub invariant-loop-attribute : goal.invariant-loop-attribute
-invariant-loop-attribute l = AllZip (Resolves l.schema) l.yielded l.done.items

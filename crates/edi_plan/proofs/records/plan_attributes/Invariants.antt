@@ -1,0 +1,6 @@
+use Rattle.std.specs.List.{AllZip}
+use Rattle.edi_plan.specs.Resolving.{Resolves}
+use Rattle.edi_plan.proofs.records.plan_attributes.Given as goal
+
+abbrev pub invariant-loop-attribute : goal.invariant-loop-attribute
+invariant-loop-attribute l = AllZip (Resolves l.schema) l.yielded l.done.items

@@ -1,0 +1,85 @@
+use Rattle.std.proofs.Common.{◌≡◌, ◌∙◌, ◌++◌, ◌∷◌, ◌+◌, ◌<◌, ◌≤◌, ℕ, [], None, Some, true≢false, List, Option, refl, sym, ap, subst, arith, length, length-append, append_assoc, take}
+use Rattle.std.specs.List.{AllZip}
+use Rattle.std.specs.Vec.Iter.{into_iter_items, into_iter_steps}
+use Rattle.indexmap.proofs.SetLemmas.{AllZip-push}
+use Rattle.edi_line.specs.Refusal.{first_broken}
+use Rattle.edi_plan.specs.Done.{IsDone}
+use Rattle.edi_plan.specs.PlanOf.{StatesPlanRecord}
+use Rattle.edi_plan.specs.ReferenceRefusal.{IsReferenceRefusal}
+use Rattle.edi_plan.specs.ReferenceRules.{BreaksReferenceRule}
+use Rattle.edi_plan.specs.Resolving.{reference_tests, IsUnresolved}
+use Rattle.edi_plan.specs.Targets.{IsTargetIfAny, AreTargets}
+use Rattle.edi_plan.specs.declared.references.Subset.{Subset}
+use Rattle.edi_plan.proofs.DoneLemmas.{least_here, refused_at, repeats_301, step_done}
+use Rattle.edi_plan.proofs.RecordLemmas.{own_targets, later_targets, enough_targets, entries_there, record_stated, stands_at, fresh_at, repeats_here, ahead_more, written}
+use Rattle.edi_plan.proofs.records.plan_records.Goals as goal
+
+pub returns-then-is_place-clause-least : goal.returns-then-is_place-clause-least
+returns-then-is_place-clause-least c =
+    let s = c.args.schema.now in
+    let list = c.args.records in
+    let i = c.loop-record.invariant in
+    subst (IsReferenceRefusal (BreaksReferenceRule s list)) (sym c.broken.ensures)
+    (refused_at s list c.loop-record.place c.loop-record.sides.items i.done 301
+    (repeats_301 s list c.loop-record.place (repeats_here list c.loop-record.place c.args.references.now.repeat c.requires.references.repeat (c.is_place.ensures.0 c.if-is_place.true))))
+
+pub split_at-requires : goal.split_at-requires
+split_at-requires c =
+    let next = subst (λ r. into_iter_steps c.loop-record.record-iterator r c.next.new.self) c.in-Some.is c.next.ensures.steps in
+    let enough = enough_targets c.args.records (into_iter_items c.loop-record.record-iterator) (into_iter_items c.next.new.self) c.in-Some.record next.0 c.loop-record.targets.now c.loop-record.invariant.left in
+    omega (arith, c.len-in-loop-record.ensures, enough)
+
+pub plan_record-requires-clause-entries : goal.plan_record-requires-clause-entries
+plan_record-requires-clause-entries c =
+    let next = subst (λ r. into_iter_steps c.loop-record.record-iterator r c.next.new.self) c.in-Some.is c.next.ensures.steps in
+    let i = c.loop-record.invariant in
+    let own = own_targets c.args.records (into_iter_items c.loop-record.record-iterator) (into_iter_items c.next.new.self) c.in-Some.record next.0 c.loop-record.targets.now i.left in
+    let is : c.split_at.result.0.now ≡ take (length c.in-Some.record.ends) c.loop-record.targets.now = c.split_at.ensures.front ∙ ap (λ n. take n c.loop-record.targets.now) c.len-in-loop-record.ensures in
+    entries_there c.args.records c.deref_mut.result.now c.in-Some.record.ends c.split_at.result.0.now (ap length c.deref_mut.ensures.value ∙ i.done.long) (subst (AllZip (IsTargetIfAny c.args.records) c.in-Some.record.ends) (sym is) own)
+
+pub returns-in-Err-Broken-clause-least : goal.returns-in-Err-Broken-clause-least
+returns-in-Err-Broken-clause-least c =
+    let s = c.args.schema.now in
+    let list = c.args.records in
+    let r = c.in-Some.record in
+    let place = c.loop-record.place in
+    let next = subst (λ r. into_iter_steps c.loop-record.record-iterator r c.next.new.self) c.in-Some.is c.next.ensures.steps in
+    let i = c.loop-record.invariant in
+    let is : c.split_at.result.0.now ≡ take (length r.ends) c.loop-record.targets.now = c.split_at.ensures.front ∙ ap (λ n. take n c.loop-record.targets.now) c.len-in-loop-record.ensures in
+    let own = subst (AllZip (IsTargetIfAny list) r.ends) (sym is) (own_targets list (into_iter_items c.loop-record.record-iterator) (into_iter_items c.next.new.self) r next.0 c.loop-record.targets.now i.left) in
+    let here = stands_at list c.loop-record.yielded (into_iter_items c.loop-record.record-iterator) (into_iter_items c.next.new.self) r place i.whole next.0 i.counted in
+    let before = subst (IsDone s list place) (sym c.deref_mut.ensures.value) i.done in
+    let elsewhere = λ (e : c.args.references.now.repeat ≡ Some place). true≢false (sym (c.is_place.ensures.1 e) ∙ c.if-is_place.false) in
+    let fresh = fresh_at list place c.args.references.now.repeat c.requires.references.repeat i.ahead elsewhere in
+    let breaks = subst (IsUnresolved (λ rule. first_broken (reference_tests s c.args.references.now.subset c.split_at.result.0.now c.deref_mut.result.now r) ≡ Some rule)) c.in-Err-Broken.field-0-is c.in-Err-Broken.ensures.least in
+    let named = subst (λ (x : Option Subset). first_broken (reference_tests s x c.split_at.result.0.now c.deref_mut.result.now r) ≡ Some c.in-Err-Broken.rule) c.requires.references.subset breaks in
+    let refused = refused_at s list place c.deref_mut.result.now before c.in-Err-Broken.rule (least_here s list place r here c.split_at.result.0.now own c.deref_mut.result.now before c.in-Err-Broken.rule named fresh) in
+    subst (IsReferenceRefusal (BreaksReferenceRule s list)) (sym c.broken-in-Err-Broken.ensures) (rw c.in-Err-Broken.field-0-is refused)
+
+pub loop-record-preserved : goal.loop-record-preserved
+loop-record-preserved c =
+    let s = c.args.schema.now in
+    let list = c.args.records in
+    let r = c.in-Some.record in
+    let place = c.loop-record.place in
+    let next = subst (λ r. into_iter_steps c.loop-record.record-iterator r c.next.new.self) c.in-Some.is c.next.ensures.steps in
+    let i = c.loop-record.invariant in
+    let is : c.split_at.result.0.now ≡ take (length r.ends) c.loop-record.targets.now = c.split_at.ensures.front ∙ ap (λ n. take n c.loop-record.targets.now) c.len-in-loop-record.ensures in
+    let own = subst (AllZip (IsTargetIfAny list) r.ends) (sym is) (own_targets list (into_iter_items c.loop-record.record-iterator) (into_iter_items c.next.new.self) r next.0 c.loop-record.targets.now i.left) in
+    let here = stands_at list c.loop-record.yielded (into_iter_items c.loop-record.record-iterator) (into_iter_items c.next.new.self) r place i.whole next.0 i.counted in
+    let before = subst (IsDone s list place) (sym c.deref_mut.ensures.value) i.done in
+    let elsewhere = λ (e : c.args.references.now.repeat ≡ Some place). true≢false (sym (c.is_place.ensures.1 e) ∙ c.if-is_place.false) in
+    let fresh = fresh_at list place c.args.references.now.repeat c.requires.references.repeat i.ahead elsewhere in
+    let sound = subst (λ (x : Option Subset). first_broken (reference_tests s x c.split_at.result.0.now c.deref_mut.result.now r) ≡ None) c.requires.references.subset c.in-Ok.ensures.sound in
+    let done = step_done s list place r here c.split_at.result.0.now own c.deref_mut.result.now before c.plan_record.new.sides sound fresh c.in-Ok.ensures.noted in
+    let states = record_stated s list r c.split_at.result.0.now c.in-Ok.planned own c.in-Ok.ensures.planned in
+    record {
+      zipped = subst (AllZip (StatesPlanRecord s list) (c.loop-record.yielded ++ r ∷ [])) (sym c.in_ok-push-in-Ok.ensures.items)
+          (AllZip-push (StatesPlanRecord s list) c.loop-record.yielded c.loop-record.list.items r c.in-Ok.planned i.zipped states);
+      counted = omega (arith, i.counted, length-append c.loop-record.yielded (r ∷ []));
+      whole = append_assoc c.loop-record.yielded (r ∷ []) (into_iter_items c.next.new.self) ∙ (ap (λ xs. c.loop-record.yielded ++ xs) (sym next.0) ∙ i.whole);
+      ahead = ahead_more place c.args.references.now.repeat i.ahead elsewhere;
+      left = subst (AreTargets list (into_iter_items c.next.new.self)) (sym (c.split_at.ensures.back ∙ ap (λ n. Rattle.std.proofs.Common.drop n c.loop-record.targets.now) c.len-in-loop-record.ensures))
+          (later_targets list (into_iter_items c.loop-record.record-iterator) (into_iter_items c.next.new.self) r next.0 c.loop-record.targets.now i.left);
+      done = subst (IsDone s list (place + 1)) (sym (written c.plan_record.new.sides c.loop-record.sides.items c.loop-record.sides.len c.loop-record.sides.ok.0 (c.in-Ok.ensures.noted.long ∙ ap length c.deref_mut.ensures.value))) done;
+    }

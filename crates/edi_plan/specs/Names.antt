@@ -1,0 +1,31 @@
+-- The names of the records of a sheet.
+use Rattle.std.specs.Prelude.{◌≡◌, ℕ, ◌<◌, List, Option, MatchOption, slice_get, Some}
+use Rattle.std.specs.Map.{lookup}
+use Rattle.edi_record.specs.Shapes.{kind_code}
+use Rattle.edi_record.specs.declared.name.Name.{Name}
+use Rattle.edi_record.specs.declared.record.Record.{Record}
+use Rattle.edi_schema.specs.Classes.{is_name}
+use Rattle.edi_plan.specs.PlanOf.{own_name, place_named}
+use Rattle.edi_plan.specs.declared.names.RecordName.{RecordName}
+use Rattle.edi_plan.specs.declared.names.Names.{Names}
+
+-- a name without where it lies in memory
+abbrev pub named : RecordName → Name
+named n = record { rty = kind_code n.kind; rid = n.rid.now }
+
+-- each name of a record has the place of the first record of that name, and no other name has one
+abbrev pub AreNamesOf : List Record → Names → Type 0
+AreNamesOf list names = (name : RecordName) → lookup (λ n. is_name (named name) (named n)) names.places.entries ≡ place_named list (named name)
+
+-- the record at this place has the name of an earlier one
+abbrev pub RepeatsAt : List Record → ℕ → Type 0
+RepeatsAt list k = (j : ℕ) × (q r : Record) × (j < k) × (slice_get list j ≡ Some q) × (slice_get list k ≡ Some r) × (own_name q ≡ own_name r)
+
+-- and none before it does
+pub record IsFirstRepeat (list : List Record) (k : ℕ) : Type 0 where
+  pub repeats : RepeatsAt list k
+  pub none_before : (j : ℕ) → j < k → ¬ (RepeatsAt list j)
+
+-- the first repeat, or there is none
+abbrev pub IsFirstRepeatIfAny : List Record → Option ℕ → Type 0
+IsFirstRepeatIfAny list found = MatchOption found ((j : ℕ) → ¬ (RepeatsAt list j)) (IsFirstRepeat list)

@@ -1,0 +1,235 @@
+//! The records of a plan: rules 302 to 307.
+
+ghost use Rattle.std.specs.Prelude.{◌≡◌, ◌+◌, ◌<◌, ◌≤◌, true, length, is_none, Any, IfOk, IfErr, OnOk, MatchOption, Some, IsTrue, ◌↔◌, codes};
+ghost use Rattle.std.specs.List.{AllZip, list_any};
+ghost use Rattle.edi_line.specs.Refusal.{first_broken};
+ghost use Rattle.edi_record.specs.Records.{value_of as value_in};
+ghost use Rattle.edi_plan.specs.Done.{IsDone};
+ghost use Rattle.edi_plan.specs.PlanOf.{StatesPlanRecord};
+ghost use Rattle.edi_plan.specs.ReferenceRefusal.{IsReferenceRefusal};
+ghost use Rattle.edi_plan.specs.ReferenceRules.{BreaksReferenceRule};
+ghost use Rattle.edi_plan.specs.Resolving.{is_elsewhere, leaves, reference_tests, role_of_link, AreGiven, Gives, AreReferences, IsPlanned, IsUnresolved, LacksClass, Resolves};
+ghost use Rattle.edi_plan.specs.SideTable.{link_join, HaveEntries, IsNoted};
+
+use crate::fault::{RefFault, Unresolved};
+use crate::record::{PlanAttribute, PlanEnd, PlanRecord};
+use crate::references::{References, Subset};
+use crate::sides::{ArcSides, note_link, without_links};
+use crate::targets::Target;
+use edi_line::{Num, Sequence};
+use edi_record::{Attribute, End, Record, Value};
+use edi_schema::Schema;
+use std::alloc::Global;
+
+fn value_of(may_be_number: bool, text: Sequence<u8>) -> Value
+    ensures { result ≡ value_in may_be_number text }
+{
+    if may_be_number {
+        match Num::read(text.as_slice()) {
+            Some(number) => Value::Number(number),
+            None => Value::Bytes(text),
+        }
+    } else {
+        Value::Bytes(text)
+    }
+}
+
+fn is_attribute_type(rty: &Sequence<u8>) -> bool
+    ensures { IsTrue result ↔ (rty.now ≡ codes "ATT") }
+{
+    rty.as_slice() == b"ATT".as_slice()
+}
+
+/// The attribute under a schema, if its class is one of type `ATT` there.
+fn plan_attribute(schema: &Schema, attribute: Attribute) -> Option<PlanAttribute>
+    ensures { MatchOption result (LacksClass schema.now attribute) (Resolves schema.now attribute) }
+{
+    let Attribute { atp, tex, atv } = attribute;
+    if !is_attribute_type(&atp.rty) {
+        return None;
+    }
+    let class = schema.class(&atp)?;
+    let value = value_of(schema.is_number(class), atv);
+    Some(PlanAttribute {
+        atp: class,
+        tex,
+        value,
+    })
+}
+
+fn plan_attributes(
+    alloc: Global,
+    schema: &Schema,
+    attributes: Sequence<Attribute>,
+) -> Result<Vec<PlanAttribute>, Unresolved>
+    ensures ok { IfOk result (λ done. AllZip (Resolves schema.now) attributes done.items) }
+    ensures err { IfErr result (IsUnresolved (λ rule. (rule ≡ 303) × Any (LacksClass schema.now) attributes)) }
+{
+    let mut done = Vec::new(alloc);
+    for attribute in attributes.into_vec() {
+        match plan_attribute(schema, attribute) {
+            Some(attribute) => done.push(attribute)?,
+            None => return Err(Unresolved::Broken(303)),
+        }
+    }
+    Ok(done)
+}
+
+fn plan_end(target: Target, end: End) -> PlanEnd
+    ensures { Gives (Some target) end result }
+{
+    PlanEnd {
+        target: target.place,
+        sns: end.sns,
+    }
+}
+
+/// The ends of a record, each with its target; or rule 305, where one has none.
+fn plan_ends(
+    alloc: Global,
+    targets: &[Option<Target>],
+    ends: Sequence<End>,
+) -> Result<Vec<PlanEnd>, Unresolved>
+    requires { length targets.now ≡ length ends }
+    ensures ok { IfOk result (λ done. AreGiven targets.now ends done.items) }
+    ensures err { IfErr result (IsUnresolved (λ rule. (rule ≡ 305) × (list_any is_none targets.now ≡ true))) }
+{
+    let mut done = Vec::new(alloc);
+    let mut place: usize = 0;
+    for end in ends.into_vec() {
+        let Some(target) = targets[place] else {
+            return Err(Unresolved::Broken(305));
+        };
+        done.push(plan_end(target, end))?;
+        place += 1;
+    }
+    Ok(done)
+}
+
+/// Whether an end has another lot or subset.
+#[tactic(auto, unfolding(crate::specs::Resolving::is_elsewhere))]
+fn is_other(subset: &Subset, end: &End) -> bool
+    ensures { result ≡ is_elsewhere subset.now end.now }
+{
+    end.lot.as_slice() != subset.lot.as_slice() || end.subset.as_slice() != subset.subset.as_slice()
+}
+
+fn has_other(subset: &Subset, ends: &[End]) -> bool
+    ensures { result ≡ list_any (is_elsewhere subset.now) ends.now }
+{
+    for end in ends {
+        if is_other(subset, end) {
+            return true;
+        }
+    }
+    false
+}
+
+/// Whether an end has another lot or subset than the first end of all links.
+fn leaves_subset(subset: &Option<Subset>, ends: &[End]) -> bool
+    ensures { result ≡ leaves subset.now ends.now }
+{
+    match subset {
+        Some(first) => has_other(first, ends),
+        None => false,
+    }
+}
+
+/// The record in the plan, or the least of the rules 302 to 307 that it breaks. What a link joins is noted.
+fn plan_record(
+    alloc: Global,
+    schema: &Schema,
+    subset: &Option<Subset>,
+    targets: &[Option<Target>],
+    sides: &mut [ArcSides],
+    record: Record,
+) -> Result<PlanRecord, Unresolved>
+    requires long { length targets.now ≡ length «record».ends }
+    requires entries { HaveEntries sides.old targets.now }
+    ensures planned { IfOk result (IsPlanned schema.now targets.now «record») }
+    ensures noted { OnOk result (IsNoted sides.old (role_of_link schema.now «record») (link_join (role_of_link schema.now «record») targets.now) sides.new) }
+    ensures sound { OnOk result (first_broken (reference_tests schema.now subset.now targets.now sides.old «record») ≡ None) }
+    ensures least { IfErr result (IsUnresolved (λ rule. first_broken (reference_tests schema.now subset.now targets.now sides.old «record») ≡ Some rule)) }
+{
+    let Some(class) = schema.class(&record.scp) else {
+        return Err(Unresolved::Broken(302));
+    };
+    let attributes = plan_attributes(alloc, schema, record.attributes)?;
+    if leaves_subset(subset, record.ends.as_slice()) {
+        return Err(Unresolved::Broken(304));
+    }
+    let ends = plan_ends(alloc, targets, record.ends)?;
+    let role = schema.role(class);
+    if record.kind.is_link() {
+        note_link(sides, role, targets)?;
+    }
+    Ok(PlanRecord {
+        kind: record.kind,
+        class,
+        role,
+        points: record.points,
+        attributes: Sequence::from_vec(attributes),
+        extras: record.extras,
+        ends: Sequence::from_vec(ends),
+    })
+}
+
+fn is_place(repeat: Option<usize>, place: usize) -> bool
+    ensures { IsTrue result ↔ (repeat ≡ Some place) }
+{
+    match repeat {
+        Some(other) => other == place,
+        None => false,
+    }
+}
+
+/// A rule that is broken at a place from 0.
+fn broken(rule: u16, place: usize) -> RefFault
+    requires { place < 9999999 }
+    ensures { result ≡ RefFault.Broken rule (place + 1) }
+{
+    RefFault::Broken {
+        rule,
+        at: place as u64 + 1,
+    }
+}
+
+/// The records of a plan, with what its arcs have.
+#[derive(Drop)]
+pub(crate) struct Planned {
+    pub(crate) list: Vec<PlanRecord>,
+    pub(crate) sides: Vec<ArcSides>,
+}
+
+/// The records in the plan; or the first that breaks a rule of references, and the least rule there.
+pub(crate) fn plan_records(
+    alloc: Global,
+    schema: &Schema,
+    references: &References,
+    records: Sequence<Record>,
+) -> Result<Planned, RefFault>
+    requires few { length records ≤ 9999999 }
+    requires references { AreReferences records references.now }
+    ensures each { IfOk result (λ p. AllZip (StatesPlanRecord schema.now records) records p.list.items) }
+    ensures sides { IfOk result (λ p. IsDone schema.now records (length records) p.sides.items) }
+    ensures least { IfErr result (IsReferenceRefusal (BreaksReferenceRule schema.now records)) }
+{
+    let mut list = Vec::with_capacity(alloc, records.len())?;
+    let mut sides = without_links(alloc, records.len())?;
+    let mut targets = references.targets.as_slice();
+    let mut place: usize = 0;
+    for record in records.into_vec() {
+        if is_place(references.repeat, place) {
+            return Err(broken(301, place));
+        }
+        let (own, rest) = targets.split_at(record.ends.len());
+        match plan_record(alloc, schema, &references.subset, own, &mut sides, record) {
+            Ok(planned) => list.push(planned)?,
+            Err(Unresolved::Memory(error)) => return Err(RefFault::Memory(error)),
+            Err(Unresolved::Broken(rule)) => return Err(broken(rule, place)),
+        }
+        targets = rest;
+        place += 1;
+    }
+    Ok(Planned { list, sides })
+}

@@ -1,0 +1,66 @@
+//! What the records of a sheet say of one another: names, and what the ends of links name.
+
+ghost use Rattle.std.specs.Prelude.{◌≡◌, ◌≤◌, length, flat_map, option_copied, option_map, IfOk};
+ghost use Rattle.edi_plan.specs.Plans.{first_of};
+ghost use Rattle.edi_plan.specs.Resolving.{first_subset, AreReferences};
+
+use crate::names::Names;
+use crate::targets::{Target, targets};
+use edi_line::Sequence;
+use edi_record::{End, Record};
+use std::alloc::{AllocError, Global};
+
+/// The lot and the subset of an end.
+#[derive(Debug, Drop)]
+pub(crate) struct Subset {
+    pub(crate) lot: Sequence<u8>,
+    pub(crate) subset: Sequence<u8>,
+}
+
+/// The place of the first record with the name of an earlier one, the targets of all ends in their order,
+/// and the lot and the subset of the first end.
+#[derive(Debug, Drop)]
+pub(crate) struct References {
+    pub(crate) repeat: Option<usize>,
+    pub(crate) targets: Vec<Option<Target>>,
+    pub(crate) subset: Option<Subset>,
+}
+
+/// The first end of all records.
+fn first_end(records: &[Record]) -> Option<&End>
+    ensures { option_copied result ≡ first_of (flat_map (λ r. r.ends) records.now) }
+{
+    for record in records {
+        if let Some(end) = record.ends.as_slice().first() {
+            return Some(end);
+        }
+    }
+    None
+}
+
+fn subset_of(alloc: Global, records: &[Record]) -> Result<Option<Subset>, AllocError>
+    ensures { IfOk result (λ subset. subset ≡ first_subset records.now) }
+{
+    match first_end(records) {
+        Some(end) => Ok(Some(Subset {
+            lot: Sequence::from_slice(alloc, end.lot.as_slice())?,
+            subset: Sequence::from_slice(alloc, end.subset.as_slice())?,
+        })),
+        None => Ok(None),
+    }
+}
+
+impl References {
+    /// The references among the records of a sheet. An end is looked up once, among names that the records lend.
+    pub(crate) fn among(alloc: Global, records: &[Record]) -> Result<References, AllocError>
+        requires { length records.now ≤ 9999999 }
+        ensures { IfOk result (AreReferences records.now) }
+    {
+        let names = Names::among(alloc, records)?;
+        Ok(References {
+            repeat: names.repeat,
+            targets: targets(alloc, &names, records)?,
+            subset: subset_of(alloc, records)?,
+        })
+    }
+}

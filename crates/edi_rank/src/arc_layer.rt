@@ -1,0 +1,52 @@
+//! The arcs by their keys.
+
+ghost use Rattle.std.specs.Prelude.{◌≡◌, ℕ, [], length, slice_index_or, IfOk};
+ghost use Rattle.edi_record.specs.declared.record.Kind.TheVariants.{Par};
+ghost use Rattle.edi_plan.specs.Places.{places_of};
+ghost use Rattle.edi_rank.specs.Layers.{arc_keys};
+
+use edi_line::Sequence;
+use edi_record::Point;
+use edi_topo::{Layer, PlanArcs, Sound};
+use std::alloc::{AllocError, Global};
+use std::marker::Model;
+
+/// The arcs of a sound plan, in file order, by their points in the forward direction.
+#[derive(Drop)]
+pub struct ArcLayer<'a> {
+    arcs: PlanArcs<'a>,
+}
+
+impl<'a> Model for ArcLayer<'a> {
+    ghost use Rattle.edi_plan.specs.Plans.{Drawing};
+
+    ghost Value = { Drawing };
+
+    ghost view = { λ l. l.arcs };
+}
+
+impl<'a> ArcLayer<'a> {
+    /// The arcs of a plan.
+    pub fn of(alloc: Global, sound: &'a Sound) -> Result<ArcLayer<'a>, AllocError>
+        ensures { IfOk result (λ layer. layer ≡ sound.now) }
+    {
+        let arcs = PlanArcs::of(alloc, sound.plan())?;
+        Ok(ArcLayer { arcs })
+    }
+}
+
+impl Layer for ArcLayer<'_> {
+    type Key = Sequence<Point>;
+
+    ghost size = { λ l. length (places_of Par l) };
+
+    ghost key_of = { λ l m. slice_index_or (arc_keys l) m [] };
+
+    fn len(&self) -> u32 {
+        self.arcs.len()
+    }
+
+    fn key(&self, alloc: Global, member: u32) -> Result<Sequence<Point>, AllocError> {
+        self.arcs.key(alloc, member)
+    }
+}

@@ -1,0 +1,189 @@
+//! The faces by their keys.
+
+ghost use Rattle.std.specs.Prelude.{◌≡◌, ◌<◌, ◌≤◌, ℕ, if◌then◌else◌, None, Some, length, map, slice_index, slice_index_or, unwrap_or, IfOk, MatchOption, ⊤};
+ghost use Rattle.std.specs.List.{AllByRecursion};
+ghost use Rattle.std.specs.Ordering.{is_gt};
+ghost use Rattle.edi_record.specs.declared.record.Kind.TheVariants.{Par, Pfe};
+ghost use Rattle.edi_schema.specs.Roles.{exchanged};
+ghost use Rattle.edi_plan.specs.Places.{places_of};
+ghost use Rattle.edi_plan.specs.Plans.{IsPlace, record_at, is_arc as is_arc_kind};
+ghost use Rattle.edi_rank.specs.Beside.{arc_and_other, side_for};
+ghost use Rattle.edi_rank.specs.Keys.{face_key_cmp, least_side, side_by, side_of};
+ghost use Rattle.edi_rank.specs.Layers.{face_keys, forward_plan, no_side};
+
+use crate::forward::is_turned;
+use crate::keys::{FaceKey, compare_faces};
+use crate::numbering::number_kind;
+use edi_line::Sequence;
+use edi_plan::{Plan, PlanEnd};
+use edi_record::Kind;
+use edi_schema::Role;
+use edi_topo::{Layer, Ranks, Sound};
+use std::alloc::{AllocError, Global};
+use std::marker::Model;
+
+/// The faces of a sound plan, in file order, by their least sides.
+#[derive(Drop)]
+pub struct FaceLayer {
+    keys: Sequence<FaceKey>,
+}
+
+impl Model for FaceLayer {
+    ghost use Rattle.std.specs.Prelude.{List, ◌≤◌, length};
+    ghost use Rattle.edi_rank.specs.declared.keys.FaceKey.{FaceKey};
+
+    ghost Value = { List FaceKey };
+
+    ghost view = { λ l. l.keys };
+
+    ghost invariant = { λ l. length l.keys ≤ 9999999 };
+}
+
+impl FaceLayer {
+    /// The faces of a plan, where its arcs have these numbers.
+    pub fn of(alloc: Global, sound: &Sound, arcs: &Ranks) -> Result<FaceLayer, AllocError>
+        requires { length arcs.now ≡ length (places_of Par sound.now) }
+        ensures { IfOk result (λ layer. layer ≡ face_keys sound.now arcs.now) }
+    {
+        let plan = sound.plan();
+        let unnumbered = vec![in alloc; 0; plan.len() as usize]?;
+        let numbers = number_kind(plan, Kind::Par, arcs, unnumbered);
+        let sides = least_sides(alloc, plan, &numbers)?;
+        let keys = sides_of_faces(alloc, plan, &sides)?;
+        Ok(FaceLayer {
+            keys: Sequence::from_vec(keys),
+        })
+    }
+}
+
+impl Layer for FaceLayer {
+    type Key = FaceKey;
+
+    ghost size = { λ l. length l };
+
+    ghost key_of = { λ l m. slice_index_or l m no_side };
+
+    fn len(&self) -> u32 {
+        self.keys.as_slice().len() as u32
+    }
+
+    fn key(&self, alloc: Global, member: u32) -> Result<FaceKey, AllocError> {
+        Ok(self.keys.as_slice()[member as usize])
+    }
+}
+
+fn is_arc(plan: &Plan, place: u32) -> bool
+    requires { IsPlace plan.now place }
+    ensures { result ≡ is_arc_kind (record_at plan.now place).kind }
+{
+    match plan.kind(place) {
+        Kind::Par => true,
+        Kind::Pno | Kind::Pfe | Kind::Fea | Kind::Lnk => false,
+    }
+}
+
+/// Of two ends the arc, and the other.
+fn arc_with(plan: &Plan, ends: &[PlanEnd]) -> Option<(u32, u32)>
+    requires { AllByRecursion (λ e. IsPlace plan.now e.target) ends.now }
+    ensures { result ≡ arc_and_other plan.now ends.now }
+{
+    match ends {
+        [first, second] => {
+            if is_arc(plan, first.target) {
+                Some((first.target, second.target))
+            } else if is_arc(plan, second.target) {
+                Some((second.target, first.target))
+            } else {
+                None
+            }
+        }
+        _ => None,
+    }
+}
+
+/// The side that a link of a kind puts a face on, where its arc may be turned.
+fn side_after(role: Role, turned: bool) -> Option<Role>
+    ensures { result ≡ side_of (if turned then exchanged role else role) }
+{
+    let role = if turned { role.exchanged() } else { role };
+    match role {
+        Role::Left | Role::Right => Some(role),
+        Role::Initial | Role::Final | Role::Plain => None,
+    }
+}
+
+/// What a link puts beside an arc, and on which side in the forward direction.
+fn side_put(plan: &Plan, numbers: &[u32], place: u32) -> Option<(u32, FaceKey)>
+    requires place { IsPlace plan.now place }
+    requires numbers { length numbers.now ≡ length plan.now.list }
+    ensures there { MatchOption result ⊤ (λ put. IsPlace plan.now put.0) }
+    ensures side { (face : ℕ) → side_by (forward_plan plan.now) (slice_index numbers.now) face (record_at (forward_plan plan.now) place) ≡ side_for face result }
+{
+    plan.keeps();
+    let (arc, face) = arc_with(plan, plan.ends(place))?;
+    let side = side_after(plan.role(place), is_turned(plan, arc))?;
+    let key = FaceKey {
+        arc: numbers[arc as usize],
+        side,
+    };
+    Some((face, key))
+}
+
+/// The lesser of two sides, of which the first may be missing.
+fn lesser_side(least: Option<FaceKey>, side: FaceKey) -> FaceKey
+    ensures { MatchOption least (result ≡ side) (λ other. result ≡ (if is_gt (face_key_cmp side other) then other else side)) }
+{
+    match least {
+        Some(other) => {
+            if compare_faces(side, other).is_gt() {
+                other
+            } else {
+                side
+            }
+        }
+        None => side,
+    }
+}
+
+/// The least side of each record, by place.
+fn least_sides(
+    alloc: Global,
+    plan: &Plan,
+    numbers: &[u32],
+) -> Result<Vec<Option<FaceKey>>, AllocError>
+    requires { length numbers.now ≡ length plan.now.list }
+    ensures length { IfOk result (λ sides. length sides.items ≡ length plan.now.list) }
+    ensures least { IfOk result (λ sides. (k : ℕ) → IsPlace plan.now k → slice_index_or sides.items k None ≡ least_side (forward_plan plan.now) (slice_index numbers.now) k) }
+{
+    let mut sides = vec![in alloc; None; plan.len() as usize]?;
+    for place in 0..plan.len() {
+        if let Some((face, side)) = side_put(plan, numbers, place) {
+            let least = &mut sides[face as usize];
+            *least = Some(lesser_side(*least, side));
+        }
+    }
+    Ok(sides)
+}
+
+/// The sides of the faces, in file order.
+fn sides_of_faces(
+    alloc: Global,
+    plan: &Plan,
+    sides: &[Option<FaceKey>],
+) -> Result<Vec<FaceKey>, AllocError>
+    requires { length sides.now ≡ length plan.now.list }
+    ensures { IfOk result (λ keys. keys.items ≡ map (λ k. unwrap_or (slice_index_or sides.now k None) no_side) (places_of Pfe plan.now)) }
+{
+    let places = plan.places(alloc, Kind::Pfe)?;
+    let mut keys = Vec::with_capacity(alloc, places.len())?;
+    for place in &places {
+        keys.push(sides[*place as usize].unwrap_or(NO_SIDE))?;
+    }
+    Ok(keys)
+}
+
+/// What stands for the side of a face without sides. A sound plan has none.
+const NO_SIDE: FaceKey = FaceKey {
+    arc: 0,
+    side: Role::Plain,
+};

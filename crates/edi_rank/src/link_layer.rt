@@ -1,0 +1,93 @@
+//! The links by their keys.
+
+ghost use Rattle.std.specs.Prelude.{◌≡◌, ◌<◌, ℕ, length, slice_index, IfOk};
+ghost use Rattle.edi_record.specs.declared.record.Kind.TheVariants.{Lnk};
+ghost use Rattle.edi_plan.specs.Agreeing.{Agrees};
+ghost use Rattle.edi_plan.specs.Places.{places_of};
+ghost use Rattle.edi_rank.specs.Layers.{placed_link_key};
+
+use crate::keys::LinkKey;
+use crate::link_key::{class_turned, link_key_at};
+use edi_plan::Plan;
+use edi_record::Kind;
+use edi_schema::Schema;
+use edi_topo::Layer;
+use std::alloc::{AllocError, Global};
+use std::marker::Model;
+
+/// The links of a plan, in file order, by their keys after the reversals, and then by their places.
+#[derive(Drop)]
+pub(crate) struct LinkLayer<'a> {
+    plan: &'a Plan,
+    schema: &'a Schema,
+    turned: &'a [bool],
+    numbers: &'a [u32],
+    places: Vec<u32>,
+}
+
+impl<'a> Model for LinkLayer<'a> {
+    ghost use Rattle.std.specs.Prelude.{◌≡◌, length};
+    ghost use Rattle.edi_record.specs.declared.record.Kind.TheVariants.{Lnk};
+    ghost use Rattle.edi_plan.specs.Agreeing.{Agrees};
+    ghost use Rattle.edi_plan.specs.Places.{places_of};
+    ghost use Rattle.edi_rank.specs.Layers.{LinkSource};
+
+    ghost Value = { LinkSource };
+
+    ghost view = { λ l. record { plan = l.plan.now; classes = l.schema.now; turned = l.turned.now; numbers = l.numbers.now } };
+
+    ghost invariant = { λ l. (l.places.items ≡ places_of Lnk l.plan.now) × Agrees l.schema.now l.plan.now × (length l.turned.now ≡ length l.plan.now.list) × (length l.numbers.now ≡ length l.plan.now.list) };
+}
+
+impl<'a> LinkLayer<'a> {
+    /// The links of a plan, with the records that are turned and the numbers of the other records, by place.
+    pub(crate) fn of(
+        alloc: Global,
+        schema: &'a Schema,
+        plan: &'a Plan,
+        turned: &'a [bool],
+        numbers: &'a [u32],
+    ) -> Result<LinkLayer<'a>, AllocError>
+        requires agrees { Agrees schema.now plan.now }
+        requires turned { length turned.now ≡ length plan.now.list }
+        requires numbers { length numbers.now ≡ length plan.now.list }
+        ensures { IfOk result (λ layer. layer ≡ record { plan = plan.now; classes = schema.now; turned = turned.now; numbers = numbers.now }) }
+    {
+        let places = plan.places(alloc, Kind::Lnk)?;
+        Ok(LinkLayer {
+            plan,
+            schema,
+            turned,
+            numbers,
+            places,
+        })
+    }
+
+    /// The place of a link.
+    fn place(&self, member: u32) -> u32
+        requires { member < length (places_of Lnk self.now.plan) }
+        ensures { result ≡ slice_index (places_of Lnk self.now.plan) member }
+    {
+        self.places[member as usize]
+    }
+}
+
+impl Layer for LinkLayer<'_> {
+    type Key = (LinkKey, u32);
+
+    ghost size = { λ l. length (places_of Lnk l.plan) };
+
+    ghost key_of = { λ l m. placed_link_key l (slice_index (places_of Lnk l.plan) m) };
+
+    fn len(&self) -> u32 {
+        self.plan.keeps();
+        self.places.len() as u32
+    }
+
+    fn key(&self, alloc: Global, member: u32) -> Result<(LinkKey, u32), AllocError> {
+        let place = self.place(member);
+        let class = class_turned(self.schema, self.plan, self.turned, place);
+        let key = link_key_at(alloc, self.plan, self.numbers, class, place)?;
+        Ok((key, place))
+    }
+}

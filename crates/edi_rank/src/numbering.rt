@@ -1,0 +1,57 @@
+//! Numbers by place, and places by number.
+
+ghost use Rattle.std.specs.Prelude.{◌≡◌, ◌≢◌, ◌<◌, ◌≤◌, ◌-◌, ℕ, length, slice_index, IfOk};
+ghost use Rattle.edi_plan.specs.Places.{places_of, member_of};
+ghost use Rattle.edi_plan.specs.Plans.{IsPlace, record_at, same_kind};
+ghost use Rattle.edi_rank.specs.Labelling.{NumbersEach};
+
+use edi_plan::Plan;
+use edi_record::Kind;
+use edi_topo::Ranks;
+use std::alloc::{AllocError, Global};
+
+fn is_same_kind(a: Kind, b: Kind) -> bool
+    ensures { result ≡ same_kind a b }
+{
+    a == b
+}
+
+/// The numbers by place, with those of the records of a kind written at their places.
+pub(crate) fn number_kind(plan: &Plan, kind: Kind, ranks: &Ranks, mut numbers: Vec<u32>) -> Vec<u32>
+    requires ranks { length ranks.now ≡ length (places_of kind plan.now) }
+    requires numbers { length numbers.items ≡ length plan.now.list }
+    ensures length { length result.items ≡ length plan.now.list }
+    ensures each { (k : ℕ) → IsPlace plan.now k → (record_at plan.now k).kind ≡ kind → slice_index result.items k ≡ slice_index ranks.now (member_of plan.now k) }
+    ensures others { (k : ℕ) → IsPlace plan.now k → (record_at plan.now k).kind ≢ kind → slice_index result.items k ≡ slice_index numbers.items k }
+{
+    plan.keeps();
+    let mut member: u32 = 0;
+    for place in 0..plan.len() {
+        if is_same_kind(kind, plan.kind(place)) {
+            numbers[place as usize] = ranks.number(member);
+            member += 1;
+        }
+    }
+    numbers
+}
+
+/// The places by the numbers of what stands there.
+pub(crate) fn places_by_number(
+    alloc: Global,
+    places: &[u32],
+    ranks: &Ranks,
+) -> Result<Vec<u32>, AllocError>
+    requires few { length places.now ≤ 9999999 }
+    requires long { length ranks.now ≡ length places.now }
+    requires each { NumbersEach ranks.now }
+    ensures length { IfOk result (λ order. length order.items ≡ length places.now) }
+    ensures places { IfOk result (λ order. (m : ℕ) → m < length places.now → slice_index order.items (slice_index ranks.now m - 1) ≡ slice_index places.now m) }
+{
+    let mut order = vec![in alloc; 0; places.len()]?;
+    let mut member: u32 = 0;
+    for place in places {
+        order[ranks.number(member) as usize - 1] = *place;
+        member += 1;
+    }
+    Ok(order)
+}

@@ -1,0 +1,201 @@
+//! The objects by their keys.
+
+ghost use Rattle.std.specs.Prelude.{◌≡◌, ◌≢◌, ◌<◌, ℕ, [], true, length, map, slice_index, slice_index_or, All, IfOk, MatchOption, ⊤, ◌==◌};
+ghost use Rattle.std.specs.List.{AllByRecursion, list_any};
+ghost use Rattle.edi_record.specs.declared.record.Kind.TheVariants.{Fea};
+ghost use Rattle.edi_plan.specs.Places.{places_of};
+ghost use Rattle.edi_plan.specs.Plans.{IsPlace, record_at, is_object as is_object_kind};
+ghost use Rattle.edi_schema.specs.Sorted.{sort_by};
+ghost use Rattle.edi_rank.specs.Keys.{is_piece, link_key, link_key_cmp};
+ghost use Rattle.edi_rank.specs.Pieces.{is_owner, object_count, object_key_at, piece_places};
+
+use crate::keys::{LinkKey, ObjectKey};
+use crate::link_key::{copied_extras, link_key_at};
+use edi_line::Sequence;
+use edi_plan::{Plan, PlanEnd, sorted_attributes};
+use edi_record::Kind;
+use edi_topo::{Layer, Sound};
+use std::alloc::{AllocError, Global};
+use std::marker::Model;
+
+/// The objects of a sound plan, in file order, by their classes, what they hold, and their pieces.
+#[derive(Drop)]
+pub struct ObjectLayer<'a> {
+    plan: &'a Plan,
+    numbers: &'a [u32],
+    places: Vec<u32>,
+    links: Vec<Vec<u32>>,
+}
+
+impl<'a> Model for ObjectLayer<'a> {
+    ghost use Rattle.std.specs.Prelude.{◌≡◌, ℕ, [], true, map, length, slice_index_or};
+    ghost use Rattle.edi_record.specs.declared.record.Kind.TheVariants.{Fea};
+    ghost use Rattle.edi_plan.specs.Places.{places_of};
+    ghost use Rattle.edi_plan.specs.Plans.{IsPlace, record_at, is_object};
+    ghost use Rattle.edi_rank.specs.Pieces.{ObjectSource, piece_places};
+
+    ghost Value = { ObjectSource };
+
+    ghost view = { λ l. record { plan = l.plan.now; numbers = l.numbers.now } };
+
+    ghost invariant = { λ l. (l.places.items ≡ places_of Fea l.plan.now) × (length l.numbers.now ≡ length l.plan.now.list) × (length l.links.items ≡ length l.plan.now.list)
+        × ((k : ℕ) → IsPlace l.plan.now k → is_object (record_at l.plan.now k).kind ≡ true → slice_index_or l.numbers.now k 0 ≡ 0)
+        × ((k : ℕ) → IsPlace l.plan.now k → is_object (record_at l.plan.now k).kind ≡ true → slice_index_or (map (λ v. v.items) l.links.items) k [] ≡ piece_places l.plan.now k) };
+}
+
+impl<'a> ObjectLayer<'a> {
+    /// The objects of a plan, where its nodes, arcs and faces have these numbers, by place, and its objects have 0.
+    pub fn of(
+        alloc: Global,
+        sound: &'a Sound,
+        numbers: &'a [u32],
+    ) -> Result<ObjectLayer<'a>, AllocError>
+        requires numbers { length numbers.now ≡ length sound.now.list }
+        requires objects { (k : ℕ) → IsPlace sound.now k → is_object_kind (record_at sound.now k).kind ≡ true → slice_index_or numbers.now k 0 ≡ 0 }
+        ensures { IfOk result (λ layer. layer ≡ record { plan = sound.now; numbers = numbers.now }) }
+    {
+        let plan = sound.plan();
+        let places = plan.places(alloc, Kind::Fea)?;
+        let links = links_by_object(alloc, plan)?;
+        Ok(ObjectLayer {
+            plan,
+            numbers,
+            places,
+            links,
+        })
+    }
+
+    /// The place of an object.
+    pub(crate) fn place(&self, member: u32) -> u32
+        requires { member < length (places_of Fea self.now.plan) }
+        ensures { result ≡ slice_index (places_of Fea self.now.plan) member }
+    {
+        self.places[member as usize]
+    }
+}
+
+impl Layer for ObjectLayer<'_> {
+    type Key = ObjectKey;
+
+    ghost size = { λ l. length (places_of Fea l.plan) };
+
+    ghost key_of = { λ l m. object_key_at l (slice_index (places_of Fea l.plan) m) };
+
+    fn len(&self) -> u32 {
+        self.plan.keeps();
+        self.places.len() as u32
+    }
+
+    fn key(&self, alloc: Global, member: u32) -> Result<ObjectKey, AllocError> {
+        let place = self.place(member);
+        let attributes = sorted_attributes(alloc, self.plan.attributes(place))?;
+        let extras = copied_extras(alloc, self.plan.extras(place))?;
+        let links: &[Vec<u32>] = &self.links;
+        let pieces = sorted_pieces(alloc, self.plan, self.numbers, &links[place as usize])?;
+        Ok(ObjectKey {
+            class: self.plan.scp(place),
+            attributes: Sequence::from_vec(attributes),
+            extras: Sequence::from_vec(extras),
+            pieces: Sequence::from_vec(pieces),
+        })
+    }
+}
+
+fn is_object(plan: &Plan, place: u32) -> bool
+    requires { IsPlace plan.now place }
+    ensures { result ≡ is_object_kind (record_at plan.now place).kind }
+{
+    match plan.kind(place) {
+        Kind::Fea => true,
+        Kind::Pno | Kind::Par | Kind::Pfe | Kind::Lnk => false,
+    }
+}
+
+/// The only object among these ends.
+fn only_object(plan: &Plan, ends: &[PlanEnd]) -> Option<u32>
+    requires { AllByRecursion (λ e. IsPlace plan.now e.target) ends.now }
+    ensures { MatchOption result (object_count plan.now ends.now ≢ 1)
+        (λ k. (object_count plan.now ends.now ≡ 1) × IsPlace plan.now k × (is_object_kind (record_at plan.now k).kind ≡ true) × (list_any (λ e. e.target == k) ends.now ≡ true)) }
+{
+    let mut found = None;
+    let mut count: usize = 0;
+    for end in ends {
+        if is_object(plan, end.target) {
+            found = Some(end.target);
+            count += 1;
+        }
+    }
+    if count == 1 { found } else { None }
+}
+
+/// The object that a link is a piece of.
+fn owner(plan: &Plan, place: u32) -> Option<u32>
+    requires { IsPlace plan.now place }
+    ensures there { MatchOption result ⊤ (IsPlace plan.now) }
+    ensures owner { (object : ℕ) → is_object_kind (record_at plan.now object).kind ≡ true → is_piece plan.now object (record_at plan.now place) ≡ is_owner result object }
+{
+    plan.keeps();
+    match plan.kind(place) {
+        Kind::Lnk => only_object(plan, plan.ends(place)),
+        Kind::Pno | Kind::Par | Kind::Pfe | Kind::Fea => None,
+    }
+}
+
+/// The links that are pieces of each object, by its place.
+fn links_by_object(alloc: Global, plan: &Plan) -> Result<Vec<Vec<u32>>, AllocError>
+    ensures length { IfOk result (λ links. length links.items ≡ length plan.now.list) }
+    ensures links { IfOk result (λ links. (k : ℕ) → IsPlace plan.now k → is_object_kind (record_at plan.now k).kind ≡ true → slice_index_or (map (λ v. v.items) links.items) k [] ≡ piece_places plan.now k) }
+{
+    let mut links = no_links(alloc, plan.len())?;
+    for place in 0..plan.len() {
+        if let Some(object) = owner(plan, place) {
+            links[object as usize].push(place)?;
+        }
+    }
+    Ok(links)
+}
+
+/// So many empty lists.
+fn no_links(alloc: Global, count: u32) -> Result<Vec<Vec<u32>>, AllocError>
+    ensures length { IfOk result (λ links. length links.items ≡ count) }
+    ensures empty { IfOk result (λ links. All (λ v. v.items ≡ []) links.items) }
+{
+    let mut links = Vec::with_capacity(alloc, count as usize)?;
+    for _ in 0..count {
+        links.push(Vec::new(alloc))?;
+    }
+    Ok(links)
+}
+
+fn piece_keys(
+    alloc: Global,
+    plan: &Plan,
+    numbers: &[u32],
+    links: &[u32],
+) -> Result<Vec<LinkKey>, AllocError>
+    requires links { AllByRecursion (IsPlace plan.now) links.now }
+    requires numbers { length numbers.now ≡ length plan.now.list }
+    ensures { IfOk result (λ keys. keys.items ≡ map (λ k. link_key plan.now (slice_index numbers.now) (record_at plan.now k)) links.now) }
+{
+    let mut keys = Vec::with_capacity(alloc, links.len())?;
+    for link in links {
+        keys.push(link_key_at(alloc, plan, numbers, plan.scp(*link), *link)?)?;
+    }
+    Ok(keys)
+}
+
+/// The keys of an object's pieces in their order.
+fn sorted_pieces(
+    alloc: Global,
+    plan: &Plan,
+    numbers: &[u32],
+    links: &[u32],
+) -> Result<Vec<LinkKey>, AllocError>
+    requires links { AllByRecursion (IsPlace plan.now) links.now }
+    requires numbers { length numbers.now ≡ length plan.now.list }
+    ensures { IfOk result (λ keys. keys.items ≡ sort_by link_key_cmp (map (λ k. link_key plan.now (slice_index numbers.now) (record_at plan.now k)) links.now)) }
+{
+    let mut keys = piece_keys(alloc, plan, numbers, links)?;
+    keys.sort_unstable();
+    Ok(keys)
+}

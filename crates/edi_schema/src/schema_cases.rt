@@ -1,0 +1,775 @@
+//! Schemas, and what they state.
+
+/// Each case: a title, the file of classes, `==`, the dictionary, `->`, and then the refusal, or lines of
+/// a class each: type and identifier, its place, its role (I, F, L, R, or P for none), the place of its
+/// partner, its letter, and whether its values are numbers or texts.
+pub const SCHEMA_CASES: &str = "\
+the known schema\n\
+BOMT 12:EDAB01SE.SCD\n\
+CSET 03:IRV\n\
+RTYSA03:PGE\n\
+RIDSA06:NOD_id\n\
+RTYSA03:PGE\n\
+RIDSA06:ARC_id\n\
+RTYSA03:PGE\n\
+RIDSA06:FAC_id\n\
+RTYSA03:OBJ\n\
+RIDSA11:PARCELLE_id\n\
+RTYSA03:ATT\n\
+RIDSA06:SUP_id\n\
+DIPCP22:EDAB01;SeDIC;DIA;SUP_n\n\
+RTYSA03:ATT\n\
+RIDSA06:NOM_id\n\
+DIPCP22:EDAB01;SeDIC;DIA;NOM_n\n\
+RTYSA03:REL\n\
+RIDSA06:INI_id\n\
+KNDSA03:IND\n\
+RTYSA03:REL\n\
+RIDSA06:FIN_id\n\
+KNDSA03:FND\n\
+RTYSA03:REL\n\
+RIDSA06:GCH_id\n\
+KNDSA03:LPO\n\
+RTYSA03:REL\n\
+RIDSA06:DRT_id\n\
+KNDSA03:RPO\n\
+RTYSA03:REL\n\
+RIDSA06:CMP_id\n\
+KNDSA03:ICO\n\
+EOMT 00:\n\
+==\n\
+BOMT 12:EDAB01DI.DIC\n\
+CSET 03:IRV\n\
+RTYSA03:DIA\n\
+RIDSA05:SUP_n\n\
+TYPSA01:R\n\
+RTYSA03:DIA\n\
+RIDSA05:NOM_n\n\
+TYPSA01:A\n\
+EOMT 00:\n\
+->\n\
+ATT;NOM_id 0 P - A text\n\
+ATT;SUP_id 1 P - R number\n\
+OBJ;PARCELLE_id 2 P - A text\n\
+PGE;ARC_id 3 P - A text\n\
+PGE;FAC_id 4 P - A text\n\
+PGE;NOD_id 5 P - A text\n\
+REL;CMP_id 6 P - A text\n\
+REL;DRT_id 7 R 9 A text\n\
+REL;FIN_id 8 F 10 A text\n\
+REL;GCH_id 9 L 7 A text\n\
+REL;INI_id 10 I 8 A text\n\
+REL;XXX_id none\n\
+XXX;INI_id none\n\
+--\n\
+only the first KND, DIP and TYP count\n\
+BOMT 12:EDAB01SE.SCD\n\
+CSET 03:IRV\n\
+RTYSA03:PGE\n\
+RIDSA06:NOD_id\n\
+RTYSA03:PGE\n\
+RIDSA06:ARC_id\n\
+RTYSA03:PGE\n\
+RIDSA06:FAC_id\n\
+RTYSA03:OBJ\n\
+RIDSA11:PARCELLE_id\n\
+RTYSA03:ATT\n\
+RIDSA06:SUP_id\n\
+DIPCP22:EDAB01;SeDIC;DIA;SUP_n\n\
+DIPCP22:EDAB01;SeDIC;DIA;NOM_n\n\
+RTYSA03:ATT\n\
+RIDSA06:NOM_id\n\
+DIPCP22:EDAB01;SeDIC;DIA;NOM_n\n\
+RTYSA03:REL\n\
+RIDSA06:INI_id\n\
+KNDSA03:IND\n\
+KNDSA03:FND\n\
+RTYSA03:REL\n\
+RIDSA06:FIN_id\n\
+KNDSA03:FND\n\
+RTYSA03:REL\n\
+RIDSA06:GCH_id\n\
+KNDSA03:LPO\n\
+RTYSA03:REL\n\
+RIDSA06:DRT_id\n\
+KNDSA03:RPO\n\
+RTYSA03:REL\n\
+RIDSA06:CMP_id\n\
+KNDSA03:ICO\n\
+EOMT 00:\n\
+==\n\
+BOMT 12:EDAB01DI.DIC\n\
+CSET 03:IRV\n\
+RTYSA03:DIA\n\
+RIDSA05:SUP_n\n\
+TYPSA01:R\n\
+TYPSA01:A\n\
+RTYSA03:DIA\n\
+RIDSA05:NOM_n\n\
+TYPSA01:A\n\
+EOMT 00:\n\
+->\n\
+ATT;NOM_id 0 P - A text\n\
+ATT;SUP_id 1 P - R number\n\
+OBJ;PARCELLE_id 2 P - A text\n\
+PGE;ARC_id 3 P - A text\n\
+PGE;FAC_id 4 P - A text\n\
+PGE;NOD_id 5 P - A text\n\
+REL;CMP_id 6 P - A text\n\
+REL;DRT_id 7 R 9 A text\n\
+REL;FIN_id 8 F 10 A text\n\
+REL;GCH_id 9 L 7 A text\n\
+REL;INI_id 10 I 8 A text\n\
+--\n\
+a KND goes before the identifier, and one that is no code does not count\n\
+BOMT 12:EDAB01SE.SCD\n\
+CSET 03:IRV\n\
+RTYSA03:PGE\n\
+RIDSA06:NOD_id\n\
+RTYSA03:PGE\n\
+RIDSA06:ARC_id\n\
+RTYSA03:PGE\n\
+RIDSA06:FAC_id\n\
+RTYSA03:OBJ\n\
+RIDSA11:PARCELLE_id\n\
+RTYSA03:ATT\n\
+RIDSA06:SUP_id\n\
+DIPCP22:EDAB01;SeDIC;DIA;SUP_n\n\
+RTYSA03:ATT\n\
+RIDSA06:NOM_id\n\
+DIPCP22:EDAB01;SeDIC;DIA;NOM_n\n\
+RTYSA03:REL\n\
+RIDSA06:INI_id\n\
+KNDSA03:ICO\n\
+RTYSA03:REL\n\
+RIDSA06:FIN_id\n\
+KNDSA03:FND\n\
+RTYSA03:REL\n\
+RIDSA06:GCH_id\n\
+KNDSA03:LPO\n\
+RTYSA03:REL\n\
+RIDSA06:DRT_id\n\
+KNDSA03:RPO\n\
+RTYSA03:REL\n\
+RIDSA03:IND\n\
+KNDSA03:ICO\n\
+EOMT 00:\n\
+==\n\
+BOMT 12:EDAB01DI.DIC\n\
+CSET 03:IRV\n\
+RTYSA03:DIA\n\
+RIDSA05:SUP_n\n\
+TYPSA01:R\n\
+RTYSA03:DIA\n\
+RIDSA05:NOM_n\n\
+TYPSA01:A\n\
+EOMT 00:\n\
+->\n\
+REL;IND 9 I 7 A text\n\
+REL;INI_id 10 P - A text\n\
+REL;FIN_id 7 F 9 A text\n\
+--\n\
+numbers of type N\n\
+BOMT 12:EDAB01SE.SCD\n\
+CSET 03:IRV\n\
+RTYSA03:PGE\n\
+RIDSA06:NOD_id\n\
+RTYSA03:PGE\n\
+RIDSA06:ARC_id\n\
+RTYSA03:PGE\n\
+RIDSA06:FAC_id\n\
+RTYSA03:OBJ\n\
+RIDSA11:PARCELLE_id\n\
+RTYSA03:ATT\n\
+RIDSA06:SUP_id\n\
+DIPCP22:EDAB01;SeDIC;DIA;SUP_n\n\
+RTYSA03:ATT\n\
+RIDSA06:NOM_id\n\
+DIPCP22:EDAB01;SeDIC;DIA;NOM_n\n\
+RTYSA03:REL\n\
+RIDSA06:INI_id\n\
+KNDSA03:IND\n\
+RTYSA03:REL\n\
+RIDSA06:FIN_id\n\
+KNDSA03:FND\n\
+RTYSA03:REL\n\
+RIDSA06:GCH_id\n\
+KNDSA03:LPO\n\
+RTYSA03:REL\n\
+RIDSA06:DRT_id\n\
+KNDSA03:RPO\n\
+RTYSA03:REL\n\
+RIDSA06:CMP_id\n\
+KNDSA03:ICO\n\
+EOMT 00:\n\
+==\n\
+BOMT 12:EDAB01DI.DIC\n\
+CSET 03:IRV\n\
+RTYSA03:DIA\n\
+RIDSA05:SUP_n\n\
+TYPSA01:R\n\
+RTYSA03:DIA\n\
+RIDSA05:NOM_n\n\
+TYPSA01:N\n\
+EOMT 00:\n\
+->\n\
+ATT;NOM_id 0 P - N number\n\
+ATT;SUP_id 1 P - R number\n\
+OBJ;PARCELLE_id 2 P - A text\n\
+PGE;ARC_id 3 P - A text\n\
+PGE;FAC_id 4 P - A text\n\
+PGE;NOD_id 5 P - A text\n\
+REL;CMP_id 6 P - A text\n\
+REL;DRT_id 7 R 9 A text\n\
+REL;FIN_id 8 F 10 A text\n\
+REL;GCH_id 9 L 7 A text\n\
+REL;INI_id 10 I 8 A text\n\
+--\n\
+a type that is no letter\n\
+BOMT 12:EDAB01SE.SCD\n\
+CSET 03:IRV\n\
+RTYSA03:PGE\n\
+RIDSA06:NOD_id\n\
+RTYSA03:PGE\n\
+RIDSA06:ARC_id\n\
+RTYSA03:PGE\n\
+RIDSA06:FAC_id\n\
+RTYSA03:OBJ\n\
+RIDSA11:PARCELLE_id\n\
+RTYSA03:ATT\n\
+RIDSA06:SUP_id\n\
+DIPCP22:EDAB01;SeDIC;DIA;SUP_n\n\
+RTYSA03:ATT\n\
+RIDSA06:NOM_id\n\
+DIPCP22:EDAB01;SeDIC;DIA;NOM_n\n\
+RTYSA03:REL\n\
+RIDSA06:INI_id\n\
+KNDSA03:IND\n\
+RTYSA03:REL\n\
+RIDSA06:FIN_id\n\
+KNDSA03:FND\n\
+RTYSA03:REL\n\
+RIDSA06:GCH_id\n\
+KNDSA03:LPO\n\
+RTYSA03:REL\n\
+RIDSA06:DRT_id\n\
+KNDSA03:RPO\n\
+RTYSA03:REL\n\
+RIDSA06:CMP_id\n\
+KNDSA03:ICO\n\
+EOMT 00:\n\
+==\n\
+BOMT 12:EDAB01DI.DIC\n\
+CSET 03:IRV\n\
+RTYSA03:DIA\n\
+RIDSA05:SUP_n\n\
+TYPSA02:RR\n\
+RTYSA03:DIA\n\
+RIDSA05:NOM_n\n\
+TYPSA01:n\n\
+EOMT 00:\n\
+->\n\
+ATT;NOM_id 0 P - A text\n\
+ATT;SUP_id 1 P - A text\n\
+OBJ;PARCELLE_id 2 P - A text\n\
+PGE;ARC_id 3 P - A text\n\
+PGE;FAC_id 4 P - A text\n\
+PGE;NOD_id 5 P - A text\n\
+REL;CMP_id 6 P - A text\n\
+REL;DRT_id 7 R 9 A text\n\
+REL;FIN_id 8 F 10 A text\n\
+REL;GCH_id 9 L 7 A text\n\
+REL;INI_id 10 I 8 A text\n\
+--\n\
+a word without type\n\
+BOMT 12:EDAB01SE.SCD\n\
+CSET 03:IRV\n\
+RTYSA03:PGE\n\
+RIDSA06:NOD_id\n\
+RTYSA03:PGE\n\
+RIDSA06:ARC_id\n\
+RTYSA03:PGE\n\
+RIDSA06:FAC_id\n\
+RTYSA03:OBJ\n\
+RIDSA11:PARCELLE_id\n\
+RTYSA03:ATT\n\
+RIDSA06:SUP_id\n\
+DIPCP22:EDAB01;SeDIC;DIA;SUP_n\n\
+RTYSA03:ATT\n\
+RIDSA06:NOM_id\n\
+DIPCP22:EDAB01;SeDIC;DIA;NOM_n\n\
+RTYSA03:REL\n\
+RIDSA06:INI_id\n\
+KNDSA03:IND\n\
+RTYSA03:REL\n\
+RIDSA06:FIN_id\n\
+KNDSA03:FND\n\
+RTYSA03:REL\n\
+RIDSA06:GCH_id\n\
+KNDSA03:LPO\n\
+RTYSA03:REL\n\
+RIDSA06:DRT_id\n\
+KNDSA03:RPO\n\
+RTYSA03:REL\n\
+RIDSA06:CMP_id\n\
+KNDSA03:ICO\n\
+EOMT 00:\n\
+==\n\
+BOMT 12:EDAB01DI.DIC\n\
+CSET 03:IRV\n\
+RTYSA03:DIA\n\
+RIDSA05:SUP_n\n\
+RTYSA03:DIA\n\
+RIDSA05:NOM_n\n\
+TYPSA01:A\n\
+EOMT 00:\n\
+->\n\
+ATT;NOM_id 0 P - A text\n\
+ATT;SUP_id 1 P - A text\n\
+OBJ;PARCELLE_id 2 P - A text\n\
+PGE;ARC_id 3 P - A text\n\
+PGE;FAC_id 4 P - A text\n\
+PGE;NOD_id 5 P - A text\n\
+REL;CMP_id 6 P - A text\n\
+REL;DRT_id 7 R 9 A text\n\
+REL;FIN_id 8 F 10 A text\n\
+REL;GCH_id 9 L 7 A text\n\
+REL;INI_id 10 I 8 A text\n\
+--\n\
+a line of the classes that is none\n\
+BOMT 12:EDAB01SE.SCD\n\
+RTYSA03:PGE\n\
+RIDSA06:NOD_id\n\
+RTYSA03:ATT\n\
+RIDSA06:SUP_id\n\
+DIPCP22:EDAB01;SeDIC;DIA;SUP_n\n\
+RTYSA03:REL\n\
+RIDSA06:INI_id\n\
+KNDSA03:IND\n\
+RTYSA03:REL\n\
+RIDSA06:FIN_id\n\
+KNDSA03:FND\n\
+x\n\
+EOMT 00:\n\
+==\n\
+BOMT 12:EDAB01DI.DIC\n\
+RTYSA03:DIA\n\
+RIDSA05:SUP_n\n\
+TYPSA01:R\n\
+RTYSA03:DIA\n\
+RIDSA05:NOM_n\n\
+EOMT 00:\n\
+->\n\
+refused scd 101 line 13\n\
+--\n\
+a line of the words that is none\n\
+BOMT 12:EDAB01SE.SCD\n\
+RTYSA03:PGE\n\
+RIDSA06:NOD_id\n\
+RTYSA03:ATT\n\
+RIDSA06:SUP_id\n\
+DIPCP22:EDAB01;SeDIC;DIA;SUP_n\n\
+RTYSA03:REL\n\
+RIDSA06:INI_id\n\
+KNDSA03:IND\n\
+RTYSA03:REL\n\
+RIDSA06:FIN_id\n\
+KNDSA03:FND\n\
+EOMT 00:\n\
+==\n\
+BOMT 12:EDAB01DI.DIC\n\
+RTYSA03:DIA\n\
+RIDSA05:SUP_n\n\
+TYPSA01:R\n\
+RTYSA03:DIA\n\
+RIDSA05:NOM_n\n\
+x\n\
+EOMT 00:\n\
+->\n\
+refused dic 101 line 7\n\
+--\n\
+no end of the words\n\
+BOMT 12:EDAB01SE.SCD\n\
+RTYSA03:PGE\n\
+RIDSA06:NOD_id\n\
+RTYSA03:ATT\n\
+RIDSA06:SUP_id\n\
+DIPCP22:EDAB01;SeDIC;DIA;SUP_n\n\
+RTYSA03:REL\n\
+RIDSA06:INI_id\n\
+KNDSA03:IND\n\
+RTYSA03:REL\n\
+RIDSA06:FIN_id\n\
+KNDSA03:FND\n\
+EOMT 00:\n\
+==\n\
+BOMT 12:EDAB01DI.DIC\n\
+RTYSA03:DIA\n\
+RIDSA05:SUP_n\n\
+TYPSA01:R\n\
+RTYSA03:DIA\n\
+RIDSA05:NOM_n\n\
+->\n\
+refused dic 106 line 7\n\
+--\n\
+two identifiers of a class\n\
+BOMT 12:EDAB01SE.SCD\n\
+RTYSA03:PGE\n\
+RIDSA06:NOD_id\n\
+RTYSA03:ATT\n\
+RIDSA06:SUP_id\n\
+DIPCP22:EDAB01;SeDIC;DIA;SUP_n\n\
+RTYSA03:REL\n\
+RIDSA06:INI_id\n\
+KNDSA03:IND\n\
+RTYSA03:REL\n\
+RIDSA06:FIN_id\n\
+RIDSA06:CMP_ie\n\
+KNDSA03:FND\n\
+EOMT 00:\n\
+==\n\
+BOMT 12:EDAB01DI.DIC\n\
+RTYSA03:DIA\n\
+RIDSA05:SUP_n\n\
+TYPSA01:R\n\
+RTYSA03:DIA\n\
+RIDSA05:NOM_n\n\
+EOMT 00:\n\
+->\n\
+refused scd 601 record 4\n\
+--\n\
+an identifier with a semicolon\n\
+BOMT 12:EDAB01SE.SCD\n\
+RTYSA03:PGE\n\
+RIDSA06:NOD_id\n\
+RTYSA03:ATT\n\
+RIDSA06:SUP;id\n\
+DIPCP22:EDAB01;SeDIC;DIA;SUP_n\n\
+RTYSA03:REL\n\
+RIDSA06:INI_id\n\
+KNDSA03:IND\n\
+RTYSA03:REL\n\
+RIDSA06:FIN_id\n\
+KNDSA03:FND\n\
+EOMT 00:\n\
+==\n\
+BOMT 12:EDAB01DI.DIC\n\
+RTYSA03:DIA\n\
+RIDSA05:SUP_n\n\
+TYPSA01:R\n\
+RTYSA03:DIA\n\
+RIDSA05:NOM_n\n\
+EOMT 00:\n\
+->\n\
+refused scd 601 record 2\n\
+--\n\
+an identifier of 256 bytes\n\
+BOMT 12:EDAB01SE.SCD\n\
+RTYSA03:PGE\n\
+RIDSA99:iiiiiiiiiiiiiiiiiiiiiiiiiiiiiiiiiiiiiiiiiiiiiiiiiiiiiiiiiiiiiiiiiiiiiiiiiiiiiiiiiiiiiiiiiiiiiiiiiii\n\
+NEXT 99:iiiiiiiiiiiiiiiiiiiiiiiiiiiiiiiiiiiiiiiiiiiiiiiiiiiiiiiiiiiiiiiiiiiiiiiiiiiiiiiiiiiiiiiiiiiiiiiiiii\n\
+NEXT 58:iiiiiiiiiiiiiiiiiiiiiiiiiiiiiiiiiiiiiiiiiiiiiiiiiiiiiiiiii\n\
+RTYSA03:ATT\n\
+RIDSA06:SUP_id\n\
+DIPCP22:EDAB01;SeDIC;DIA;SUP_n\n\
+RTYSA03:REL\n\
+RIDSA06:INI_id\n\
+KNDSA03:IND\n\
+RTYSA03:REL\n\
+RIDSA06:FIN_id\n\
+KNDSA03:FND\n\
+EOMT 00:\n\
+==\n\
+BOMT 12:EDAB01DI.DIC\n\
+RTYSA03:DIA\n\
+RIDSA05:SUP_n\n\
+TYPSA01:R\n\
+RTYSA03:DIA\n\
+RIDSA05:NOM_n\n\
+EOMT 00:\n\
+->\n\
+refused scd 601 record 1\n\
+--\n\
+an empty identifier\n\
+BOMT 12:EDAB01SE.SCD\n\
+RTYSA03:PGE\n\
+RIDSA00:\n\
+RTYSA03:ATT\n\
+RIDSA06:SUP_id\n\
+DIPCP22:EDAB01;SeDIC;DIA;SUP_n\n\
+RTYSA03:REL\n\
+RIDSA06:INI_id\n\
+KNDSA03:IND\n\
+RTYSA03:REL\n\
+RIDSA06:FIN_id\n\
+KNDSA03:FND\n\
+EOMT 00:\n\
+==\n\
+BOMT 12:EDAB01DI.DIC\n\
+RTYSA03:DIA\n\
+RIDSA05:SUP_n\n\
+TYPSA01:R\n\
+RTYSA03:DIA\n\
+RIDSA05:NOM_n\n\
+EOMT 00:\n\
+->\n\
+refused scd 601 record 1\n\
+--\n\
+a class twice\n\
+BOMT 12:EDAB01SE.SCD\n\
+RTYSA03:PGE\n\
+RIDSA06:NOD_id\n\
+RTYSA03:ATT\n\
+RIDSA06:SUP_id\n\
+DIPCP22:EDAB01;SeDIC;DIA;SUP_n\n\
+RTYSA03:REL\n\
+RIDSA06:INI_id\n\
+KNDSA03:IND\n\
+RTYSA03:REL\n\
+RIDSA06:FIN_id\n\
+KNDSA03:FND\n\
+RTYSA03:PGE\n\
+RIDSA06:NOD_id\n\
+EOMT 00:\n\
+==\n\
+BOMT 12:EDAB01DI.DIC\n\
+RTYSA03:DIA\n\
+RIDSA05:SUP_n\n\
+TYPSA01:R\n\
+RTYSA03:DIA\n\
+RIDSA05:NOM_n\n\
+EOMT 00:\n\
+->\n\
+refused scd 602 record 5\n\
+--\n\
+a class twice, and a word without identifier\n\
+BOMT 12:EDAB01SE.SCD\n\
+RTYSA03:PGE\n\
+RIDSA06:NOD_id\n\
+RTYSA03:ATT\n\
+RIDSA06:SUP_id\n\
+DIPCP22:EDAB01;SeDIC;DIA;SUP_n\n\
+RTYSA03:REL\n\
+RIDSA06:INI_id\n\
+KNDSA03:IND\n\
+RTYSA03:REL\n\
+RIDSA06:FIN_id\n\
+KNDSA03:FND\n\
+RTYSA03:PGE\n\
+RIDSA06:NOD_id\n\
+EOMT 00:\n\
+==\n\
+BOMT 12:EDAB01DI.DIC\n\
+RTYSA03:DIA\n\
+TYPSA01:R\n\
+RTYSA03:DIA\n\
+RIDSA05:NOM_n\n\
+EOMT 00:\n\
+->\n\
+refused dic 601 record 1\n\
+--\n\
+a word twice\n\
+BOMT 12:EDAB01SE.SCD\n\
+RTYSA03:PGE\n\
+RIDSA06:NOD_id\n\
+RTYSA03:ATT\n\
+RIDSA06:SUP_id\n\
+DIPCP22:EDAB01;SeDIC;DIA;SUP_n\n\
+RTYSA03:REL\n\
+RIDSA06:INI_id\n\
+KNDSA03:IND\n\
+RTYSA03:REL\n\
+RIDSA06:FIN_id\n\
+KNDSA03:FND\n\
+EOMT 00:\n\
+==\n\
+BOMT 12:EDAB01DI.DIC\n\
+RTYSA03:DIA\n\
+RIDSA05:SUP_n\n\
+TYPSA01:R\n\
+RTYSA03:DIA\n\
+RIDSA05:SUP_n\n\
+EOMT 00:\n\
+->\n\
+refused dic 602 record 2\n\
+--\n\
+a class twice and a word twice\n\
+BOMT 12:EDAB01SE.SCD\n\
+RTYSA03:PGE\n\
+RIDSA06:NOD_id\n\
+RTYSA03:ATT\n\
+RIDSA06:SUP_id\n\
+DIPCP22:EDAB01;SeDIC;DIA;SUP_n\n\
+RTYSA03:REL\n\
+RIDSA06:INI_id\n\
+KNDSA03:IND\n\
+RTYSA03:REL\n\
+RIDSA06:FIN_id\n\
+KNDSA03:FND\n\
+RTYSA03:PGE\n\
+RIDSA06:NOD_id\n\
+EOMT 00:\n\
+==\n\
+BOMT 12:EDAB01DI.DIC\n\
+RTYSA03:DIA\n\
+RIDSA05:SUP_n\n\
+TYPSA01:R\n\
+RTYSA03:DIA\n\
+RIDSA05:SUP_n\n\
+EOMT 00:\n\
+->\n\
+refused scd 602 record 5\n\
+--\n\
+a word that is missing\n\
+BOMT 12:EDAB01SE.SCD\n\
+RTYSA03:PGE\n\
+RIDSA06:NOD_id\n\
+RTYSA03:ATT\n\
+RIDSA06:SUP_id\n\
+DIPCP22:EDAB01;SeDIC;DIA;SUP_n\n\
+RTYSA03:REL\n\
+RIDSA06:INI_id\n\
+KNDSA03:IND\n\
+RTYSA03:REL\n\
+RIDSA06:FIN_id\n\
+KNDSA03:FND\n\
+EOMT 00:\n\
+==\n\
+BOMT 12:EDAB01DI.DIC\n\
+RTYSA03:DIA\n\
+RIDSA05:SUP_m\n\
+TYPSA01:R\n\
+RTYSA03:DIA\n\
+RIDSA05:NOM_n\n\
+EOMT 00:\n\
+->\n\
+refused scd 603 record 2\n\
+--\n\
+a DIP that is no pointer\n\
+BOMT 12:EDAB01SE.SCD\n\
+RTYSA03:PGE\n\
+RIDSA06:NOD_id\n\
+RTYSA03:ATT\n\
+RIDSA06:SUP_id\n\
+DIPCP20:EDAB01;SeDICDIASUP_n\n\
+RTYSA03:REL\n\
+RIDSA06:INI_id\n\
+KNDSA03:IND\n\
+RTYSA03:REL\n\
+RIDSA06:FIN_id\n\
+KNDSA03:FND\n\
+EOMT 00:\n\
+==\n\
+BOMT 12:EDAB01DI.DIC\n\
+RTYSA03:DIA\n\
+RIDSA05:SUP_n\n\
+TYPSA01:R\n\
+RTYSA03:DIA\n\
+RIDSA05:NOM_n\n\
+EOMT 00:\n\
+->\n\
+refused scd 603 record 2\n\
+--\n\
+no class of the final kind\n\
+BOMT 12:EDAB01SE.SCD\n\
+RTYSA03:PGE\n\
+RIDSA06:NOD_id\n\
+RTYSA03:ATT\n\
+RIDSA06:SUP_id\n\
+DIPCP22:EDAB01;SeDIC;DIA;SUP_n\n\
+RTYSA03:REL\n\
+RIDSA06:INI_id\n\
+KNDSA03:IND\n\
+EOMT 00:\n\
+==\n\
+BOMT 12:EDAB01DI.DIC\n\
+RTYSA03:DIA\n\
+RIDSA05:SUP_n\n\
+TYPSA01:R\n\
+RTYSA03:DIA\n\
+RIDSA05:NOM_n\n\
+EOMT 00:\n\
+->\n\
+refused kinds 604\n\
+--\n\
+two classes of the final kind\n\
+BOMT 12:EDAB01SE.SCD\n\
+RTYSA03:PGE\n\
+RIDSA06:NOD_id\n\
+RTYSA03:ATT\n\
+RIDSA06:SUP_id\n\
+DIPCP22:EDAB01;SeDIC;DIA;SUP_n\n\
+RTYSA03:REL\n\
+RIDSA06:INI_id\n\
+KNDSA03:IND\n\
+RTYSA03:REL\n\
+RIDSA06:FIN_id\n\
+KNDSA03:FND\n\
+RTYSA03:REL\n\
+RIDSA06:FI2_id\n\
+KNDSA03:FND\n\
+EOMT 00:\n\
+==\n\
+BOMT 12:EDAB01DI.DIC\n\
+RTYSA03:DIA\n\
+RIDSA05:SUP_n\n\
+TYPSA01:R\n\
+RTYSA03:DIA\n\
+RIDSA05:NOM_n\n\
+EOMT 00:\n\
+->\n\
+refused kinds 604\n\
+--\n\
+a class of the final kind whose type holds a semicolon\n\
+BOMT 12:EDAB01SE.SCD\n\
+RTYSA03:PGE\n\
+RIDSA06:NOD_id\n\
+RTYSA03:ATT\n\
+RIDSA06:SUP_id\n\
+DIPCP22:EDAB01;SeDIC;DIA;SUP_n\n\
+RTYSA03:REL\n\
+RIDSA06:INI_id\n\
+KNDSA03:IND\n\
+RTYSA04:RE;L\n\
+RIDSA06:FIN_id\n\
+KNDSA03:FND\n\
+EOMT 00:\n\
+==\n\
+BOMT 12:EDAB01DI.DIC\n\
+RTYSA03:DIA\n\
+RIDSA05:SUP_n\n\
+TYPSA01:R\n\
+RTYSA03:DIA\n\
+RIDSA05:NOM_n\n\
+EOMT 00:\n\
+->\n\
+refused kinds 604\n\
+--\n\
+a plain class whose type holds a semicolon\n\
+BOMT 12:EDAB01SE.SCD\n\
+RTYSA04:PG;E\n\
+RIDSA06:NOD_id\n\
+RTYSA03:ATT\n\
+RIDSA06:SUP_id\n\
+DIPCP22:EDAB01;SeDIC;DIA;SUP_n\n\
+RTYSA03:REL\n\
+RIDSA06:INI_id\n\
+KNDSA03:IND\n\
+RTYSA03:REL\n\
+RIDSA06:FIN_id\n\
+KNDSA03:FND\n\
+EOMT 00:\n\
+==\n\
+BOMT 12:EDAB01DI.DIC\n\
+RTYSA03:DIA\n\
+RIDSA05:SUP_n\n\
+TYPSA01:R\n\
+RTYSA03:DIA\n\
+RIDSA05:NOM_n\n\
+EOMT 00:\n\
+->\n\
+ATT;SUP_id 0 P - R number\n\
+PG;E;NOD_id 1 P - A text\n\
+REL;FIN_id 2 F 3 A text\n\
+REL;INI_id 3 I 2 A text\n\
+";

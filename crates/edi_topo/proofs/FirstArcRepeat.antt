@@ -1,0 +1,110 @@
+-- The least member of a layer of arcs that ties is the least arc with the points of an earlier one.
+use Rattle.std.proofs.Common.{◌≡◌, ℕ, suc, ◌<◌, ◌≤◌, ◌⊎◌, inl, inr, Bool, true, false, not, cond, List, [], reverse, length, get_or, refl, sym, ap, ◌∙◌, subst, arith, Ordering, Less, Equal, Greater}
+use Rattle.std.specs.Ordering.{is_lt, ordering_reverse}
+use Rattle.std.proofs.lemmas.List.{get_or-map, reverse-reverse}
+use Rattle.std.proofs.lemmas.Bool.{cases_order}
+use Rattle.std.proofs.lemmas.Cmp.{tied_itself}
+use Rattle.edi_record.specs.Orders.{point_cmp, points_cmp}
+use Rattle.edi_record.specs.declared.record.Kind.TheVariants.{Par}
+use Rattle.edi_record.specs.declared.record.Point.{Point}
+use Rattle.edi_plan.specs.Places.{places_of}
+use Rattle.edi_plan.specs.Plans.{Drawing, record_at}
+use Rattle.edi_plan.proofs.Orders.{exact_lists, point_exact, points_total}
+use Rattle.edi_plan.proofs.PlaceLemmas.{place_there, place_of_kind, places_rise, has_place}
+use Rattle.edi_topo.specs.Arcs.{forward_keys, RepeatsAnEarlierArc}
+use Rattle.edi_topo.specs.Directions.{is_forward, forward}
+use Rattle.edi_topo.specs.Ranking.{Ties}
+
+abbrev pub count_of : Drawing → ℕ
+count_of p = length (places_of Par p)
+
+abbrev pub key_of : Drawing → ℕ → List Point
+key_of p m = get_or (forward_keys p) m []
+
+-- ---- the forward direction of points and of their reverse is one
+
+-- points with one forward direction are alike in one of the two
+pub in_one_direction : (xs ys : List Point) → forward xs ≡ forward ys → (ys ≡ xs) ⊎ (ys ≡ reverse xs)
+in_one_direction xs ys e = go (is_forward xs) (is_forward ys) e
+  where
+    go : (t u : Bool) → cond (not t) (reverse xs) xs ≡ cond (not u) (reverse ys) ys → (ys ≡ xs) ⊎ (ys ≡ reverse xs)
+    go true true e = inl (sym e)
+    go true false e = inr (sym (reverse-reverse ys) ∙ ap reverse (sym e))
+    go false true e = inr (sym e)
+    go false false e = inl (sym (reverse-reverse ys) ∙ (ap reverse (sym e) ∙ reverse-reverse xs))
+
+abbrev directed_by : Ordering → List Point → List Point
+directed_by o xs = cond (not (is_lt o)) (reverse xs) xs
+
+-- points and their reverse have one forward direction
+forward_reverse : (xs : List Point) → forward (reverse xs) ≡ forward xs
+forward_reverse xs = go (points_cmp xs (reverse xs)) refl
+  where
+    back : points_cmp (reverse xs) (reverse (reverse xs)) ≡ points_cmp (reverse xs) xs
+    back = ap (points_cmp (reverse xs)) (reverse-reverse xs)
+
+    turned : (o : Ordering) → points_cmp xs (reverse xs) ≡ o → points_cmp (reverse xs) (reverse (reverse xs)) ≡ ordering_reverse o
+    turned o e = back ∙ (points_total.antisymm (reverse xs) xs ∙ ap ordering_reverse e)
+
+    go : (o : Ordering) → points_cmp xs (reverse xs) ≡ o → forward (reverse xs) ≡ forward xs
+    go Less e = ap (λ p. directed_by p (reverse xs)) (turned Less e) ∙ (reverse-reverse xs ∙ sym (ap (λ p. directed_by p xs) e))
+    go Equal e = ap forward (sym (exact_lists point_cmp point_exact xs (reverse xs) e))
+    go Greater e = ap (λ p. directed_by p (reverse xs)) (turned Greater e) ∙ sym (ap (λ p. directed_by p xs) e)
+
+pub one_direction : (xs ys : List Point) → (ys ≡ xs) ⊎ (ys ≡ reverse xs) → forward xs ≡ forward ys
+one_direction xs ys (inl e) = ap forward (sym e)
+one_direction xs ys (inr e) = sym (ap forward e ∙ forward_reverse xs)
+
+module _ (p : Drawing) where
+  abbrev pub place : ℕ → ℕ
+  place m = get_or (places_of Par p) m 0
+
+  abbrev points_at : ℕ → List Point
+  points_at k = (record_at p k).points
+
+  pub key_is : (m : ℕ) → m < count_of p → key_of p m ≡ forward (points_at (place m))
+  key_is m h = get_or-map (λ k. forward (points_at k)) (places_of Par p) m 0 [] h
+
+  repeats_there : (m n : ℕ) → m < n → n < count_of p → points_cmp (key_of p m) (key_of p n) ≡ Equal → RepeatsAnEarlierArc p (place n)
+  repeats_there m n less h tie =
+      let early : m < count_of p = omega (arith, less, h) in
+      let keys : forward (points_at (place m)) ≡ forward (points_at (place n)) =
+      sym (key_is m early) ∙ (exact_lists point_cmp point_exact (key_of p m) (key_of p n) tie ∙ key_is n h) in (
+        place m,
+        points_at (place m),
+        points_at (place n),
+        places_rise Par p m n less h,
+        (place_there Par p m early, place_of_kind Par p m early, refl),
+        (place_there Par p n h, place_of_kind Par p n h, refl),
+        in_one_direction (points_at (place m)) (points_at (place n)) keys,
+      )
+
+  -- the member of an arc with the points of an earlier one
+  tying_member : (n : ℕ) → RepeatsAnEarlierArc p n → (m : ℕ) × Ties points_cmp (key_of p) (count_of p) m × (place m ≡ n)
+  tying_member n d =
+      let a = has_place Par p d.0 d.4.0 d.4.1 in
+      let b = has_place Par p n d.5.0 d.5.1 in
+      let less : a.0 < b.0 = before a.0 b.0 a.1 b.1 (omega (arith, a.2, b.2, d.3)) (cases_order a.0 b.0) in
+      let keys : key_of p a.0 ≡ key_of p b.0 =
+      key_is a.0 a.1 ∙ (ap (λ k. forward (points_at k)) a.2 ∙ (ap forward d.4.2 ∙ (one_direction d.1 d.2 d.6 ∙ (sym (ap forward d.5.2) ∙ (sym (ap (λ k. forward (points_at k)) b.2) ∙ sym (key_is b.0 b.1)))))) in
+      (b.0, ((b.1, (a.0, less, ap (points_cmp (key_of p a.0)) (sym keys) ∙ tied_itself points_total (key_of p a.0)))), b.2)
+    where
+      before : (i j : ℕ) → i < count_of p → j < count_of p → place i < place j → (i ≡ j) ⊎ ((i < j) ⊎ (j < i)) → i < j
+      before i j h l less (inl e) = absurd (omega (arith, ap place e))
+      before i j h l less (inr (inl d)) = d
+      before i j h l less (inr (inr d)) = absurd (omega (arith, places_rise Par p j i d h))
+
+  pub none_repeats : ((m : ℕ) → ¬ (Ties points_cmp (key_of p) (count_of p) m)) → (n : ℕ) → ¬ (RepeatsAnEarlierArc p n)
+  none_repeats none n d = let t = tying_member n d in none t.0 t.1
+
+  pub least_repeats : (m : ℕ) → Ties points_cmp (key_of p) (count_of p) m → ((n : ℕ) → Ties points_cmp (key_of p) (count_of p) n → m ≤ n)
+      → RepeatsAnEarlierArc p (place m) × ((k : ℕ) → RepeatsAnEarlierArc p k → place m ≤ k)
+  least_repeats m tie least = (
+    repeats_there tie.1.0 m tie.1.1 tie.0 tie.1.2,
+    λ k d. let t = tying_member k d in behind t.0 t.1.0 k t.2 (least t.0 t.1) (cases_order m t.0),
+  )
+    where
+      behind : (j : ℕ) → j < count_of p → (k : ℕ) → place j ≡ k → m ≤ j → (m ≡ j) ⊎ ((m < j) ⊎ (j < m)) → place m ≤ k
+      behind j h k e le (inl same) = omega (arith, ap place same, e)
+      behind j h k e le (inr (inl less)) = omega (arith, places_rise Par p m j less h, e)
+      behind j h k e le (inr (inr more)) = absurd (omega arith)

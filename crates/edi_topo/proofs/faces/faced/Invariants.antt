@@ -1,0 +1,5 @@
+use Rattle.edi_topo.specs.Faces.{AreFacedBelow}
+use Rattle.edi_topo.proofs.faces.faced.Given as goal
+
+abbrev pub invariant-loop-place : goal.invariant-loop-place
+invariant-loop-place l = AreFacedBelow l.plan l.place l.faced.items

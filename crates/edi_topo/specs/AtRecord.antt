@@ -1,0 +1,36 @@
+-- The rules of topology at one record.
+use Rattle.std.specs.Prelude.{◌≡◌, ℕ, suc, ◌<◌, ◌≤◌, Option, MatchOption, Some}
+use Rattle.edi_plan.specs.Plans.{Drawing}
+use Rattle.edi_topo.specs.TopologyRules.{BreaksTopologyRule}
+use Rattle.edi_topo.specs.Faces.{AreFaced}
+use Rattle.edi_topo.specs.Nodes as Nodes
+use Rattle.edi_topo.specs.Arcs as Arcs
+use Rattle.edi_topo.specs.declared.at_record.Findings.{Findings}
+
+-- no rule is broken at the record of this place, from 0
+abbrev pub IsUnbrokenAt : Drawing → ℕ → Type 0
+IsUnbrokenAt p place = (rule : ℕ) → ¬ (BreaksTopologyRule p rule (suc place))
+
+-- the rule is the least that is broken there
+pub record IsLeastAt (p : Drawing) (place rule : ℕ) : Type 0 where
+  pub is : BreaksTopologyRule p rule (suc place)
+  pub least : (other : ℕ) → BreaksTopologyRule p other (suc place) → rule ≤ other
+
+-- the least rule that is broken there, or none is
+abbrev pub IsLeastAtIfAny : Drawing → ℕ → Option ℕ → Type 0
+IsLeastAtIfAny p place found = MatchOption found (IsUnbrokenAt p place) (IsLeastAt p place)
+
+-- the place isn't past this one, if there is one
+abbrev pub IsUpTo : Option ℕ → ℕ → Type 0
+IsUpTo found place = (k : ℕ) → found ≡ Some k → place ≤ k
+
+-- what was found: the first node and the first arc that repeat an earlier one, and which faces are on a side
+pub record AreFindings (p : Drawing) (found : Findings) : Type 0 where
+  pub node : Nodes.IsFirstRepeatIfAny p found.node
+  pub arc : Arcs.IsFirstRepeatIfAny p found.arc
+  pub faced : AreFaced p found.faced.items
+
+-- the repeats aren't before this place
+pub record AreAhead (found : Findings) (place : ℕ) : Type 0 where
+  pub node : IsUpTo found.node place
+  pub arc : IsUpTo found.arc place

@@ -1,0 +1,84 @@
+//! The arcs of a plan, by their keys: rule 405.
+
+ghost use Rattle.std.specs.Prelude.{◌≡◌, ◌<◌, ℕ, [], length, slice_index, slice_index_or, IfOk};
+ghost use Rattle.edi_record.specs.declared.record.Kind.TheVariants.{Par};
+ghost use Rattle.edi_plan.specs.Places.{places_of};
+ghost use Rattle.edi_topo.specs.Arcs.{forward_keys, IsFirstRepeatIfAny};
+
+use crate::directions::forward_points;
+use crate::fault::TieFault;
+use crate::layer::Layer;
+use crate::ranking::ranks;
+use edi_line::Sequence;
+use edi_plan::Plan;
+use edi_record::{Kind, Point};
+use std::alloc::{AllocError, Global};
+use std::marker::Model;
+
+/// The arcs of a plan, in file order, by their points in the forward direction.
+#[derive(Drop)]
+pub struct PlanArcs<'a> {
+    plan: &'a Plan,
+    places: Vec<u32>,
+}
+
+impl<'a> Model for PlanArcs<'a> {
+    ghost use Rattle.std.specs.Prelude.{◌≡◌};
+    ghost use Rattle.edi_record.specs.declared.record.Kind.TheVariants.{Par};
+    ghost use Rattle.edi_plan.specs.Places.{places_of};
+    ghost use Rattle.edi_plan.specs.Plans.{Drawing};
+
+    ghost Value = { Drawing };
+
+    ghost view = { λ l. l.plan.now };
+
+    ghost invariant = { λ l. l.places.items ≡ places_of Par l.plan.now };
+}
+
+impl<'a> PlanArcs<'a> {
+    /// The arcs of a plan.
+    pub fn of(alloc: Global, plan: &'a Plan) -> Result<PlanArcs<'a>, AllocError>
+        ensures { IfOk result (λ arcs. arcs ≡ plan.now) }
+    {
+        let places = plan.places(alloc, Kind::Par)?;
+        Ok(PlanArcs { plan, places })
+    }
+
+    /// The place of an arc.
+    pub fn place(&self, member: u32) -> u32
+        requires { member < length (places_of Par self.now) }
+        ensures { result ≡ slice_index (places_of Par self.now) member }
+    {
+        self.places[member as usize]
+    }
+}
+
+impl Layer for PlanArcs<'_> {
+    type Key = Sequence<Point>;
+
+    ghost size = { λ l. length (places_of Par l) };
+
+    ghost key_of = { λ l m. slice_index_or (forward_keys l) m [] };
+
+    fn len(&self) -> u32 {
+        self.plan.keeps();
+        self.places.len() as u32
+    }
+
+    fn key(&self, alloc: Global, member: u32) -> Result<Sequence<Point>, AllocError> {
+        let points = forward_points(alloc, self.plan.points(self.place(member)))?;
+        Ok(Sequence::from_vec(points))
+    }
+}
+
+/// The first arc with the points of an earlier one, in either direction, if there is one.
+pub(crate) fn first_repeat(alloc: Global, plan: &Plan) -> Result<Option<u32>, AllocError>
+    ensures { IfOk result (IsFirstRepeatIfAny plan.now) }
+{
+    let arcs = PlanArcs::of(alloc, plan)?;
+    match ranks(alloc, &arcs) {
+        Ok(_) => Ok(None),
+        Err(TieFault::Tie(member)) => Ok(Some(arcs.place(member))),
+        Err(TieFault::Memory(error)) => Err(error),
+    }
+}

@@ -1,0 +1,132 @@
+//! The rules of topology at one record.
+
+ghost use Rattle.std.specs.Prelude.{◌≡◌, ◌↔◌, ◌<◌, ◌+◌, Some, IsTrue, IfOk, MatchOption};
+ghost use Rattle.edi_line.specs.Refusal.{IsLeastBroken, IsUnbroken};
+ghost use Rattle.edi_record.specs.declared.record.Kind.TheVariants.{Par, Pfe, Pno};
+ghost use Rattle.edi_plan.specs.Joined.{IsJoined};
+ghost use Rattle.edi_plan.specs.Plans.{IsPlace, record_at};
+ghost use Rattle.edi_topo.specs.Arcs as arcs_;
+ghost use Rattle.edi_topo.specs.AtRecord.{AreAhead, AreFindings, IsLeastAtIfAny, IsUpTo};
+ghost use Rattle.edi_topo.specs.Faces.{AreFaced};
+ghost use Rattle.edi_topo.specs.Nodes as nodes_;
+ghost use Rattle.edi_topo.specs.TopologyRules.{BreaksTopologyRule};
+
+use crate::directions::equals_reverse;
+use crate::ends::{ends_elsewhere, starts_elsewhere};
+use crate::faces::faced;
+use crate::{arcs, nodes};
+use edi_plan::Plan;
+use edi_record::Kind;
+use std::alloc::{AllocError, Global};
+
+/// What is looked up at each record: the first node and the first arc that repeat an earlier one, and
+/// which records are on a side of an arc.
+#[derive(Drop)]
+pub(crate) struct Findings {
+    node: Option<u32>,
+    arc: Option<u32>,
+    faced: Vec<bool>,
+}
+
+impl Findings {
+    pub(crate) fn of(alloc: Global, plan: &Plan) -> Result<Findings, AllocError>
+        requires { IsJoined plan.now }
+        ensures { IfOk result (AreFindings plan.now) }
+    {
+        Ok(Findings {
+            node: nodes::first_repeat(alloc, plan)?,
+            arc: arcs::first_repeat(alloc, plan)?,
+            faced: faced(alloc, plan)?,
+        })
+    }
+}
+
+fn is_place(repeat: Option<u32>, place: u32) -> bool
+    ensures { IsTrue result ↔ (repeat ≡ Some place) }
+{
+    match repeat {
+        Some(other) => other == place,
+        None => false,
+    }
+}
+
+/// The rule that a node breaks.
+fn rule_of_node(plan: &Plan, repeat: Option<u32>, place: u32) -> Option<u16>
+    requires place { IsPlace plan.now place }
+    requires node { (record_at plan.now place).kind ≡ Pno }
+    requires first { nodes_.IsFirstRepeatIfAny plan.now repeat }
+    requires ahead { IsUpTo repeat place }
+    ensures { IsLeastAtIfAny plan.now place result }
+{
+    if is_place(repeat, place) {
+        Some(403)
+    } else {
+        None
+    }
+}
+
+/// The least rule that an arc breaks.
+fn rule_of_arc(plan: &Plan, repeat: Option<u32>, place: u32) -> Option<u16>
+    requires joined { IsJoined plan.now }
+    requires place { IsPlace plan.now place }
+    requires arc { (record_at plan.now place).kind ≡ Par }
+    requires first { arcs_.IsFirstRepeatIfAny plan.now repeat }
+    requires ahead { IsUpTo repeat place }
+    ensures { IsLeastAtIfAny plan.now place result }
+{
+    if starts_elsewhere(plan, place) {
+        Some(401)
+    } else if ends_elsewhere(plan, place) {
+        Some(402)
+    } else if equals_reverse(plan.points(place)) {
+        Some(404)
+    } else if is_place(repeat, place) {
+        Some(405)
+    } else {
+        None
+    }
+}
+
+/// The rule that a face breaks.
+fn rule_of_face(plan: &Plan, faced: &[bool], place: u32) -> Option<u16>
+    requires place { IsPlace plan.now place }
+    requires face { (record_at plan.now place).kind ≡ Pfe }
+    requires faced { AreFaced plan.now faced.now }
+    ensures { IsLeastAtIfAny plan.now place result }
+{
+    if faced[place as usize] {
+        None
+    } else {
+        Some(406)
+    }
+}
+
+/// The least rule that the record at a place breaks.
+fn rule_at(plan: &Plan, findings: &Findings, place: u32) -> Option<u16>
+    requires joined { IsJoined plan.now }
+    requires place { IsPlace plan.now place }
+    requires findings { AreFindings plan.now findings.now }
+    requires ahead { AreAhead findings.now place }
+    ensures { IsLeastAtIfAny plan.now place result }
+{
+    match plan.kind(place) {
+        Kind::Pno => rule_of_node(plan, findings.node, place),
+        Kind::Par => rule_of_arc(plan, findings.arc, place),
+        Kind::Pfe => rule_of_face(plan, &findings.faced, place),
+        Kind::Fea | Kind::Lnk => None,
+    }
+}
+
+/// The first record that breaks a rule of topology, by its place, and the least rule there.
+pub(crate) fn first_broken(plan: &Plan, findings: &Findings) -> Option<(u16, u32)>
+    requires joined { IsJoined plan.now }
+    requires findings { AreFindings plan.now findings.now }
+    ensures { MatchOption result (IsUnbroken (BreaksTopologyRule plan.now)) (λ found. IsLeastBroken (BreaksTopologyRule plan.now) found.0 (found.1 + 1)) }
+{
+    for place in 0..plan.len() {
+        if let Some(rule) = rule_at(plan, findings, place) {
+            return Some((rule, place));
+        }
+    }
+    None
+}

@@ -1,0 +1,313 @@
+//! The bytes of records.
+
+ghost use Rattle.std.specs.Prelude.{◌≡◌, ℕ, length, ◌<◌, ◌++◌, OnOk, decimal, flat_map, map, reverse, IfOk};
+ghost use Rattle.std.specs.List.{AllByRecursion, list_any};
+ghost use Rattle.edi_line.specs.Printing.{printed, printed_zone};
+ghost use Rattle.edi_record.specs.Layout.{extra_zone, point_zone};
+ghost use Rattle.edi_schema.specs.Classes.{partner_of};
+ghost use Rattle.edi_schema.specs.Sorted.{sort_by};
+ghost use Rattle.edi_plan.specs.Orders.{attribute_cmp};
+ghost use Rattle.edi_plan.specs.Agreeing.{Agrees, AttributeAgrees};
+ghost use Rattle.edi_plan.specs.Plans.{IsPlace, record_at};
+ghost use Rattle.edi_rank.specs.Arranged.{arranged_record, old_places};
+ghost use Rattle.edi_rank.specs.Labelling.{AreLabels, number_of, order_of, turned_at};
+ghost use Rattle.edi_rank.specs.Same.{class_after as class_turned};
+ghost use Rattle.edi_write.specs.Heads.{headed};
+ghost use Rattle.edi_write.specs.Layout.{attribute_zones, head_zones};
+ghost use Rattle.edi_write.specs.Numbered.{arc_body, link_body, numbered_body, numbered_zones, ordered_tail};
+
+use crate::links::write_ends;
+use crate::names::{kind_code, record_identifier};
+use crate::parts::{write_attribute, write_class, write_extra, write_point};
+use crate::zones::{Head, write_zone};
+use edi_plan::{Plan, PlanAttribute, PlanEnd};
+use edi_rank::Labels;
+use edi_record::{Extra, Kind, Point};
+use edi_schema::{ClassRef, Role, Schema};
+use std::alloc::{AllocError, Global};
+
+const TYPE: Head = Head {
+    code: *b"RTY",
+    nature: b'S',
+    format: b'A',
+};
+
+const IDENTIFIER: Head = Head {
+    code: *b"RID",
+    nature: b'S',
+    format: b'A',
+};
+
+const CLASS: Head = Head {
+    code: *b"SCP",
+    nature: b'C',
+    format: b'P',
+};
+
+const ATTRIBUTES: Head = Head {
+    code: *b"ATC",
+    nature: b'S',
+    format: b'N',
+};
+
+const POINTS: Head = Head {
+    code: *b"PTC",
+    nature: b'S',
+    format: b'N',
+};
+
+const ENDS: Head = Head {
+    code: *b"FTC",
+    nature: b'S',
+    format: b'N',
+};
+
+fn write_number(
+    alloc: Global,
+    out: &mut Vec<u8>,
+    head: Head,
+    number: usize,
+) -> Result<(), AllocError>
+    ensures { OnOk result (out.new.items ≡ out.old.items ++ printed_zone (headed head (decimal number))) }
+{
+    let text = number.to_string(alloc)?;
+    write_zone(out, head, text.as_bytes())
+}
+
+fn write_forward(alloc: Global, out: &mut Vec<u8>, points: &[Point]) -> Result<(), AllocError>
+    ensures { OnOk result (out.new.items ≡ out.old.items ++ printed (map point_zone points.now)) }
+{
+    for point in points {
+        write_point(alloc, out, *point)?;
+    }
+    Ok(())
+}
+
+fn write_backward(alloc: Global, out: &mut Vec<u8>, points: &[Point]) -> Result<(), AllocError>
+    ensures { OnOk result (out.new.items ≡ out.old.items ++ printed (map point_zone (reverse points.now))) }
+{
+    for place in (0..points.len()).rev() {
+        write_point(alloc, out, points[place])?;
+    }
+    Ok(())
+}
+
+/// The attributes of a record in their order, as the plan lends them.
+fn ordered_attributes<'a>(
+    alloc: Global,
+    attributes: &'a [PlanAttribute],
+) -> Result<Vec<&'a PlanAttribute>, AllocError>
+    ensures { IfOk result (λ ordered. map (λ a. a.now) ordered.items ≡ sort_by attribute_cmp attributes.now) }
+{
+    let mut ordered = Vec::with_capacity(alloc, attributes.len())?;
+    for attribute in attributes {
+        ordered.push(attribute)?;
+    }
+    ordered.sort_unstable();
+    Ok(ordered)
+}
+
+fn write_attributes(
+    alloc: Global,
+    out: &mut Vec<u8>,
+    schema: &Schema,
+    attributes: &[&PlanAttribute],
+) -> Result<(), AllocError>
+    requires { AllByRecursion (λ a. AttributeAgrees schema.now a.now) attributes.now }
+    ensures { OnOk result (out.new.items ≡ out.old.items ++ printed (flat_map (attribute_zones schema.now) (map (λ a. a.now) attributes.now))) }
+{
+    for attribute in attributes {
+        write_attribute(alloc, out, schema, attribute)?;
+    }
+    Ok(())
+}
+
+fn write_extras(alloc: Global, out: &mut Vec<u8>, extras: &[Extra]) -> Result<(), AllocError>
+    ensures { OnOk result (out.new.items ≡ out.old.items ++ printed (map extra_zone extras.now)) }
+{
+    for extra in extras {
+        write_extra(alloc, out, extra)?;
+    }
+    Ok(())
+}
+
+/// Whether an end is an arc that is turned.
+fn has_turned_arc(labels: &Labels, ends: &[PlanEnd]) -> bool
+    requires { AllByRecursion (λ e. e.target < length labels.now.turned) ends.now }
+    ensures { result ≡ list_any (λ e. turned_at labels.now.turned e.target) ends.now }
+{
+    for end in ends {
+        if labels.turned(end.target) {
+            return true;
+        }
+    }
+    false
+}
+
+/// The class of a record, exchanged with its partner where an end is an arc that is turned.
+fn class_after(schema: &Schema, plan: &Plan, labels: &Labels, place: u32) -> ClassRef
+    requires agrees { Agrees schema.now plan.now }
+    requires labels { AreLabels schema.now plan.now labels.now }
+    requires place { IsPlace plan.now place }
+    ensures { result ≡ class_turned (partner_of schema.now) (turned_at labels.now.turned) (record_at plan.now place) }
+{
+    plan.keeps();
+    let class = plan.scp(place);
+    if plan.role(place) == Role::Plain || !has_turned_arc(labels, plan.ends(place)) {
+        return class;
+    }
+    schema.partner(class).unwrap_or(class)
+}
+
+/// Writes the type, the identifier and the class of a record.
+fn write_head(
+    alloc: Global,
+    out: &mut Vec<u8>,
+    schema: &Schema,
+    plan: &Plan,
+    labels: &Labels,
+    place: u32,
+) -> Result<(), AllocError>
+    requires agrees { Agrees schema.now plan.now }
+    requires labels { AreLabels schema.now plan.now labels.now }
+    requires place { IsPlace plan.now place }
+    ensures { OnOk result (out.new.items ≡ out.old.items ++ printed (head_zones schema.now (number_of labels.now place) (arranged_record schema.now labels.now plan.now place))) }
+{
+    let kind = plan.kind(place);
+    write_zone(out, TYPE, &kind_code(kind))?;
+    let identifier = record_identifier(alloc, kind, labels.number(place))?;
+    write_zone(out, IDENTIFIER, &identifier)?;
+    let class = class_after(schema, plan, labels, place);
+    write_class(alloc, out, CLASS, schema.name(class))
+}
+
+/// Writes the count of an arc's points, and these in its direction.
+fn write_arc(
+    alloc: Global,
+    out: &mut Vec<u8>,
+    points: &[Point],
+    turned: bool,
+) -> Result<(), AllocError>
+    ensures { OnOk result (out.new.items ≡ out.old.items ++ printed (arc_body turned points.now)) }
+{
+    write_number(alloc, out, POINTS, points.len())?;
+    if turned {
+        write_backward(alloc, out, points)
+    } else {
+        write_forward(alloc, out, points)
+    }
+}
+
+/// Writes the count of a link's ends, and these in their order.
+fn write_link(
+    alloc: Global,
+    out: &mut Vec<u8>,
+    plan: &Plan,
+    labels: &Labels,
+    ends: &[PlanEnd],
+) -> Result<(), AllocError>
+    requires numbered { length labels.now.numbers ≡ length plan.now.list }
+    requires there { AllByRecursion (λ e. IsPlace plan.now e.target) ends.now }
+    ensures { OnOk result (out.new.items ≡ out.old.items ++ printed (link_body labels.now plan.now ends.now)) }
+{
+    write_number(alloc, out, ENDS, ends.len())?;
+    write_ends(alloc, out, plan, labels, ends)
+}
+
+/// Writes what stands between the class and the attributes: points or ends.
+fn write_body(
+    alloc: Global,
+    out: &mut Vec<u8>,
+    plan: &Plan,
+    labels: &Labels,
+    place: u32,
+) -> Result<(), AllocError>
+    requires numbered { length labels.now.numbers ≡ length plan.now.list }
+    requires directed { length labels.now.turned ≡ length plan.now.list }
+    requires place { IsPlace plan.now place }
+    ensures { OnOk result (out.new.items ≡ out.old.items ++ printed (numbered_body labels.now plan.now place (record_at plan.now place).kind)) }
+{
+    plan.keeps();
+    match plan.kind(place) {
+        Kind::Pno => write_forward(alloc, out, plan.points(place)),
+        Kind::Par => write_arc(alloc, out, plan.points(place), labels.turned(place)),
+        Kind::Pfe | Kind::Fea => Ok(()),
+        Kind::Lnk => write_link(alloc, out, plan, labels, plan.ends(place)),
+    }
+}
+
+/// Writes the count of a record's attributes, these in their order, and its extra zones.
+fn write_tail(
+    alloc: Global,
+    out: &mut Vec<u8>,
+    schema: &Schema,
+    plan: &Plan,
+    place: u32,
+) -> Result<(), AllocError>
+    requires agrees { Agrees schema.now plan.now }
+    requires place { IsPlace plan.now place }
+    ensures { OnOk result (out.new.items ≡ out.old.items ++ printed (ordered_tail schema.now (record_at plan.now place))) }
+{
+    let attributes = ordered_attributes(alloc, plan.attributes(place))?;
+    write_number(alloc, out, ATTRIBUTES, attributes.len())?;
+    write_attributes(alloc, out, schema, &attributes)?;
+    write_extras(alloc, out, plan.extras(place))
+}
+
+/// Writes the record at a place.
+fn write_record(
+    alloc: Global,
+    out: &mut Vec<u8>,
+    schema: &Schema,
+    plan: &Plan,
+    labels: &Labels,
+    place: u32,
+) -> Result<(), AllocError>
+    requires agrees { Agrees schema.now plan.now }
+    requires labels { AreLabels schema.now plan.now labels.now }
+    requires place { IsPlace plan.now place }
+    ensures { OnOk result (out.new.items ≡ out.old.items ++ printed (numbered_zones schema.now labels.now plan.now place)) }
+{
+    write_head(alloc, out, schema, plan, labels, place)?;
+    write_body(alloc, out, plan, labels, place)?;
+    write_tail(alloc, out, schema, plan, place)
+}
+
+/// Writes the records of a kind, by their numbers.
+fn write_kind(
+    alloc: Global,
+    out: &mut Vec<u8>,
+    schema: &Schema,
+    plan: &Plan,
+    labels: &Labels,
+    kind: Kind,
+) -> Result<(), AllocError>
+    requires agrees { Agrees schema.now plan.now }
+    requires labels { AreLabels schema.now plan.now labels.now }
+    ensures { OnOk result (out.new.items ≡ out.old.items ++ printed (flat_map (numbered_zones schema.now labels.now plan.now) (order_of labels.now kind))) }
+{
+    let places = labels.order(kind);
+    for place in places {
+        write_record(alloc, out, schema, plan, labels, *place)?;
+    }
+    Ok(())
+}
+
+/// Writes the records of a plan: nodes, arcs, faces, objects and links, each by their numbers.
+pub(crate) fn write_records(
+    alloc: Global,
+    out: &mut Vec<u8>,
+    schema: &Schema,
+    plan: &Plan,
+    labels: &Labels,
+) -> Result<(), AllocError>
+    requires agrees { Agrees schema.now plan.now }
+    requires labels { AreLabels schema.now plan.now labels.now }
+    ensures { OnOk result (out.new.items ≡ out.old.items ++ printed (flat_map (numbered_zones schema.now labels.now plan.now) (old_places labels.now))) }
+{
+    write_kind(alloc, out, schema, plan, labels, Kind::Pno)?;
+    write_kind(alloc, out, schema, plan, labels, Kind::Par)?;
+    write_kind(alloc, out, schema, plan, labels, Kind::Pfe)?;
+    write_kind(alloc, out, schema, plan, labels, Kind::Fea)?;
+    write_kind(alloc, out, schema, plan, labels, Kind::Lnk)
+}

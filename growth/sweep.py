@@ -1,0 +1,70 @@
+#!/usr/bin/env python3
+"""Refuses each growth of memory of the built program in turn, on the example.
+
+    cd crates/edicad && rt run < ../../examples/node/bundle     builds out/edicad
+    python3 growth/sweep.py                                     from the top; needs cc
+
+For N = 1, 2, .. until a run meets no refusal, growth N of a run is refused. Each run must give the answer that it gives
+with ample memory, or `out of memory` with status 5 and nothing on standard output. OUT is then not there or whole: the
+line that tells that the sheet was accepted needs memory too. Anything else is a fault.
+"""
+import os
+import subprocess
+import sys
+import tempfile
+
+HERE = os.path.dirname(os.path.abspath(__file__))
+PROGRAM = os.path.join(HERE, "..", "crates", "edicad", "out", "edicad")
+NODE = os.path.join(HERE, "..", "examples", "node")
+
+
+def run(words, library, number, out):
+    """Status, standard output, standard error and OUT of a run, and whether a growth was refused."""
+    if os.path.exists(out):
+        os.remove(out)
+    reading, writing = os.pipe()
+    os.set_inheritable(writing, True)
+    environment = dict(os.environ, LD_PRELOAD=library, REFUSE=str(number)) if number else dict(os.environ)
+    with open(os.path.join(NODE, "bundle"), "rb") as source:
+        done = subprocess.run(["bash", "-c", f'exec 9>&{writing}; exec "$0" "$@"', PROGRAM, *words],
+                              stdin=source, capture_output=True, env=environment, pass_fds=[writing])
+    os.close(writing)
+    with os.fdopen(reading, "rb") as notes:
+        met = notes.read() != b""
+    written = None
+    if os.path.exists(out):
+        with open(out, "rb") as file:
+            written = file.read()
+    return (done.returncode, done.stdout, done.stderr, written), met
+
+
+def sweep(name, words, library, out):
+    wanted, _ = run(words, library, 0, out)
+    memory = same = 0
+    number = 1
+    while True:
+        answer, met = run(words, library, number, out)
+        if answer == wanted:
+            if not met:
+                print(f"{name}: {number - 1} growths refused in turn, {memory} answered out of memory, {same} as with ample memory")
+                return
+            same += 1
+        elif met and answer[:3] == (5, b"", b"out of memory\n") and answer[3] in (None, wanted[3]):
+            memory += 1
+        else:
+            sys.exit(f"{name}: growth {number} gives {answer}")
+        number += 1
+
+
+def main():
+    with tempfile.TemporaryDirectory() as folder:
+        library = os.path.join(folder, "refuse.so")
+        subprocess.run(["cc", "-O1", "-shared", "-fPIC", os.path.join(HERE, "refuse.c"), "-o", library, "-ldl"], check=True)
+        out = os.path.join(folder, "out.vec")
+        files = [os.path.join(NODE, name) for name in ("schema.scd", "dictionary.dic", "sheet.vec")]
+        sweep("bundle", [], library, out)
+        sweep("check", ["check", *files], library, out)
+        sweep("canon", ["canon", *files, out], library, out)
+
+
+main()
