@@ -114,7 +114,7 @@ fn tells_failures(rt: HostRuntime) -> Result<(), Fail> {
 }
 
 // A bundle is refused with this line, and nothing goes out.
-fn is_refused(rt: &HostRuntime, bundle: &[u8], line: &[u8]) -> Result<(), Fail> {
+fn is_refused<R: Abort + AllocGlobal>(rt: &R, bundle: &[u8], line: &[u8]) -> Result<(), Fail> {
     let names: [&[u8]; 2] = [b"standard input", b"standard output"];
     let mut taken = Vec::new(rt.alloc());
     let mut writer = ToWrite::new(&mut taken);
