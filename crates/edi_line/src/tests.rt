@@ -267,6 +267,116 @@ fn answer<T: Drop>(given: &Result<T, LineFault>) -> Result<(), (u16, u64)> {
     }
 }
 
+// A sheet of nodes, arcs, a face, an object and links.
+const PLAN: &[u8] = b"\
+    BOMT 12:EDAB01T1.VEC\n\
+    CSET 03:IRV\n\
+    RTYSA03:PNO\n\
+    RIDSA07:Noeud_1\n\
+    SCPCP22:EDAB01;SeSD;PGE;NOD_id\n\
+    CORCC12:+0.00;+0.00;\n\
+    ATCSN02:00\n\
+    QACSN02:00\n\
+    RTYSA03:PNO\n\
+    RIDSA07:Noeud_2\n\
+    SCPCP22:EDAB01;SeSD;PGE;NOD_id\n\
+    CORCC13:+10.00;+0.00;\n\
+    ATCSN02:00\n\
+    QACSN02:00\n\
+    RTYSA03:PAR\n\
+    RIDSA05:Arc_1\n\
+    SCPCP22:EDAB01;SeSD;PGE;ARC_id\n\
+    TYPSN01:1\n\
+    PTCSN02:02\n\
+    CORCC12:+0.00;+0.00;\n\
+    CORCC13:+10.00;+0.00;\n\
+    ATCSN02:00\n\
+    QACSN02:00\n\
+    RTYSA03:PAR\n\
+    RIDSA05:Arc_2\n\
+    SCPCP22:EDAB01;SeSD;PGE;ARC_id\n\
+    TYPSN01:1\n\
+    PTCSN02:03\n\
+    CORCC13:+10.00;+0.00;\n\
+    CORCC12:+5.00;+5.00;\n\
+    CORCC12:+0.00;+0.00;\n\
+    ATCSN02:00\n\
+    QACSN02:00\n\
+    RTYSA03:PFE\n\
+    RIDSA06:Face_1\n\
+    SCPCP22:EDAB01;SeSD;PGE;FAC_id\n\
+    ATCSN02:00\n\
+    QACSN02:00\n\
+    RTYSA03:FEA\n\
+    RIDSA07:Objet_1\n\
+    SCPCP27:EDAB01;SeSD;OBJ;PARCELLE_id\n\
+    CNCSN02:00\n\
+    ATCSN02:02\n\
+    ATPCP22:EDAB01;SeSD;ATT;SUP_id\n\
+    ATVSR05:25.00\n\
+    ATPCP22:EDAB01;SeSD;ATT;NOM_id\n\
+    TEXT 06:8859-1\n\
+    ATVSA04:A 12\n\
+    QACSN02:00\n\
+    RTYSA03:LNK\n\
+    RIDSA06:Lien_1\n\
+    SCPCP22:EDAB01;SeSD;REL;INI_id\n\
+    FTCSN02:02\n\
+    FTPCP21:EDAB01;SeT1;PAR;Arc_1\n\
+    FTPCP23:EDAB01;SeT1;PNO;Noeud_1\n\
+    ATCSN02:00\n\
+    QACSN02:00\n\
+    RTYSA03:LNK\n\
+    RIDSA06:Lien_2\n\
+    SCPCP22:EDAB01;SeSD;REL;FIN_id\n\
+    FTCSN02:02\n\
+    FTPCP21:EDAB01;SeT1;PAR;Arc_1\n\
+    FTPCP23:EDAB01;SeT1;PNO;Noeud_2\n\
+    ATCSN02:00\n\
+    QACSN02:00\n\
+    RTYSA03:LNK\n\
+    RIDSA06:Lien_3\n\
+    SCPCP22:EDAB01;SeSD;REL;INI_id\n\
+    FTCSN02:02\n\
+    FTPCP21:EDAB01;SeT1;PAR;Arc_2\n\
+    FTPCP23:EDAB01;SeT1;PNO;Noeud_2\n\
+    ATCSN02:00\n\
+    QACSN02:00\n\
+    RTYSA03:LNK\n\
+    RIDSA06:Lien_4\n\
+    SCPCP22:EDAB01;SeSD;REL;FIN_id\n\
+    FTCSN02:02\n\
+    FTPCP21:EDAB01;SeT1;PAR;Arc_2\n\
+    FTPCP23:EDAB01;SeT1;PNO;Noeud_1\n\
+    ATCSN02:00\n\
+    QACSN02:00\n\
+    RTYSA03:LNK\n\
+    RIDSA06:Lien_5\n\
+    SCPCP22:EDAB01;SeSD;REL;GCH_id\n\
+    FTCSN02:02\n\
+    FTPCP21:EDAB01;SeT1;PAR;Arc_1\n\
+    FTPCP22:EDAB01;SeT1;PFE;Face_1\n\
+    ATCSN02:00\n\
+    QACSN02:00\n\
+    RTYSA03:LNK\n\
+    RIDSA06:Lien_6\n\
+    SCPCP22:EDAB01;SeSD;REL;GCH_id\n\
+    FTCSN02:02\n\
+    FTPCP21:EDAB01;SeT1;PAR;Arc_2\n\
+    FTPCP22:EDAB01;SeT1;PFE;Face_1\n\
+    ATCSN02:00\n\
+    QACSN02:00\n\
+    RTYSA03:LNK\n\
+    RIDSA06:Lien_7\n\
+    SCPCP22:EDAB01;SeSD;REL;CMP_id\n\
+    FTCSN02:02\n\
+    FTPCP23:EDAB01;SeT1;FEA;Objet_1\n\
+    FTPCP22:EDAB01;SeT1;PFE;Face_1\n\
+    ATCSN02:00\n\
+    QACSN02:00\n\
+    EOMT 00:\n\
+";
+
 // What two pieces and the end are answered.
 fn fed_in_two(
     alloc: Global,
@@ -277,7 +387,7 @@ fn fed_in_two(
     Result<(), LineFault>,
     Result<Vec<Zone<'static>>, LineFault>,
 )
-    requires { length front.now + length behind.now < 1000 }
+    requires { length front.now + length behind.now < 10000 }
 {
     let mut feed = Feed::new(alloc);
     let first = feed.feed(front);
@@ -287,7 +397,7 @@ fn fed_in_two(
 
 // How many bytes were taken one by one, and what the end is answered.
 fn fed_in_bytes(alloc: Global, bytes: &[u8]) -> (usize, Result<Vec<Zone<'static>>, LineFault>)
-    requires { length bytes.now < 1000 }
+    requires { length bytes.now < 10000 }
 {
     let mut feed = Feed::new(alloc);
     let mut taken = 0;
@@ -326,6 +436,26 @@ fn takes_a_sheet_in_pieces(rt: HostRuntime) -> Result<(), Fail> {
     }
     let (taken, end) = fed_in_bytes(alloc, SHEET);
     assert_eq!(rt; taken, SHEET.len());
+    assert!(rt; are_same(&end.ok().ok_or("no zones")?, &whole));
+    Ok(())
+}
+
+#[test]
+fn takes_a_plan_in_pieces(rt: HostRuntime) -> Result<(), Fail> {
+    let alloc = rt.alloc();
+    let whole = zones(alloc, PLAN).ok().ok_or("no zones")?;
+    assert_eq!(rt; whole.len(), 106);
+    for cut in 0..=PLAN.len() {
+        let (front, behind) = PLAN.split_at(cut);
+        let (first, second, end) = fed_in_two(alloc, front, behind);
+        assert!(rt; first.is_ok() && second.is_ok());
+        assert!(rt;
+            are_same(&end.ok().ok_or("no zones")?, &whole),
+            "cut at {cut}"
+        );
+    }
+    let (taken, end) = fed_in_bytes(alloc, PLAN);
+    assert_eq!(rt; taken, PLAN.len());
     assert!(rt; are_same(&end.ok().ok_or("no zones")?, &whole));
     Ok(())
 }
