@@ -7,6 +7,7 @@ pub mod Rules
 pub mod Passes
 pub mod Ends
 pub mod Feeds
+pub mod Pieces
 pub mod Shape
 pub mod DeviceLemmas
 pub mod Heads

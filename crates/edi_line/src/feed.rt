@@ -2,7 +2,7 @@
 
 ghost use Rattle.std.specs.Prelude.{◌≡◌, ℕ, List, Option, Some, None, ◌+◌, ◌-◌, ◌^◌, ◌<◌, ◌≤◌, ◌++◌, [], length, option_map, IfOk, IfErr, OnOk, IsErr};
 ghost use Rattle.edi_line.specs.Entry.{entries};
-ghost use Rattle.edi_line.specs.Feeding.{Refused, FeedState, HoldsFault, StandsFor, fault_seen, refusal_seen, TakesAll, TakesFront, RefusesOne, RefusesIn};
+ghost use Rattle.edi_line.specs.Feeding.{Refused, FeedState, HoldsFault, StandsFor, fault_seen, joined, refusal_seen, TakesAll, TakesFront, RefusesOne, RefusesIn};
 ghost use Rattle.edi_line.specs.Held.{Takes, Refuses, Stands, zoned};
 ghost use Rattle.edi_line.specs.Lines.{HasNoFeed, content_of};
 ghost use Rattle.edi_line.specs.LineRules.{BreaksLineRule, IsZonesOf};
@@ -139,6 +139,26 @@ impl Feed {
         take_last(alloc, &mut reader, &pending)?;
         reader.finish()
     }
+}
+
+/// The zones of a file that comes in these pieces, each value owned by its zone: for every cutting, the
+/// answer of `zones` on the joined pieces, but for want of memory.
+///
+/// The file has at most 2^64 - 2 bytes. Where one of the rules 101 to 110 is broken, the fault names the
+/// least line with a broken rule, and the least rule that is broken there.
+pub fn zones_of_pieces(alloc: Global, pieces: &[&[u8]]) -> Result<Vec<Zone<'static>>, LineFault>
+    requires { length (joined pieces.now) < 2 ^ 64 - 1 }
+    ensures zones { IfOk result (λ zones. IsZonesOf (joined pieces.now) (entries zones.items)) }
+    ensures shape { IfOk result (λ zones. HasShape (entries zones.items)) }
+    ensures few { IfOk result (λ zones. length (groups_of (entries zones.items)) ≤ 9999999) }
+    ensures sound { OnOk result (IsUnbroken (BreaksLineRule (joined pieces.now))) }
+    ensures least { IfErr result (IsLineRefusal (BreaksLineRule (joined pieces.now))) }
+{
+    let mut feed = Feed::new(alloc);
+    for piece in pieces {
+        feed.feed(piece)?;
+    }
+    feed.finish()
 }
 
 /// Takes a piece: the lines that it ends, and then what is left of it to those that are pending.

@@ -17,7 +17,7 @@ pub mod zone;
 
 pub use device::{ByteIn, ByteOut, FromRead, ToWrite};
 pub use fault::LineFault;
-pub use feed::Feed;
+pub use feed::{Feed, zones_of_pieces};
 pub use known::{known_lines_are_read, known_numbers_are_read};
 pub use lines::lines_are_unique;
 pub use num::{Num, numbers_are_unique, spellings_are_read};

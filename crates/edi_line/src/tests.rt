@@ -1,9 +1,10 @@
 //! Known numbers, files and devices.
 ghost use Rattle.std.specs.Prelude.{◌+◌, ◌<◌, length};
+ghost use Rattle.edi_line.specs.Feeding.{joined};
 
 use crate::{
     ByteIn, ByteOut, Feed, FromRead, LineFault, Num, ReadFault, ScriptIn, ScriptOut, Sequence,
-    ToWrite, Zone, read_all, zones,
+    ToWrite, Zone, read_all, zones, zones_of_pieces,
 };
 use std::alloc::Global;
 use std::borrow::CowSlice;
@@ -460,6 +461,13 @@ fn takes_a_plan_in_pieces(rt: HostRuntime) -> Result<(), Fail> {
     Ok(())
 }
 
+// What three pieces are answered.
+fn fed_in_three(alloc: Global, pieces: [&[u8]; 3]) -> Result<Vec<Zone<'static>>, LineFault>
+    requires { length (joined pieces) < 10000 }
+{
+    zones_of_pieces(alloc, &pieces)
+}
+
 #[test]
 fn refuses_a_line_as_it_ends(rt: HostRuntime) -> Result<(), Fail> {
     let alloc = rt.alloc();
@@ -473,6 +481,10 @@ fn refuses_a_line_as_it_ends(rt: HostRuntime) -> Result<(), Fail> {
     assert_eq!(rt; answer(&first), Err((107, 3)));
     assert_eq!(rt; answer(&second), Err((107, 3)));
     assert_eq!(rt; answer(&end), Err((107, 3)));
+    let pieces: [&[u8]; 3] = [b"BOMT 01:X", b"\nx", b"\nEOMT 00:\n"];
+    assert_eq!(rt; answer(&fed_in_three(alloc, pieces)), Err((101, 2)));
+    let pieces: [&[u8]; 3] = [b"BOMT 01:X\n", b"EOMT 0", b"0:\n"];
+    assert_eq!(rt; answer(&fed_in_three(alloc, pieces)), Ok(()));
     let (taken, end) = fed_in_bytes(alloc, b"BOMT 01:X\nx\n");
     assert_eq!(rt; taken, 11);
     assert_eq!(rt; answer(&end), Err((101, 2)));
