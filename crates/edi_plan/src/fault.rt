@@ -37,6 +37,14 @@ pub(crate) enum Unresolved {
     Broken(u16),
 }
 
+impl From<AllocError> for Unresolved {
+    ghost from_gives = { λ _ e. e ≡ NoMemory alloc_error };
+
+    fn from(fault: AllocError) -> Unresolved {
+        Unresolved::Memory(fault)
+    }
+}
+
 impl<T: Drop> From<AllocFailed<T>> for Unresolved {
     ghost from_gives = { λ _ e. e ≡ NoMemory alloc_error };
 

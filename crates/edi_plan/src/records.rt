@@ -65,7 +65,7 @@ fn plan_attributes(
     ensures ok { IfOk result (λ done. AllZip (Resolves schema.now) attributes done.items) }
     ensures err { IfErr result (IsUnresolved (λ rule. (rule ≡ 303) × Any (LacksClass schema.now) attributes)) }
 {
-    let mut done = Vec::new(alloc);
+    let mut done = Vec::with_capacity(alloc, attributes.len())?;
     for attribute in attributes.into_vec() {
         match plan_attribute(schema, attribute) {
             Some(attribute) => done.push(attribute)?,
@@ -94,7 +94,7 @@ fn plan_ends(
     ensures ok { IfOk result (λ done. AreGiven targets.now ends done.items) }
     ensures err { IfErr result (IsUnresolved (λ rule. (rule ≡ 305) × (list_any is_none targets.now ≡ true))) }
 {
-    let mut done = Vec::new(alloc);
+    let mut done = Vec::with_capacity(alloc, ends.len())?;
     let mut place: usize = 0;
     for end in ends.into_vec() {
         let Some(target) = targets[place] else {

@@ -8,6 +8,7 @@ ghost use Rattle.edi_record.specs.Lent.{shown, AreFound};
 ghost use Rattle.edi_record.specs.RecordRules.{repeats as repeats_in, has_bad_attribute};
 ghost use Rattle.edi_record.specs.RecordRefusal.{IsBreachOf};
 
+use crate::counts::count_of;
 use crate::fault::GroupFault;
 use crate::pointer::Pointer;
 use crate::record::Attribute;
@@ -92,7 +93,7 @@ pub fn attributes_of(
 ) -> Result<Option<Vec<Attribute>>, AllocError>
     ensures { IfOk result (λ found. AreFound (attributes (entries group.now)) (option_map (λ v. v.items) found)) }
 {
-    let mut done = Vec::new(alloc);
+    let mut done = Vec::with_capacity(alloc, count_of(group, CLASS))?;
     let mut rest = group;
     while let [zone, after @ ..] = rest {
         if zone.code == CLASS {

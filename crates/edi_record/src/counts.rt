@@ -12,7 +12,7 @@ use crate::record::Kind;
 use edi_line::Zone;
 
 /// How many zones have a code.
-fn count_of(group: &[Zone<'_>], code: [u8; 3]) -> usize
+pub(crate) fn count_of(group: &[Zone<'_>], code: [u8; 3]) -> usize
     ensures { result ≡ count_by (λ z. code_test code (entry z)) group.now }
 {
     group.iter().filter(|zone| zone.code == code).count()

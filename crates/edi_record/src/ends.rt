@@ -10,6 +10,7 @@ ghost use Rattle.edi_record.specs.RecordRules.{kind_in, repeats as repeats_in, h
 ghost use Rattle.edi_record.specs.RecordRefusal.{IsBreachOf};
 
 use crate::attributes::{copied, repeats};
+use crate::counts::count_of;
 use crate::fault::GroupFault;
 use crate::pointer::Pointer;
 use crate::record::{End, Kind};
@@ -82,7 +83,7 @@ fn end(alloc: Global, pointer: Pointer<'_>, behind: &[Zone<'_>]) -> Result<End, 
 fn ends_of(alloc: Global, group: &[Zone<'_>]) -> Result<Option<Vec<End>>, AllocError>
     ensures { IfOk result (λ found. AreFound (ends (entries group.now)) (option_map (λ v. v.items) found)) }
 {
-    let mut done = Vec::new(alloc);
+    let mut done = Vec::with_capacity(alloc, count_of(group, END))?;
     let mut rest = group;
     while let [zone, after @ ..] = rest {
         if zone.code == END {

@@ -109,6 +109,7 @@ pub(crate) fn extras_of(
         }
         is_open = is_open_after(is_open, zone);
     }
+    done.shrink_to_fit();
     Ok(done)
 }
 

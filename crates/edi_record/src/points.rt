@@ -10,6 +10,7 @@ ghost use Rattle.edi_record.specs.Records.{values, has_points};
 ghost use Rattle.edi_record.specs.RecordRules.{kind_in, has_bad_point};
 ghost use Rattle.edi_record.specs.RecordRefusal.{IsBreachOf};
 
+use crate::counts::count_of;
 use crate::fault::GroupFault;
 use crate::pointer::cut;
 use crate::record::{Kind, Point};
@@ -72,7 +73,7 @@ impl Point {
 fn points_of(alloc: Global, group: &[Zone<'_>]) -> Result<Option<Vec<Point>>, AllocError>
     ensures { IfOk result (λ found. AreFound (map point (values (codes "COR") (entries group.now))) (option_map (λ v. v.items) found)) }
 {
-    let mut done = Vec::new(alloc);
+    let mut done = Vec::with_capacity(alloc, count_of(group, PLACE))?;
     for zone in group {
         if zone.code == PLACE {
             let Some(Point { x, y, z }) = Point::read(zone.value.as_slice()) else {

@@ -23,4 +23,4 @@ loop-zone-preserved c =
     ]
 
 pub returns : goal.returns
-returns c = c.loop-zone.invariant ∙ ap (λ t. c.loop-zone.done.items ++ t) (ap (extras_after c.args.kind c.loop-zone.is_open) (no_zone c.args.group.now c.loop-zone.zone-index c.loop-zone-test.false) ∙ extras_none c.args.kind c.loop-zone.is_open) ∙ append-nil c.loop-zone.done.items
+returns c = c.loop-zone.invariant ∙ ap (λ t. c.loop-zone.done.items ++ t) (ap (extras_after c.args.kind c.loop-zone.is_open) (no_zone c.args.group.now c.loop-zone.zone-index c.loop-zone-test.false) ∙ extras_none c.args.kind c.loop-zone.is_open) ∙ append-nil c.loop-zone.done.items ∙ sym c.shrink_to_fit.ensures.items
