@@ -29,14 +29,14 @@ impl Model for ClassRef {
 
 impl ClassRef {
     /// The class at a place from 0, in the order of the names.
-    pub fn at(place: u32) -> ClassRef
+    pub(crate) fn at(place: u32) -> ClassRef
         ensures { result ≡ place }
     {
         ClassRef { place }
     }
 
     /// The place of the class from 0, in the order of the names.
-    pub fn place(self) -> u32
+    pub(crate) fn place(self) -> u32
         ensures { result ≡ self }
     {
         self.place

@@ -18,12 +18,12 @@ const TYPE: [u8; 3] = *b"TYP";
 
 /// What is read of a record of either file: its name, and the first DIP, KND and TYP.
 #[derive(Clone, Copy, Debug)]
-pub struct Definition<'a> {
-    pub title: Title<'a>,
-    pub lacks_identifier: bool,
-    pub word: Option<&'a [u8]>,
-    pub kind: Option<&'a [u8]>,
-    pub word_type: Option<&'a [u8]>,
+pub(crate) struct Definition<'a> {
+    pub(crate) title: Title<'a>,
+    pub(crate) lacks_identifier: bool,
+    pub(crate) word: Option<&'a [u8]>,
+    pub(crate) kind: Option<&'a [u8]>,
+    pub(crate) word_type: Option<&'a [u8]>,
 }
 
 impl<'a> Definition<'a> {
@@ -41,7 +41,7 @@ impl<'a> Definition<'a> {
 }
 
 /// What is read of each record, in the order of the file.
-pub fn definitions<'a>(
+pub(crate) fn definitions<'a>(
     alloc: Global,
     zones: &'a [Zone<'_>],
 ) -> Result<Vec<Definition<'a>>, AllocError>

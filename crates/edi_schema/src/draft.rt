@@ -18,9 +18,9 @@ use std::alloc::Global;
 
 /// A class, with its name as its file lends it.
 #[derive(Clone, Copy, Debug)]
-pub struct Draft<'a> {
-    pub title: Title<'a>,
-    pub class: Class,
+pub(crate) struct Draft<'a> {
+    pub(crate) title: Title<'a>,
+    pub(crate) class: Class,
 }
 
 /// The letter of a TYP: its one letter A to Z, and else A.
@@ -45,9 +45,9 @@ fn is_number(word_type: Option<&[u8]>) -> bool
 
 /// The records of the dictionary and their names.
 #[derive(Clone, Copy)]
-pub struct Words<'w, 'a> {
-    pub titles: &'w IndexSet<Title<'a>>,
-    pub records: &'w [Definition<'a>],
+pub(crate) struct Words<'w, 'a> {
+    pub(crate) titles: &'w IndexSet<Title<'a>>,
+    pub(crate) records: &'w [Definition<'a>],
 }
 
 /// The first TYP of the record that a pointer names.
@@ -96,7 +96,7 @@ fn draft_of<'a>(
 }
 
 /// The class of each record in the order of the file, or rule 603.
-pub fn drafts<'a>(
+pub(crate) fn drafts<'a>(
     alloc: Global,
     kinds: &Kinds<'_>,
     words: Words<'_, '_>,

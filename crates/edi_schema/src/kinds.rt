@@ -25,13 +25,6 @@ impl<'a> Model for Kinds<'a> {
 }
 
 impl<'a> Kinds<'a> {
-    /// The code of initial nodes.
-    pub fn initial(&self) -> &'a [u8]
-        ensures { result.now ≡ self.now.initial }
-    {
-        self.initial
-    }
-
     /// IND, FND, LPO and RPO.
     pub fn usual() -> Kinds<'static>
         ensures { result ≡ record { initial = codes "IND"; final_node = codes "FND"; left = codes "LPO"; right = codes "RPO" } }

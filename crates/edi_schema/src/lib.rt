@@ -2,17 +2,17 @@
 #![tactic(auto)]
 
 pub mod class;
-pub mod definition;
-pub mod draft;
+mod definition;
+mod draft;
 pub mod fault;
 pub mod kinds;
 pub mod laws;
-pub mod places;
+mod places;
 pub mod role;
 pub mod schema;
-pub mod sorting;
-pub mod title;
-pub mod titles;
+mod sorting;
+mod title;
+mod titles;
 
 pub use class::{Class, ClassRef};
 pub use fault::{SchemaFault, Source};

@@ -12,11 +12,11 @@ use crate::role::Role;
 
 /// Where the class of each of the four kinds stands, if there is one.
 #[derive(Clone, Copy, Debug, PartialEq, Eq)]
-pub struct Places {
-    pub initial: Option<u32>,
-    pub final_node: Option<u32>,
-    pub left: Option<u32>,
-    pub right: Option<u32>,
+pub(crate) struct Places {
+    pub(crate) initial: Option<u32>,
+    pub(crate) final_node: Option<u32>,
+    pub(crate) left: Option<u32>,
+    pub(crate) right: Option<u32>,
 }
 
 /// Whether there are both places or none.
@@ -38,7 +38,7 @@ fn is_pointable(class: &Draft<'_>) -> bool
 }
 
 /// Whether a pointer can name each class of the four kinds.
-pub fn are_pointable(classes: &[Draft<'_>]) -> bool
+pub(crate) fn are_pointable(classes: &[Draft<'_>]) -> bool
     ensures { result ≡ list_all pointable (map drafted classes.now) }
 {
     classes.iter().all(is_pointable)
@@ -46,7 +46,7 @@ pub fn are_pointable(classes: &[Draft<'_>]) -> bool
 
 impl Places {
     /// The place of the class of a kind.
-    pub fn of(&self, role: Role) -> Option<u32>
+    pub(crate) fn of(&self, role: Role) -> Option<u32>
         ensures { result ≡ place_in self.now role }
     {
         match role {
@@ -92,7 +92,7 @@ impl Places {
 
     /// The places of the classes of the four kinds, where no kind has two
     /// and each has one if the kind that it is exchanged with has.
-    pub fn among(classes: &[Draft<'_>]) -> Option<Places>
+    pub(crate) fn among(classes: &[Draft<'_>]) -> Option<Places>
         requires { length classes.now < 2 ^ 32 }
         ensures { MatchOption result (AreUnpaired (map drafted classes.now)) (ArePlaces (map drafted classes.now)) }
     {

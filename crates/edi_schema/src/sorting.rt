@@ -15,7 +15,7 @@ use indexmap::IndexMap;
 use std::alloc::{AllocError, Global};
 
 /// Classes with distinct names, in the order of the names.
-pub fn sorted_by_name<'a>(mut drafts: Vec<Draft<'a>>) -> Vec<Draft<'a>>
+pub(crate) fn sorted_by_name<'a>(mut drafts: Vec<Draft<'a>>) -> Vec<Draft<'a>>
     requires { IsDistinct is_name (keys_of (map drafted drafts.items)) }
     ensures permutation { IsPermutation (map drafted drafts.entry.items) (map drafted result.items) }
     ensures rises { AlwaysRises name_cmp (keys_of (map drafted result.items)) }
@@ -34,7 +34,10 @@ fn name(alloc: Global, draft: &Draft<'_>) -> Result<Name, AllocError>
 }
 
 /// The classes by their names, in the same order.
-pub fn by_name(alloc: Global, drafts: &[Draft<'_>]) -> Result<IndexMap<Name, Class>, AllocError>
+pub(crate) fn by_name(
+    alloc: Global,
+    drafts: &[Draft<'_>],
+) -> Result<IndexMap<Name, Class>, AllocError>
     requires { AlwaysRises name_cmp (keys_of (map drafted drafts.now)) }
     ensures { IfOk result (λ classes. classes.entries ≡ map drafted drafts.now) }
 {

@@ -13,14 +13,14 @@ const IDENTIFIER: [u8; 3] = *b"RID";
 
 /// The type and the identifier of a record, lent by its zones.
 #[derive(Clone, Copy, Debug, PartialEq, Eq, PartialOrd, Ord, Hash)]
-pub struct Title<'a> {
-    pub rty: &'a [u8],
-    pub rid: &'a [u8],
+pub(crate) struct Title<'a> {
+    pub(crate) rty: &'a [u8],
+    pub(crate) rid: &'a [u8],
 }
 
 impl<'a> Title<'a> {
     /// The name of a record; what is missing is empty.
-    pub fn of(group: &'a [Zone<'_>]) -> Title<'a>
+    pub(crate) fn of(group: &'a [Zone<'_>]) -> Title<'a>
         ensures { named result ≡ name_in (entries group.now) }
     {
         Title {

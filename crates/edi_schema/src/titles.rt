@@ -19,7 +19,7 @@ fn first_unidentified(records: &[Definition<'_>]) -> Option<usize>
 }
 
 /// Each record of a file has exactly one identifier in form: 1 to 255 bytes without a semicolon.
-pub fn identified(file: Source, records: &[Definition<'_>]) -> Result<(), SchemaFault>
+pub(crate) fn identified(file: Source, records: &[Definition<'_>]) -> Result<(), SchemaFault>
     ensures ok { OnOk result (position (λ d. d.lacks_identifier) records.now ≡ None) }
     ensures lacks { IfErr result (IfEntry (λ source rule at. (source ≡ file) × (rule ≡ 601)
         × ((place : ℕ) × (at ≡ place + 1) × (position (λ d. d.lacks_identifier) records.now ≡ Some place)))) }
@@ -35,7 +35,7 @@ pub fn identified(file: Source, records: &[Definition<'_>]) -> Result<(), Schema
 }
 
 /// The names of the records of a file, where no two are the same.
-pub fn titles<'a>(
+pub(crate) fn titles<'a>(
     alloc: Global,
     file: Source,
     records: &[Definition<'a>],
