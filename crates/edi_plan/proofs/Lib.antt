@@ -1,6 +1,7 @@
 pub mod Built
 pub mod Orders
 pub mod DerivedOrders
+pub mod Lent
 pub mod PlaceLemmas
 pub mod NameLemmas
 pub mod TargetLemmas

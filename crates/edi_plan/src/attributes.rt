@@ -1,6 +1,6 @@
 //! Attributes in order.
 
-ghost use Rattle.std.specs.Prelude.{◌≡◌, IfOk, IsPermutation, IsSorted};
+ghost use Rattle.std.specs.Prelude.{◌≡◌, IfOk, map};
 ghost use Rattle.edi_schema.specs.Sorted.{sort_by};
 ghost use Rattle.edi_plan.specs.Orders.{attribute_cmp};
 
@@ -15,30 +15,17 @@ pub fn compare_attributes(a: &PlanAttribute, b: &PlanAttribute) -> Ordering
     a.cmp(b)
 }
 
-fn copy_of(attribute: &PlanAttribute) -> Result<PlanAttribute, AllocError>
-    ensures { IfOk result (λ copy. copy ≡ attribute.now) }
-{
-    attribute.clone()
-}
-
-fn copied(alloc: Global, attributes: &[PlanAttribute]) -> Result<Vec<PlanAttribute>, AllocError>
-    ensures { IfOk result (λ copy. copy.items ≡ attributes.now) }
-{
-    let mut copy = Vec::with_capacity(alloc, attributes.len())?;
-    for attribute in attributes {
-        copy.push(copy_of(attribute)?)?;
-    }
-    Ok(copy)
-}
-
-/// The attributes in their order.
-pub fn sorted_attributes(
+/// The attributes in their order, lent.
+pub fn sorted_attributes<'a>(
     alloc: Global,
-    attributes: &[PlanAttribute],
-) -> Result<Vec<PlanAttribute>, AllocError>
-    ensures { IfOk result (λ sorted. sorted.items ≡ sort_by attribute_cmp attributes.now) }
+    attributes: &'a [PlanAttribute],
+) -> Result<Vec<&'a PlanAttribute>, AllocError>
+    ensures { IfOk result (λ sorted. map (λ a. a.now) sorted.items ≡ sort_by attribute_cmp attributes.now) }
 {
-    let mut sorted = copied(alloc, attributes)?;
+    let mut sorted = Vec::with_capacity(alloc, attributes.len())?;
+    for attribute in attributes {
+        sorted.push(attribute)?;
+    }
     sorted.sort_unstable();
     Ok(sorted)
 }
