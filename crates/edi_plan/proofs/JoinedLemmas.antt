@@ -1,11 +1,11 @@
 -- What the rules of references leave of links.
-use Rattle.std.proofs.Common.{◌≡◌, ℕ, zero, suc, ◌+◌, ◌-◌, ◌<◌, ◌≤◌, ◌⊎◌, inl, inr, Bool, true, false, ◌&&◌, List, [], ◌∷◌, length, map, Option, Some, None, slice_get, refl, sym, ap, ◌∙◌, subst, arith, true≢false, eqb-true, eq-eqb, Any}
-use Rattle.std.specs.List.{AllZip, AllByRecursion}
+use Rattle.std.proofs.Common.{◌≡◌, ℕ, suc, ◌-◌, ◌<◌, ◌⊎◌, inl, inr, Bool, true, false, List, [], ◌∷◌, length, map, Some, slice_get, refl, sym, ap, ◌∙◌, subst, arith, true≢false, eqb-true, eq-eqb, Any}
+use Rattle.std.specs.List.{AllZip}
 use Rattle.std.proofs.lemmas.Bool.{cases_order}
 use Rattle.edi_line.specs.Refusal.{IsUnbroken}
 use Rattle.edi_record.specs.declared.record.End.{End}
 use Rattle.edi_record.specs.declared.record.Kind.{Kind}
-use Rattle.edi_record.specs.declared.record.Kind.TheVariants.{Pno, Par, Pfe, Fea, Lnk}
+use Rattle.edi_record.specs.declared.record.Kind.TheVariants.{Par}
 use Rattle.edi_record.specs.declared.record.Record.{Record}
 use Rattle.edi_record.specs.declared.sheet.Sheet.{Sheet}
 use Rattle.edi_schema.specs.Classes.{Classes}
@@ -15,12 +15,11 @@ use Rattle.edi_schema.specs.declared.role.Role.TheVariants.{Initial, Final, Left
 use Rattle.edi_plan.specs.Joined.{beside, HasEnds, JoinsArc, IsJoin, IsJoined}
 use Rattle.edi_plan.specs.PlanOf.{IsPlanOf, StatesPlanEnd, StatesPlanRecord}
 use Rattle.edi_plan.specs.Plans.{Drawing, IsPlace, record_at, blank, same_kind, kind_rank}
-use Rattle.edi_plan.specs.ReferenceRules.{IsAt, BreaksReferenceRule, Names, HasRole, JoinsArcTo}
+use Rattle.edi_plan.specs.ReferenceRules.{IsAt, BreaksReferenceRule, Names, JoinsArcTo}
 use Rattle.edi_plan.specs.ReferenceRules.BreaksReferenceRule.{joins_wrong, repeats_side}
 use Rattle.edi_plan.specs.Sides.{targets}
 use Rattle.edi_plan.specs.declared.record.PlanEnd.{PlanEnd}
-use Rattle.edi_plan.specs.declared.record.PlanRecord.{PlanRecord}
-use Rattle.edi_plan.proofs.Built.{both_true, zip_at, zip_back, zip_length}
+use Rattle.edi_plan.proofs.Built.{zip_at, zip_back}
 use Rattle.edi_plan.proofs.NameLemmas.{has_name}
 use Rattle.edi_plan.proofs.PlaceLemmas.{one_kind}
 use Rattle.edi_plan.proofs.RuleLemmas.{any_here, any_later}

@@ -1,5 +1,5 @@
 -- The plan that labels make of a plan stands in order.
-use Rattle.std.proofs.Common.{◌≡◌, ℕ, suc, ◌+◌, ◌-◌, ◌<◌, ◌≤◌, ◌⊎◌, inl, inr, true, List, [], ◌∷◌, map, length, get_or, refl, sym, ap, ◌∙◌, subst, arith, Less, eqb-true}
+use Rattle.std.proofs.Common.{◌≡◌, ℕ, suc, ◌+◌, ◌-◌, ◌<◌, ◌≤◌, ◌⊎◌, inl, inr, true, List, [], ◌∷◌, length, get_or, refl, sym, ap, ◌∙◌, subst, arith, Less, eqb-true}
 use Rattle.std.proofs.lemmas.Bool.{cases_lt}
 use Rattle.std.proofs.lemmas.Option.{slice_get_within}
 use Rattle.edi_record.specs.Orders.{points_cmp}
@@ -10,21 +10,17 @@ use Rattle.edi_schema.specs.Classes.{Classes, partner_of}
 use Rattle.edi_schema.specs.Sorted.{sort_by, NeverFalls}
 use Rattle.edi_schema.proofs.SortedLists.{NeverFalls-sort_by, sort_by-in_order}
 use Rattle.edi_plan.specs.Orders.{attribute_cmp}
-use Rattle.edi_plan.specs.Plans.{Drawing, IsPlace, record_at, blank, kind_rank, others_of}
-use Rattle.edi_plan.specs.Whole.{IsWhole}
+use Rattle.edi_plan.specs.Plans.{Drawing, IsPlace, record_at, kind_rank}
 use Rattle.edi_plan.specs.declared.record.PlanRecord.{PlanRecord}
 use Rattle.edi_plan.specs.declared.record.PlanEnd.{PlanEnd}
 use Rattle.edi_plan.proofs.Orders.{attribute_total, attribute_exact}
 use Rattle.edi_topo.specs.NodeKeys.{node_key, node_key_cmp, no_point}
-use Rattle.edi_topo.proofs.AtPlaces.{all_at}
 use Rattle.edi_rank.specs.Arranged.{offset, arranged_record, arranged}
-use Rattle.edi_rank.specs.InOrder.{Both, IsInOrder}
-use Rattle.edi_rank.specs.Keys.{end_cmp, numbered}
+use Rattle.edi_rank.specs.InOrder.{Both}
 use Rattle.edi_rank.specs.Labelling.{Labelling, AreLabels, order_of, number_of, turned_at, turned_by}
 use Rattle.edi_rank.specs.Same.{class_after, directed}
 use Rattle.edi_rank.specs.Turned.{turned_record}
 use Rattle.edi_rank.proofs.Arranging.{From, came_from}
-use Rattle.edi_rank.proofs.ArrangedUnder.{whole_arranged}
 use Rattle.edi_rank.proofs.TurnedRecords.{record_turned, turned_long}
 
 -- the records of a kind stand before those of the kinds after it

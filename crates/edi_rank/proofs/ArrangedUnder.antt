@@ -6,7 +6,6 @@ use Rattle.std.proofs.lemmas.List.{length-map, length-reverse}
 use Rattle.std.proofs.lemmas.List.Elements.{recursion_from_All, All-from_recursion}
 use Rattle.std.proofs.lemmas.List.Sorted.{All-permutation, length_permutation, IsPermutation-sym}
 use Rattle.edi_record.specs.Shapes.{may_have_points, may_have_ends}
-use Rattle.edi_record.specs.declared.record.Kind.TheVariants.{Pno}
 use Rattle.edi_record.specs.declared.record.Point.{Point}
 use Rattle.edi_schema.specs.Classes.{Classes, IsPaired, role_of, partner_of, has_role}
 use Rattle.edi_schema.specs.Roles.{is_plain, exchanged}
@@ -20,7 +19,6 @@ use Rattle.edi_plan.specs.Whole.{IsWhole}
 use Rattle.edi_plan.specs.declared.record.PlanRecord.{PlanRecord}
 use Rattle.edi_plan.specs.declared.record.PlanEnd.{PlanEnd}
 use Rattle.edi_plan.proofs.Orders.{attribute_total}
-use Rattle.edi_topo.proofs.AtPlaces.{all_at}
 use Rattle.edi_topo.specs.Ranking.{sum_below}
 use Rattle.edi_rank.specs.Arranged.{new_place, arranged_record, arranged}
 use Rattle.edi_rank.specs.Labelling.{Labelling, AreLabels, turned_at}

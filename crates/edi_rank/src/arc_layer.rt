@@ -5,9 +5,7 @@ ghost use Rattle.edi_record.specs.declared.record.Kind.TheVariants.{Par};
 ghost use Rattle.edi_plan.specs.Places.{places_of};
 ghost use Rattle.edi_rank.specs.Layers.{arc_keys};
 
-use edi_line::Sequence;
-use edi_record::Point;
-use edi_topo::{Layer, PlanArcs, Sound};
+use edi_topo::{ForwardPoints, Layer, PlanArcs, Sound};
 use std::alloc::{AllocError, Global};
 use std::marker::Model;
 
@@ -35,8 +33,8 @@ impl<'a> ArcLayer<'a> {
     }
 }
 
-impl Layer for ArcLayer<'_> {
-    type Key = Sequence<Point>;
+impl<'a> Layer for ArcLayer<'a> {
+    type Key = ForwardPoints<'a>;
 
     ghost size = { λ l. length (places_of Par l) };
 
@@ -46,7 +44,7 @@ impl Layer for ArcLayer<'_> {
         self.arcs.len()
     }
 
-    fn key(&self, alloc: Global, member: u32) -> Result<Sequence<Point>, AllocError> {
+    fn key(&self, alloc: Global, member: u32) -> Result<ForwardPoints<'a>, AllocError> {
         self.arcs.key(alloc, member)
     }
 }

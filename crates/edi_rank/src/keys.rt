@@ -2,18 +2,19 @@ ghost use Rattle.std.specs.Prelude.{◌≡◌};
 ghost use Rattle.edi_topo.specs.NodeKeys.{node_key_cmp};
 ghost use Rattle.edi_rank.specs.Keys.{end_cmp, face_key_cmp, link_key_cmp, object_key_cmp};
 
-use edi_line::Sequence;
+use edi_line::{Lent, LentEach, Sequence};
 use edi_plan::PlanAttribute;
 use edi_record::{Extra, Kind};
 use edi_schema::{ClassRef, Role};
 use std::cmp::Ordering;
 
-/// An end by the type and the number of what it names.
+/// An end by the type and the number of what it names, with its SNS as the plan lends it. Ends go by
+/// type, number and SNS.
 #[derive(Debug, Drop, PartialEq, Eq, PartialOrd, Ord)]
-pub struct NumberedEnd {
+pub struct NumberedEnd<'a> {
     pub kind: Kind,
     pub number: u32,
-    pub sns: Option<Sequence<u8>>,
+    pub sns: Option<Lent<'a, u8>>,
 }
 
 /// A side of an arc that a face is on.
@@ -25,20 +26,20 @@ pub struct FaceKey {
 
 /// What orders links. The origin stands first, and the other ends in order.
 #[derive(Debug, Drop, PartialEq, Eq, PartialOrd, Ord)]
-pub struct LinkKey {
+pub struct LinkKey<'a> {
     pub class: ClassRef,
-    pub ends: Sequence<NumberedEnd>,
-    pub attributes: Sequence<PlanAttribute>,
-    pub extras: Sequence<Extra>,
+    pub ends: Sequence<NumberedEnd<'a>>,
+    pub attributes: LentEach<'a, PlanAttribute>,
+    pub extras: Lent<'a, Extra>,
 }
 
 /// What orders objects.
 #[derive(Debug, Drop, PartialEq, Eq, PartialOrd, Ord)]
-pub struct ObjectKey {
+pub struct ObjectKey<'a> {
     pub class: ClassRef,
-    pub attributes: Sequence<PlanAttribute>,
-    pub extras: Sequence<Extra>,
-    pub pieces: Sequence<LinkKey>,
+    pub attributes: LentEach<'a, PlanAttribute>,
+    pub extras: Lent<'a, Extra>,
+    pub pieces: Sequence<LinkKey<'a>>,
 }
 
 pub fn compare_faces(a: FaceKey, b: FaceKey) -> Ordering

@@ -84,7 +84,14 @@ impl Labels {
         requires { place < length self.now.numbers }
         ensures { result ≡ number_of self.now place }
     {
-        self.numbers.as_slice()[place as usize]
+        self.numbers()[place as usize]
+    }
+
+    /// The number of each record among those of its type, from 1, by place.
+    pub fn numbers(&self) -> &[u32]
+        ensures { result.now ≡ self.now.numbers }
+    {
+        self.numbers.as_slice()
     }
 
     /// Whether a record is an arc that is turned.

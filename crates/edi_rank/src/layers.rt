@@ -33,8 +33,8 @@ impl<'a> NodeLayer<'a> {
     }
 }
 
-impl Layer for NodeLayer<'_> {
-    type Key = NodeKey;
+impl<'a> Layer for NodeLayer<'a> {
+    type Key = NodeKey<'a>;
 
     ghost size = { λ l. length (places_of Pno l) };
 
@@ -44,7 +44,7 @@ impl Layer for NodeLayer<'_> {
         self.nodes.len()
     }
 
-    fn key(&self, alloc: Global, member: u32) -> Result<NodeKey, AllocError> {
+    fn key(&self, alloc: Global, member: u32) -> Result<NodeKey<'a>, AllocError> {
         self.nodes.key(alloc, member)
     }
 }

@@ -2,6 +2,7 @@
 #![tactic(auto)]
 
 pub mod arc_layer;
+pub mod ends;
 pub mod face_layer;
 pub mod fault;
 pub mod forward;
@@ -16,6 +17,7 @@ pub mod object_layer;
 
 pub use arc_layer::ArcLayer;
 pub use edi_topo::{Layer, Ranks, TieFault, is_forward, ranks};
+pub use ends::{numbered_end, sorted_ends};
 pub use face_layer::FaceLayer;
 pub use fault::RankFault;
 pub use keys::{FaceKey, LinkKey, NumberedEnd, ObjectKey};

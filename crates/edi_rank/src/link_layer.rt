@@ -72,8 +72,8 @@ impl<'a> LinkLayer<'a> {
     }
 }
 
-impl Layer for LinkLayer<'_> {
-    type Key = (LinkKey, u32);
+impl<'a> Layer for LinkLayer<'a> {
+    type Key = (LinkKey<'a>, u32);
 
     ghost size = { λ l. length (places_of Lnk l.plan) };
 
@@ -84,7 +84,7 @@ impl Layer for LinkLayer<'_> {
         self.places.len() as u32
     }
 
-    fn key(&self, alloc: Global, member: u32) -> Result<(LinkKey, u32), AllocError> {
+    fn key(&self, alloc: Global, member: u32) -> Result<(LinkKey<'a>, u32), AllocError> {
         let place = self.place(member);
         let class = class_turned(self.schema, self.plan, self.turned, place);
         let key = link_key_at(alloc, self.plan, self.numbers, class, place)?;

@@ -10,8 +10,8 @@ ghost use Rattle.edi_rank.specs.Keys.{is_piece, link_key, link_key_cmp};
 ghost use Rattle.edi_rank.specs.Pieces.{is_owner, object_count, object_key_at, piece_places};
 
 use crate::keys::{LinkKey, ObjectKey};
-use crate::link_key::{copied_extras, link_key_at};
-use edi_line::Sequence;
+use crate::link_key::link_key_at;
+use edi_line::{Lent, LentEach, Sequence};
 use edi_plan::{Plan, PlanEnd, sorted_attributes};
 use edi_record::Kind;
 use edi_topo::{Layer, Sound};
@@ -74,8 +74,8 @@ impl<'a> ObjectLayer<'a> {
     }
 }
 
-impl Layer for ObjectLayer<'_> {
-    type Key = ObjectKey;
+impl<'a> Layer for ObjectLayer<'a> {
+    type Key = ObjectKey<'a>;
 
     ghost size = { λ l. length (places_of Fea l.plan) };
 
@@ -86,16 +86,15 @@ impl Layer for ObjectLayer<'_> {
         self.places.len() as u32
     }
 
-    fn key(&self, alloc: Global, member: u32) -> Result<ObjectKey, AllocError> {
+    fn key(&self, alloc: Global, member: u32) -> Result<ObjectKey<'a>, AllocError> {
         let place = self.place(member);
         let attributes = sorted_attributes(alloc, self.plan.attributes(place))?;
-        let extras = copied_extras(alloc, self.plan.extras(place))?;
         let links: &[Vec<u32>] = &self.links;
         let pieces = sorted_pieces(alloc, self.plan, self.numbers, &links[place as usize])?;
         Ok(ObjectKey {
             class: self.plan.scp(place),
-            attributes: Sequence::from_vec(attributes),
-            extras: Sequence::from_vec(extras),
+            attributes: LentEach::from_vec(attributes),
+            extras: Lent::of(self.plan.extras(place)),
             pieces: Sequence::from_vec(pieces),
         })
     }
@@ -167,12 +166,12 @@ fn no_links(alloc: Global, count: u32) -> Result<Vec<Vec<u32>>, AllocError>
     Ok(links)
 }
 
-fn piece_keys(
+fn piece_keys<'a>(
     alloc: Global,
-    plan: &Plan,
+    plan: &'a Plan,
     numbers: &[u32],
     links: &[u32],
-) -> Result<Vec<LinkKey>, AllocError>
+) -> Result<Vec<LinkKey<'a>>, AllocError>
     requires links { AllByRecursion (IsPlace plan.now) links.now }
     requires numbers { length numbers.now ≡ length plan.now.list }
     ensures { IfOk result (λ keys. keys.items ≡ map (λ k. link_key plan.now (slice_index numbers.now) (record_at plan.now k)) links.now) }
@@ -185,12 +184,12 @@ fn piece_keys(
 }
 
 /// The keys of an object's pieces in their order.
-fn sorted_pieces(
+fn sorted_pieces<'a>(
     alloc: Global,
-    plan: &Plan,
+    plan: &'a Plan,
     numbers: &[u32],
     links: &[u32],
-) -> Result<Vec<LinkKey>, AllocError>
+) -> Result<Vec<LinkKey<'a>>, AllocError>
     requires links { AllByRecursion (IsPlace plan.now) links.now }
     requires numbers { length numbers.now ≡ length plan.now.list }
     ensures { IfOk result (λ keys. keys.items ≡ sort_by link_key_cmp (map (λ k. link_key plan.now (slice_index numbers.now) (record_at plan.now k)) links.now)) }

@@ -5,13 +5,12 @@ ghost use Rattle.edi_record.specs.declared.record.Kind.TheVariants.{Par};
 ghost use Rattle.edi_plan.specs.Places.{places_of};
 ghost use Rattle.edi_topo.specs.Arcs.{forward_keys, IsFirstRepeatIfAny};
 
-use crate::directions::forward_points;
 use crate::fault::TieFault;
+use crate::forward_points::ForwardPoints;
 use crate::layer::Layer;
 use crate::ranking::ranks;
-use edi_line::Sequence;
 use edi_plan::Plan;
-use edi_record::{Kind, Point};
+use edi_record::Kind;
 use std::alloc::{AllocError, Global};
 use std::marker::Model;
 
@@ -53,8 +52,8 @@ impl<'a> PlanArcs<'a> {
     }
 }
 
-impl Layer for PlanArcs<'_> {
-    type Key = Sequence<Point>;
+impl<'a> Layer for PlanArcs<'a> {
+    type Key = ForwardPoints<'a>;
 
     ghost size = { λ l. length (places_of Par l) };
 
@@ -65,9 +64,8 @@ impl Layer for PlanArcs<'_> {
         self.places.len() as u32
     }
 
-    fn key(&self, alloc: Global, member: u32) -> Result<Sequence<Point>, AllocError> {
-        let points = forward_points(alloc, self.plan.points(self.place(member)))?;
-        Ok(Sequence::from_vec(points))
+    fn key(&self, _alloc: Global, member: u32) -> Result<ForwardPoints<'a>, AllocError> {
+        Ok(ForwardPoints::of(self.plan.points(self.place(member))))
     }
 }
 

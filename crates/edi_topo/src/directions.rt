@@ -1,12 +1,11 @@
 //! The direction of arcs.
 
-ghost use Rattle.std.specs.Prelude.{◌≡◌, ◌<◌, ◌↔◌, IsTrue, length, reverse, slice_index_or, IfOk};
+ghost use Rattle.std.specs.Prelude.{◌≡◌, ◌<◌, ◌↔◌, IsTrue, length, reverse, slice_index_or};
 ghost use Rattle.edi_record.specs.Orders.{point_cmp, points_cmp};
 ghost use Rattle.edi_record.specs.declared.record.Point.{Point};
-ghost use Rattle.edi_topo.specs.Directions.{forward, is_forward};
+ghost use Rattle.edi_topo.specs.Directions.{is_forward};
 
 use edi_record::Point;
-use std::alloc::{AllocError, Global};
 use std::cmp::Ordering;
 
 /// How the point at a place goes with the one as far from the other end.
@@ -42,15 +41,4 @@ pub(crate) fn equals_reverse(points: &[Point]) -> bool
     ensures { IsTrue result ↔ (points.now ≡ reverse points.now) }
 {
     direction(points).is_eq()
-}
-
-/// The points in the forward direction.
-pub(crate) fn forward_points(alloc: Global, points: &[Point]) -> Result<Vec<Point>, AllocError>
-    ensures { IfOk result (λ copy. copy.items ≡ forward points.now) }
-{
-    let mut copy = points.to_vec(alloc)?;
-    if !is_forward(points) {
-        copy.reverse();
-    }
-    Ok(copy)
 }

@@ -5,7 +5,7 @@ ghost use Rattle.edi_record.specs.declared.record.Kind.TheVariants.{Pno};
 ghost use Rattle.edi_plan.specs.Plans.{IsPlace, record_at};
 ghost use Rattle.edi_topo.specs.NodeKeys.{node_key, node_key_cmp, no_point};
 
-use edi_line::Sequence;
+use edi_line::{Lent, LentEach};
 use edi_plan::{Plan, PlanAttribute, sorted_attributes};
 use edi_record::{Extra, Point};
 use edi_schema::ClassRef;
@@ -14,34 +14,18 @@ use std::cmp::Ordering;
 
 /// What orders nodes: the place, the class, the attributes in order, and the extras.
 #[derive(Debug, Drop, PartialEq, Eq, PartialOrd, Ord)]
-pub struct NodeKey {
+pub struct NodeKey<'a> {
     pub point: Point,
     pub class: ClassRef,
-    pub attributes: Sequence<PlanAttribute>,
-    pub extras: Sequence<Extra>,
+    pub attributes: LentEach<'a, PlanAttribute>,
+    pub extras: Lent<'a, Extra>,
 }
 
 /// Nodes go by place, then class, then attributes, then extras.
-pub fn compare_nodes(a: &NodeKey, b: &NodeKey) -> Ordering
+pub fn compare_nodes(a: &NodeKey<'_>, b: &NodeKey<'_>) -> Ordering
     ensures { result ≡ node_key_cmp a.now b.now }
 {
     a.cmp(b)
-}
-
-fn copy_of(extra: &Extra) -> Result<Extra, AllocError>
-    ensures { IfOk result (λ copy. copy ≡ extra.now) }
-{
-    extra.clone()
-}
-
-fn copied(alloc: Global, extras: &[Extra]) -> Result<Vec<Extra>, AllocError>
-    ensures { IfOk result (λ copy. copy.items ≡ extras.now) }
-{
-    let mut copy = Vec::with_capacity(alloc, extras.len())?;
-    for extra in extras {
-        copy.push(copy_of(extra)?)?;
-    }
-    Ok(copy)
 }
 
 pub(crate) fn first_point(points: &[Point]) -> Point
@@ -51,8 +35,8 @@ pub(crate) fn first_point(points: &[Point]) -> Point
     points[0]
 }
 
-/// The key of the node at a place.
-pub fn node_key_at(alloc: Global, plan: &Plan, place: u32) -> Result<NodeKey, AllocError>
+/// The key of the node at a place. It borrows from the plan.
+pub fn node_key_at<'a>(alloc: Global, plan: &'a Plan, place: u32) -> Result<NodeKey<'a>, AllocError>
     requires place { IsPlace plan.now place }
     requires node { (record_at plan.now place).kind ≡ Pno }
     ensures { IfOk result (λ key. key ≡ node_key (record_at plan.now place)) }
@@ -60,11 +44,10 @@ pub fn node_key_at(alloc: Global, plan: &Plan, place: u32) -> Result<NodeKey, Al
     plan.keeps();
     let point = first_point(plan.points(place));
     let attributes = sorted_attributes(alloc, plan.attributes(place))?;
-    let extras = copied(alloc, plan.extras(place))?;
     Ok(NodeKey {
         point,
         class: plan.scp(place),
-        attributes: Sequence::from_vec(attributes),
-        extras: Sequence::from_vec(extras),
+        attributes: LentEach::from_vec(attributes),
+        extras: Lent::of(plan.extras(place)),
     })
 }

@@ -55,8 +55,8 @@ impl<'a> PlanNodes<'a> {
     }
 }
 
-impl Layer for PlanNodes<'_> {
-    type Key = NodeKey;
+impl<'a> Layer for PlanNodes<'a> {
+    type Key = NodeKey<'a>;
 
     ghost size = { λ n. length (places_of Pno n) };
 
@@ -67,7 +67,7 @@ impl Layer for PlanNodes<'_> {
         self.places.len() as u32
     }
 
-    fn key(&self, alloc: Global, member: u32) -> Result<NodeKey, AllocError> {
+    fn key(&self, alloc: Global, member: u32) -> Result<NodeKey<'a>, AllocError> {
         node_key_at(alloc, self.plan, self.place(member))
     }
 }

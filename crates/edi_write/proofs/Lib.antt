@@ -1,8 +1,6 @@
 pub mod Putting
 pub mod Breaking
 pub mod Agreed
-pub mod Lent
-pub mod EndOrder
 pub mod LaidOut
 pub mod Naming
 pub mod WrittenRecords

@@ -46,13 +46,8 @@ use Rattle.edi_record.specs.RecordRules.{BreaksRecordRule}
 use Rattle.edi_record.proofs.Sound.{sheet_sound}
 use Rattle.edi_line.specs.LineRules.{BreaksLineRule, IsZonesOf}
 use Rattle.edi_line.specs.Spelling.{is_printable}
-use Rattle.edi_schema.specs.SchemaOf.{IsSchemaOf, StatesClass}
-use Rattle.edi_schema.specs.SchemaOf as schema
-use Rattle.edi_schema.specs.Roles.{KindCodes}
 use Rattle.edi_schema.specs.declared.class.Class.{Class}
 use Rattle.std.specs.Map.{lookup}
-use Rattle.std.specs.Prelude.{nat_le}
-use Rattle.std.proofs.lemmas.Bool.{leb-true}
 use Rattle.edi_plan.specs.Agreeing.{Agrees}
 use Rattle.edi_plan.specs.ReferenceRules.{BreaksReferenceRule}
 use Rattle.edi_plan.specs.ReferenceRules.BreaksReferenceRule.{lacks_attribute_class}
@@ -68,7 +63,7 @@ use Rattle.edi_rank.specs.Same.{Carries, CarriesRecord, Same, class_after, direc
 use Rattle.edi_rank.proofs.ArrangedUnder.{directed_long}
 use Rattle.edi_rank.proofs.SameLaws.{ends_moved}
 use Rattle.edi_rank.proofs.Unique.{all_places}
-use Rattle.edi_plan.proofs.Built.{both_true, zip_at, zip_length, zip_one, zip_weaker}
+use Rattle.edi_plan.proofs.Built.{zip_at, zip_length, zip_one}
 use Rattle.edi_write.specs.Layout.{name_of, no_name, identifier, kind_letter, layout, number_in}
 use Rattle.edi_write.proofs.Naming.{number_few}
 use Rattle.edi_write.proofs.WrittenRecords.{none_there, written_at, written_count, written_layout, written_plan}

@@ -1,5 +1,5 @@
 -- A record as it is written of a plan that labels turn and number.
-use Rattle.std.specs.Prelude.{ℕ, Bool, List, [], ◌∷◌, ◌++◌, length, map, flat_map, option_copied, option_to_list, codes, decimal}
+use Rattle.std.specs.Prelude.{ℕ, Bool, List, [], ◌∷◌, ◌++◌, length, map, flat_map, option_to_list, codes, decimal}
 use Rattle.edi_line.specs.Entry.{Entry}
 use Rattle.edi_line.specs.Printing.{zone_text}
 use Rattle.edi_record.specs.Layout.{end_text, extra_zone, point_zone, sns_zone}
@@ -20,7 +20,6 @@ use Rattle.edi_rank.specs.Labelling.{Labelling, number_of, turned_at}
 use Rattle.edi_rank.specs.Same.{directed}
 use Rattle.edi_rank.specs.declared.keys.NumberedEnd.{NumberedEnd}
 use Rattle.edi_write.specs.Layout.{attribute_zones, head_zones, identifier}
-use Rattle.edi_write.specs.declared.links.LentEnd.{LentEnd}
 
 -- the name of a record by its type and its number
 abbrev pub numbered_name : Kind → ℕ → Name
@@ -29,10 +28,6 @@ numbered_name kind number = record { rty = kind_code kind; rid = identifier kind
 -- the zones of an end by the type and the number of what it names
 abbrev pub numbered_end_zones : NumberedEnd → List Entry
 numbered_end_zones e = zone_text (codes "FTP") 67 80 (end_text (numbered_name e.kind e.number)) ∷ map sns_zone (option_to_list e.sns)
-
--- an end without where its SNS lies in memory
-abbrev pub lent : LentEnd → NumberedEnd
-lent e = record { kind = e.kind; number = e.number; sns = option_copied e.sns }
 
 -- the count of an arc's points, and these in its direction
 abbrev pub arc_body : Bool → List Point → List Entry

@@ -1,19 +1,18 @@
 //! The bytes of the ends of links.
 
-ghost use Rattle.std.specs.Prelude.{◌≡◌, ℕ, ◌++◌, ◌<◌, length, map, flat_map, OnOk, IfOk};
+ghost use Rattle.std.specs.Prelude.{◌≡◌, ◌++◌, length, map, flat_map, OnOk};
 ghost use Rattle.std.specs.List.{AllByRecursion};
 ghost use Rattle.edi_line.specs.Printing.{printed};
 ghost use Rattle.edi_schema.specs.Sorted.{sort_by};
 ghost use Rattle.edi_plan.specs.Plans.{IsPlace};
 ghost use Rattle.edi_rank.specs.Keys.{end_cmp, ends_key, numbered};
 ghost use Rattle.edi_rank.specs.Labelling.{number_of};
-ghost use Rattle.edi_write.specs.Numbered.{lent, numbered_end_zones};
+ghost use Rattle.edi_write.specs.Numbered.{numbered_end_zones};
 
 use crate::names::end_pointer;
 use crate::zones::{Head, write_zone};
 use edi_plan::{Plan, PlanEnd};
-use edi_rank::Labels;
-use edi_record::Kind;
+use edi_rank::{Labels, NumberedEnd, numbered_end, sorted_ends};
 use std::alloc::{AllocError, Global};
 
 const END: Head = Head {
@@ -28,80 +27,27 @@ const SENSE: Head = Head {
     format: b'A',
 };
 
-/// An end by the type and the number of what it names, with its SNS as the plan lends it. Ends go
-/// by type, number and SNS.
-#[derive(Clone, Copy, Debug, PartialEq, Eq, PartialOrd, Ord)]
-pub(crate) struct LentEnd<'a> {
-    pub(crate) kind: Kind,
-    pub(crate) number: u32,
-    pub(crate) sns: Option<&'a [u8]>,
-}
-
-fn lent_end<'a>(plan: &Plan, labels: &Labels, end: &'a PlanEnd) -> LentEnd<'a>
-    requires numbered { length labels.now.numbers ≡ length plan.now.list }
-    requires there { IsPlace plan.now end.now.target }
-    ensures { lent result ≡ numbered plan.now (number_of labels.now) end.now }
-{
-    let sns = match &end.sns {
-        Some(text) => Some(text.as_slice()),
-        None => None,
-    };
-    LentEnd {
-        kind: plan.kind(end.target),
-        number: labels.number(end.target),
-        sns,
-    }
-}
-
-fn lent_ends<'a>(
-    alloc: Global,
-    plan: &Plan,
-    labels: &Labels,
-    ends: &'a [PlanEnd],
-) -> Result<Vec<LentEnd<'a>>, AllocError>
-    requires numbered { length labels.now.numbers ≡ length plan.now.list }
-    requires there { AllByRecursion (λ e. IsPlace plan.now e.target) ends.now }
-    ensures { IfOk result (λ done. map lent done.items ≡ map (numbered plan.now (number_of labels.now)) ends.now) }
-{
-    let mut done = Vec::with_capacity(alloc, ends.len())?;
-    for end in ends {
-        done.push(lent_end(plan, labels, end))?;
-    }
-    Ok(done)
-}
-
-fn sorted_ends<'a>(
-    alloc: Global,
-    plan: &Plan,
-    labels: &Labels,
-    ends: &'a [PlanEnd],
-) -> Result<Vec<LentEnd<'a>>, AllocError>
-    requires numbered { length labels.now.numbers ≡ length plan.now.list }
-    requires there { AllByRecursion (λ e. IsPlace plan.now e.target) ends.now }
-    ensures { IfOk result (λ sorted. map lent sorted.items ≡ sort_by end_cmp (map (numbered plan.now (number_of labels.now)) ends.now)) }
-{
-    let mut sorted = lent_ends(alloc, plan, labels, ends)?;
-    sorted.sort_unstable();
-    Ok(sorted)
-}
-
 /// Writes an end: its pointer, and its SNS if it has one.
-fn write_end(alloc: Global, out: &mut Vec<u8>, end: LentEnd<'_>) -> Result<(), AllocError>
-    ensures { OnOk result (out.new.items ≡ out.old.items ++ printed (numbered_end_zones (lent end.entry))) }
+fn write_end(alloc: Global, out: &mut Vec<u8>, end: &NumberedEnd<'_>) -> Result<(), AllocError>
+    ensures { OnOk result (out.new.items ≡ out.old.items ++ printed (numbered_end_zones end.now)) }
 {
     let text = end_pointer(alloc, end.kind, end.number)?;
     write_zone(out, END, &text)?;
-    match end.sns {
-        Some(sns) => write_zone(out, SENSE, sns),
+    match &end.sns {
+        Some(sns) => write_zone(out, SENSE, sns.as_slice()),
         None => Ok(()),
     }
 }
 
-fn write_in_order(alloc: Global, out: &mut Vec<u8>, ends: &[LentEnd<'_>]) -> Result<(), AllocError>
-    ensures { OnOk result (out.new.items ≡ out.old.items ++ printed (flat_map numbered_end_zones (map lent ends.now))) }
+fn write_in_order(
+    alloc: Global,
+    out: &mut Vec<u8>,
+    ends: &[NumberedEnd<'_>],
+) -> Result<(), AllocError>
+    ensures { OnOk result (out.new.items ≡ out.old.items ++ printed (flat_map numbered_end_zones ends.now)) }
 {
     for end in ends {
-        write_end(alloc, out, *end)?;
+        write_end(alloc, out, end)?;
     }
     Ok(())
 }
@@ -119,9 +65,9 @@ fn write_others(
     ensures { OnOk result (out.new.items ≡ out.old.items ++ printed (flat_map numbered_end_zones (sort_by end_cmp (map (numbered plan.now (number_of labels.now)) others.now)))) }
 {
     if let [other] = others {
-        return write_end(alloc, out, lent_end(plan, labels, other));
+        return write_end(alloc, out, &numbered_end(plan, labels.numbers(), other));
     }
-    let sorted = sorted_ends(alloc, plan, labels, others)?;
+    let sorted = sorted_ends(alloc, plan, labels.numbers(), others)?;
     write_in_order(alloc, out, &sorted)
 }
 
@@ -140,7 +86,7 @@ pub(crate) fn write_ends(
     match ends {
         [] => Ok(()),
         [origin, others @ ..] => {
-            write_end(alloc, out, lent_end(plan, labels, origin))?;
+            write_end(alloc, out, &numbered_end(plan, labels.numbers(), origin))?;
             write_others(alloc, out, plan, labels, others)
         }
     }

@@ -1,12 +1,10 @@
 //! The bytes of records.
 
-ghost use Rattle.std.specs.Prelude.{◌≡◌, ℕ, length, ◌<◌, ◌++◌, OnOk, decimal, flat_map, map, reverse, IfOk};
+ghost use Rattle.std.specs.Prelude.{◌≡◌, ℕ, length, ◌<◌, ◌++◌, OnOk, decimal, flat_map, map, reverse};
 ghost use Rattle.std.specs.List.{AllByRecursion, list_any};
 ghost use Rattle.edi_line.specs.Printing.{printed, printed_zone};
 ghost use Rattle.edi_record.specs.Layout.{extra_zone, point_zone};
 ghost use Rattle.edi_schema.specs.Classes.{partner_of};
-ghost use Rattle.edi_schema.specs.Sorted.{sort_by};
-ghost use Rattle.edi_plan.specs.Orders.{attribute_cmp};
 ghost use Rattle.edi_plan.specs.Agreeing.{Agrees, AttributeAgrees};
 ghost use Rattle.edi_plan.specs.Plans.{IsPlace, record_at};
 ghost use Rattle.edi_rank.specs.Arranged.{arranged_record, old_places};
@@ -20,7 +18,7 @@ use crate::links::write_ends;
 use crate::names::{kind_code, record_identifier};
 use crate::parts::{write_attribute, write_class, write_extra, write_point};
 use crate::zones::{Head, write_zone};
-use edi_plan::{Plan, PlanAttribute, PlanEnd};
+use edi_plan::{Plan, PlanAttribute, PlanEnd, sorted_attributes};
 use edi_rank::Labels;
 use edi_record::{Extra, Kind, Point};
 use edi_schema::{ClassRef, Role, Schema};
@@ -90,21 +88,6 @@ fn write_backward(alloc: Global, out: &mut Vec<u8>, points: &[Point]) -> Result<
         write_point(alloc, out, points[place])?;
     }
     Ok(())
-}
-
-/// The attributes of a record in their order, as the plan lends them.
-fn ordered_attributes<'a>(
-    alloc: Global,
-    attributes: &'a [PlanAttribute],
-) -> Result<Vec<&'a PlanAttribute>, AllocError>
-    ensures { IfOk result (λ ordered. map (λ a. a.now) ordered.items ≡ sort_by attribute_cmp attributes.now) }
-{
-    let mut ordered = Vec::with_capacity(alloc, attributes.len())?;
-    for attribute in attributes {
-        ordered.push(attribute)?;
-    }
-    ordered.sort_unstable();
-    Ok(ordered)
 }
 
 fn write_attributes(
@@ -248,7 +231,7 @@ fn write_tail(
     requires place { IsPlace plan.now place }
     ensures { OnOk result (out.new.items ≡ out.old.items ++ printed (ordered_tail schema.now (record_at plan.now place))) }
 {
-    let attributes = ordered_attributes(alloc, plan.attributes(place))?;
+    let attributes = sorted_attributes(alloc, plan.attributes(place))?;
     write_number(alloc, out, ATTRIBUTES, attributes.len())?;
     write_attributes(alloc, out, schema, &attributes)?;
     write_extras(alloc, out, plan.extras(place))

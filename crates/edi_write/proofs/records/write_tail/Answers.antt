@@ -6,7 +6,7 @@ use Rattle.edi_plan.specs.Orders.{attribute_cmp}
 use Rattle.edi_plan.specs.Plans.{record_at}
 use Rattle.edi_rank.proofs.SameLaws.{record_agrees}
 use Rattle.edi_write.proofs.Agreed.{sorted_agree}
-use Rattle.edi_write.proofs.Lent.{all_lent}
+use Rattle.edi_plan.proofs.Lent.{all_lent}
 use Rattle.edi_write.proofs.records.write_tail.Goals as goal
 
 pub write_attributes-requires : goal.write_attributes-requires

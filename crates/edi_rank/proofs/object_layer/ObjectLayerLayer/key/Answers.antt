@@ -52,9 +52,9 @@ returns c =
     let q : ObjectSource = record { plan = p; numbers = numbers } in
     let class : c.scp.result ≡ (record_at p o).class = c.scp.ensures in
     let attributes : c.from_vec.result ≡ sort_by attribute_cmp (record_at p o).attributes = c.from_vec.ensures ∙ (c.in_ok-attributes.ensures ∙ ap (sort_by attribute_cmp) c.attributes.ensures) in
-    let extras : c.from_vec-2.result ≡ (record_at p o).extras = c.from_vec-2.ensures ∙ (c.in_ok-extras.ensures ∙ c.extras.ensures) in
-    let pieces : c.from_vec-3.result ≡ sort_by link_key_cmp (filter_map (piece_by p (λ k. get_or numbers k 0) o) p.list) = c.from_vec-3.ensures ∙ (c.in_ok-pieces.ensures
+    let extras : c.of.result ≡ (record_at p o).extras = c.of.ensures ∙ c.extras.ensures in
+    let pieces : c.from_vec-2.result ≡ sort_by link_key_cmp (filter_map (piece_by p (λ k. get_or numbers k 0) o) p.list) = c.from_vec-2.ensures ∙ (c.in_ok-pieces.ensures
     ∙ ap (sort_by link_key_cmp) (ap (map (λ k. link_key p (λ j. get_or numbers j 0) (record_at p k))) is ∙ pieces_keyed_by p o (λ k. get_or numbers k 0) (c.self.invariant.3 o there.0 there.1))) in
-    let own : ObjectKey = record { class = c.scp.result; attributes = c.from_vec.result; extras = c.from_vec-2.result; pieces = c.from_vec-3.result } in
+    let own : ObjectKey = record { class = c.scp.result; attributes = c.from_vec.result; extras = c.of.result; pieces = c.from_vec-2.result } in
     let made : own ≡ object_key_at q o = λ i. record { class = class i; attributes = attributes i; extras = extras i; pieces = pieces i } in
     made ∙ ap₂ object_key_at c.self.view_is c.place-place.ensures

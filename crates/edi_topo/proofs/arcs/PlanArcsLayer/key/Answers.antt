@@ -1,4 +1,4 @@
-use Rattle.std.proofs.Common.{◌≡◌, ◌<◌, ◌∙◌, ap, subst, sym, length, get_or}
+use Rattle.std.proofs.Common.{◌<◌, ◌∙◌, ap, subst, sym, length}
 use Rattle.edi_record.specs.declared.record.Kind.TheVariants.{Par}
 use Rattle.edi_plan.specs.Plans.{IsPlace, record_at}
 use Rattle.edi_plan.proofs.PlaceLemmas.{place_there}
@@ -12,5 +12,5 @@ points-requires c = subst (λ p. c.place.result < length p.list) (sym c.self.vie
 
 pub returns : goal.returns
 returns c =
-    c.from_vec.ensures ∙ (c.in_ok-points.ensures ∙ (ap forward (c.points.ensures ∙ ap (λ p. (record_at p c.place.result).points) c.self.view_is)
-    ∙ (ap (λ k. forward (record_at c.args.self.now k).points) c.place.ensures ∙ sym (key_is c.args.self.now c.args.member c.requires))))
+    c.of.ensures ∙ (ap forward (c.points.ensures ∙ ap (λ p. (record_at p c.place.result).points) c.self.view_is)
+    ∙ (ap (λ k. forward (record_at c.args.self.now k).points) c.place.ensures ∙ sym (key_is c.args.self.now c.args.member c.requires)))

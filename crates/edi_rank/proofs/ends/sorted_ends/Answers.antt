@@ -4,7 +4,7 @@ use Rattle.edi_schema.proofs.SortedLists.{sorted_is}
 use Rattle.edi_rank.specs.Keys.{end_cmp, numbered}
 use Rattle.edi_rank.proofs.KeyOrders.{end_order}
 use Rattle.edi_rank.proofs.Orders.{end_total, end_exact}
-use Rattle.edi_rank.proofs.link_key.sorted_ends.Goals as goal
+use Rattle.edi_rank.proofs.ends.sorted_ends.Goals as goal
 
 pub returns : goal.returns
 returns c = sorted_is end_cmp end_total end_exact (map (numbered c.args.plan.now (slice_index c.args.numbers.now)) c.args.ends.now) c.sort_unstable.new.self.items

@@ -1,5 +1,0 @@
-use Rattle.std.proofs.Common.{◌≡◌, map, take}
-use Rattle.edi_write.proofs.records.ordered_attributes.Given as goal
-
-abbrev pub invariant-loop-attribute : goal.invariant-loop-attribute
-invariant-loop-attribute l = map (λ a. a.now) l.ordered.items ≡ take l.attribute-index l.attributes
