@@ -1,4 +1,4 @@
-use Rattle.std.proofs.Common.{◌<◌, ◌+◌, [], ◌∷◌, ◌++◌, take, get_or, length, sym, subst, arith}
+use Rattle.std.proofs.Common.{◌<◌, [], ◌∷◌, take, get_or, length, sym, subst, arith}
 use Rattle.std.proofs.lemmas.List.{take_more, length-take-le}
 use Rattle.edi_line.proofs.Feeds.{StandsUnless, fed_more}
 use Rattle.edi_line.proofs.tests.fed_in_bytes.Goals as goal
