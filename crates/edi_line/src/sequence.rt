@@ -28,15 +28,6 @@ impl<T> Model for Sequence<T> {
 }
 
 impl<T> Sequence<T> {
-    /// The empty list. It takes no memory.
-    pub fn new(alloc: Global) -> Sequence<T>
-        ensures { result ≡ [] }
-    {
-        Sequence {
-            vec: Vec::new(alloc),
-        }
-    }
-
     /// The elements of the vector.
     pub fn from_vec(vec: Vec<T>) -> Sequence<T>
         ensures { result ≡ vec.items }

@@ -248,7 +248,7 @@ fn compares_sequences(rt: HostRuntime) -> Result<(), Fail> {
     let copy = short.clone()?;
     let hasher = BuildHasherDefault::<DefaultHasher>::default();
     assert!(rt; short == copy && short != long);
-    assert!(rt; short < long && Sequence::new(alloc) < short);
+    assert!(rt; short < long && Sequence::from_vec(Vec::new(alloc)) < short);
     assert!(rt; hasher.hash_one(&short) == hasher.hash_one(&copy));
     assert!(rt; long.len() == 3 && !long.is_empty());
     assert_eq!(rt; long.into_vec().as_slice(), b"abc".as_slice());

@@ -1,5 +1,5 @@
 -- The zones of a record, cut off.
-use Rattle.std.proofs.Common.{◌≡◌, ℕ, zero, suc, ◌+◌, ◌-◌, ◌<◌, ◌≤◌, Bool, true, false, cond, not, ◌||◌, ltb, List, [], ◌∷◌, length, take, drop, get_or, position, Option, Some, None, refl, sym, ap, ◌∙◌, subst, arith, one-add}
+use Rattle.std.proofs.Common.{◌≡◌, ℕ, ◌+◌, ◌-◌, ◌<◌, ◌≤◌, Bool, true, false, cond, not, ◌||◌, List, [], ◌∷◌, length, take, drop, get_or, position, Some, None, refl, sym, ap, ◌∙◌, arith, one-add}
 use Rattle.std.specs.List.{position_or_len}
 use Rattle.std.proofs.lemmas.Bool.{ltb-true, ltb-false}
 use Rattle.std.specs.Prelude.{codes}
@@ -7,7 +7,7 @@ use Rattle.std.proofs.lemmas.List.{take_all}
 use Rattle.std.proofs.lemmas.List.Sums.{prefix_len-le-length}
 use Rattle.edi_line.specs.Entry.{Entry, entry, entries, has_code}
 use Rattle.edi_record.specs.Records.{values, group_at}
-use Rattle.edi_line.specs.Zones.{begins_group, ends_group, before_end, groups_of}
+use Rattle.edi_line.specs.Zones.{begins_group, ends_group, before_end}
 use Rattle.edi_line.specs.declared.zone.Zone.{Zone}
 
 abbrev pub begins : Zone → Bool
@@ -25,49 +25,6 @@ before_here (z ∷ zs) = go (ends z) refl (before_here zs)
         → entries (take (cond (not b) (1 + position_or_len ends zs) 0) (z ∷ zs)) ≡ cond b [] (entry z ∷ before_end (entries zs))
     go true e more = refl
     go false e more = rw one-add (ap (λ es. entry z ∷ es) more)
-
--- those zones begin no record
-begins_ends : (z : Zone) → ends z ≡ false → begins z ≡ false
-begins_ends z e = go (begins z) refl
-  where
-    go : (b : Bool) → begins z ≡ b → b ≡ false
-    go true h = let f : true ≡ false = sym (ap (λ b. b || Rattle.edi_line.specs.Entry.has_code (Rattle.std.proofs.Common.codes "EOM") (entry z)) h) ∙ e in absurd (cc)
-    go false h = refl
-
-groups_behind : (zs : List Zone) → groups_of (entries (drop (position_or_len ends zs) zs)) ≡ groups_of (entries zs)
-groups_behind [] = refl
-groups_behind (z ∷ zs) = go (ends z) refl (groups_behind zs)
-  where
-    go : (b : Bool) → ends z ≡ b → groups_of (entries (drop (position_or_len ends zs) zs)) ≡ groups_of (entries zs)
-        → groups_of (entries (drop (cond (not b) (1 + position_or_len ends zs) 0) (z ∷ zs))) ≡ groups_of (entries (z ∷ zs))
-    go true e more = refl
-    go false e more = rw (one-add, begins_ends z e) more
-
--- where no zone begins a record there is none
-pub no_group : (zs : List Zone) → length zs ≤ position_or_len begins zs → groups_of (entries zs) ≡ []
-no_group [] none = refl
-no_group (z ∷ zs) none = go (begins z) refl (no_group zs) none
-  where
-    go : (b : Bool) → begins z ≡ b → (length zs ≤ position_or_len begins zs → groups_of (entries zs) ≡ [])
-        → suc (length zs) ≤ cond (not b) (1 + position_or_len begins zs) 0 → groups_of (entries (z ∷ zs)) ≡ []
-    go true e more none = absurd (omega (arith, none))
-    go false e more none = rw e (more (omega (arith, none)))
-
--- the first record and what is behind it, where one begins at k
-pub group_cut : (zs : List Zone) (k n : ℕ) → position_or_len begins zs ≡ k → k < length zs → n ≡ position_or_len ends (drop 1 (drop k zs))
-    → groups_of (entries zs) ≡ entries (take (1 + n) (drop k zs)) ∷ groups_of (entries (drop (1 + n) (drop k zs)))
-group_cut [] k n at below e = absurd (omega arith)
-group_cut (z ∷ zs) k n at below e = go (begins z) refl k at below e (λ k. group_cut zs k n)
-  where
-    go : (b : Bool) → begins z ≡ b → (k : ℕ) → cond (not b) (1 + position_or_len begins zs) 0 ≡ k → k < suc (length zs) → n ≡ position_or_len ends (drop 1 (drop k (z ∷ zs)))
-        → ((k : ℕ) → position_or_len begins zs ≡ k → k < length zs → n ≡ position_or_len ends (drop 1 (drop k zs))
-        → groups_of (entries zs) ≡ entries (take (1 + n) (drop k zs)) ∷ groups_of (entries (drop (1 + n) (drop k zs))))
-        → groups_of (entries (z ∷ zs)) ≡ entries (take (1 + n) (drop k (z ∷ zs))) ∷ groups_of (entries (drop (1 + n) (drop k (z ∷ zs))))
-    go true b zero at below e more =
-        rw (b, one-add, e) (ap (λ es. (entry z ∷ es) ∷ groups_of (entries zs)) (sym (before_here zs)) ∙ ap (λ gs. (entry z ∷ entries (take (position_or_len ends zs) zs)) ∷ gs) (sym (groups_behind zs)))
-    go true b (suc k) at below e more = absurd (omega (arith, at))
-    go false b zero at below e more = absurd (omega (arith, at))
-    go false b (suc k) at below e more = rw b (more k (omega (arith, at)) (omega (arith, below)) e)
 
 -- ---- places
 

@@ -1,5 +1,5 @@
 -- The derived orders of values and extras are the written ones.
-use Rattle.std.proofs.Common.{◌≡◌, refl, ap, Ordering, nat_cmp}
+use Rattle.std.proofs.Common.{◌≡◌, refl, ap, nat_cmp}
 use Rattle.std.specs.Ordering.{ordering_then}
 use Rattle.edi_record.specs.Orders.{bytes_cmp, value_cmp, extra_cmp, point_cmp}
 use Rattle.edi_record.specs.declared.record.Value.{Value}

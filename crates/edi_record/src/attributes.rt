@@ -87,10 +87,7 @@ fn attribute(
 }
 
 /// The attributes of a record's zones, or none where the class of one is no pointer.
-pub fn attributes_of(
-    alloc: Global,
-    group: &[Zone<'_>],
-) -> Result<Option<Vec<Attribute>>, AllocError>
+fn attributes_of(alloc: Global, group: &[Zone<'_>]) -> Result<Option<Vec<Attribute>>, AllocError>
     ensures { IfOk result (λ found. AreFound (attributes (entries group.now)) (option_map (λ v. v.items) found)) }
 {
     let mut done = Vec::with_capacity(alloc, count_of(group, CLASS))?;

@@ -19,7 +19,7 @@ pub enum RecordFault {
 
 /// Why the zones of one record state none: want of memory, or the least rule that they break.
 #[derive(Debug, Drop)]
-pub enum GroupFault {
+pub(crate) enum GroupFault {
     Memory(AllocError),
     Broken(u16),
 }

@@ -1,9 +1,9 @@
 //! The zones of each record.
 
-ghost use Rattle.std.specs.Prelude.{◌≡◌, List, ◌+◌, ◌<◌, ◌≤◌, [], ◌∷◌, ◌==◌, length, position, option_map, MatchOption, IfSome};
+ghost use Rattle.std.specs.Prelude.{◌≡◌, List, ◌+◌, ◌<◌, ◌≤◌, [], ◌∷◌, ◌==◌, length, position, option_map, MatchOption};
 ghost use Rattle.std.specs.List.{position_or_len};
 ghost use Rattle.edi_line.specs.Entry.{Entry, entry, entries, first};
-ghost use Rattle.edi_line.specs.Zones.{begins_group, ends_group, before_end, groups_of};
+ghost use Rattle.edi_line.specs.Zones.{ends_group, before_end};
 ghost use Rattle.edi_record.specs.Records.{values, only, group_at as group_in};
 ghost use Rattle.edi_record.specs.RecordRules.{is_identifier as is_identifier_text, has_no_identifier};
 
@@ -14,13 +14,6 @@ const TYPE: [u8; 3] = *b"RTY";
 const END: [u8; 3] = *b"EOM";
 
 const IDENTIFIER: [u8; 3] = *b"RID";
-
-fn begin_in(zones: &[Zone<'_>]) -> Option<usize>
-    ensures place { result ≡ position (λ z. begins_group (entry z)) zones.now }
-    ensures within { IfSome result (λ place. place < length zones.now) }
-{
-    zones.iter().position(|zone| zone.code == TYPE)
-}
 
 fn end_in(zones: &[Zone<'_>]) -> Option<usize>
     ensures { result ≡ position (λ z. ends_group (entry z)) zones.now }
@@ -49,19 +42,6 @@ pub(crate) fn group_at<'a, 'b>(zones: &'b [Zone<'a>]) -> &'b [Zone<'a>]
     let (_, behind) = zones.split_at(1);
     let (group, _) = zones.split_at(1 + count_to_end(behind));
     group
-}
-
-/// The zones of the first record and those behind it, or none where no record begins.
-/// The zones before the first RTY are skipped; the record ends before the next RTY or EOM.
-pub fn next_group<'a, 'b>(zones: &'b [Zone<'a>]) -> Option<(&'b [Zone<'a>], &'b [Zone<'a>])>
-    ensures groups { MatchOption result (groups_of (entries zones.now) ≡ [])
-        (λ cut. groups_of (entries zones.now) ≡ entries cut.0.now ∷ groups_of (entries cut.1.now)) }
-    ensures shorter { IfSome result (λ cut. length cut.1.now < length zones.now) }
-{
-    let begin = begin_in(zones)?;
-    let (_, from) = zones.split_at(begin);
-    let (_, behind) = from.split_at(1);
-    Some(from.split_at(1 + count_to_end(behind)))
 }
 
 /// The zones of the record that begins with the first of these, if one does.
@@ -101,7 +81,7 @@ pub fn first_value<'b>(zones: &'b [Zone<'_>], code: [u8; 3]) -> Option<&'b [u8]>
 }
 
 /// The value of the zone with a code, where there is just one.
-pub fn only_value<'b>(zones: &'b [Zone<'_>], code: [u8; 3]) -> Option<&'b [u8]>
+pub(crate) fn only_value<'b>(zones: &'b [Zone<'_>], code: [u8; 3]) -> Option<&'b [u8]>
     ensures { option_map (λ v. v.now) result ≡ only (values code (entries zones.now)) }
 {
     let (value, rest) = cut_value(zones, code)?;
@@ -112,7 +92,7 @@ pub fn only_value<'b>(zones: &'b [Zone<'_>], code: [u8; 3]) -> Option<&'b [u8]>
 }
 
 /// Whether a text may name a record: 1 to 255 bytes without a semicolon.
-pub fn is_identifier(text: &[u8]) -> bool
+pub(crate) fn is_identifier(text: &[u8]) -> bool
     ensures { result ≡ is_identifier_text text.now }
 {
     !text.is_empty() && text.len() <= 255 && !text.contains(&b';')

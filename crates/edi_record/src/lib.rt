@@ -1,7 +1,7 @@
 //! Pointers, and the records that the zones of a file state.
 #![tactic(auto)]
 
-pub mod attributes;
+mod attributes;
 mod counts;
 mod ends;
 mod extras;
@@ -16,9 +16,7 @@ pub mod sheet;
 mod stating;
 
 pub use fault::RecordFault;
-pub use groups::{
-    first_value, group_here, is_identifier, lacks_identifier, next_group, only_value,
-};
+pub use groups::{first_value, group_here, lacks_identifier};
 pub use name::Name;
 pub use pointer::{Pointer, texts_are_in_parts};
 pub use reading::{

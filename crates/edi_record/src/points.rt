@@ -55,7 +55,7 @@ fn last(text: &[u8]) -> Option<&[u8]>
 impl Point {
     /// The place that a text spells: two or three numbers parted by semicolons, with or without one
     /// at the end.
-    pub fn read(text: &[u8]) -> Option<Point>
+    pub(crate) fn read(text: &[u8]) -> Option<Point>
         ensures { result ≡ point text.now }
     {
         let (x, rest) = cut(text)?;

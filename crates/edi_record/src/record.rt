@@ -19,7 +19,7 @@ pub enum Kind {
 
 impl Kind {
     /// Whether records of this type have points.
-    pub fn has_points(self) -> bool
+    pub(crate) fn has_points(self) -> bool
         ensures { result ≡ kind_has_points self }
     {
         match self {
@@ -39,7 +39,7 @@ impl Kind {
     }
 
     /// Whether a record of this type may have so many points: one for a node, two or more for an arc.
-    pub fn may_have_points(self, count: usize) -> bool
+    pub(crate) fn may_have_points(self, count: usize) -> bool
         ensures { result ≡ may_have_so_many self count }
     {
         match self {
