@@ -5,6 +5,7 @@ mod command;
 mod outcome;
 mod report;
 mod sheets;
+mod system;
 mod words;
 
 use std::process::ExitCode;

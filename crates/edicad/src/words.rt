@@ -6,6 +6,7 @@ ghost use Rattle.edi_schema.specs.Roles.{KindCodes};
 ghost use Rattle.edicad.specs.Requests.{AreKindsIn, AreKindsOf, IsAsked, IsOwn, Means, edicad, file_rule, kinds_rule, sheet_command, status_of_kind, value_at};
 
 use crate::report;
+use crate::system::Errors;
 use clap::error::ErrorKind;
 use clap::{Arg, ArgMatches, Command, Error};
 use edi_schema::Kinds;
@@ -201,7 +202,7 @@ fn refused<R: Eprint>(rt: &R, error: &Error) -> u8
     ensures { result ≡ status_of_kind (kind_of error.now) }
 {
     if error.kind() == ErrorKind::OutOfMemory {
-        return report::out_of_memory(rt);
+        return report::out_of_memory(&mut Errors::new(rt));
     }
     let _ = rt.eprint(error);
     if error.use_stderr() { USAGE_STATUS } else { 0 }
