@@ -1,10 +1,8 @@
 //! What the program does with its words.
-ghost use Rattle.std.specs.Prelude.{◌≡◌, IfSome};
-ghost use Rattle.edi_compare.specs.Bundle.{OfParts};
-ghost use Rattle.edi_compare.specs.Runs.{IsSheetUnder, WritesAll};
-ghost use Rattle.edicad.specs.Requests.{usual_kinds};
-ghost use Rattle.edicad.specs.SheetRuns.{IsRefusedUnder, OfFiles};
-ghost use Rattle.edicad.specs.Statuses.{IsAnswered, IsSheetStatus, IsStatus};
+ghost use Rattle.std.specs.Prelude.{◌≡◌, map, string_bytes};
+ghost use Rattle.edicad.specs.Requests.{IsAsked};
+ghost use Rattle.edicad.specs.Statuses.{IsAnswered, IsBundleStatus, IsFileStatus, IsStatus};
+ghost use Rattle.edicad.specs.declared.words.Request.{Request};
 
 use crate::outcome::Outcome;
 use crate::system::{Disk, Errors, Folder};
@@ -18,12 +16,12 @@ use std::{env, io};
 
 const USAGE_STATUS: u8 = 3;
 
-/// Does what the words ask for, and gives the exit status.
+/// Does what the words of the command line ask for, and gives the exit status.
 pub fn run<R: Runtime + AllocGlobal>(rt: &R) -> u8
     ensures { IsStatus result }
 {
     match words(rt) {
-        Ok(words) => answered(rt, asked(rt, &words)),
+        Ok(words) => run_words(rt, &words),
         Err(error) if error.kind() == io::ErrorKind::OutOfMemory => {
             report::out_of_memory(&mut Errors::new(rt))
         }
@@ -39,43 +37,53 @@ fn words<R: Runtime + AllocGlobal>(rt: &R) -> io::Result<Vec<String>> {
     Ok(env::args(rt)?.collect(rt.alloc())?)
 }
 
-/// Does what is asked for, and gives the exit status.
-pub fn answered<R: Runtime + AllocGlobal>(rt: &R, request: Request<'_>) -> u8
-    ensures { IsAnswered request.entry result }
+/// Does what the words ask for, over the files and the streams of the system.
+pub fn run_words<R: Runtime + AllocGlobal>(rt: &R, words: &[String]) -> u8
+    ensures { IsStatus result }
 {
+    let mut folder = Disk::new(rt);
+    let mut input = FromRead::new(rt.reader());
     let mut out = ToWrite::new(io::writer(rt));
     let mut err = Errors::new(rt);
+    run_over(rt, &mut folder, &mut input, &mut out, &mut err, words)
+}
+
+/// Does what the words ask for, over a folder and three streams, and gives the exit status. What is wrong with the
+/// words is said through `rt`.
+pub fn run_over<R: Eprint + AllocGlobal, F: Folder, I: ByteIn, O: ByteOut, E: ByteOut>(
+    rt: &R,
+    folder: &mut F,
+    input: &mut I,
+    out: &mut O,
+    err: &mut E,
+    words: &[String],
+) -> u8
+    ensures { (request : Request) × IsAsked (map string_bytes words.now) request
+        × IsAnswered (F.holds folder.old) (I.told input.old) (O.told out.old) (O.told out.new) request result }
+{
+    let request = asked(rt, words);
+    answered(rt.alloc(), folder, input, out, err, request)
+}
+
+/// Does what is asked for, and gives the exit status.
+pub fn answered<F: Folder, I: ByteIn, O: ByteOut, E: ByteOut>(
+    alloc: Global,
+    folder: &mut F,
+    input: &mut I,
+    out: &mut O,
+    err: &mut E,
+    request: Request<'_>,
+) -> u8
+    ensures { IsAnswered (F.holds folder.old) (I.told input.old) (O.told out.old) (O.told out.new) request.entry result }
+{
     match request {
-        Request::Bundle => {
-            let mut input = FromRead::new(rt.reader());
-            bundle(rt.alloc(), &mut input, &mut out, &mut err)
-        }
-        Request::Check { kinds, files } => {
-            check(
-                rt.alloc(),
-                &Disk::new(rt),
-                &kinds,
-                &files,
-                &mut out,
-                &mut err,
-            )
-        }
+        Request::Bundle => bundle(alloc, input, out, err),
+        Request::Check { kinds, files } => check(alloc, folder, &kinds, &files, out, err),
         Request::Canon {
             kinds,
             files,
             out: path,
-        } => {
-            let mut disk = Disk::new(rt);
-            canon(
-                rt.alloc(),
-                &mut disk,
-                &kinds,
-                &files,
-                path,
-                &mut out,
-                &mut err,
-            )
-        }
+        } => canon(alloc, folder, &kinds, &files, path, out, err),
         Request::Answered(status) => status,
     }
 }
@@ -87,9 +95,7 @@ fn bundle<I: ByteIn, O: ByteOut, E: ByteOut>(
     out: &mut O,
     err: &mut E,
 ) -> u8
-    ensures status { IsSheetStatus result }
-    ensures accepted { result ≡ 0 → IfSome (I.told input.old) (λ b. OfParts b (λ s d v. WritesAll usual_kinds s d v (O.told out.old) (O.told out.new))) }
-    ensures refused { result ≡ 2 → IfSome (I.told input.old) (λ b. OfParts b (IsRefusedUnder usual_kinds)) }
+    ensures { IsBundleStatus (I.told input.old) (O.told out.old) (O.told out.new) result }
 {
     match sheets::bundle(alloc, input, out) {
         Ok(()) => 0,
@@ -112,9 +118,7 @@ fn check<F: Folder, O: ByteOut, E: ByteOut>(
     out: &mut O,
     err: &mut E,
 ) -> u8
-    ensures status { IsSheetStatus result }
-    ensures accepted { result ≡ 0 → OfFiles (F.holds folder.now) files.now (IsSheetUnder kinds.now) }
-    ensures refused { result ≡ 2 → OfFiles (F.holds folder.now) files.now (IsRefusedUnder kinds.now) }
+    ensures { IsFileStatus (F.holds folder.now) kinds.now files.now result }
 {
     let names = [
         files.scd.as_bytes(),
@@ -138,9 +142,8 @@ fn canon<F: Folder, O: ByteOut, E: ByteOut>(
     out: &mut O,
     err: &mut E,
 ) -> u8
-    ensures status { IsSheetStatus result }
-    ensures accepted { result ≡ 0 → OfFiles (F.holds folder.old) files.now (IsSheetUnder kinds.now) }
-    ensures refused { result ≡ 2 → OfFiles (F.holds folder.old) files.now (IsRefusedUnder kinds.now) × (folder.new ≡ folder.old) }
+    ensures status { IsFileStatus (F.holds folder.old) kinds.now files.now result }
+    ensures unmade { result ≡ 2 → folder.new ≡ folder.old }
 {
     let names = [
         files.scd.as_bytes(),

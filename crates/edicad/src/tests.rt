@@ -1,9 +1,8 @@
 //! The table of outcomes, and the words of a command.
 ghost use Rattle.edicad.specs.Outcome.{HasNames};
 
-use crate::command::answered;
+use crate::command::run_words;
 use crate::outcome::{Outcome, line_of, status_of};
-use crate::words::asked;
 use edi_compare::{Fault, RunFault, run_bundle};
 use edi_line::{FromRead, ScriptOut, ToWrite};
 use edi_schema::{Kinds, SchemaFault, Source};
@@ -165,7 +164,7 @@ fn words(rt: &HostRuntime, line: &str) -> Result<Vec<String>, Fail> {
 // The status that the words of a command line end with.
 fn status(rt: &HostRuntime, line: &str) -> Result<u8, Fail> {
     let words = words(rt, line)?;
-    Ok(answered(rt, asked(rt, &words)))
+    Ok(run_words(rt, &words))
 }
 
 // Words in bad form, files that are not there, and refused files leave no file behind.
