@@ -2,6 +2,8 @@
 #![tactic(auto)]
 
 mod command;
+#[cfg(test)]
+mod known;
 mod outcome;
 mod report;
 mod sheets;
