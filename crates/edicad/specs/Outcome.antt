@@ -1,5 +1,5 @@
 -- The line and the status of each outcome.
-use Rattle.std.specs.Prelude.{◌≡◌, ℕ, ◌-◌, ◌<◌, List, [], ◌∷◌, ◌++◌, length, codes, ⊤, map, zero, suc, ◌==◌, if◌then◌else◌}
+use Rattle.std.specs.Prelude.{ℕ, ◌-◌, ◌<◌, List, [], ◌∷◌, ◌++◌, length, codes, ⊤, map, zero, suc, ◌==◌, if◌then◌else◌}
 use Rattle.std.proofs.Common.{Bor}
 use Rattle.std.specs.Fmt.{decimal}
 use Rattle.edi_schema.specs.declared.fault.Source.{Source}

@@ -2,9 +2,12 @@
 #![tactic(auto)]
 
 mod command;
+#[cfg(test)]
+mod known;
 mod outcome;
 mod report;
 mod sheets;
+mod system;
 mod words;
 
 use std::process::ExitCode;

@@ -1,40 +1,62 @@
 //! What the user sees of an outcome.
-ghost use Rattle.std.specs.Prelude.{◌≡◌, ◌⊎◌};
-ghost use Rattle.edicad.specs.Outcome.{HasNames, status_for};
+ghost use Rattle.std.specs.Prelude.{◌≡◌, ◌<◌, ◌≤◌, IsTrue, codes};
+ghost use Rattle.std.specs.Io.KnownBytes.{Appends};
+ghost use Rattle.edicad.specs.Outcome.{HasNames, ended, line_for, status_for};
+ghost use Rattle.edicad.specs.Statuses.{GoesOut, IsToldAs};
 
 use crate::outcome::{Outcome, line_of, status_of};
-use edi_line::ToWrite;
+use edi_line::ByteOut;
 use edi_write::put_all;
-use std::io;
+use std::alloc::Global;
 
 pub const MEMORY_STATUS: u8 = 5;
 
 const WRITE_STATUS: u8 = 4;
 
-/// Prints the outcome's line where it belongs, and gives the exit status: that of the outcome, 4 if its line
-/// can't be printed on standard output, 5 if there is no memory for the line.
-pub fn told<R: Print + Eprint + AllocGlobal>(rt: &R, outcome: &Outcome, names: &[&[u8]]) -> u8
+/// Writes the outcome's line where it belongs: answers and refusals to `out`, all else to `err`. Gives the exit
+/// status: that of the outcome, 4 if `out` fails, 5 if there is no memory for the line.
+pub fn told<O: ByteOut, E: ByteOut>(
+    alloc: Global,
+    out: &mut O,
+    err: &mut E,
+    outcome: &Outcome,
+    names: &[&[u8]],
+) -> u8
     requires { HasNames outcome.now names.now }
-    ensures { (result ≡ status_for outcome.now) ⊎ ((result ≡ 4) ⊎ (result ≡ 5)) }
+    ensures status { IsToldAs (status_for outcome.now) result }
+    ensures answer { result < 3 → Appends (O.told out.old) (O.told out.new) (line_for outcome.now names.now) × (err.new ≡ err.old) }
+    ensures unwritten { status_for outcome.now < 3 → result ≡ 4 → IsTrue (O.has_failed out.new) × (err.new ≡ err.old) }
+    ensures fault { 3 ≤ status_for outcome.now → result ≡ 4
+        → GoesOut (E.told err.old) (E.told err.new) (E.has_failed err.new) (line_for outcome.now names.now) × (out.new ≡ out.old) }
+    ensures memory { result ≡ 5 → GoesOut (E.told err.old) (E.told err.new) (E.has_failed err.new) (ended (codes "out of memory")) × (out.new ≡ out.old) }
 {
-    let Ok(line) = line_of(rt.alloc(), outcome, names) else {
-        return out_of_memory(rt);
+    let Ok(line) = line_of(alloc, outcome, names) else {
+        return out_of_memory(err);
     };
     let status = status_of(outcome);
     if status < 3 {
-        if put_all(&mut ToWrite::new(io::writer(rt)), &line).is_err() {
-            return WRITE_STATUS;
+        match put_all(out, &line) {
+            Ok(()) => status,
+            Err(_) => WRITE_STATUS,
         }
     } else {
-        let _ = rt.eprint(std::str::from_utf8(&line).unwrap_or(""));
+        warn(err, &line);
+        status
     }
-    status
 }
 
 /// Says that there is no memory.
-pub fn out_of_memory<R: Eprint>(rt: &R) -> u8
-    ensures { result ≡ 5 }
+pub fn out_of_memory<E: ByteOut>(err: &mut E) -> u8
+    ensures status { result ≡ 5 }
+    ensures text { GoesOut (E.told err.old) (E.told err.new) (E.has_failed err.new) (ended (codes "out of memory")) }
 {
-    let _ = rt.eprint("out of memory\n");
+    warn(err, b"out of memory\n");
     MEMORY_STATUS
+}
+
+// Writes a line of which it doesn't matter whether it comes through.
+fn warn<E: ByteOut>(err: &mut E, line: &[u8])
+    ensures { GoesOut (E.told err.old) (E.told err.new) (E.has_failed err.new) line.now }
+{
+    let _ = put_all(err, line);
 }

@@ -1,58 +1,97 @@
 //! The files that a command names.
-ghost use Rattle.std.specs.Prelude.{◌≡◌, IfErr};
+ghost use Rattle.std.specs.Prelude.{◌≡◌, ℕ, List, Option, OnOk, IfOk, IfErr, IfSome, IsTrue};
+ghost use Rattle.edi_compare.specs.Bundle.{OfParts};
+ghost use Rattle.edi_compare.specs.Runs.{BeforeWriting, InputFault, IsCanonOf, IsSheetUnder, WritesAll, WritesFirst};
 ghost use Rattle.edicad.specs.Outcome.{FaultHasNames};
+ghost use Rattle.edicad.specs.Requests.{usual_kinds};
+ghost use Rattle.edicad.specs.SheetRuns.{FileFault, OfFiles, SentFirst};
 
+use crate::system::Folder;
 use crate::words::SheetFiles;
 use edi_compare::{RunFault, canon_of, run_bundle, run_check};
-use edi_line::{FromRead, ToWrite};
+use edi_line::{ByteIn, ByteOut};
 use edi_schema::Kinds;
 use edi_write::{Written, put_all};
-use std::rt::Files;
-use std::{fs, io};
+use std::alloc::Global;
 
-/// The bundle on standard input, to standard output.
-pub fn bundle<R: Input + Print + AllocGlobal>(rt: &R) -> Result<(), RunFault>
-    ensures { IfErr result (λ e. FaultHasNames e 2) }
+/// The bundle that is read, to its canonical file.
+pub fn bundle<I: ByteIn, O: ByteOut>(
+    alloc: Global,
+    input: &mut I,
+    out: &mut O,
+) -> Result<(), RunFault>
+    ensures ok { OnOk result (IfSome (I.told input.old) (λ b. OfParts b (λ s d v. WritesAll usual_kinds s d v (O.told out.old) (O.told out.new)))) }
+    ensures err { IfErr result (InputFault usual_kinds (I.told input.old) (I.has_failed input.new)
+        (λ count. IsTrue (O.has_failed out.new) × IfSome (I.told input.old) (λ b. OfParts b (λ s d v.
+        WritesFirst usual_kinds s d v count (O.told out.old) (O.told out.new))))) }
+    ensures unwritten { IfErr result (λ e. BeforeWriting e (out.new ≡ out.old)) }
+    ensures names { IfErr result (λ e. FaultHasNames e 2) }
 {
-    let mut reader = FromRead::new(rt.reader());
-    let mut writer = ToWrite::new(io::writer(rt));
-    run_bundle(rt.alloc(), &Kinds::usual(), &mut reader, &mut writer)
+    run_bundle(alloc, &Kinds::usual(), input, out)
 }
 
 /// Whether the sheet of three files is accepted. All are opened before the first is read.
-pub fn check<R: Files + AllocGlobal>(
-    rt: &R,
+pub fn check<F: Folder>(
+    alloc: Global,
+    folder: &F,
     kinds: &Kinds<'_>,
     files: &SheetFiles<'_>,
 ) -> Result<(), RunFault>
-    ensures { IfErr result (λ e. FaultHasNames e 4) }
+    ensures ok { OnOk result (OfFiles (F.holds folder.now) files.now (IsSheetUnder kinds.now)) }
+    ensures err { IfErr result (FileFault (F.holds folder.now) kinds.now files.now (λ _. ⊥)) }
+    ensures names { IfErr result (λ e. FaultHasNames e 4) }
 {
-    let mut scd = FromRead::new(opened(rt, files.scd, 1)?);
-    let mut dic = FromRead::new(opened(rt, files.dic, 2)?);
-    let mut vec = FromRead::new(opened(rt, files.vec, 3)?);
-    run_check(rt.alloc(), kinds, &mut scd, &mut dic, &mut vec)
+    let mut scd = opened(folder, files.scd, 1)?;
+    let mut dic = opened(folder, files.dic, 2)?;
+    let mut vec = opened(folder, files.vec, 3)?;
+    run_check(alloc, kinds, &mut scd, &mut dic, &mut vec)
 }
 
 /// The sheet of three files, to a fourth, which is made or emptied once the sheet is accepted.
-pub fn canon<R: Files + AllocGlobal>(
-    rt: &R,
+pub fn canon<F: Folder>(
+    alloc: Global,
+    folder: &mut F,
     kinds: &Kinds<'_>,
     files: &SheetFiles<'_>,
     out: &str,
 ) -> Result<(), RunFault>
-    ensures { IfErr result (λ e. FaultHasNames e 4) }
+    ensures ok { OnOk result (OfFiles (F.holds folder.old) files.now (λ s d v. (made : Option (List ℕ)) × (file : F.Writer)
+        × F.makes folder.old out.now made × WritesAll kinds.now s d v made (F.Writer.told file))) }
+    ensures err { IfErr result (FileFault (F.holds folder.old) kinds.now files.now (SentFirst (F.holds folder.old) kinds.now files.now)) }
+    ensures unmade { IfErr result (λ e. BeforeWriting e (folder.new ≡ folder.old)) }
+    ensures names { IfErr result (λ e. FaultHasNames e 4) }
 {
-    let mut scd = FromRead::new(opened(rt, files.scd, 1)?);
-    let mut dic = FromRead::new(opened(rt, files.dic, 2)?);
-    let mut vec = FromRead::new(opened(rt, files.vec, 3)?);
-    let bytes = canon_of(rt.alloc(), kinds, &mut scd, &mut dic, &mut vec)?;
-    let file = fs::create(rt, out).map_err(|_| RunFault::Write(Written { count: 0 }))?;
-    put_all(&mut ToWrite::new(file), &bytes).map_err(RunFault::Write)
+    let bytes = canon_bytes(alloc, folder, kinds, files)?;
+    match folder.make(out) {
+        Some(mut file) => match put_all(&mut file, &bytes) {
+            Ok(()) => Ok(()),
+            Err(written) => Err(RunFault::Write(written)),
+        },
+        None => Err(RunFault::Write(Written { count: 0 })),
+    }
+}
+
+// The canonical file of the sheet of three files.
+fn canon_bytes<F: Folder>(
+    alloc: Global,
+    folder: &F,
+    kinds: &Kinds<'_>,
+    files: &SheetFiles<'_>,
+) -> Result<Vec<u8>, RunFault>
+    ensures ok { IfOk result (λ c. OfFiles (F.holds folder.now) files.now (λ s d v. IsCanonOf kinds.now s d v c.items)) }
+    ensures err { IfErr result (FileFault (F.holds folder.now) kinds.now files.now (λ _. ⊥)) }
+    ensures names { IfErr result (λ e. FaultHasNames e 4) }
+{
+    let mut scd = opened(folder, files.scd, 1)?;
+    let mut dic = opened(folder, files.dic, 2)?;
+    let mut vec = opened(folder, files.vec, 3)?;
+    canon_of(alloc, kinds, &mut scd, &mut dic, &mut vec)
 }
 
 // A file that is there to read.
-fn opened<R: Files>(rt: &R, path: &str, input: u8) -> Result<R::File, RunFault>
-    ensures { IfErr result (λ e. e ≡ RunFault.Read input) }
+fn opened<F: Folder>(folder: &F, path: &str, input: u8) -> Result<F::Reader, RunFault>
+    ensures ok { IfOk result (λ file. F.holds folder.now path.now (F.Reader.told file)) }
+    ensures err { IfErr result (λ e. e ≡ RunFault.Read input) }
 {
-    fs::open(rt, path).map_err(|_| RunFault::Read { input })
+    folder.open(path).ok_or(RunFault::Read { input })
 }

@@ -1,9 +1,9 @@
 //! The table of outcomes, and the words of a command.
 ghost use Rattle.edicad.specs.Outcome.{HasNames};
 
-use crate::command::answered;
+use crate::command::run_words;
+use crate::known::known_words_are_asked;
 use crate::outcome::{Outcome, line_of, status_of};
-use crate::words::asked;
 use edi_compare::{Fault, RunFault, run_bundle};
 use edi_line::{FromRead, ScriptOut, ToWrite};
 use edi_schema::{Kinds, SchemaFault, Source};
@@ -165,7 +165,7 @@ fn words(rt: &HostRuntime, line: &str) -> Result<Vec<String>, Fail> {
 // The status that the words of a command line end with.
 fn status(rt: &HostRuntime, line: &str) -> Result<u8, Fail> {
     let words = words(rt, line)?;
-    Ok(answered(rt, asked(rt, &words)))
+    Ok(run_words(rt, &words))
 }
 
 // Words in bad form, files that are not there, and refused files leave no file behind.
@@ -173,6 +173,7 @@ fn status(rt: &HostRuntime, line: &str) -> Result<u8, Fail> {
 fn makes_no_file_of_a_refused_sheet(rt: HostRuntime) -> Result<(), Fail> {
     fs::create_dir_all(&rt, "edicad_refused")?;
     fs::write(&rt, "edicad_refused/empty", "")?;
+    known_words_are_asked();
     assert_eq!(rt; status(&rt, "edicad --help")?, 0);
     assert_eq!(rt; status(&rt, "edicad paint")?, 3);
     assert_eq!(rt; status(&rt, "edicad check s")?, 3);

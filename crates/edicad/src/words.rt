@@ -1,5 +1,12 @@
 //! What the words of the command line ask for.
+ghost use Rattle.std.specs.Prelude.{◌≡◌, IfErr, IfOk, MatchOption, OnOk, [], map, option_map, string_bytes, false};
+ghost use Rattle.clap.specs.Words.{HasKind, app_of, fault_of, found_of, kind_of, rows_of, rule_of, subcommand_of, subcommand_rows_of};
+ghost use Rattle.clap.specs.declared.builder.Command.TheViews.{out-Command as fields_of};
+ghost use Rattle.edi_schema.specs.Roles.{KindCodes};
+ghost use Rattle.edicad.specs.Requests.{AreKindsIn, AreKindsOf, IsAsked, IsOwn, Means, edicad, file_rule, kinds_rule, sheet_command, status_of_kind, value_at};
+
 use crate::report;
+use crate::system::Errors;
 use clap::error::ErrorKind;
 use clap::{Arg, ArgMatches, Command, Error};
 use edi_schema::Kinds;
@@ -36,20 +43,31 @@ pub enum Request<'a> {
 }
 
 /// What the words ask for, of which the first is the program's name.
-pub fn asked<'a, R: Eprint + AllocGlobal>(rt: &R, words: &'a [String]) -> Request<'a> {
-    let parsed = match command(rt.alloc()) {
-        Ok(command) => command.try_get_matches_from(words),
-        Err(error) => Err(Error::from(error)),
-    };
-    match parsed {
+pub fn asked<'a, R: Eprint + AllocGlobal>(rt: &R, words: &'a [String]) -> Request<'a>
+    ensures { IsAsked (map string_bytes words.entry.now) result }
+{
+    match parsed(rt.alloc(), words) {
         Ok(matches) => meant(rt, &matches),
         Err(error) => Request::Answered(refused(rt, &error)),
     }
 }
 
+// The words as the command takes them.
+fn parsed<'a>(alloc: Global, words: &'a [String]) -> Result<ArgMatches<'a>, Error>
+    ensures taken { OnOk result (fault_of edicad (map string_bytes words.entry.now) ≡ []) }
+    ensures met { IfOk result (λ m. subcommand_rows_of m ≡ subcommand_of edicad (map string_bytes words.entry.now)) }
+    ensures refused { IfErr result (HasKind (fault_of edicad (map string_bytes words.entry.now))) }
+{
+    command(alloc)?.try_get_matches_from(words)
+}
+
 // The command and its subcommands.
-fn command<'a>(alloc: Global) -> Result<Command<'a>, AllocError> {
-    let out = Arg::new(alloc, "OUT").required(true).help(
+fn command<'a>(alloc: Global) -> Result<Command<'a>, AllocError>
+    ensures { IfOk result (λ c. app_of c ≡ edicad) }
+{
+    let out = file(
+        alloc,
+        "OUT",
         "Where the canonical file goes: made or emptied once the sheet is accepted",
     );
     Command::new(alloc, "edicad")
@@ -69,31 +87,58 @@ fn command<'a>(alloc: Global) -> Result<Command<'a>, AllocError> {
 }
 
 // A subcommand over the files of a sheet.
-fn over_files<'a>(alloc: Global, name: &'a str) -> Result<Command<'a>, AllocError> {
-    let kinds = Arg::new(alloc, "kinds")
-        .long("kinds")
-        .value_name("I,F,L,R")
-        .help(
-            "The KND codes of links to an arc's initial node, final node, left face and right face [usually IND,FND,LPO,RPO]",
-        );
-    let scd = Arg::new(alloc, "SCD").required(true).help(
+fn over_files<'a>(alloc: Global, name: &'a str) -> Result<Command<'a>, AllocError>
+    ensures app { IfOk result (λ c. app_of c ≡ sheet_command name.entry.now) }
+    ensures local { IfOk result (λ c. (fields_of c).has_globals ≡ false) }
+{
+    let scd = file(
+        alloc,
+        "SCD",
         "The schema of the delivery: its classes, as a file of type SCD",
     );
-    let dic = Arg::new(alloc, "DIC")
-        .required(true)
-        .help("The dictionary of the delivery, as a file of type DIC");
-    let vec = Arg::new(alloc, "VEC").required(true).help(
+    let dic = file(
+        alloc,
+        "DIC",
+        "The dictionary of the delivery, as a file of type DIC",
+    );
+    let vec = file(
+        alloc,
+        "VEC",
         "The sheet: nodes, arcs, faces, objects and links, as a file of type VEC",
     );
     Command::new(alloc, name)
-        .arg(kinds)?
+        .arg(kinds_option(alloc))?
         .arg(scd)?
         .arg(dic)?
         .arg(vec)
 }
 
+// The option with the codes of the kinds.
+fn kinds_option<'a>(alloc: Global) -> Arg<'a>
+    ensures rule { rule_of result ≡ kinds_rule }
+    ensures local { result.global ≡ false }
+{
+    Arg::new(alloc, "kinds")
+        .long("kinds")
+        .value_name("I,F,L,R")
+        .help(
+            "The KND codes of links to an arc's initial node, final node, left face and right face [usually IND,FND,LPO,RPO]",
+        )
+}
+
+// A file that has to be named.
+fn file<'a>(alloc: Global, id: &'a str, help: &'a str) -> Arg<'a>
+    ensures rule { rule_of result ≡ file_rule id.entry.now }
+    ensures local { result.global ≡ false }
+{
+    Arg::new(alloc, id).required(true).help(help)
+}
+
 // What words in good form ask for.
-fn meant<'a, R: Eprint>(rt: &R, matches: &ArgMatches<'a>) -> Request<'a> {
+fn meant<'a, R: Eprint>(rt: &R, matches: &ArgMatches<'a>) -> Request<'a>
+    requires { IsOwn (subcommand_rows_of matches.now) }
+    ensures { Means (subcommand_rows_of matches.now) result }
+{
     let Some((name, given)) = matches.subcommand() else {
         return Request::Bundle;
     };
@@ -116,15 +161,28 @@ fn meant<'a, R: Eprint>(rt: &R, matches: &ArgMatches<'a>) -> Request<'a> {
     }
 }
 
-fn path<'a>(given: &ArgMatches<'a>, name: &str) -> &'a str {
+// The first value of an argument, or no text.
+fn path<'a>(given: &ArgMatches<'a>, name: &str) -> &'a str
+    ensures { result.now ≡ value_at name.now (rows_of (found_of given.now)) }
+{
     given.get_str(name).unwrap_or("")
 }
 
 // Four codes parted by commas, or the usual ones where none are given.
-fn kinds_of(text: Option<&str>) -> Option<Kinds<'_>> {
-    let Some(text) = text else {
-        return Some(Kinds::usual());
-    };
+fn kinds_of(text: Option<&str>) -> Option<Kinds<'_>>
+    ensures { MatchOption result ((k : KindCodes) → ¬ (AreKindsOf (option_map (λ t. t.now) text.entry) k))
+        (AreKindsOf (option_map (λ t. t.now) text.entry)) }
+{
+    match text {
+        Some(text) => kinds_in(text),
+        None => Some(Kinds::usual()),
+    }
+}
+
+// Four codes parted by commas.
+fn kinds_in(text: &str) -> Option<Kinds<'_>>
+    ensures { MatchOption result ((k : KindCodes) → ¬ (AreKindsIn text.now k)) (AreKindsIn text.now) }
+{
     let mut codes = text.split(',');
     let (initial, final_node) = (codes.next()?, codes.next()?);
     let (left, right) = (codes.next()?, codes.next()?);
@@ -140,9 +198,11 @@ fn kinds_of(text: Option<&str>) -> Option<Kinds<'_>> {
 }
 
 // Says what is wrong with the words, or the help that they ask for.
-fn refused<R: Eprint>(rt: &R, error: &Error) -> u8 {
+fn refused<R: Eprint>(rt: &R, error: &Error) -> u8
+    ensures { result ≡ status_of_kind (kind_of error.now) }
+{
     if error.kind() == ErrorKind::OutOfMemory {
-        return report::out_of_memory(rt);
+        return report::out_of_memory(&mut Errors::new(rt));
     }
     let _ = rt.eprint(error);
     if error.use_stderr() { USAGE_STATUS } else { 0 }

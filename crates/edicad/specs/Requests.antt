@@ -1,0 +1,87 @@
+-- What the words of the command line ask for.
+use Rattle.std.specs.Prelude.{◌≡◌, ◌⊎◌, ◌==◌, ℕ, true, List, [], ◌∷◌, Option, Some, None, IfSome, codes, unwrap_or}
+use Rattle.std.specs.List.{slice_split}
+use Rattle.clap.specs.Words.{App, IsAmong, Row, Rule, Text, fault_of, first_of, new_app, new_rule, subcommand_of, with_rule, with_subcommand}
+use Rattle.clap.specs.declared.error.kind.ErrorKind.{ErrorKind}
+use Rattle.clap.specs.declared.error.kind.ErrorKind.TheVariants.{OutOfMemory, DisplayHelp, DisplayVersion}
+use Rattle.edi_schema.specs.Roles.{KindCodes, AreKindCodes}
+use Rattle.edicad.specs.declared.words.Request.{Request}
+use Rattle.edicad.specs.declared.words.Request.TheVariants.{Bundle, Check, Canon, Answered}
+use Rattle.edicad.specs.declared.words.SheetFiles.{SheetFiles}
+
+-- the option with the codes, which has one value
+abbrev pub kinds_rule : Rule
+kinds_rule = record (new_rule (codes "kinds")) { long = Some (codes "kinds"); value_names = 1 }
+
+-- a file that has to be named
+abbrev pub file_rule : Text → Rule
+file_rule id = record (new_rule id) { required = true }
+
+-- a subcommand over the files of a sheet
+abbrev pub sheet_command : Text → App
+sheet_command name = with_rule (with_rule (with_rule (with_rule (new_app name) kinds_rule)
+    (file_rule (codes "SCD"))) (file_rule (codes "DIC"))) (file_rule (codes "VEC"))
+
+-- the command, with its subcommands check and canon
+abbrev pub edicad : App
+edicad = with_subcommand (with_subcommand (new_app (codes "edicad")) (sheet_command (codes "check")).top)
+    (with_rule (sheet_command (codes "canon")) (file_rule (codes "OUT"))).top
+
+-- IND, FND, LPO and RPO
+abbrev pub usual_kinds : KindCodes
+usual_kinds = record { initial = codes "IND"; final_node = codes "FND"; left = codes "LPO"; right = codes "RPO" }
+
+-- the four codes, parted by commas (44)
+abbrev pub AreKindsIn : List ℕ → KindCodes → Type 0
+AreKindsIn text k =
+    (slice_split (λ x. x == 44) text ≡ k.initial ∷ k.final_node ∷ k.left ∷ k.right ∷ []) × AreKindCodes k
+
+-- the codes of the option, and the usual ones where it isn't given
+abbrev pub AreKindsOf : Option (List ℕ) → KindCodes → Type 0
+AreKindsOf (Some text) k = AreKindsIn text k
+AreKindsOf None k = k ≡ usual_kinds
+
+-- the first value of an argument, or no text
+abbrev pub value_at : Text → List Row → List ℕ
+value_at id rows = unwrap_or (first_of id rows) []
+
+-- the codes and the files that the arguments name
+pub record AreGiven (rows : List Row) (k : KindCodes) (files : SheetFiles) : Type 0 where
+  pub kinds : AreKindsOf (first_of (codes "kinds") rows) k
+  pub scd : files.scd.now ≡ value_at (codes "SCD") rows
+  pub dic : files.dic.now ≡ value_at (codes "DIC") rows
+  pub vec : files.vec.now ≡ value_at (codes "VEC") rows
+
+-- the arguments name no good codes
+abbrev pub HasBadKinds : List Row → Type 0
+HasBadKinds rows = (k : KindCodes) → ¬ AreKindsOf (first_of (codes "kinds") rows) k
+
+-- the subcommand is check or canon
+abbrev pub IsOwn : Option (Text × List Row) → Type 0
+IsOwn met = IfSome met (λ p. (p.0 ≡ codes "check") ⊎ (p.0 ≡ codes "canon"))
+
+-- what the subcommand and its arguments ask for
+abbrev pub Means : Option (Text × List Row) → Request → Type 0
+Means met Bundle = met ≡ None
+Means met (Check kinds files) = (rows : List Row) × (met ≡ Some (codes "check", rows)) × AreGiven rows kinds files
+Means met (Canon kinds files out) = (rows : List Row) × (met ≡ Some (codes "canon", rows)) × AreGiven rows kinds files
+    × (out.now ≡ value_at (codes "OUT") rows)
+Means met (Answered status) = (name : Text) × (rows : List Row) × (met ≡ Some (name, rows)) × HasBadKinds rows × (status ≡ 3)
+
+-- 5 without memory, 0 where help was asked for, and else 3
+abbrev pub status_of_kind : ErrorKind → ℕ
+status_of_kind OutOfMemory = 5
+status_of_kind DisplayHelp = 0
+status_of_kind DisplayVersion = 0
+status_of_kind _ = 3
+
+-- the status of words that are not taken: memory ran out, or they have a fault of this status
+abbrev pub IsRefused : List Text → Request → Type 0
+IsRefused words (Answered status) =
+    (status ≡ 5) ⊎ ((k : ErrorKind) × IsAmong k (fault_of edicad words) × (status ≡ status_of_kind k))
+IsRefused words _ = ⊥
+
+-- what the words ask for: they have no fault and mean it, or they are refused
+abbrev pub IsAsked : List Text → Request → Type 0
+IsAsked words request =
+    ((fault_of edicad words ≡ []) × Means (subcommand_of edicad words) request) ⊎ IsRefused words request

@@ -1,0 +1,42 @@
+-- What a run over the files of a folder answers.
+use Rattle.std.specs.Prelude.{◌≤◌, ◌==◌, ◌⊎◌, ℕ, List, length, Option, if◌then◌else◌}
+use Rattle.edi_schema.specs.Roles.{KindCodes}
+use Rattle.edi_schema.specs.declared.fault.SchemaFault.{SchemaFault}
+use Rattle.edi_compare.specs.declared.fault.Fault.{Fault}
+use Rattle.edi_compare.specs.declared.fault.RunFault.{RunFault}
+use Rattle.edi_compare.specs.Runs.{IsCanonOf, IsTooLong, MatchFault, RefusesSchema, RefusesSheet, Told}
+use Rattle.edicad.specs.declared.words.SheetFiles.{SheetFiles}
+
+-- what the file of a path may tell that it holds
+abbrev pub Contents : Type 1
+Contents = List ℕ → Option (List ℕ) → Type 0
+
+-- a fact of what the three files hold, where they tell it
+abbrev pub OfFiles : Contents → SheetFiles → (List ℕ → List ℕ → List ℕ → Type 0) → Type 0
+OfFiles holds files P = (s d v : Option (List ℕ)) × holds files.scd.now s × holds files.dic.now d × holds files.vec.now v × Told s d v P
+
+-- the path of an input
+abbrev pub path_at : SheetFiles → ℕ → List ℕ
+path_at files n = if n == 1 then files.scd.now else if n == 2 then files.dic.now else files.vec.now
+
+-- the file of an input holds more bytes than a run reads
+abbrev pub HoldsTooMuch : Contents → SheetFiles → ℕ → Type 0
+HoldsTooMuch holds files n = (told : Option (List ℕ)) × holds (path_at files n) told × IsTooLong told
+
+-- Why a run over the files has no answer: one of the three can't be read or is too long, the schema or the sheet is
+-- refused, or so many bytes went out before the writer failed.
+abbrev pub FileFault : Contents → KindCodes → SheetFiles → (ℕ → Type 0) → RunFault → Type 0
+FileFault holds kinds files W e = MatchFault e
+    (λ n. (1 ≤ n) × (n ≤ 3))
+    (λ n. (1 ≤ n) × (n ≤ 3) × HoldsTooMuch holds files n)
+    (λ f. OfFiles holds files (λ s d v. RefusesSchema kinds s d f))
+    (λ f. OfFiles holds files (λ s d v. RefusesSheet kinds s d v f))
+    (λ _. ⊥) W
+
+-- the schema or the sheet is refused
+abbrev pub IsRefusedUnder : KindCodes → List ℕ → List ℕ → List ℕ → Type 0
+IsRefusedUnder kinds scd dic b = ((f : SchemaFault) × RefusesSchema kinds scd dic f) ⊎ ((f : Fault) × RefusesSheet kinds scd dic b f)
+
+-- the canonical file has so many bytes or more
+abbrev pub SentFirst : Contents → KindCodes → SheetFiles → ℕ → Type 0
+SentFirst holds kinds files count = OfFiles holds files (λ s d v. (c : List ℕ) × IsCanonOf kinds s d v c × (count ≤ length c))

@@ -1,0 +1,44 @@
+-- The exit statuses.
+use Rattle.std.specs.Prelude.{◌≡◌, ◌⊎◌, ◌<◌, ℕ, Bool, List, Option, IfSome, IsTrue}
+use Rattle.std.specs.Io.KnownBytes.{Appends}
+use Rattle.edi_schema.specs.Roles.{KindCodes}
+use Rattle.edi_compare.specs.Bundle.{OfParts}
+use Rattle.edi_compare.specs.Runs.{IsSheetUnder, WritesAll}
+use Rattle.edicad.specs.Requests.{usual_kinds}
+use Rattle.edicad.specs.SheetRuns.{Contents, IsRefusedUnder, OfFiles}
+use Rattle.edicad.specs.declared.words.SheetFiles.{SheetFiles}
+use Rattle.edicad.specs.declared.words.Request.{Request}
+use Rattle.edicad.specs.declared.words.Request.TheVariants.{Bundle, Check, Canon, Answered}
+
+-- of a run over a sheet: accepted, refused, not read or not written, out of memory
+abbrev pub IsSheetStatus : ℕ → Type 0
+IsSheetStatus s = (s ≡ 0) ⊎ ((s ≡ 2) ⊎ ((s ≡ 4) ⊎ (s ≡ 5)))
+
+-- of any run: those, or that of words that ask for nothing
+abbrev pub IsStatus : ℕ → Type 0
+IsStatus s = (s ≡ 3) ⊎ IsSheetStatus s
+
+-- the status of a run over files: 0 only of an accepted sheet, 2 only of a refused one
+abbrev pub IsFileStatus : Contents → KindCodes → SheetFiles → ℕ → Type 0
+IsFileStatus holds kinds files s = IsSheetStatus s × (s ≡ 0 → OfFiles holds files (IsSheetUnder kinds)) × (s ≡ 2 → OfFiles holds files (IsRefusedUnder kinds))
+
+-- the status of a run over a bundle: 0 only where its canonical file went out, 2 only of a refused sheet
+abbrev pub IsBundleStatus : Option (List ℕ) → Option (List ℕ) → Option (List ℕ) → ℕ → Type 0
+IsBundleStatus input old new s = IsSheetStatus s
+    × (s ≡ 0 → IfSome input (λ b. OfParts b (λ scd dic vec. WritesAll usual_kinds scd dic vec old new)))
+    × (s ≡ 2 → IfSome input (λ b. OfParts b (IsRefusedUnder usual_kinds)))
+
+-- the status of what was asked for, over what the files hold, what the input holds, and what the output has before and after
+abbrev pub IsAnswered : Contents → Option (List ℕ) → Option (List ℕ) → Option (List ℕ) → Request → ℕ → Type 0
+IsAnswered holds input old new Bundle s = IsBundleStatus input old new s
+IsAnswered holds input old new (Check kinds files) s = IsFileStatus holds kinds files s
+IsAnswered holds input old new (Canon kinds files out) s = IsFileStatus holds kinds files s
+IsAnswered holds input old new (Answered status) s = s ≡ status
+
+-- the status once the line was printed: that of the outcome, 5 without memory for the line, 4 where it can't be printed
+abbrev pub IsToldAs : ℕ → ℕ → Type 0
+IsToldAs status s = (s ≡ status) ⊎ ((s ≡ 5) ⊎ ((status < 3) × (s ≡ 4)))
+
+-- the text went out, or the writer has failed
+abbrev pub GoesOut : Option (List ℕ) → Option (List ℕ) → Bool → List ℕ → Type 0
+GoesOut old new failed text = Appends old new text ⊎ IsTrue failed

@@ -1,0 +1,21 @@
+//! What the definitions say of known words.
+ghost use Rattle.std.specs.Prelude.{◌≡◌, [], ◌∷◌, None, Some, codes};
+ghost use Rattle.clap.specs.Words.{fault_of, subcommand_of};
+ghost use Rattle.clap.specs.declared.error.ErrorKind.TheVariants.{DisplayHelp, InvalidSubcommand, MissingRequiredArgument, UnknownArgument};
+ghost use Rattle.edicad.specs.Requests.{edicad};
+ghost use Rattle.edicad.specs.Known.{values_of, words_in};
+
+/// Known words ask for what they should.
+pub fn known_words_are_asked()
+    ensures bundle { subcommand_of edicad (words_in (codes "edicad")) ≡ None }
+    ensures check { values_of (codes "edicad check s d v")
+        ≡ Some (codes "check", None ∷ Some (codes "s") ∷ Some (codes "d") ∷ Some (codes "v") ∷ None ∷ []) }
+    ensures canon { values_of (codes "edicad canon s --kinds=A,B,C,D d v o")
+        ≡ Some (codes "canon", Some (codes "A,B,C,D") ∷ Some (codes "s") ∷ Some (codes "d") ∷ Some (codes "v") ∷ Some (codes "o") ∷ []) }
+    ensures no_bundle_fault { fault_of edicad (words_in (codes "edicad")) ≡ [] }
+    ensures no_check_fault { fault_of edicad (words_in (codes "edicad check s d v")) ≡ [] }
+    ensures no_canon_fault { fault_of edicad (words_in (codes "edicad canon s --kinds=A,B,C,D d v o")) ≡ [] }
+    ensures help { fault_of edicad (words_in (codes "edicad --help")) ≡ DisplayHelp ∷ [] }
+    ensures lacking { fault_of edicad (words_in (codes "edicad canon s d v")) ≡ MissingRequiredArgument ∷ [] }
+    ensures unknown { fault_of edicad (words_in (codes "edicad paint")) ≡ UnknownArgument ∷ InvalidSubcommand ∷ [] }
+{}
