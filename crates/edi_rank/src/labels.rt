@@ -12,11 +12,9 @@ ghost use Rattle.edi_rank.specs.Layers.{IsArcRanking, IsFaceRanking, IsLinkRanki
 ghost use Rattle.edi_rank.specs.Labelling.{NumbersEach};
 ghost use Rattle.edi_line.specs.Refusal.{IsUnbroken};
 
-use crate::arc_layer::ArcLayer;
 use crate::face_layer::FaceLayer;
 use crate::fault::RankFault;
 use crate::forward::turned_arcs;
-use crate::layers::NodeLayer;
 use crate::link_layer::LinkLayer;
 use crate::numbering::{number_kind, places_by_number};
 use crate::object_layer::ObjectLayer;
@@ -71,8 +69,8 @@ impl Labels {
         Ok(Labels {
             numbers: Sequence::from_vec(numbers),
             turned: Sequence::from_vec(turned),
-            nodes: kind_by_number(alloc, plan, Kind::Pno, &lower.nodes)?,
-            arcs: kind_by_number(alloc, plan, Kind::Par, &lower.arcs)?,
+            nodes: kind_by_number(alloc, plan, Kind::Pno, lower.nodes)?,
+            arcs: kind_by_number(alloc, plan, Kind::Par, lower.arcs)?,
             faces: kind_by_number(alloc, plan, Kind::Pfe, &lower.faces)?,
             objects: kind_by_number(alloc, plan, Kind::Fea, &objects)?,
             links: kind_by_number(alloc, plan, Kind::Lnk, &links)?,
@@ -116,30 +114,11 @@ impl Labels {
     }
 }
 
-/// The numbers of the nodes, in file order.
-fn node_ranks(alloc: Global, sound: &Sound) -> Result<Ranks, AllocError>
-    ensures { IfOk result (IsNodeRanking sound.now) }
+/// The numbers of the arcs, in file order, which are those of the keys of the plan that is turned forward.
+fn arc_ranks(sound: &Sound) -> &Ranks
+    ensures { IsArcRanking sound.now result.now }
 {
-    let _plan = sound.plan();
-    let layer = NodeLayer::of(alloc, sound)?;
-    match ranks(alloc, &layer) {
-        Ok(ranks) => Ok(ranks),
-        Err(TieFault::Memory(error)) => Err(error),
-        Err(TieFault::Tie(_)) => unreachable!(),
-    }
-}
-
-/// The numbers of the arcs, in file order.
-fn arc_ranks(alloc: Global, sound: &Sound) -> Result<Ranks, AllocError>
-    ensures { IfOk result (IsArcRanking sound.now) }
-{
-    let _plan = sound.plan();
-    let layer = ArcLayer::of(alloc, sound)?;
-    match ranks(alloc, &layer) {
-        Ok(ranks) => Ok(ranks),
-        Err(TieFault::Memory(error)) => Err(error),
-        Err(TieFault::Tie(_)) => unreachable!(),
-    }
+    sound.arc_ranks()
 }
 
 /// The numbers of the faces, in file order.
@@ -200,34 +179,34 @@ fn link_ranks(
 
 /// The numbers of the nodes, the arcs and the faces.
 #[derive(Drop)]
-struct LowerRanks {
-    nodes: Ranks,
-    arcs: Ranks,
+struct LowerRanks<'a> {
+    nodes: &'a Ranks,
+    arcs: &'a Ranks,
     faces: Ranks,
 }
 
-fn lower_ranks(alloc: Global, sound: &Sound) -> Result<LowerRanks, AllocError>
-    ensures nodes { IfOk result (λ lower. IsNodeRanking sound.now lower.nodes) }
-    ensures arcs { IfOk result (λ lower. IsArcRanking sound.now lower.arcs) }
-    ensures faces { IfOk result (λ lower. IsFaceRanking sound.now lower.arcs lower.faces) }
+fn lower_ranks<'a>(alloc: Global, sound: &'a Sound) -> Result<LowerRanks<'a>, AllocError>
+    ensures nodes { IfOk result (λ lower. IsNodeRanking sound.now lower.nodes.now) }
+    ensures arcs { IfOk result (λ lower. IsArcRanking sound.now lower.arcs.now) }
+    ensures faces { IfOk result (λ lower. IsFaceRanking sound.now lower.arcs.now lower.faces) }
 {
-    let nodes = node_ranks(alloc, sound)?;
-    let arcs = arc_ranks(alloc, sound)?;
-    let faces = face_ranks(alloc, sound, &arcs)?;
+    let nodes = sound.node_ranks();
+    let arcs = arc_ranks(sound);
+    let faces = face_ranks(alloc, sound, arcs)?;
     Ok(LowerRanks { nodes, arcs, faces })
 }
 
 /// The numbers of the nodes, the arcs and the faces by place, and 0 at the places of other records.
-fn lower_numbers(alloc: Global, plan: &Plan, lower: &LowerRanks) -> Result<Vec<u32>, AllocError>
-    requires nodes { length lower.now.nodes ≡ length (places_of Pno plan.now) }
-    requires arcs { length lower.now.arcs ≡ length (places_of Par plan.now) }
+fn lower_numbers(alloc: Global, plan: &Plan, lower: &LowerRanks<'_>) -> Result<Vec<u32>, AllocError>
+    requires nodes { length lower.now.nodes.now ≡ length (places_of Pno plan.now) }
+    requires arcs { length lower.now.arcs.now ≡ length (places_of Par plan.now) }
     requires faces { length lower.now.faces ≡ length (places_of Pfe plan.now) }
     ensures length { IfOk result (λ numbers. length numbers.items ≡ length plan.now.list) }
-    ensures ranked { IfOk result (λ numbers. (k : ℕ) → IsPlace plan.now k → slice_index numbers.items k ≡ ranked plan.now lower.now.nodes lower.now.arcs lower.now.faces k) }
+    ensures ranked { IfOk result (λ numbers. (k : ℕ) → IsPlace plan.now k → slice_index numbers.items k ≡ ranked plan.now lower.now.nodes.now lower.now.arcs.now lower.now.faces k) }
 {
     let unnumbered = vec![in alloc; 0; plan.len() as usize]?;
-    let by_node = number_kind(plan, Kind::Pno, &lower.nodes, unnumbered);
-    let by_arc = number_kind(plan, Kind::Par, &lower.arcs, by_node);
+    let by_node = number_kind(plan, Kind::Pno, lower.nodes, unnumbered);
+    let by_arc = number_kind(plan, Kind::Par, lower.arcs, by_node);
     Ok(number_kind(plan, Kind::Pfe, &lower.faces, by_arc))
 }
 

@@ -6,8 +6,7 @@ use Rattle.std.specs.Ordering.{is_ne, is_eq}
 use Rattle.std.proofs.lemmas.Bool.{leb-true}
 use Rattle.edi_record.specs.Orders.{point_cmp}
 use Rattle.edi_record.specs.Shapes.{may_have_points}
-use Rattle.edi_record.specs.declared.record.Kind.{Kind}
-use Rattle.edi_record.specs.declared.record.Kind.TheVariants.{Pno, Par, Pfe, Fea, Lnk}
+use Rattle.edi_record.specs.declared.record.Kind.TheVariants.{Pno, Par}
 use Rattle.edi_record.specs.declared.record.Point.{Point}
 use Rattle.edi_schema.specs.Roles.{is_plain}
 use Rattle.edi_schema.specs.declared.role.Role.{Role}

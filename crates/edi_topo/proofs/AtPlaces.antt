@@ -1,10 +1,11 @@
 -- What breaks a rule of topology at one record.
 use Rattle.std.proofs.Common.{◌≡◌, ℕ, zero, suc, ◌+◌, List, [], ◌∷◌, length, get_or, ◌<◌, ◌≤◌, ◌⊎◌, inl, inr, Option, Some, None, MatchOption, refl, sym, ap, ◌∙◌, subst, arith}
 use Rattle.std.specs.List.{AllByRecursion}
+use Rattle.std.specs.Result.{result_err}
 use Rattle.std.proofs.lemmas.Bool.{cases_order}
 use Rattle.edi_line.specs.Refusal.{IsUnbroken, IsLeastBroken}
 use Rattle.edi_record.specs.declared.record.Kind.{Kind}
-use Rattle.edi_record.specs.declared.record.Kind.TheVariants.{Pno, Par, Pfe, Fea, Lnk}
+use Rattle.edi_record.specs.declared.record.Kind.TheVariants.{Pno, Par, Pfe}
 use Rattle.edi_schema.specs.declared.role.Role.TheVariants.{Left, Right}
 use Rattle.edi_plan.specs.Plans.{Drawing, IsPlace, record_at, kind_rank}
 use Rattle.edi_plan.specs.Sides.{Side}
@@ -12,7 +13,7 @@ use Rattle.edi_topo.specs.Arcs.{RepeatsAnEarlierArc}
 use Rattle.edi_topo.specs.AtRecord.{IsUnbrokenAt, IsLeastAt, IsUpTo, AreAhead, AreFindings}
 use Rattle.edi_topo.specs.Nodes.{RepeatsAnEarlier}
 use Rattle.edi_topo.specs.declared.at_record.Findings.{Findings}
-use Rattle.edi_topo.specs.TopologyRules.{BreaksTopologyRule, StartsElsewhere, EndsElsewhere, EqualsReverse}
+use Rattle.edi_topo.specs.TopologyRules.{BreaksTopologyRule, StartsElsewhere, EndsElsewhere}
 use Rattle.edi_topo.specs.TopologyRules.BreaksTopologyRule.{starts_elsewhere, ends_elsewhere, repeats_node, equals_reverse, repeats_arc, bounds_nothing}
 
 -- what holds of each element holds of that at a place
@@ -108,8 +109,8 @@ module _ (p : Drawing) where
   pub none_is_broken : (count : ℕ) → ((k : ℕ) → IsPlace p k → k < count) → ((k : ℕ) → k < count → IsUnbrokenAt p k) → IsUnbroken (BreaksTopologyRule p)
   none_is_broken count all none rule at h = let k = broken_place rule at h in none k.0 (all k.0 k.2) rule (subst (BreaksTopologyRule p rule) k.1 h)
 
-  repeat_breaks : (k : ℕ) → RepeatsAnEarlier p k → BreaksTopologyRule p 403 (suc k)
-  repeat_breaks k d = repeats_node refl (d.0, k, refl, d.1, d.2)
+  pub node_breaks : (k : ℕ) → RepeatsAnEarlier p k → BreaksTopologyRule p 403 (suc k)
+  node_breaks k d = repeats_node refl (d.0, k, refl, d.1, d.2)
 
   pub arc_breaks : (k : ℕ) → RepeatsAnEarlierArc p k → BreaksTopologyRule p 405 (suc k)
   arc_breaks k d = repeats_arc refl (d.0, k, d.1, d.2, refl, d.3, d.4, d.5, d.6)
@@ -117,8 +118,8 @@ module _ (p : Drawing) where
   -- the repeats are past a record that breaks no rule
   pub ahead_more : (found : Findings) (place : ℕ) → AreFindings p found → AreAhead found place → IsUnbrokenAt p place → AreAhead found (place + 1)
   ahead_more found place are ahead none = record {
-    node = λ k e. past k (ahead.node k e) (λ same. none 403 (repeat_breaks place (has_it (RepeatsAnEarlier p) found.node place (e ∙ ap Some same) are.node))) (cases_order place k);
-    arc = λ k e. past k (ahead.arc k e) (λ same. none 405 (arc_breaks place (has_it (RepeatsAnEarlierArc p) found.arc place (e ∙ ap Some same) are.arc))) (cases_order place k);
+    node = λ k e. past k (ahead.node k e) (λ same. none 403 (node_breaks place (has_it (RepeatsAnEarlier p) (result_err found.nodes) place (e ∙ ap Some same) are.node_repeat))) (cases_order place k);
+    arc = λ k e. past k (ahead.arc k e) (λ same. none 405 (arc_breaks place (has_it (RepeatsAnEarlierArc p) (result_err found.arcs) place (e ∙ ap Some same) are.arc_repeat))) (cases_order place k);
   }
     where
       past : (k : ℕ) → place ≤ k → (k ≡ place → ⊥) → (place ≡ k) ⊎ ((place < k) ⊎ (k < place)) → place + 1 ≤ k

@@ -1,19 +1,16 @@
 -- The least member of a layer of nodes that ties is the least node that is alike an earlier one.
-use Rattle.std.proofs.Common.{◌≡◌, ℕ, suc, ◌<◌, ◌≤◌, ◌⊎◌, inl, inr, List, length, map, get_or, refl, sym, ap, ◌∙◌, subst, arith, Ordering, Equal}
+use Rattle.std.proofs.Common.{◌≡◌, ℕ, ◌<◌, ◌≤◌, ◌⊎◌, inl, inr, List, length, get_or, sym, ap, ◌∙◌, subst, arith, Equal}
 use Rattle.std.proofs.lemmas.List.{get_or-map}
-use Rattle.std.proofs.lemmas.Bool.{cases_order, cases_lt}
+use Rattle.std.proofs.lemmas.Bool.{cases_order}
 use Rattle.edi_record.specs.declared.record.Kind.TheVariants.{Pno}
 use Rattle.edi_plan.specs.Places.{places_of}
-use Rattle.edi_plan.specs.Plans.{Drawing, IsPlace, record_at}
+use Rattle.edi_plan.specs.Plans.{Drawing, record_at}
 use Rattle.edi_plan.specs.Whole.{IsWhole}
 use Rattle.edi_plan.proofs.PlaceLemmas.{place_there, place_of_kind, places_rise, has_place}
 use Rattle.edi_topo.specs.NodeKeys.{node_key, node_keys, node_key_cmp, no_node, IsNodeRanking}
-use Rattle.edi_topo.specs.Nodes.{RepeatsAnEarlier, IsFirstRepeatIfAny}
-use Rattle.edi_topo.specs.Ranking.{Ties, IsTie, IsRanking}
-use Rattle.edi_topo.specs.declared.fault.TieFault.TheVariants.{Tie}
-use Rattle.edi_line.specs.Refusal.{IsUnbroken}
-use Rattle.edi_topo.specs.TopologyRules.{AreAlikeNodes, BreaksTopologyRule}
-use Rattle.edi_topo.specs.TopologyRules.BreaksTopologyRule.{repeats_node}
+use Rattle.edi_topo.specs.Nodes.{RepeatsAnEarlier}
+use Rattle.edi_topo.specs.Ranking.{Ties, IsRanking}
+use Rattle.edi_topo.specs.TopologyRules.{AreAlikeNodes}
 use Rattle.edi_topo.specs.declared.node_key.NodeKey.{NodeKey}
 use Rattle.edi_topo.proofs.NodeOrders.{node_order, keys_of_alike, alike_from_keys}
 use Rattle.edi_topo.specs.contracts.node_key.NodeKeyOrd.TheImpl.{ghosts as nodes}
@@ -74,10 +71,3 @@ module _ (p : Drawing) (whole : IsWhole p) where
 -- the numbers by the derived order are those by the written one
 pub ranking_of : (p q : Drawing) (numbers : List ℕ) → q ≡ p → IsRanking nodes.cmp (key_of q) (count_of q) numbers → IsNodeRanking p numbers
 ranking_of p q numbers e h = subst (λ r. IsRanking node_key_cmp (key_of r) (count_of r) numbers) e (subst (λ cmp. IsRanking cmp (key_of q) (count_of q) numbers) (λ i a b. node_order a b i) h)
-
--- in a sound plan no two nodes tie
-pub no_tie : (p q : Drawing) (m : ℕ) → q ≡ p → IsWhole p → IsUnbroken (BreaksTopologyRule p) → IsTie nodes.cmp (key_of q) (count_of q) (Tie m) → ⊥
-no_tie p q m e whole sound tie =
-    let t : IsTie nodes.cmp (key_of p) (count_of p) (Tie m) = subst (λ r. IsTie nodes.cmp (key_of r) (count_of r) (Tie m)) e tie in
-    let d = (least_repeats p whole m t.0 t.1).0 in
-    sound 403 (suc (get_or (places_of Pno p) m 0)) (repeats_node refl (d.0, get_or (places_of Pno p) m 0, refl, d.1, d.2))

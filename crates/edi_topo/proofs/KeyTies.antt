@@ -2,7 +2,7 @@
 use Rattle.std.proofs.Common.{◌≡◌, ◌≢◌, ℕ, zero, suc, ◌+◌, ◌-◌, ◌<◌, ◌≤◌, ◌⊎◌, inl, inr, Bool, true, false, true≢false, ◌||◌, nat_eq, List, [], ◌∷◌, ◌++◌, length, get_or, refl, sym, ap, ◌∙◌, subst, arith, All, Contains, IsPermutation, IsSorted, Ordering, Less, Equal, Greater, is_lt, is_gt, nat_cmp, eq-eqb, ne_eqb}
 use Rattle.std.specs.List.{list_any, AllByRecursion, IsDistinct}
 use Rattle.std.specs.Cmp.{IsTotalOrder, IsEquivalence}
-use Rattle.std.specs.Ordering.{ordering_then, ordering_reverse, on}
+use Rattle.std.specs.Ordering.{ordering_then, ordering_reverse}
 use Rattle.std.proofs.lemmas.Bool.{cases_order}
 use Rattle.std.proofs.lemmas.Cmp.{on_total, then_total, nat_cmp_total, on_equiv, nat_eq_equiv, tied_back}
 use Rattle.std.proofs.lemmas.List.{get_or_default}
@@ -10,7 +10,7 @@ use Rattle.std.proofs.lemmas.List.Elements.{recursion_from_All}
 use Rattle.std.proofs.lemmas.List.Sorted.{All-permutation, Contains-permutation, ranks_by, sorted_far}
 use Rattle.std.proofs.lemmas.Map.Keys.{IsDistinct-push, IsDistinct-IsPermutation, apart_from_distinct}
 use Rattle.edi_topo.specs.Keyed.{keyed, HasEarlier, IsFirstTie, IsLeastRepeat}
-use Rattle.edi_topo.proofs.KeyOrder.{members, IsMember, has_member, AreMembers}
+use Rattle.edi_topo.proofs.KeyOrder.{has_member, AreMembers}
 
 module _ {K : Type 0} (key : ℕ → K) where
   same_member : K × ℕ → K × ℕ → Bool

@@ -1,5 +1,5 @@
 -- Tables of which records are on a side of an arc.
-use Rattle.std.proofs.Common.{◌≡◌, ◌≢◌, ℕ, suc, ◌+◌, ◌<◌, ◌≤◌, ◌⊎◌, inl, inr, Bool, true, false, true≢false, List, length, get_or, set, refl, sym, ap, ◌∙◌, subst, arith, ◌↔◌, get_or-set_same, get_or-set_other}
+use Rattle.std.proofs.Common.{◌≡◌, ◌≢◌, ℕ, ◌+◌, ◌<◌, ◌⊎◌, inl, inr, Bool, true, false, true≢false, List, length, get_or, set, sym, ap, ◌∙◌, subst, arith, ◌↔◌, get_or-set_same, get_or-set_other}
 use Rattle.std.proofs.lemmas.Bool.{cases_eq}
 use Rattle.edi_record.specs.declared.record.Kind.TheVariants.{Par}
 use Rattle.edi_schema.specs.declared.role.Role.TheVariants.{Left, Right}

@@ -1,9 +1,8 @@
 -- The order of nodes is total, and nodes tie exactly where they are alike.
-use Rattle.std.proofs.Common.{◌≡◌, ℕ, zero, suc, ◌+◌, ◌<◌, ◌≤◌, ◌⊎◌, inl, inr, Bool, true, false, true≢false, List, [], ◌∷◌, length, map, get_or, refl, sym, ap, ◌∙◌, subst, arith, nat_cmp, IsPermutation, Ordering, Less, Equal, Greater, eqb-true}
+use Rattle.std.proofs.Common.{◌≡◌, ℕ, suc, true, true≢false, List, [], ◌∷◌, length, get_or, refl, sym, ap, ◌∙◌, subst, arith, nat_cmp, IsPermutation, Equal, eqb-true}
 use Rattle.std.specs.Cmp.{IsTotalOrder}
 use Rattle.std.specs.Cmp.Lexicographic.{slice_cmp}
 use Rattle.std.specs.Ordering.{ordering_then}
-use Rattle.std.proofs.lemmas.Bool.{cases_order}
 use Rattle.std.proofs.lemmas.Cmp.{then_total, on_total, lists_total, nat_cmp_total, tied_itself}
 use Rattle.std.proofs.lemmas.Map.Lookups.{CmpEqualImpliesEq, exact_unsigned}
 use Rattle.std.proofs.lemmas.List.Sorted.{IsPermutation-sym, IsPermutation-trans}
@@ -12,8 +11,7 @@ use Rattle.edi_record.specs.Shapes.{may_have_points}
 use Rattle.edi_record.specs.declared.record.Point.{Point}
 use Rattle.edi_record.specs.declared.record.Extra.{Extra}
 use Rattle.edi_record.specs.declared.record.Kind.TheVariants.{Pno}
-use Rattle.edi_record.proofs.ValueOrder.{extra_order, point_order}
-use Rattle.edi_record.specs.contracts.record.ExtraOrd.TheImpl.{ghosts as extras}
+use Rattle.edi_record.proofs.ValueOrder.{extra_order}
 use Rattle.edi_schema.specs.Sorted.{sort_by}
 use Rattle.edi_schema.proofs.SortedLists.{sort_by-same, counts_from_permutation, IsPermutation-sort_by}
 use Rattle.edi_plan.specs.Orders.{attribute_cmp}
@@ -21,7 +19,6 @@ use Rattle.edi_plan.specs.Plans.{Drawing, IsPlace, record_at}
 use Rattle.edi_plan.specs.Whole.{IsWhole}
 use Rattle.edi_plan.specs.declared.record.PlanAttribute.{PlanAttribute}
 use Rattle.edi_plan.proofs.DerivedOrders.{attribute_order}
-use Rattle.edi_plan.specs.contracts.record.PlanAttributeOrd.TheImpl.{ghosts as attributes}
 use Rattle.edi_plan.proofs.Orders.{first_tied, then_tied, exact_lists, point_total, point_exact, attribute_total, attribute_exact, extra_total, extra_exact}
 use Rattle.edi_topo.specs.NodeKeys.{node_key, node_key_cmp, no_point}
 use Rattle.edi_topo.specs.TopologyRules.{AreAlikeNodes}

@@ -1,8 +1,10 @@
 -- The rules of topology at one record.
-use Rattle.std.specs.Prelude.{◌≡◌, ℕ, suc, ◌<◌, ◌≤◌, Option, MatchOption, Some}
+use Rattle.std.specs.Prelude.{◌≡◌, ℕ, suc, ◌≤◌, IfOk, Option, MatchOption, Some}
+use Rattle.std.specs.Result.{result_err}
 use Rattle.edi_plan.specs.Plans.{Drawing}
 use Rattle.edi_topo.specs.TopologyRules.{BreaksTopologyRule}
 use Rattle.edi_topo.specs.Faces.{AreFaced}
+use Rattle.edi_topo.specs.NodeKeys.{IsNodeRanking}
 use Rattle.edi_topo.specs.Nodes as Nodes
 use Rattle.edi_topo.specs.Arcs as Arcs
 use Rattle.edi_topo.specs.declared.at_record.Findings.{Findings}
@@ -24,13 +26,15 @@ IsLeastAtIfAny p place found = MatchOption found (IsUnbrokenAt p place) (IsLeast
 abbrev pub IsUpTo : Option ℕ → ℕ → Type 0
 IsUpTo found place = (k : ℕ) → found ≡ Some k → place ≤ k
 
--- what was found: the first node and the first arc that repeat an earlier one, and which faces are on a side
+-- what was found: the numbers of the nodes and of the arcs, or the first that repeats an earlier one, and which faces are on a side
 pub record AreFindings (p : Drawing) (found : Findings) : Type 0 where
-  pub node : Nodes.IsFirstRepeatIfAny p found.node
-  pub arc : Arcs.IsFirstRepeatIfAny p found.arc
+  pub nodes : IfOk found.nodes (IsNodeRanking p)
+  pub node_repeat : Nodes.IsFirstRepeatIfAny p (result_err found.nodes)
+  pub arcs : IfOk found.arcs (Arcs.IsForwardRanking p)
+  pub arc_repeat : Arcs.IsFirstRepeatIfAny p (result_err found.arcs)
   pub faced : AreFaced p found.faced.items
 
 -- the repeats aren't before this place
 pub record AreAhead (found : Findings) (place : ℕ) : Type 0 where
-  pub node : IsUpTo found.node place
-  pub arc : IsUpTo found.arc place
+  pub node : IsUpTo (result_err found.nodes) place
+  pub arc : IsUpTo (result_err found.arcs) place

@@ -1,13 +1,15 @@
 //! The arcs of a plan, by their keys: rule 405.
 
 ghost use Rattle.std.specs.Prelude.{◌≡◌, ◌<◌, ℕ, [], length, slice_index, slice_index_or, IfOk};
+ghost use Rattle.std.specs.Result.{result_err};
 ghost use Rattle.edi_record.specs.declared.record.Kind.TheVariants.{Par};
 ghost use Rattle.edi_plan.specs.Places.{places_of};
-ghost use Rattle.edi_topo.specs.Arcs.{forward_keys, IsFirstRepeatIfAny};
+ghost use Rattle.edi_topo.specs.Arcs.{forward_keys, IsFirstRepeatIfAny, IsForwardRanking};
 
 use crate::fault::TieFault;
 use crate::forward_points::ForwardPoints;
 use crate::layer::Layer;
+use crate::numbers::Ranks;
 use crate::ranking::ranks;
 use edi_plan::Plan;
 use edi_record::Kind;
@@ -69,14 +71,16 @@ impl<'a> Layer for PlanArcs<'a> {
     }
 }
 
-/// The first arc with the points of an earlier one, in either direction, if there is one.
-pub(crate) fn first_repeat(alloc: Global, plan: &Plan) -> Result<Option<u32>, AllocError>
-    ensures { IfOk result (IsFirstRepeatIfAny plan.now) }
+/// The numbers of the arcs, in file order; or the place of the first with the points of an earlier one, in
+/// either direction.
+pub(crate) fn ranks_or_repeat(alloc: Global, plan: &Plan) -> Result<Result<Ranks, u32>, AllocError>
+    ensures ranks { IfOk result (λ found. IfOk found (IsForwardRanking plan.now)) }
+    ensures repeat { IfOk result (λ found. IsFirstRepeatIfAny plan.now (result_err found)) }
 {
     let arcs = PlanArcs::of(alloc, plan)?;
     match ranks(alloc, &arcs) {
-        Ok(_) => Ok(None),
-        Err(TieFault::Tie(member)) => Ok(Some(arcs.place(member))),
+        Ok(ranks) => Ok(Ok(ranks)),
+        Err(TieFault::Tie(member)) => Ok(Err(arcs.place(member))),
         Err(TieFault::Memory(error)) => Err(error),
     }
 }

@@ -1,6 +1,7 @@
 //! The rules of topology at one record.
 
 ghost use Rattle.std.specs.Prelude.{◌≡◌, ◌↔◌, ◌<◌, ◌+◌, Some, IsTrue, IfOk, MatchOption};
+ghost use Rattle.std.specs.Result.{result_err};
 ghost use Rattle.edi_line.specs.Refusal.{IsLeastBroken, IsUnbroken};
 ghost use Rattle.edi_record.specs.declared.record.Kind.TheVariants.{Par, Pfe, Pno};
 ghost use Rattle.edi_plan.specs.Joined.{IsJoined};
@@ -14,17 +15,18 @@ ghost use Rattle.edi_topo.specs.TopologyRules.{BreaksTopologyRule};
 use crate::directions::equals_reverse;
 use crate::ends::{ends_elsewhere, starts_elsewhere};
 use crate::faces::faced;
+use crate::numbers::Ranks;
 use crate::{arcs, nodes};
 use edi_plan::Plan;
 use edi_record::Kind;
 use std::alloc::{AllocError, Global};
 
-/// What is looked up at each record: the first node and the first arc that repeat an earlier one, and
-/// which records are on a side of an arc.
+/// What is looked up at each record: the numbers of the nodes and of the arcs, or the place of the first
+/// that repeats an earlier one; and which records are on a side of an arc.
 #[derive(Drop)]
 pub(crate) struct Findings {
-    node: Option<u32>,
-    arc: Option<u32>,
+    pub(crate) nodes: Result<Ranks, u32>,
+    pub(crate) arcs: Result<Ranks, u32>,
     faced: Vec<bool>,
 }
 
@@ -34,10 +36,20 @@ impl Findings {
         ensures { IfOk result (AreFindings plan.now) }
     {
         Ok(Findings {
-            node: nodes::first_repeat(alloc, plan)?,
-            arc: arcs::first_repeat(alloc, plan)?,
+            nodes: nodes::ranks_or_repeat(alloc, plan)?,
+            arcs: arcs::ranks_or_repeat(alloc, plan)?,
             faced: faced(alloc, plan)?,
         })
+    }
+}
+
+/// The place of the first repeat, if there is one.
+fn repeat_in(found: &Result<Ranks, u32>) -> Option<u32>
+    ensures { result ≡ result_err found.now }
+{
+    match found {
+        Ok(_) => None,
+        Err(place) => Some(*place),
     }
 }
 
@@ -110,8 +122,8 @@ fn rule_at(plan: &Plan, findings: &Findings, place: u32) -> Option<u16>
     ensures { IsLeastAtIfAny plan.now place result }
 {
     match plan.kind(place) {
-        Kind::Pno => rule_of_node(plan, findings.node, place),
-        Kind::Par => rule_of_arc(plan, findings.arc, place),
+        Kind::Pno => rule_of_node(plan, repeat_in(&findings.nodes), place),
+        Kind::Par => rule_of_arc(plan, repeat_in(&findings.arcs), place),
         Kind::Pfe => rule_of_face(plan, &findings.faced, place),
         Kind::Fea | Kind::Lnk => None,
     }

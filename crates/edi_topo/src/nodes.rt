@@ -1,16 +1,18 @@
 //! The nodes of a plan, by their keys.
 
 ghost use Rattle.std.specs.Prelude.{◌≡◌, ◌<◌, ◌≤◌, ℕ, length, slice_index, slice_index_or, map, IfOk, MatchOption, Some};
+ghost use Rattle.std.specs.Result.{result_err};
 ghost use Rattle.edi_record.specs.declared.record.Kind.TheVariants.{Pno};
 ghost use Rattle.edi_plan.specs.Places.{places_of};
 ghost use Rattle.edi_plan.specs.Plans.{IsPlace, record_at};
-ghost use Rattle.edi_topo.specs.NodeKeys.{node_keys, no_node};
+ghost use Rattle.edi_topo.specs.NodeKeys.{node_keys, no_node, IsNodeRanking};
 ghost use Rattle.edi_topo.specs.TopologyRules.{AreAlikeNodes};
 ghost use Rattle.edi_topo.specs.Nodes.{IsFirstRepeatIfAny};
 
 use crate::fault::TieFault;
 use crate::layer::Layer;
 use crate::node_key::{NodeKey, node_key_at};
+use crate::numbers::Ranks;
 use crate::ranking::ranks;
 use edi_plan::Plan;
 use edi_record::Kind;
@@ -72,15 +74,16 @@ impl<'a> Layer for PlanNodes<'a> {
     }
 }
 
-/// The first node that is alike an earlier one, if there is one.
-pub(crate) fn first_repeat(alloc: Global, plan: &Plan) -> Result<Option<u32>, AllocError>
-    ensures { IfOk result (IsFirstRepeatIfAny plan.now) }
+/// The numbers of the nodes, in file order; or the place of the first that is alike an earlier one.
+pub(crate) fn ranks_or_repeat(alloc: Global, plan: &Plan) -> Result<Result<Ranks, u32>, AllocError>
+    ensures ranks { IfOk result (λ found. IfOk found (IsNodeRanking plan.now)) }
+    ensures repeat { IfOk result (λ found. IsFirstRepeatIfAny plan.now (result_err found)) }
 {
     plan.keeps();
     let nodes = PlanNodes::of(alloc, plan)?;
     match ranks(alloc, &nodes) {
-        Ok(_) => Ok(None),
-        Err(TieFault::Tie(member)) => Ok(Some(nodes.place(member))),
+        Ok(ranks) => Ok(Ok(ranks)),
+        Err(TieFault::Tie(member)) => Ok(Err(nodes.place(member))),
         Err(TieFault::Memory(error)) => Err(error),
     }
 }

@@ -1,16 +1,22 @@
 ghost use Rattle.std.specs.Prelude.{◌≡◌, OnOk, IfOk, IfErr};
 ghost use Rattle.edi_line.specs.Refusal.{IsUnbroken};
+ghost use Rattle.edi_topo.specs.Arcs.{IsForwardRanking};
+ghost use Rattle.edi_topo.specs.AtRecord.{AreFindings};
+ghost use Rattle.edi_topo.specs.NodeKeys.{IsNodeRanking};
 
 use crate::at_record::{Findings, first_broken};
 use crate::fault::TopoFault;
+use crate::numbers::Ranks;
 use edi_plan::Plan;
 use std::alloc::Global;
 use std::marker::Model;
 
-/// A plan that breaks no rule of topology.
+/// A plan that breaks no rule of topology, with the numbers of its nodes and of its arcs.
 #[derive(Drop)]
 pub struct Sound {
     plan: Plan,
+    nodes: Ranks,
+    arcs: Ranks,
 }
 
 impl Model for Sound {
@@ -19,11 +25,13 @@ impl Model for Sound {
     ghost Value = { Drawing };
 
     ghost use Rattle.edi_line.specs.Refusal.{IsUnbroken};
+    ghost use Rattle.edi_topo.specs.Arcs.{IsForwardRanking};
+    ghost use Rattle.edi_topo.specs.NodeKeys.{IsNodeRanking};
     ghost use Rattle.edi_topo.specs.TopologyRules.{BreaksTopologyRule};
 
     ghost view = { λ s. s.plan };
 
-    ghost invariant = { λ s. IsUnbroken (BreaksTopologyRule s.plan) };
+    ghost invariant = { λ s. IsUnbroken (BreaksTopologyRule s.plan) × IsNodeRanking s.plan s.nodes × IsForwardRanking s.plan s.arcs };
 }
 
 impl Sound {
@@ -46,7 +54,20 @@ impl Sound {
                 rule,
                 at: u64::from(place) + 1,
             }),
-            None => Ok(Sound { plan }),
+            None => Ok(Sound::of(plan, findings)),
+        }
+    }
+
+    /// The plan with the numbers that were found, where no record repeats an earlier one.
+    fn of(plan: Plan, findings: Findings) -> Sound
+        requires sound { IsUnbroken (BreaksTopologyRule plan) }
+        requires findings { AreFindings plan findings }
+        ensures { result ≡ plan }
+    {
+        match (findings.nodes, findings.arcs) {
+            (Ok(nodes), Ok(arcs)) => Sound { plan, nodes, arcs },
+            (Err(_), _) => unreachable!(),
+            (_, Err(_)) => unreachable!(),
         }
     }
 
@@ -58,5 +79,20 @@ impl Sound {
     {
         self.plan.keeps();
         &self.plan
+    }
+
+    /// The numbers of the nodes, in file order, from 1: by place, class, attributes and extras
+    /// (docs/FORMAT.md, "The canonical file").
+    pub fn node_ranks(&self) -> &Ranks
+        ensures { IsNodeRanking self.now result.now }
+    {
+        &self.nodes
+    }
+
+    /// The numbers of the arcs, in file order, from 1: by their points in the forward direction.
+    pub fn arc_ranks(&self) -> &Ranks
+        ensures { IsForwardRanking self.now result.now }
+    {
+        &self.arcs
     }
 }

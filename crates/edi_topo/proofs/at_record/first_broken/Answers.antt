@@ -1,4 +1,4 @@
-use Rattle.std.proofs.Common.{◌≡◌, ℕ, suc, ◌+◌, ◌<◌, ◌≤◌, ◌⊎◌, inl, inr, arith, sym, subst, add-one}
+use Rattle.std.proofs.Common.{◌≡◌, ℕ, ◌+◌, ◌<◌, ◌⊎◌, inl, inr, arith, sym, subst, add-one}
 use Rattle.std.proofs.lemmas.Bool.{cases_order}
 use Rattle.edi_line.specs.Refusal.{IsLeastBroken}
 use Rattle.edi_topo.specs.AtRecord.{IsUnbrokenAt}

@@ -1,4 +1,4 @@
-use Rattle.std.proofs.Common.{◌≡◌, ℕ, ◌≤◌, sym, ap, ◌∙◌, reverse, arith, true≢false}
+use Rattle.std.proofs.Common.{ℕ, ◌≤◌, sym, ap, ◌∙◌, reverse, arith, true≢false}
 use Rattle.edi_topo.specs.Arcs.{RepeatsAnEarlierArc}
 use Rattle.edi_topo.proofs.AtPlaces.{at_first, has_it, arc_breaks, BreaksOfArc, breaks_of_arc}
 use Rattle.edi_topo.proofs.AtPlaces.BreaksOfArc.{starts, ends, reverses, repeats}

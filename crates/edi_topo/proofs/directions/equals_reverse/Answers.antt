@@ -1,4 +1,4 @@
-use Rattle.std.proofs.Common.{◌≡◌, ◌∙◌, ap, sym, reverse}
+use Rattle.std.proofs.Common.{◌∙◌, ap, sym, reverse}
 use Rattle.std.specs.Ordering.{is_eq}
 use Rattle.std.proofs.lemmas.Cmp.{tied_itself}
 use Rattle.edi_record.specs.Orders.{point_cmp, points_cmp}

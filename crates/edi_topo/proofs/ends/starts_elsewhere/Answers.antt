@@ -1,4 +1,4 @@
-use Rattle.std.proofs.Common.{◌≡◌, ◌∙◌, ◌-◌, ap, ap₂, sym, length, get_or, arith, true≢false}
+use Rattle.std.proofs.Common.{◌≡◌, ◌∙◌, ap, ap₂, sym, length, get_or, arith, true≢false}
 use Rattle.std.specs.Ordering.{is_ne}
 use Rattle.edi_record.specs.Orders.{point_cmp}
 use Rattle.edi_schema.specs.declared.role.Role.TheVariants.{Initial}

@@ -1,4 +1,4 @@
-use Rattle.std.proofs.Common.{◌≡◌, ◌⊎◌, inl, inr, ℕ, arith, sym, subst, true, false, get_or}
+use Rattle.std.proofs.Common.{◌≡◌, ◌⊎◌, inl, inr, arith, sym, subst, true, false, get_or}
 use Rattle.edi_plan.specs.Sides.{Side}
 use Rattle.edi_topo.proofs.ArcEnds.{one_side, side_there}
 use Rattle.edi_topo.proofs.Marked.{marked}

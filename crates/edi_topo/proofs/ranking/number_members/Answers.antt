@@ -1,4 +1,4 @@
-use Rattle.std.proofs.Common.{◌+◌, ◌≡◌, arith, ap, sym, ◌∙◌, length-set, subst, get_or, ℕ, set}
+use Rattle.std.proofs.Common.{◌+◌, ◌≡◌, ap, sym, ◌∙◌, length-set, subst, get_or, set}
 use Rattle.edi_topo.proofs.KeyPlaces.{places_more}
 use Rattle.edi_topo.proofs.ranking.number_members.Goals as goal
 

@@ -1,8 +1,7 @@
-use Rattle.std.proofs.Common.{◌≡◌, ◌<◌, ◌∙◌, ℕ, sym, subst, arith, length, get_or}
+use Rattle.std.proofs.Common.{◌≡◌, ◌<◌, ◌∙◌, sym, subst, arith, get_or}
 use Rattle.edi_topo.proofs.KeyOrder.{long, each_member, members_apart, numbers_are, numbers_onto, keys_apart, along_permutation, along_sorted}
 use Rattle.edi_topo.specs.Keyed.{IsFirstTie}
 use Rattle.edi_topo.proofs.KeyTies.{first_tie_is}
-use Rattle.edi_topo.specs.declared.fault.TieFault.TheVariants.{Tie}
 use Rattle.edi_topo.proofs.ranking.numbers_by_key.Goals as goal
 
 pub number_members-requires-clause-few : goal.number_members-requires-clause-few

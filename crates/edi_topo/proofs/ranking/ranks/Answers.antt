@@ -1,5 +1,4 @@
-use Rattle.std.proofs.Common.{◌≡◌, ℕ, ◌<◌, ◌≤◌, ◌⊎◌, inl, inr, refl, sym, ◌∙◌, ap, subst, Ordering, Result, Ok, Err, arith}
-use Rattle.std.specs.Result.{IsErrOf}
+use Rattle.std.proofs.Common.{◌≡◌, ℕ, ◌<◌, ◌≤◌, ◌⊎◌, inl, inr, refl, sym, ◌∙◌, ap, subst, Ordering, Err}
 use Rattle.std.proofs.lemmas.Bool.{cases_lt}
 use Rattle.edi_topo.specs.Keyed.{IsFirstTie}
 use Rattle.edi_topo.specs.Ranking.{IsTie, Ties, IsRanking}

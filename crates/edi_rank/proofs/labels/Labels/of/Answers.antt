@@ -26,15 +26,15 @@ use Rattle.edi_rank.proofs.labels.Labels.of.Goals as goal
 
 pub kind_by_number-requires-clause-each : goal.kind_by_number-requires-clause-each
 kind_by_number-requires-clause-each c =
-    ranks_each node_key_cmp node_key_total (λ m. get_or (node_keys c.args.sound.now) m no_node) (length (places_of Pno c.args.sound.now)) c.in_ok-lower.lower.nodes c.in_ok-lower.ensures.nodes
+    ranks_each node_key_cmp node_key_total (λ m. get_or (node_keys c.args.sound.now) m no_node) (length (places_of Pno c.args.sound.now)) c.in_ok-lower.lower.nodes.now c.in_ok-lower.ensures.nodes
 
 pub kind_by_number-requires-2-clause-each : goal.kind_by_number-requires-2-clause-each
 kind_by_number-requires-2-clause-each c =
-    ranks_each points_cmp points_total (λ m. get_or (arc_keys c.args.sound.now) m []) (length (places_of Par c.args.sound.now)) c.in_ok-lower.lower.arcs c.in_ok-lower.ensures.arcs
+    ranks_each points_cmp points_total (λ m. get_or (arc_keys c.args.sound.now) m []) (length (places_of Par c.args.sound.now)) c.in_ok-lower.lower.arcs.now c.in_ok-lower.ensures.arcs
 
 pub kind_by_number-requires-3-clause-each : goal.kind_by_number-requires-3-clause-each
 kind_by_number-requires-3-clause-each c =
-    ranks_each face_key_cmp face_key_total (λ m. get_or (face_keys c.args.sound.now c.in_ok-lower.lower.arcs) m no_side) (length (places_of Pfe c.args.sound.now)) c.in_ok-lower.lower.faces c.in_ok-lower.ensures.faces
+    ranks_each face_key_cmp face_key_total (λ m. get_or (face_keys c.args.sound.now c.in_ok-lower.lower.arcs.now) m no_side) (length (places_of Pfe c.args.sound.now)) c.in_ok-lower.lower.faces c.in_ok-lower.ensures.faces
 
 pub kind_by_number-requires-4-clause-each : goal.kind_by_number-requires-4-clause-each
 kind_by_number-requires-4-clause-each c =
@@ -61,7 +61,7 @@ returns-clause-labels c =
     let unlinked = c.number_kind-unlinked.result.items in
     let numbered : c.from_vec.result ≡ c.number_kind-numbers.result.items = c.from_vec.ensures in
     let directed : c.from_vec-2.result ≡ turned = c.from_vec-2.ensures in
-    let r : Ranked = record { nodes = lower.nodes; arcs = lower.arcs; faces = lower.faces; objects = c.in_ok-objects.objects; links = c.in_ok-links.links } in
+    let r : Ranked = record { nodes = lower.nodes.now; arcs = lower.arcs.now; faces = lower.faces; objects = c.in_ok-objects.objects; links = c.in_ok-links.links } in
     let l : Labelling = record {
       numbers = c.number_kind-numbers.result.items;
       turned = turned;
@@ -71,9 +71,9 @@ returns-clause-labels c =
       objects = c.in_ok-kind_by_number-4.field-0;
       links = c.in_ok-kind_by_number-5.field-0;
     } in
-    let by_node : IsNodeRanking p lower.nodes = subst (λ q. IsNodeRanking q lower.nodes) (sym is) c.in_ok-lower.ensures.nodes in
-    let by_arc : IsArcRanking p lower.arcs = subst (λ q. IsArcRanking q lower.arcs) (sym is) c.in_ok-lower.ensures.arcs in
-    let by_face : IsFaceRanking p lower.arcs lower.faces = subst (λ q. IsFaceRanking q lower.arcs lower.faces) (sym is) c.in_ok-lower.ensures.faces in
+    let by_node : IsNodeRanking p lower.nodes.now = subst (λ q. IsNodeRanking q lower.nodes.now) (sym is) c.in_ok-lower.ensures.nodes in
+    let by_arc : IsArcRanking p lower.arcs.now = subst (λ q. IsArcRanking q lower.arcs.now) (sym is) c.in_ok-lower.ensures.arcs in
+    let by_face : IsFaceRanking p lower.arcs.now lower.faces = subst (λ q. IsFaceRanking q lower.arcs.now lower.faces) (sym is) c.in_ok-lower.ensures.faces in
     let source : LinkSource = record { plan = p; classes = s; turned = turned; numbers = unlinked } in
     let by_link : IsLinkRanking source c.in_ok-links.links = subst (λ (l : LinkSource). IsLinkRanking l c.in_ok-links.links)
     (λ i. record { plan = p; classes = s; turned = c.deref-2.ensures.value i; numbers = c.deref-3.ensures.value i }) c.in_ok-links.ensures in
@@ -85,9 +85,9 @@ returns-clause-labels c =
     c.in_ok-kind_by_number-4.ensures.length c.in_ok-kind_by_number-4.ensures.places in
     let made : AreLabels s p l = labels_made s p whole joined sound l r unlinked numbering.length c.in_ok-turned.ensures.length c.in_ok-turned.ensures.turned
     (kinds p r l
-    (kind_labels node_key_cmp node_key_total (λ m. get_or (node_keys p) m no_node) p Pno lower.nodes l.nodes by_node c.in_ok-kind_by_number.ensures.length c.in_ok-kind_by_number.ensures.places)
-    (kind_labels points_cmp points_total (λ m. get_or (arc_keys p) m []) p Par lower.arcs l.arcs by_arc c.in_ok-kind_by_number-2.ensures.length c.in_ok-kind_by_number-2.ensures.places)
-    (kind_labels face_key_cmp face_key_total (λ m. get_or (face_keys p lower.arcs) m no_side) p Pfe lower.faces l.faces by_face c.in_ok-kind_by_number-3.ensures.length c.in_ok-kind_by_number-3.ensures.places)
+    (kind_labels node_key_cmp node_key_total (λ m. get_or (node_keys p) m no_node) p Pno lower.nodes.now l.nodes by_node c.in_ok-kind_by_number.ensures.length c.in_ok-kind_by_number.ensures.places)
+    (kind_labels points_cmp points_total (λ m. get_or (arc_keys p) m []) p Par lower.arcs.now l.arcs by_arc c.in_ok-kind_by_number-2.ensures.length c.in_ok-kind_by_number-2.ensures.places)
+    (kind_labels face_key_cmp face_key_total (λ m. get_or (face_keys p lower.arcs.now) m no_side) p Pfe lower.faces l.faces by_face c.in_ok-kind_by_number-3.ensures.length c.in_ok-kind_by_number-3.ensures.places)
     objects
     (kind_labels placed_link_cmp placed_total (λ m. placed_link_key source (get_or (places_of Lnk p) m 0)) p Lnk c.in_ok-links.links l.links by_link c.in_ok-kind_by_number-5.ensures.length c.in_ok-kind_by_number-5.ensures.places))
     (λ k h. number_is p r l.numbers unlinked unnamed k h (numbering.each k h) (numbering.others k h) (named.each k h) (named.others k h) (c.in_ok-unnamed.ensures.ranked k h) (link_or_not (record_at p k).kind) (object_or_not (record_at p k).kind))
@@ -149,7 +149,7 @@ object_ranks-requires-clause-objects c k h e =
     let object : is_object (record_at p k).kind ≡ true = subst (λ q. is_object (record_at q k).kind ≡ true) (sym is) e in
     ap (λ xs. get_or xs k 0) c.deref.ensures.value ∙ (c.in_ok-unnamed.ensures.ranked k there ∙ zero_for (record_at p k).kind object)
   where
-    zero_for : (kind : Kind) → is_object kind ≡ true → number_by c.in_ok-lower.lower.nodes c.in_ok-lower.lower.arcs c.in_ok-lower.lower.faces kind (member_of c.plan-plan.result.now k) ≡ 0
+    zero_for : (kind : Kind) → is_object kind ≡ true → number_by c.in_ok-lower.lower.nodes.now c.in_ok-lower.lower.arcs.now c.in_ok-lower.lower.faces kind (member_of c.plan-plan.result.now k) ≡ 0
     zero_for Pno f = absurd (true≢false (sym f))
     zero_for Par f = absurd (true≢false (sym f))
     zero_for Pfe f = absurd (true≢false (sym f))
@@ -161,12 +161,12 @@ object_ranks-requires-clause-apart c =
     let p = c.plan-plan.result.now in
     let is = c.plan-plan.ensures.plan in
     let lower = c.in_ok-lower.lower in
-    let by_node : IsNodeRanking p lower.nodes = subst (λ q. IsNodeRanking q lower.nodes) (sym is) c.in_ok-lower.ensures.nodes in
-    let by_arc : IsArcRanking p lower.arcs = subst (λ q. IsArcRanking q lower.arcs) (sym is) c.in_ok-lower.ensures.arcs in
-    let by_face : IsFaceRanking p lower.arcs lower.faces = subst (λ q. IsFaceRanking q lower.arcs lower.faces) (sym is) c.in_ok-lower.ensures.faces in
-    let ranks = ranked_apart p lower.nodes lower.arcs lower.faces
-    (ranks_each node_key_cmp node_key_total (λ m. get_or (node_keys p) m no_node) (length (places_of Pno p)) lower.nodes by_node) by_node.all
-    (ranks_each points_cmp points_total (λ m. get_or (arc_keys p) m []) (length (places_of Par p)) lower.arcs by_arc) by_arc.all
-    (ranks_each face_key_cmp face_key_total (λ m. get_or (face_keys p lower.arcs) m no_side) (length (places_of Pfe p)) lower.faces by_face) by_face.all in
-    let number : (k : ℕ) → IsPlace p k → get_or c.deref.result.now k 0 ≡ ranked p lower.nodes lower.arcs lower.faces k = λ k h. ap (λ xs. get_or xs k 0) c.deref.ensures.value ∙ c.in_ok-unnamed.ensures.ranked k h in
+    let by_node : IsNodeRanking p lower.nodes.now = subst (λ q. IsNodeRanking q lower.nodes.now) (sym is) c.in_ok-lower.ensures.nodes in
+    let by_arc : IsArcRanking p lower.arcs.now = subst (λ q. IsArcRanking q lower.arcs.now) (sym is) c.in_ok-lower.ensures.arcs in
+    let by_face : IsFaceRanking p lower.arcs.now lower.faces = subst (λ q. IsFaceRanking q lower.arcs.now lower.faces) (sym is) c.in_ok-lower.ensures.faces in
+    let ranks = ranked_apart p lower.nodes.now lower.arcs.now lower.faces
+    (ranks_each node_key_cmp node_key_total (λ m. get_or (node_keys p) m no_node) (length (places_of Pno p)) lower.nodes.now by_node) by_node.all
+    (ranks_each points_cmp points_total (λ m. get_or (arc_keys p) m []) (length (places_of Par p)) lower.arcs.now by_arc) by_arc.all
+    (ranks_each face_key_cmp face_key_total (λ m. get_or (face_keys p lower.arcs.now) m no_side) (length (places_of Pfe p)) lower.faces by_face) by_face.all in
+    let number : (k : ℕ) → IsPlace p k → get_or c.deref.result.now k 0 ≡ ranked p lower.nodes.now lower.arcs.now lower.faces k = λ k h. ap (λ xs. get_or xs k 0) c.deref.ensures.value ∙ c.in_ok-unnamed.ensures.ranked k h in
     subst (λ q. TellsApart q (λ k. get_or c.deref.result.now k 0)) is (record { apart = λ i k h g kinds below e. ranks.apart i k h g kinds below (sym (number i h) ∙ (e ∙ number k g)) })

@@ -1,4 +1,4 @@
-use Rattle.std.proofs.Common.{arith, ap, length, ◌∙◌}
+use Rattle.std.proofs.Common.{arith, ap, length}
 use Rattle.edi_record.specs.declared.record.Kind.TheVariants.{Par}
 use Rattle.edi_plan.proofs.PlaceLemmas.{places_few}
 use Rattle.edi_topo.proofs.arcs.PlanArcsLayer.len.Goals as goal
