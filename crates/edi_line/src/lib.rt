@@ -13,6 +13,7 @@ pub mod reading;
 pub mod script;
 pub mod sequence;
 mod spelling;
+pub mod text;
 pub mod whole;
 pub mod zone;
 
@@ -27,6 +28,7 @@ pub use reading::{printed_zones_are_read_again, zones, zones_are_those_of_the_li
 pub use script::{ScriptIn, ScriptOut};
 pub use sequence::Sequence;
 pub use spelling::readings_spell;
+pub use text::Text;
 pub use whole::{ReadFault, read_all};
 pub use zone::Zone;
 

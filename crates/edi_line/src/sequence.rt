@@ -1,8 +1,7 @@
 //! A list that owns its memory.
 
-ghost use Rattle.std.specs.Prelude.{◌≡◌, ◌↔◌, List, [], IfOk, IsTrue, length};
+ghost use Rattle.std.specs.Prelude.{◌≡◌, ◌↔◌, [], IsTrue, length};
 ghost use Rattle.std.specs.List.{AllZip};
-ghost use Rattle.std.specs.Cmp.{on_equiv, on_total, on_po, on_per};
 ghost use Rattle.std.specs.Cmp.Lexicographic.{pointwise, slice_cmp, slice_partial_cmp, lists_equiv, lists_agrees, lists_total, lists_ties, lists_po, lists_per};
 ghost use Rattle.std.specs.Hash as fed;
 ghost use Rattle.std.specs.Hash.{items_Alike};
@@ -118,17 +117,6 @@ impl<T: Clone> Clone for Sequence<T> {
     fn clone(&self) -> Result<Sequence<T>, AllocError> {
         Ok(Sequence {
             vec: self.vec.clone()?,
-        })
-    }
-}
-
-impl Sequence<u8> {
-    /// A copy of these bytes.
-    pub fn from_slice(alloc: Global, bytes: &[u8]) -> Result<Sequence<u8>, AllocError>
-        ensures { IfOk result (λ s. s ≡ bytes.now) }
-    {
-        Ok(Sequence {
-            vec: bytes.to_vec(alloc)?,
         })
     }
 }

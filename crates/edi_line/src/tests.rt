@@ -4,7 +4,7 @@ ghost use Rattle.edi_line.specs.Feeding.{joined};
 
 use crate::{
     ByteIn, ByteOut, Feed, FromRead, LineFault, Num, ReadFault, ScriptIn, ScriptOut, Sequence,
-    ToWrite, Zone, read_all, zones, zones_of_pieces,
+    Text, ToWrite, Zone, read_all, zones, zones_of_pieces,
 };
 use std::alloc::Global;
 use std::borrow::CowSlice;
@@ -243,7 +243,7 @@ fn passes_bytes_on(rt: HostRuntime) -> Result<(), Fail> {
 #[test]
 fn compares_sequences(rt: HostRuntime) -> Result<(), Fail> {
     let alloc = rt.alloc();
-    let short = Sequence::from_slice(alloc, b"ab")?;
+    let short = Sequence::from_vec(b"ab".to_vec(alloc)?);
     let long = Sequence::from_vec(b"abc".to_vec(alloc)?);
     let copy = short.clone()?;
     let hasher = BuildHasherDefault::<DefaultHasher>::default();
@@ -253,6 +253,23 @@ fn compares_sequences(rt: HostRuntime) -> Result<(), Fail> {
     assert!(rt; long.len() == 3 && !long.is_empty());
     assert_eq!(rt; long.into_vec().as_slice(), b"abc".as_slice());
     assert_eq!(rt; copy.as_slice(), b"ab".as_slice());
+    Ok(())
+}
+
+#[test]
+fn compares_texts(rt: HostRuntime) -> Result<(), Fail> {
+    let alloc = rt.alloc();
+    let inside = Text::from_slice(alloc, b"sixteen letters.")?;
+    let outside = Text::from_slice(alloc, b"sixteen letters..")?;
+    let hasher = BuildHasherDefault::<DefaultHasher>::default();
+    for text in [&inside, &outside] {
+        let copy = text.clone()?;
+        assert!(rt; *text == copy && hasher.hash_one(text) == hasher.hash_one(&copy));
+        assert_eq!(rt; copy.as_slice(), text.as_slice());
+    }
+    assert!(rt; inside != outside && inside < outside);
+    assert!(rt; Text::from_slice(alloc, b"")? < inside);
+    assert_eq!(rt; outside.as_slice(), b"sixteen letters..".as_slice());
     Ok(())
 }
 

@@ -7,7 +7,7 @@ use crate::record::{PlanAttribute, PlanEnd, PlanRecord};
 use crate::records::plan_records;
 use crate::references::References;
 use crate::sides::ArcSides;
-use edi_line::Sequence;
+use edi_line::{Sequence, Text};
 use edi_record::{Extra, Kind, Point, Sheet};
 use edi_schema::{ClassRef, Role, Schema};
 use std::alloc::{AllocError, Global};
@@ -16,7 +16,7 @@ use std::marker::Model;
 /// The plan that the records of a sheet state.
 #[derive(Drop)]
 pub struct Plan {
-    cse: Option<Sequence<u8>>,
+    cse: Option<Text>,
     list: Sequence<PlanRecord>,
     sides: Sequence<ArcSides>,
 }

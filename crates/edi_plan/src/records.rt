@@ -16,12 +16,12 @@ use crate::record::{PlanAttribute, PlanEnd, PlanRecord};
 use crate::references::{References, Subset};
 use crate::sides::{ArcSides, note_link, without_links};
 use crate::targets::Target;
-use edi_line::{Num, Sequence};
+use edi_line::{Num, Sequence, Text};
 use edi_record::{Attribute, End, Record, Value};
 use edi_schema::Schema;
 use std::alloc::Global;
 
-fn value_of(may_be_number: bool, text: Sequence<u8>) -> Value
+fn value_of(may_be_number: bool, text: Text) -> Value
     ensures { result ≡ value_in may_be_number text }
 {
     if may_be_number {
@@ -34,7 +34,7 @@ fn value_of(may_be_number: bool, text: Sequence<u8>) -> Value
     }
 }
 
-fn is_attribute_type(rty: &Sequence<u8>) -> bool
+fn is_attribute_type(rty: &Text) -> bool
     ensures { IsTrue result ↔ (rty.now ≡ codes "ATT") }
 {
     rty.as_slice() == b"ATT".as_slice()

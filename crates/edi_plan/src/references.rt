@@ -6,15 +6,15 @@ ghost use Rattle.edi_plan.specs.Resolving.{first_subset, AreReferences};
 
 use crate::names::Names;
 use crate::targets::{Target, targets};
-use edi_line::Sequence;
+use edi_line::Text;
 use edi_record::{End, Record};
 use std::alloc::{AllocError, Global};
 
 /// The lot and the subset of an end.
 #[derive(Debug, Drop)]
 pub(crate) struct Subset {
-    pub(crate) lot: Sequence<u8>,
-    pub(crate) subset: Sequence<u8>,
+    pub(crate) lot: Text,
+    pub(crate) subset: Text,
 }
 
 /// The place of the first record with the name of an earlier one, the targets of all ends in their order,
@@ -43,8 +43,8 @@ fn subset_of(alloc: Global, records: &[Record]) -> Result<Option<Subset>, AllocE
 {
     match first_end(records) {
         Some(end) => Ok(Some(Subset {
-            lot: Sequence::from_slice(alloc, end.lot.as_slice())?,
-            subset: Sequence::from_slice(alloc, end.subset.as_slice())?,
+            lot: Text::from_slice(alloc, end.lot.as_slice())?,
+            subset: Text::from_slice(alloc, end.subset.as_slice())?,
         })),
         None => Ok(None),
     }

@@ -12,7 +12,7 @@ use crate::counts::count_of;
 use crate::fault::GroupFault;
 use crate::pointer::Pointer;
 use crate::record::Attribute;
-use edi_line::{Sequence, Zone};
+use edi_line::{Text, Zone};
 use std::alloc::{AllocError, Global};
 
 const CLASS: [u8; 3] = *b"ATP";
@@ -58,11 +58,11 @@ fn value_after<'a>(zones: &'a [Zone<'_>]) -> &'a [u8]
     &[]
 }
 
-pub(crate) fn copied(alloc: Global, text: Option<&[u8]>) -> Result<Option<Sequence<u8>>, AllocError>
+pub(crate) fn copied(alloc: Global, text: Option<&[u8]>) -> Result<Option<Text>, AllocError>
     ensures { IfOk result (λ copy. copy ≡ option_map (λ s. s.now) text.entry) }
 {
     match text {
-        Some(bytes) => Ok(Some(Sequence::from_slice(alloc, bytes)?)),
+        Some(bytes) => Ok(Some(Text::from_slice(alloc, bytes)?)),
         None => Ok(None),
     }
 }
@@ -82,7 +82,7 @@ fn attribute(
     Ok(Attribute {
         atp: class.name(alloc)?,
         tex: copied(alloc, set_after(behind))?,
-        atv: Sequence::from_slice(alloc, value_after(behind))?,
+        atv: Text::from_slice(alloc, value_after(behind))?,
     })
 }
 

@@ -14,7 +14,7 @@ use crate::counts::count_of;
 use crate::fault::GroupFault;
 use crate::pointer::Pointer;
 use crate::record::{End, Kind};
-use edi_line::{Sequence, Zone};
+use edi_line::{Text, Zone};
 use std::alloc::{AllocError, Global};
 
 const END: [u8; 3] = *b"FTP";
@@ -72,8 +72,8 @@ fn end(alloc: Global, pointer: Pointer<'_>, behind: &[Zone<'_>]) -> Result<End, 
     }) }
 {
     Ok(End {
-        lot: Sequence::from_slice(alloc, pointer.lot)?,
-        subset: Sequence::from_slice(alloc, pointer.subset)?,
+        lot: Text::from_slice(alloc, pointer.lot)?,
+        subset: Text::from_slice(alloc, pointer.subset)?,
         target: pointer.name(alloc)?,
         sns: copied(alloc, sns_after(behind))?,
     })

@@ -7,7 +7,7 @@ ghost use Rattle.edi_record.specs.Records.{known_anywhere, known_in, is_known as
 ghost use Rattle.edi_record.specs.RecordRules.{kind_in, is_unknown_pointer as is_pointer_unknown, has_unknown_pointer as is_some_pointer_unknown};
 
 use crate::record::{Extra, Kind, Value};
-use edi_line::{Num, Sequence, Zone};
+use edi_line::{Num, Text, Zone};
 use std::alloc::{AllocError, Global};
 
 /// The codes known in every record.
@@ -79,7 +79,7 @@ fn value_of(alloc: Global, may: bool, text: &[u8]) -> Result<Value, AllocError>
     if may && let Some(number) = Num::read(text) {
         return Ok(Value::Number(number));
     }
-    Ok(Value::Bytes(Sequence::from_slice(alloc, text)?))
+    Ok(Value::Bytes(Text::from_slice(alloc, text)?))
 }
 
 fn extra(alloc: Global, zone: &Zone<'_>) -> Result<Extra, AllocError>

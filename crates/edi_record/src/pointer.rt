@@ -7,7 +7,7 @@ ghost use Rattle.edi_record.specs.Lent.{shown, AreCut};
 ghost use Rattle.edi_record.specs.declared.record.Point.{Point};
 
 use crate::name::Name;
-use edi_line::Sequence;
+use edi_line::Text;
 use std::alloc::{AllocError, Global};
 
 /// The four parts of a pointer.
@@ -57,8 +57,8 @@ impl<'a> Pointer<'a> {
         ensures { IfOk result (λ n. n ≡ record { rty = self.entry.rty.now; rid = self.entry.rid.now }) }
     {
         Ok(Name {
-            rty: Sequence::from_slice(alloc, self.rty)?,
-            rid: Sequence::from_slice(alloc, self.rid)?,
+            rty: Text::from_slice(alloc, self.rty)?,
+            rid: Text::from_slice(alloc, self.rid)?,
         })
     }
 }

@@ -22,7 +22,7 @@ use crate::groups::{first_value, group_at};
 use crate::record::Record;
 use crate::sheet::Sheet;
 use crate::stating::record_of;
-use edi_line::{Sequence, Zone};
+use edi_line::{Sequence, Text, Zone};
 use std::alloc::{AllocError, Global};
 
 const TYPE: [u8; 3] = *b"RTY";
@@ -30,7 +30,7 @@ const TYPE: [u8; 3] = *b"RTY";
 const CHARSET: [u8; 3] = *b"CSE";
 
 /// The value of the first CSE, or none.
-fn charset_of(alloc: Global, zones: &[Zone<'_>]) -> Result<Option<Sequence<u8>>, AllocError>
+fn charset_of(alloc: Global, zones: &[Zone<'_>]) -> Result<Option<Text>, AllocError>
     ensures { IfOk result (λ cse. cse ≡ option_map (λ e. e.value) (charset_in (entries zones.now))) }
 {
     copied(alloc, first_value(zones, CHARSET))

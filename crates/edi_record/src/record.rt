@@ -5,7 +5,7 @@ ghost use Rattle.edi_record.specs.Records.{has_points as kind_has_points, is_lin
 ghost use Rattle.edi_record.specs.Shapes.{may_have_points as may_have_so_many};
 
 use crate::name::Name;
-use edi_line::{Num, Sequence};
+use edi_line::{Num, Sequence, Text};
 
 /// The type of a record of a sheet.
 #[derive(Clone, Copy, Debug, PartialEq, Eq, PartialOrd, Ord, Hash)]
@@ -63,15 +63,15 @@ pub struct Point {
 #[derive(Clone, Debug, Drop, PartialEq, Eq, PartialOrd, Ord)]
 pub enum Value {
     Number(Num),
-    Bytes(Sequence<u8>),
+    Bytes(Text),
 }
 
 /// An attribute as it was read.
 #[derive(Clone, Debug, Drop, PartialEq, Eq, PartialOrd, Ord)]
 pub struct Attribute {
     pub atp: Name,
-    pub tex: Option<Sequence<u8>>,
-    pub atv: Sequence<u8>,
+    pub tex: Option<Text>,
+    pub atv: Text,
 }
 
 /// A zone whose code isn't known in its record.
@@ -86,17 +86,17 @@ pub struct Extra {
 /// An end of a link.
 #[derive(Clone, Debug, Drop, PartialEq, Eq, PartialOrd, Ord)]
 pub struct End {
-    pub lot: Sequence<u8>,
-    pub subset: Sequence<u8>,
+    pub lot: Text,
+    pub subset: Text,
     pub target: Name,
-    pub sns: Option<Sequence<u8>>,
+    pub sns: Option<Text>,
 }
 
 /// A record as its zones state it.
 #[derive(Debug, Drop, PartialEq, Eq)]
 pub struct Record {
     pub kind: Kind,
-    pub rid: Sequence<u8>,
+    pub rid: Text,
     pub scp: Name,
     pub points: Sequence<Point>,
     pub ends: Sequence<End>,

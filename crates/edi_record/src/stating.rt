@@ -18,7 +18,7 @@ use crate::groups::{first_value, is_identifier, only_value};
 use crate::pointer::Pointer;
 use crate::points::read_points;
 use crate::record::{Kind, Record};
-use edi_line::{Sequence, Zone};
+use edi_line::{Sequence, Text, Zone};
 use std::alloc::{AllocError, Global};
 
 const TYPE: [u8; 3] = *b"RTY";
@@ -97,7 +97,7 @@ pub(crate) fn record_of(alloc: Global, group: &[Zone<'_>]) -> Result<Record, Gro
     }
     Ok(Record {
         kind,
-        rid: Sequence::from_slice(alloc, rid)?,
+        rid: Text::from_slice(alloc, rid)?,
         scp: class.name(alloc)?,
         points: Sequence::from_vec(points),
         ends: Sequence::from_vec(ends),

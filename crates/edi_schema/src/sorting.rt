@@ -9,7 +9,7 @@ ghost use Rattle.edi_schema.specs.Sorted.{AlwaysRises};
 
 use crate::class::Class;
 use crate::draft::Draft;
-use edi_line::Sequence;
+use edi_line::Text;
 use edi_record::Name;
 use indexmap::IndexMap;
 use std::alloc::{AllocError, Global};
@@ -28,8 +28,8 @@ fn name(alloc: Global, draft: &Draft<'_>) -> Result<Name, AllocError>
     ensures { IfOk result (λ name. name ≡ (drafted draft.now).0) }
 {
     Ok(Name {
-        rty: Sequence::from_slice(alloc, draft.title.rty)?,
-        rid: Sequence::from_slice(alloc, draft.title.rid)?,
+        rty: Text::from_slice(alloc, draft.title.rty)?,
+        rid: Text::from_slice(alloc, draft.title.rid)?,
     })
 }
 

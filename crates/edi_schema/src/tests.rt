@@ -1,7 +1,7 @@
 //! Known schemas.
 use crate::schema_cases::SCHEMA_CASES;
 use crate::{ClassRef, Kinds, Role, Schema, SchemaFault, Source};
-use edi_line::Sequence;
+use edi_line::Text;
 use edi_record::Name;
 use std::alloc::{AllocError, Global};
 use std::test::Fail;
@@ -30,8 +30,8 @@ fn code_of(role: Role) -> &'static [u8] {
 fn said(alloc: Global, schema: &Schema, name: &str) -> Result<Vec<u8>, Fail> {
     let (rty, rid) = name.rsplit_once(";").ok_or("no name of a class")?;
     let known = Name {
-        rty: Sequence::from_slice(alloc, rty.as_bytes())?,
-        rid: Sequence::from_slice(alloc, rid.as_bytes())?,
+        rty: Text::from_slice(alloc, rty.as_bytes())?,
+        rid: Text::from_slice(alloc, rid.as_bytes())?,
     };
     let mut text = Vec::new(alloc);
     push(&mut text, name.as_bytes())?;
