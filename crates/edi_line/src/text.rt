@@ -4,9 +4,9 @@ ghost use Rattle.std.specs.Prelude.{◌≡◌, nat_eq, refl, IfOk, Some};
 ghost use Rattle.std.specs.Ordering.{nat_cmp};
 ghost use Rattle.std.specs.Cmp.{partial_equiv_from_equiv};
 ghost use Rattle.std.specs.Cmp.Lexicographic.{pointwise, slice_cmp, nat_list_eq_equiv, nat_list_cmp_total, texts_ties, texts_po};
-ghost use Rattle.std.specs.Cmp.Rules.{hashing};
 ghost use Rattle.std.specs.Hash as fed;
-ghost use Rattle.std.proofs.Common.{rules};
+ghost use Rattle.std.specs.Hash.{items_Alike};
+ghost use Rattle.edi_line.specs.Texts.{bytes_alike};
 
 use smallvec::SmallVec;
 use std::alloc::{AllocError, Global};
@@ -88,7 +88,7 @@ impl Ord for Text {
 impl Hash for Text {
     ghost hash_input = { fed.slice fed.u8 };
 
-    ghost respects_eq = { Prim.search (hashing, rules) };
+    ghost respects_eq = { (items_Alike bytes_alike).fed };
 
     fn hash<H: Hasher>(&self, state: &mut H) {
         self.as_slice().hash(state);
