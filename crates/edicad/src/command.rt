@@ -118,7 +118,7 @@ fn check<F: Folder, O: ByteOut, E: ByteOut>(
     out: &mut O,
     err: &mut E,
 ) -> u8
-    ensures { IsFileStatus (F.holds folder.now) kinds.now files.now result }
+    ensures { IsFileStatus (F.holds folder.now) (O.told out.old) (O.told out.new) kinds.now files.now result }
 {
     let names = [
         files.scd.as_bytes(),
@@ -142,7 +142,7 @@ fn canon<F: Folder, O: ByteOut, E: ByteOut>(
     out: &mut O,
     err: &mut E,
 ) -> u8
-    ensures status { IsFileStatus (F.holds folder.old) kinds.now files.now result }
+    ensures status { IsFileStatus (F.holds folder.old) (O.told out.old) (O.told out.new) kinds.now files.now result }
     ensures unmade { result ≡ 2 → folder.new ≡ folder.old }
 {
     let names = [
