@@ -1,5 +1,5 @@
 -- A fault of status 2 is a refusal.
-use Rattle.std.proofs.Common.{◌≡◌, ◌≢◌, ◌⊎◌, ◌<◌, ℕ, Bool, List, [], Option, Some, None, IfSome, length, refl, sym, subst, ◌∙◌, inl, inr, arith}
+use Rattle.std.proofs.Common.{◌≡◌, ◌≢◌, ◌⊎◌, ℕ, Bool, List, [], Option, Some, None, IfSome, length, refl, sym, subst, ◌∙◌, inl, inr, arith}
 use Rattle.std.specs.Io.KnownBytes.{Appends}
 use Rattle.edi_schema.specs.Roles.{KindCodes}
 use Rattle.edi_schema.specs.declared.fault.SchemaFault.{SchemaFault}
@@ -14,7 +14,7 @@ use Rattle.edicad.specs.declared.words.SheetFiles.{SheetFiles}
 use Rattle.edicad.specs.Outcome.{ended, first_text, sheet_text, status_of_fault, status_of_schema, status_of_sheet, words_of_fault}
 use Rattle.edicad.specs.Requests.{usual_kinds}
 use Rattle.edicad.specs.SheetRuns.{Contents, FileFault, OfFiles}
-use Rattle.edicad.specs.Statuses.{IsBundleStatus, IsFileStatus, IsToldAs, SaysRefusal}
+use Rattle.edicad.specs.Statuses.{IsBundleStatus, IsSheetStatus, IsToldAs, SaysRefusal}
 
 -- a run that ends with 2 has an outcome of status 2
 pub told_two : (status s : ℕ) → IsToldAs status s → s ≡ 2 → status ≡ 2
@@ -97,22 +97,26 @@ not_zero s (inl e) zero = absurd (omega (arith, e, zero))
 not_zero s (inr (inl e)) zero = absurd (omega (arith, e, zero))
 not_zero s (inr (inr e)) zero = absurd (omega (arith, e, zero))
 
--- the status of a run that has no answer
+-- the status of a run that has no answer, whatever 0 says
 pub files_status : (old new : Option (List ℕ)) (kinds : KindCodes) (names : List (List ℕ)) (holds : Contents) (files : SheetFiles) (W : ℕ → Type 0) (e : RunFault) (s : ℕ)
-    → first_text (length names) ≡ [] → FileFault holds kinds files W e → IsToldAs (status_of_fault e) s
-    → (s ≡ 2 → Appends old new (ended (words_of_fault e names))) → IsFileStatus holds old new kinds files s
-files_status old new kinds names holds files W e s alone h told line =
-    let is = told_fault (status_of_fault e) s (fault_status e) told in
-    (inr is, (λ zero. absurd (not_zero s is zero)),
-    (λ two. file_refused old new kinds names alone holds files W e h (told_two (status_of_fault e) s told two) (line two)))
+    (A : Type 0) → first_text (length names) ≡ [] → FileFault holds kinds files W e → IsToldAs (status_of_fault e) s
+    → (s ≡ 2 → Appends old new (ended (words_of_fault e names))) → IsSheetStatus s × (s ≡ 0 → A) × (s ≡ 2 → OfFiles holds files (SaysRefusal old new kinds))
+files_status old new kinds names holds files W e s A alone h told line =
+    let is = told_fault (status_of_fault e) s (fault_status e) told in (
+      inr is,
+      (λ zero. absurd (not_zero s is zero)),
+      (λ two. file_refused old new kinds names alone holds files W e h (told_two (status_of_fault e) s told two) (line two)),
+    )
 
 pub bundle_status : (old new : Option (List ℕ)) (names : List (List ℕ)) (input : Option (List ℕ)) (failed : Bool) (W : ℕ → Type 0) (e : RunFault) (s : ℕ)
     → first_text (length names) ≡ [] → InputFault usual_kinds input failed W e → IsToldAs (status_of_fault e) s
     → (s ≡ 2 → Appends old new (ended (words_of_fault e names))) → IsBundleStatus input old new s
 bundle_status old new names input failed W e s alone h told line =
-    let is = told_fault (status_of_fault e) s (fault_status e) told in
-    (inr is, (λ zero. absurd (not_zero s is zero)),
-    (λ two. input_refused old new usual_kinds names alone input failed W e h (told_two (status_of_fault e) s told two) (line two)))
+    let is = told_fault (status_of_fault e) s (fault_status e) told in (
+      inr is,
+      (λ zero. absurd (not_zero s is zero)),
+      (λ two. input_refused old new usual_kinds names alone input failed W e h (told_two (status_of_fault e) s told two) (line two)),
+    )
 
 -- a refusal comes before writing
 pub unwritten : (e : RunFault) (P : Type 0) → BeforeWriting e P → status_of_fault e ≡ 2 → P

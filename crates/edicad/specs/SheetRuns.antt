@@ -31,6 +31,10 @@ FileFault holds kinds files W e = MatchFault e
     (λ f. OfFiles holds files (λ s d v. RefusesSheet kinds s d v f))
     (λ _. ⊥) W
 
+-- the canonical file of the sheet was sent
+abbrev pub SendsCanon : Contents → KindCodes → SheetFiles → (List ℕ → Type 0) → Type 0
+SendsCanon holds kinds files Sent = OfFiles holds files (λ s d v. (c : List ℕ) × IsCanonOf kinds s d v c × Sent c)
+
 -- the canonical file has so many bytes or more
 abbrev pub SentFirst : Contents → KindCodes → SheetFiles → ℕ → Type 0
 SentFirst holds kinds files count = OfFiles holds files (λ s d v. (c : List ℕ) × IsCanonOf kinds s d v c × (count ≤ length c))

@@ -6,7 +6,7 @@ use Rattle.edicad.proofs.command.canon.Goals as goal
 pub returns-in-Err-clause-status : goal.returns-in-Err-clause-status
 returns-in-Err-clause-status g c =
     let holds = g.F.Folder.holds c.args.folder.now in
-    files_status _ _ c.args.kinds.now _ holds c.args.files.now (SentFirst holds c.args.kinds.now c.args.files.now) c.in-Err.fault _ refl c.in-Err.ensures.err
+    files_status _ _ c.args.kinds.now _ holds c.args.files.now (SentFirst holds c.args.kinds.now c.args.files.now) c.in-Err.fault _ _ refl c.in-Err.ensures.err
     c.told-in-Err.ensures.status (λ two. (c.told-in-Err.ensures.answer (omega (arith, two))).0)
 
 pub returns-in-Err-clause-unmade : goal.returns-in-Err-clause-unmade
