@@ -1,5 +1,6 @@
 -- A fault of status 2 is a refusal.
-use Rattle.std.proofs.Common.{◌≡◌, ◌≢◌, ◌⊎◌, ℕ, Bool, List, Option, Some, None, IfSome, refl, sym, subst, ◌∙◌, inl, inr, arith}
+use Rattle.std.proofs.Common.{◌≡◌, ◌≢◌, ◌⊎◌, ℕ, Bool, List, [], Option, Some, None, IfSome, length, refl, sym, subst, ◌∙◌, inl, inr, arith}
+use Rattle.std.specs.Io.KnownBytes.{Appends}
 use Rattle.edi_schema.specs.Roles.{KindCodes}
 use Rattle.edi_schema.specs.declared.fault.SchemaFault.{SchemaFault}
 use Rattle.edi_schema.specs.declared.fault.SchemaFault.TheVariants as schema
@@ -10,10 +11,10 @@ use Rattle.edi_compare.specs.declared.fault.RunFault.TheVariants.{Memory, Read, 
 use Rattle.edi_compare.specs.Bundle.{OfParts}
 use Rattle.edi_compare.specs.Runs.{BeforeWriting, InputFault, Told}
 use Rattle.edicad.specs.declared.words.SheetFiles.{SheetFiles}
-use Rattle.edicad.specs.Outcome.{status_of_fault, status_of_schema, status_of_sheet}
+use Rattle.edicad.specs.Outcome.{ended, first_text, sheet_text, status_of_fault, status_of_schema, status_of_sheet, words_of_fault}
 use Rattle.edicad.specs.Requests.{usual_kinds}
-use Rattle.edicad.specs.SheetRuns.{Contents, FileFault, IsRefusedUnder, OfFiles}
-use Rattle.edicad.specs.Statuses.{IsBundleStatus, IsFileStatus, IsToldAs}
+use Rattle.edicad.specs.SheetRuns.{Contents, FileFault, OfFiles}
+use Rattle.edicad.specs.Statuses.{IsBundleStatus, IsSheetStatus, IsToldAs, SaysRefusal}
 
 -- a run that ends with 2 has an outcome of status 2
 pub told_two : (status s : ℕ) → IsToldAs status s → s ≡ 2 → status ≡ 2
@@ -37,25 +38,30 @@ parts_map : (told : Option (List ℕ)) (P Q : List ℕ → List ℕ → List ℕ
 parts_map None P Q f h = tt
 parts_map (Some b) P Q f h = (h.0, h.1, h.2, h.3, f h.0 h.1 h.2 h.4)
 
-pub file_refused : (holds : Contents) (kinds : KindCodes) (files : SheetFiles) (W : ℕ → Type 0) (e : RunFault) → FileFault holds kinds files W e → status_of_fault e ≡ 2
-    → OfFiles holds files (IsRefusedUnder kinds)
-file_refused holds kinds files W (Memory e) h two = absurd (omega (arith, two))
-file_refused holds kinds files W (Read n) h two = absurd (omega (arith, two))
-file_refused holds kinds files W (TooLong n) h two = absurd (omega (arith, two))
-file_refused holds kinds files W (Schema f) h two = files_map holds files _ _ (λ s d v r. inl (f, r)) h
-file_refused holds kinds files W (First f) h two = files_map holds files _ _ (λ s d v r. inr (f, r)) h
-file_refused holds kinds files W (Second f) h two = absurd h
-file_refused holds kinds files W (Write w) h two = absurd (omega (arith, two))
+-- a refusal is said as its line
+module _ (old new : Option (List ℕ)) (kinds : KindCodes) (names : List (List ℕ)) (alone : first_text (length names) ≡ []) where
+  says_sheet : (f : Fault) → Appends old new (ended (sheet_text (first_text (length names)) f)) → Appends old new (ended (sheet_text [] f))
+  says_sheet f line = subst (λ which. Appends old new (ended (sheet_text which f))) alone line
 
-pub input_refused : (kinds : KindCodes) (told : Option (List ℕ)) (failed : Bool) (W : ℕ → Type 0) (e : RunFault) → InputFault kinds told failed W e → status_of_fault e ≡ 2
-    → IfSome told (λ b. OfParts b (IsRefusedUnder kinds))
-input_refused kinds told failed W (Memory e) h two = absurd (omega (arith, two))
-input_refused kinds told failed W (Read n) h two = absurd (omega (arith, two))
-input_refused kinds told failed W (TooLong n) h two = absurd (omega (arith, two))
-input_refused kinds told failed W (Schema f) h two = parts_map told _ _ (λ s d v r. inl (f, r)) h
-input_refused kinds told failed W (First f) h two = parts_map told _ _ (λ s d v r. inr (f, r)) h
-input_refused kinds told failed W (Second f) h two = absurd h
-input_refused kinds told failed W (Write w) h two = absurd (omega (arith, two))
+  file_refused : (holds : Contents) (files : SheetFiles) (W : ℕ → Type 0) (e : RunFault) → FileFault holds kinds files W e → status_of_fault e ≡ 2
+      → Appends old new (ended (words_of_fault e names)) → OfFiles holds files (SaysRefusal old new kinds)
+  file_refused holds files W (Memory e) h two line = absurd (omega (arith, two))
+  file_refused holds files W (Read n) h two line = absurd (omega (arith, two))
+  file_refused holds files W (TooLong n) h two line = absurd (omega (arith, two))
+  file_refused holds files W (Schema f) h two line = files_map holds files _ _ (λ s d v r. inl (f, r, line)) h
+  file_refused holds files W (First f) h two line = files_map holds files _ _ (λ s d v r. inr (f, r, says_sheet f line)) h
+  file_refused holds files W (Second f) h two line = absurd h
+  file_refused holds files W (Write w) h two line = absurd (omega (arith, two))
+
+  input_refused : (told : Option (List ℕ)) (failed : Bool) (W : ℕ → Type 0) (e : RunFault) → InputFault kinds told failed W e → status_of_fault e ≡ 2
+      → Appends old new (ended (words_of_fault e names)) → IfSome told (λ b. OfParts b (SaysRefusal old new kinds))
+  input_refused told failed W (Memory e) h two line = absurd (omega (arith, two))
+  input_refused told failed W (Read n) h two line = absurd (omega (arith, two))
+  input_refused told failed W (TooLong n) h two line = absurd (omega (arith, two))
+  input_refused told failed W (Schema f) h two line = parts_map told _ _ (λ s d v r. inl (f, r, line)) h
+  input_refused told failed W (First f) h two line = parts_map told _ _ (λ s d v r. inr (f, r, says_sheet f line)) h
+  input_refused told failed W (Second f) h two line = absurd h
+  input_refused told failed W (Write w) h two line = absurd (omega (arith, two))
 
 -- the status of a fault
 abbrev IsFaultStatus : ℕ → Type 0
@@ -91,18 +97,26 @@ not_zero s (inl e) zero = absurd (omega (arith, e, zero))
 not_zero s (inr (inl e)) zero = absurd (omega (arith, e, zero))
 not_zero s (inr (inr e)) zero = absurd (omega (arith, e, zero))
 
--- the status of a run that has no answer
-pub files_status : (holds : Contents) (kinds : KindCodes) (files : SheetFiles) (W : ℕ → Type 0) (e : RunFault) (s : ℕ) → FileFault holds kinds files W e
-    → IsToldAs (status_of_fault e) s → IsFileStatus holds kinds files s
-files_status holds kinds files W e s h told =
-    let is = told_fault (status_of_fault e) s (fault_status e) told in
-    (inr is, (λ zero. absurd (not_zero s is zero)), (λ two. file_refused holds kinds files W e h (told_two (status_of_fault e) s told two)))
+-- the status of a run that has no answer, whatever 0 says
+pub files_status : (old new : Option (List ℕ)) (kinds : KindCodes) (names : List (List ℕ)) (holds : Contents) (files : SheetFiles) (W : ℕ → Type 0) (e : RunFault) (s : ℕ)
+    (A : Type 0) → first_text (length names) ≡ [] → FileFault holds kinds files W e → IsToldAs (status_of_fault e) s
+    → (s ≡ 2 → Appends old new (ended (words_of_fault e names))) → IsSheetStatus s × (s ≡ 0 → A) × (s ≡ 2 → OfFiles holds files (SaysRefusal old new kinds))
+files_status old new kinds names holds files W e s A alone h told line =
+    let is = told_fault (status_of_fault e) s (fault_status e) told in (
+      inr is,
+      (λ zero. absurd (not_zero s is zero)),
+      (λ two. file_refused old new kinds names alone holds files W e h (told_two (status_of_fault e) s told two) (line two)),
+    )
 
-pub bundle_status : (input old new : Option (List ℕ)) (failed : Bool) (W : ℕ → Type 0) (e : RunFault) (s : ℕ) → InputFault usual_kinds input failed W e
-    → IsToldAs (status_of_fault e) s → IsBundleStatus input old new s
-bundle_status input old new failed W e s h told =
-    let is = told_fault (status_of_fault e) s (fault_status e) told in
-    (inr is, (λ zero. absurd (not_zero s is zero)), (λ two. input_refused usual_kinds input failed W e h (told_two (status_of_fault e) s told two)))
+pub bundle_status : (old new : Option (List ℕ)) (names : List (List ℕ)) (input : Option (List ℕ)) (failed : Bool) (W : ℕ → Type 0) (e : RunFault) (s : ℕ)
+    → first_text (length names) ≡ [] → InputFault usual_kinds input failed W e → IsToldAs (status_of_fault e) s
+    → (s ≡ 2 → Appends old new (ended (words_of_fault e names))) → IsBundleStatus input old new s
+bundle_status old new names input failed W e s alone h told line =
+    let is = told_fault (status_of_fault e) s (fault_status e) told in (
+      inr is,
+      (λ zero. absurd (not_zero s is zero)),
+      (λ two. input_refused old new usual_kinds names alone input failed W e h (told_two (status_of_fault e) s told two) (line two)),
+    )
 
 -- a refusal comes before writing
 pub unwritten : (e : RunFault) (P : Type 0) → BeforeWriting e P → status_of_fault e ≡ 2 → P

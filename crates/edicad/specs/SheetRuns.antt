@@ -1,8 +1,6 @@
 -- What a run over the files of a folder answers.
-use Rattle.std.specs.Prelude.{◌≤◌, ◌==◌, ◌⊎◌, ℕ, List, length, Option, if◌then◌else◌}
+use Rattle.std.specs.Prelude.{◌≤◌, ◌==◌, ℕ, List, length, Option, if◌then◌else◌}
 use Rattle.edi_schema.specs.Roles.{KindCodes}
-use Rattle.edi_schema.specs.declared.fault.SchemaFault.{SchemaFault}
-use Rattle.edi_compare.specs.declared.fault.Fault.{Fault}
 use Rattle.edi_compare.specs.declared.fault.RunFault.{RunFault}
 use Rattle.edi_compare.specs.Runs.{IsCanonOf, IsTooLong, MatchFault, RefusesSchema, RefusesSheet, Told}
 use Rattle.edicad.specs.declared.words.SheetFiles.{SheetFiles}
@@ -33,9 +31,9 @@ FileFault holds kinds files W e = MatchFault e
     (λ f. OfFiles holds files (λ s d v. RefusesSheet kinds s d v f))
     (λ _. ⊥) W
 
--- the schema or the sheet is refused
-abbrev pub IsRefusedUnder : KindCodes → List ℕ → List ℕ → List ℕ → Type 0
-IsRefusedUnder kinds scd dic b = ((f : SchemaFault) × RefusesSchema kinds scd dic f) ⊎ ((f : Fault) × RefusesSheet kinds scd dic b f)
+-- the canonical file of the sheet was sent
+abbrev pub SendsCanon : Contents → KindCodes → SheetFiles → (List ℕ → Type 0) → Type 0
+SendsCanon holds kinds files Sent = OfFiles holds files (λ s d v. (c : List ℕ) × IsCanonOf kinds s d v c × Sent c)
 
 -- the canonical file has so many bytes or more
 abbrev pub SentFirst : Contents → KindCodes → SheetFiles → ℕ → Type 0

@@ -1,11 +1,14 @@
 -- The exit statuses.
-use Rattle.std.specs.Prelude.{◌≡◌, ◌⊎◌, ◌<◌, ℕ, Bool, List, Option, IfSome, IsTrue}
+use Rattle.std.specs.Prelude.{◌≡◌, ◌⊎◌, ◌<◌, ℕ, Bool, List, [], Option, IfSome, IsTrue, codes}
 use Rattle.std.specs.Io.KnownBytes.{Appends}
 use Rattle.edi_schema.specs.Roles.{KindCodes}
+use Rattle.edi_schema.specs.declared.fault.SchemaFault.{SchemaFault}
+use Rattle.edi_compare.specs.declared.fault.Fault.{Fault}
 use Rattle.edi_compare.specs.Bundle.{OfParts}
-use Rattle.edi_compare.specs.Runs.{IsSheetUnder, WritesAll}
+use Rattle.edi_compare.specs.Runs.{IsSheetUnder, RefusesSchema, RefusesSheet, WritesAll}
+use Rattle.edicad.specs.Outcome.{ended, schema_text, sheet_text}
 use Rattle.edicad.specs.Requests.{usual_kinds}
-use Rattle.edicad.specs.SheetRuns.{Contents, IsRefusedUnder, OfFiles}
+use Rattle.edicad.specs.SheetRuns.{Contents, OfFiles, SendsCanon}
 use Rattle.edicad.specs.declared.words.SheetFiles.{SheetFiles}
 use Rattle.edicad.specs.declared.words.Request.{Request}
 use Rattle.edicad.specs.declared.words.Request.TheVariants.{Bundle, Check, Canon, Answered}
@@ -18,22 +21,38 @@ IsSheetStatus s = (s ≡ 0) ⊎ ((s ≡ 2) ⊎ ((s ≡ 4) ⊎ (s ≡ 5)))
 abbrev pub IsStatus : ℕ → Type 0
 IsStatus s = (s ≡ 3) ⊎ IsSheetStatus s
 
--- the status of a run over files: 0 only of an accepted sheet, 2 only of a refused one
-abbrev pub IsFileStatus : Contents → KindCodes → SheetFiles → ℕ → Type 0
-IsFileStatus holds kinds files s = IsSheetStatus s × (s ≡ 0 → OfFiles holds files (IsSheetUnder kinds)) × (s ≡ 2 → OfFiles holds files (IsRefusedUnder kinds))
+-- the schema or the sheet is refused, and the line of the refusal went out
+abbrev pub SaysRefusal : Option (List ℕ) → Option (List ℕ) → KindCodes → List ℕ → List ℕ → List ℕ → Type 0
+SaysRefusal old new kinds scd dic b =
+    ((f : SchemaFault) × RefusesSchema kinds scd dic f × Appends old new (ended (schema_text f)))
+    ⊎ ((f : Fault) × RefusesSheet kinds scd dic b f × Appends old new (ended (sheet_text [] f)))
 
--- the status of a run over a bundle: 0 only where its canonical file went out, 2 only of a refused sheet
+-- The status of a run over files, with what the output has before and after: 0 only of an accepted sheet, 2 only of a
+-- refused one, and each is said.
+abbrev pub IsFileStatus : Contents → Option (List ℕ) → Option (List ℕ) → KindCodes → SheetFiles → ℕ → Type 0
+IsFileStatus holds old new kinds files s = IsSheetStatus s
+    × (s ≡ 0 → OfFiles holds files (IsSheetUnder kinds) × Appends old new (ended (codes "accepted")))
+    × (s ≡ 2 → OfFiles holds files (SaysRefusal old new kinds))
+
+-- The same of a run that sends the canonical file.
+abbrev pub IsCanonStatus : Contents → Option (List ℕ) → Option (List ℕ) → KindCodes → SheetFiles → (List ℕ → Type 0) → ℕ → Type 0
+IsCanonStatus holds old new kinds files Sent s = IsSheetStatus s
+    × (s ≡ 0 → SendsCanon holds kinds files Sent × Appends old new (ended (codes "accepted")))
+    × (s ≡ 2 → OfFiles holds files (SaysRefusal old new kinds))
+
+-- The status of a run over a bundle: 0 only where its canonical file went out, 2 only of a refused sheet.
 abbrev pub IsBundleStatus : Option (List ℕ) → Option (List ℕ) → Option (List ℕ) → ℕ → Type 0
 IsBundleStatus input old new s = IsSheetStatus s
     × (s ≡ 0 → IfSome input (λ b. OfParts b (λ scd dic vec. WritesAll usual_kinds scd dic vec old new)))
-    × (s ≡ 2 → IfSome input (λ b. OfParts b (IsRefusedUnder usual_kinds)))
+    × (s ≡ 2 → IfSome input (λ b. OfParts b (SaysRefusal old new usual_kinds)))
 
--- the status of what was asked for, over what the files hold, what the input holds, and what the output has before and after
-abbrev pub IsAnswered : Contents → Option (List ℕ) → Option (List ℕ) → Option (List ℕ) → Request → ℕ → Type 0
-IsAnswered holds input old new Bundle s = IsBundleStatus input old new s
-IsAnswered holds input old new (Check kinds files) s = IsFileStatus holds kinds files s
-IsAnswered holds input old new (Canon kinds files out) s = IsFileStatus holds kinds files s
-IsAnswered holds input old new (Answered status) s = s ≡ status
+-- The status of what was asked for, over what the files hold, which bytes were sent to which path, what the input holds,
+-- and what the output has before and after.
+abbrev pub IsAnswered : Contents → (List ℕ → List ℕ → Type 0) → Option (List ℕ) → Option (List ℕ) → Option (List ℕ) → Request → ℕ → Type 0
+IsAnswered holds Sent input old new Bundle s = IsBundleStatus input old new s
+IsAnswered holds Sent input old new (Check kinds files) s = IsFileStatus holds old new kinds files s
+IsAnswered holds Sent input old new (Canon kinds files out) s = IsCanonStatus holds old new kinds files (Sent out.now) s
+IsAnswered holds Sent input old new (Answered status) s = s ≡ status
 
 -- the status once the line was printed: that of the outcome, 5 without memory for the line, 4 where it can't be printed
 abbrev pub IsToldAs : ℕ → ℕ → Type 0

@@ -1,7 +1,8 @@
 //! What the program does with its words.
-ghost use Rattle.std.specs.Prelude.{◌≡◌, map, string_bytes};
+ghost use Rattle.std.specs.Prelude.{◌≡◌, ℕ, List, Option, map, string_bytes};
+ghost use Rattle.std.specs.Io.KnownBytes.{Appends};
 ghost use Rattle.edicad.specs.Requests.{IsAsked};
-ghost use Rattle.edicad.specs.Statuses.{IsAnswered, IsBundleStatus, IsFileStatus, IsStatus};
+ghost use Rattle.edicad.specs.Statuses.{IsAnswered, IsBundleStatus, IsCanonStatus, IsFileStatus, IsStatus};
 ghost use Rattle.edicad.specs.declared.words.Request.{Request};
 
 use crate::outcome::Outcome;
@@ -59,7 +60,9 @@ pub fn run_over<R: Eprint + AllocGlobal, F: Folder, I: ByteIn, O: ByteOut, E: By
     words: &[String],
 ) -> u8
     ensures { (request : Request) × IsAsked (map string_bytes words.now) request
-        × IsAnswered (F.holds folder.old) (I.told input.old) (O.told out.old) (O.told out.new) request result }
+        × IsAnswered (F.holds folder.old) (λ path c. (made : Option (List ℕ)) × (file : F.Writer)
+        × F.makes folder.old path made × Appends made (F.Writer.told file) c)
+        (I.told input.old) (O.told out.old) (O.told out.new) request result }
 {
     let request = asked(rt, words);
     answered(rt.alloc(), folder, input, out, err, request)
@@ -74,7 +77,9 @@ pub fn answered<F: Folder, I: ByteIn, O: ByteOut, E: ByteOut>(
     err: &mut E,
     request: Request<'_>,
 ) -> u8
-    ensures { IsAnswered (F.holds folder.old) (I.told input.old) (O.told out.old) (O.told out.new) request.entry result }
+    ensures { IsAnswered (F.holds folder.old) (λ path c. (made : Option (List ℕ)) × (file : F.Writer)
+        × F.makes folder.old path made × Appends made (F.Writer.told file) c)
+        (I.told input.old) (O.told out.old) (O.told out.new) request.entry result }
 {
     match request {
         Request::Bundle => bundle(alloc, input, out, err),
@@ -118,7 +123,7 @@ fn check<F: Folder, O: ByteOut, E: ByteOut>(
     out: &mut O,
     err: &mut E,
 ) -> u8
-    ensures { IsFileStatus (F.holds folder.now) kinds.now files.now result }
+    ensures { IsFileStatus (F.holds folder.now) (O.told out.old) (O.told out.new) kinds.now files.now result }
 {
     let names = [
         files.scd.as_bytes(),
@@ -142,7 +147,8 @@ fn canon<F: Folder, O: ByteOut, E: ByteOut>(
     out: &mut O,
     err: &mut E,
 ) -> u8
-    ensures status { IsFileStatus (F.holds folder.old) kinds.now files.now result }
+    ensures status { IsCanonStatus (F.holds folder.old) (O.told out.old) (O.told out.new) kinds.now files.now
+        (λ c. (made : Option (List ℕ)) × (file : F.Writer) × F.makes folder.old path.now made × Appends made (F.Writer.told file) c) result }
     ensures unmade { result ≡ 2 → folder.new ≡ folder.old }
 {
     let names = [

@@ -1,10 +1,11 @@
 //! The files that a command names.
 ghost use Rattle.std.specs.Prelude.{◌≡◌, ℕ, List, Option, OnOk, IfOk, IfErr, IfSome, IsTrue};
+ghost use Rattle.std.specs.Io.KnownBytes.{Appends};
 ghost use Rattle.edi_compare.specs.Bundle.{OfParts};
 ghost use Rattle.edi_compare.specs.Runs.{BeforeWriting, InputFault, IsCanonOf, IsSheetUnder, WritesAll, WritesFirst};
 ghost use Rattle.edicad.specs.Outcome.{FaultHasNames};
 ghost use Rattle.edicad.specs.Requests.{usual_kinds};
-ghost use Rattle.edicad.specs.SheetRuns.{FileFault, OfFiles, SentFirst};
+ghost use Rattle.edicad.specs.SheetRuns.{FileFault, OfFiles, SendsCanon, SentFirst};
 
 use crate::system::Folder;
 use crate::words::SheetFiles;
@@ -55,8 +56,8 @@ pub fn canon<F: Folder>(
     files: &SheetFiles<'_>,
     out: &str,
 ) -> Result<(), RunFault>
-    ensures ok { OnOk result (OfFiles (F.holds folder.old) files.now (λ s d v. (made : Option (List ℕ)) × (file : F.Writer)
-        × F.makes folder.old out.now made × WritesAll kinds.now s d v made (F.Writer.told file))) }
+    ensures ok { OnOk result (SendsCanon (F.holds folder.old) kinds.now files.now (λ c. (made : Option (List ℕ)) × (file : F.Writer)
+        × F.makes folder.old out.now made × Appends made (F.Writer.told file) c)) }
     ensures err { IfErr result (FileFault (F.holds folder.old) kinds.now files.now (SentFirst (F.holds folder.old) kinds.now files.now)) }
     ensures unmade { IfErr result (λ e. BeforeWriting e (folder.new ≡ folder.old)) }
     ensures names { IfErr result (λ e. FaultHasNames e 4) }

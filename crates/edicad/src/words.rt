@@ -1,7 +1,6 @@
 //! What the words of the command line ask for.
-ghost use Rattle.std.specs.Prelude.{◌≡◌, IfErr, IfOk, MatchOption, OnOk, [], map, option_map, string_bytes, false};
+ghost use Rattle.std.specs.Prelude.{◌≡◌, IfErr, IfOk, MatchOption, OnOk, [], map, option_map, string_bytes};
 ghost use Rattle.clap.specs.Words.{HasKind, app_of, fault_of, found_of, kind_of, rows_of, rule_of, subcommand_of, subcommand_rows_of};
-ghost use Rattle.clap.specs.declared.builder.Command.TheViews.{out-Command as fields_of};
 ghost use Rattle.edi_schema.specs.Roles.{KindCodes};
 ghost use Rattle.edicad.specs.Requests.{AreKindsIn, AreKindsOf, IsAsked, IsOwn, Means, edicad, file_rule, kinds_rule, sheet_command, status_of_kind, value_at};
 
@@ -88,8 +87,7 @@ fn command<'a>(alloc: Global) -> Result<Command<'a>, AllocError>
 
 // A subcommand over the files of a sheet.
 fn over_files<'a>(alloc: Global, name: &'a str) -> Result<Command<'a>, AllocError>
-    ensures app { IfOk result (λ c. app_of c ≡ sheet_command name.entry.now) }
-    ensures local { IfOk result (λ c. (fields_of c).has_globals ≡ false) }
+    ensures { IfOk result (λ c. app_of c ≡ sheet_command name.entry.now) }
 {
     let scd = file(
         alloc,
@@ -115,8 +113,7 @@ fn over_files<'a>(alloc: Global, name: &'a str) -> Result<Command<'a>, AllocErro
 
 // The option with the codes of the kinds.
 fn kinds_option<'a>(alloc: Global) -> Arg<'a>
-    ensures rule { rule_of result ≡ kinds_rule }
-    ensures local { result.global ≡ false }
+    ensures { rule_of result ≡ kinds_rule }
 {
     Arg::new(alloc, "kinds")
         .long("kinds")
@@ -128,8 +125,7 @@ fn kinds_option<'a>(alloc: Global) -> Arg<'a>
 
 // A file that has to be named.
 fn file<'a>(alloc: Global, id: &'a str, help: &'a str) -> Arg<'a>
-    ensures rule { rule_of result ≡ file_rule id.entry.now }
-    ensures local { result.global ≡ false }
+    ensures { rule_of result ≡ file_rule id.entry.now }
 {
     Arg::new(alloc, id).required(true).help(help)
 }

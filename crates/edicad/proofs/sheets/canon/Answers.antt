@@ -8,12 +8,12 @@ pub returns-in-Ok-clause-ok : goal.returns-in-Ok-clause-ok
 returns-in-Ok-clause-ok g c =
     files_map (g.F.Folder.holds c.args.folder.now) c.args.files.now (λ s d v. IsCanonOf c.args.kinds.now s d v c.in_ok-bytes.bytes.items) _
     (λ s d v form. (
-      _,
-      c.put_all.new.writer,
-      c.in-Some.ensures,
+      c.in_ok-bytes.bytes.items,
+      form,
       (
-        c.in_ok-bytes.bytes.items,
-        form,
+        _,
+        c.put_all.new.writer,
+        c.in-Some.ensures,
         subst (Appends _ _) c.deref.ensures.value c.in-Ok.ensures.ok,
       ),
     )) c.in_ok-bytes.ensures.ok
