@@ -5,9 +5,11 @@ use crate::link_cases::LINK_CASES;
 use crate::node_cases::NODE_CASES;
 use crate::object_cases::OBJECT_CASES;
 use crate::sheet_cases::SHEET_CASES;
-use crate::{Fault, canon};
-use edi_line::ScriptOut;
+use crate::{Accepted, Fault, accept, canon};
+use edi_line::{ScriptOut, Sequence};
+use edi_rank::{ArcLayer, NodeLayer};
 use edi_schema::{Kinds, Schema, SchemaFault};
+use edi_topo::{Layer, TieFault, ranks};
 use edi_write::put_all;
 use std::alloc::{AllocError, Global};
 use std::process::Abort;
@@ -302,5 +304,36 @@ fn tells_how_many_bytes_went_out(rt: HostRuntime) -> Result<(), Fail> {
     let mut whole = ScriptOut::new(rt.alloc(), 1000, 5, 0)?;
     assert!(rt; put_all(&mut whole, CANON).is_ok());
     assert_eq!(rt; whole.out(), CANON);
+    Ok(())
+}
+
+// The sheet of the first of these cases.
+fn first_sheet(alloc: Global, schema: &Schema, cases: &str) -> Result<Accepted, Fail> {
+    let (_title, cases) = cases.split_once("\n").ok_or("a case without a title")?;
+    let (sheet, _answers) = cases.split_once("->\n").ok_or("a case without an answer")?;
+    match accept(alloc, schema, sheet.as_bytes()) {
+        Ok(accepted) => Ok(accepted),
+        Err(_) => Err("the sheet is refused".into()),
+    }
+}
+
+// The numbers of members none of which tie.
+fn numbers_of<L: Layer>(alloc: Global, layer: &L) -> Result<Sequence<u32>, Fail> {
+    match ranks(alloc, layer) {
+        Ok(ranks) => Ok(ranks.into_numbers()),
+        Err(TieFault::Memory(fault)) => Err(fault.into()),
+        Err(TieFault::Tie(_)) => Err("two members tie".into()),
+    }
+}
+
+#[test]
+fn numbers_the_nodes_and_the_arcs_of_a_sound_plan(rt: HostRuntime) -> Result<(), Fail> {
+    let alloc = rt.alloc();
+    let accepted = first_sheet(alloc, &schema(alloc)?, ARC_CASES)?;
+    let sound = accepted.sound();
+    let nodes = numbers_of(alloc, &NodeLayer::of(alloc, sound)?)?;
+    let arcs = numbers_of(alloc, &ArcLayer::of(alloc, sound)?)?;
+    assert_eq!(rt; nodes.as_slice(), [1u32, 2].as_slice());
+    assert_eq!(rt; arcs.as_slice(), [2u32, 1].as_slice());
     Ok(())
 }
