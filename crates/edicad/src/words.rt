@@ -74,12 +74,12 @@ fn command<'a>(alloc: Global) -> Result<Command<'a>, AllocError>
             "Checks EDIGeO sheets of the cadastral plan and writes their canonical files, which are equal exactly if two sheets state the same plan. Without a subcommand, reads SCD, DIC and VEC one after the other from standard input, and writes the canonical file to standard output. Exit status: 0 accepted, 2 refused (the first broken rule is printed, with its line or record), 3 words that can't be read, 4 a file that can't be read or written, 5 out of memory.",
         )
         .subcommand(over_files(alloc, "check")?.about(
-            "Tells whether a sheet breaks no rule: prints accepted with status 0, or the first broken rule with status 2",
+            "Tells whether a sheet breaks no rule: prints accepted with status 0, or the first broken rule, with its line or record, with status 2. Other statuses: 3 words that can't be read, 4 a file that can't be read, 5 out of memory",
         ))?
         .subcommand(
             over_files(alloc, "canon")?
                 .about(
-                    "Writes the canonical file of a sheet to OUT: the same plan, with its records renamed, turned and put in order. Prints accepted with status 0, or the first broken rule with status 2; OUT is then left as it is",
+                    "Writes the canonical file of a sheet to OUT: the same plan, with its records renamed, turned and put in order. Prints accepted with status 0, or the first broken rule, with its line or record, with status 2; OUT is then left as it is. Other statuses: 3 words that can't be read, 4 a file that can't be read or written, 5 out of memory",
                 )
                 .arg(out)?,
         )
