@@ -42,7 +42,7 @@ fn words<R: Runtime + AllocGlobal>(rt: &R) -> io::Result<Vec<String>> {
 pub fn run_words<R: Runtime + AllocGlobal>(rt: &R, words: &[String]) -> u8
     ensures { IsStatus result }
 {
-    let mut folder = Disk::new(rt);
+    let mut folder = Disk { files: rt };
     let mut input = FromRead::new(rt.reader());
     let mut out = ToWrite::new(io::writer(rt));
     let mut err = Errors::new(rt);

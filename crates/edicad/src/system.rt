@@ -31,13 +31,7 @@ pub trait Folder {
 /// The files of the system.
 #[derive(Drop)]
 pub struct Disk<'a, R> {
-    files: &'a R,
-}
-
-impl<'a, R: Files> Disk<'a, R> {
-    pub fn new(files: &'a R) -> Disk<'a, R> {
-        Disk { files }
-    }
+    pub files: &'a R,
 }
 
 impl<R: Files> Folder for Disk<'_, R> {
