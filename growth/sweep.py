@@ -1,5 +1,5 @@
 #!/usr/bin/env python3
-"""Refuses each growth of memory of the built program in turn, on the example.
+"""Refuses each growth of memory of the built program in turn, on the examples.
 
     cd crates/edicad && rt run < ../../examples/node/bundle     builds out/edicad
     python3 growth/sweep.py                                     from the top; needs cc
@@ -16,6 +16,7 @@ import tempfile
 HERE = os.path.dirname(os.path.abspath(__file__))
 PROGRAM = os.path.join(HERE, "..", "crates", "edicad", "out", "edicad")
 NODE = os.path.join(HERE, "..", "examples", "node")
+PARCEL = os.path.join(HERE, "..", "examples", "parcel")
 
 
 def run(words, library, number, out):
@@ -65,6 +66,8 @@ def main():
         sweep("bundle", [], library, out)
         sweep("check", ["check", *files], library, out)
         sweep("canon", ["canon", *files, out], library, out)
+        pair = [os.path.join(PARCEL, name) for name in ("schema.scd", "dictionary.dic", "sheet.vec", "same_plan.vec")]
+        sweep("compare", ["compare", *pair], library, out)
 
 
 main()

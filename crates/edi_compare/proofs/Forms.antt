@@ -28,7 +28,6 @@ use Rattle.edi_rank.proofs.ArrangedUnder.{under_arranged}
 use Rattle.edi_rank.proofs.Arranging.{carries_arranged}
 use Rattle.edi_rank.proofs.Kept.{topology_kept, joins_kept}
 use Rattle.edi_rank.proofs.ObjectsKept.{objects_kept}
-use Rattle.edi_write.specs.Layout.{layout}
 use Rattle.edi_write.specs.Written.{letters, written_records, CanBePrinted, HasAttributeClasses}
 use Rattle.edi_write.proofs.KindNames.{kinds_printable}
 use Rattle.edi_write.proofs.WrittenPrinted.{letters_printable, written_printable, attribute_classes}
@@ -146,6 +145,10 @@ module _ (s : Classes) (b c : List ℕ) (f : IsLayoutOf s b c) (keeps : IsSchema
 
   states_same : StateSame s b c
   states_same = (p, q, f.states, states_form, same)
+
+-- and it states the plan that the labels make
+pub states_arranged : (s : Classes) (b c : List ℕ) (f : IsLayoutOf s b c) → IsSchema s → length b < 2 ^ 64 → IsPlanOfFile s c (arranged s f.labels f.plan)
+states_arranged s b c f keeps short = states_form s b c f keeps short
 
 -- the layout of an accepted sheet is its canonical file
 pub canonical_file : (s : Classes) (b c : List ℕ) → IsSchema s → length b < 2 ^ 64 → IsBytes c → IsLayoutOf s b c → IsFormOf s b c

@@ -1,7 +1,5 @@
 -- A canonical sheet that states the plan of a sheet is the only one.
-use Rattle.std.proofs.Common.{◌≡◌, ◌↔◌, ℕ, Bool, List, refl, sym, ap, ◌∙◌, subst}
-use Rattle.edi_line.specs.Entry.{Entry}
-use Rattle.edi_line.specs.LineRules.{IsZonesOf}
+use Rattle.std.proofs.Common.{◌≡◌, ◌↔◌, ℕ, Bool, List, sym, ap, ◌∙◌, subst}
 use Rattle.edi_line.specs.Refusal.{IsUnbroken}
 use Rattle.edi_record.specs.declared.sheet.Sheet.{Sheet}
 use Rattle.edi_schema.specs.Classes.{Classes, IsSchema}
@@ -19,7 +17,7 @@ use Rattle.edi_rank.proofs.SameLaws.{same_refl, same_sym, same_trans}
 use Rattle.edi_rank.proofs.Unique.{same_plan}
 use Rattle.edi_write.specs.Layout.{layout}
 use Rattle.edi_compare.specs.PlanOfFile.{IsSheetOf, IsPlanOfFile, StateSame}
-use Rattle.edi_compare.specs.Rules.{LinesHold, RecordsHold, ReferencesHold, TopologyHolds, Breaks, IsAccepted}
+use Rattle.edi_compare.specs.Rules.{LinesHold, RecordsHold, ReferencesHold, IsAccepted}
 use Rattle.edi_compare.specs.Rules.Breaks.{of_lines, of_records, of_references, of_topology, of_objects}
 use Rattle.edi_compare.specs.Canonical.{IsCanonical}
 use Rattle.edi_compare.specs.Laws.{ReadingIsOne, IsAcceptedPlan, SameIsEquivalence}
@@ -66,7 +64,7 @@ equivalence s keeps = record {
     under p h = plan_under s h.0 p keeps h.1 h.2
 
 module _ (ones : ReadingIsOne) (s : Classes) (keeps : IsSchema s) where
-  one_plan : (b : List ℕ) (p q : Drawing) → IsPlanOfFile s b p → IsPlanOfFile s b q → p ≡ q
+  pub one_plan : (b : List ℕ) (p q : Drawing) → IsPlanOfFile s b p → IsPlanOfFile s b q → p ≡ q
   one_plan b p q h g = let e = ones.sheets b h.0 g.0 h.1 g.1 in one_plan_of s h.0 g.0 p q e.0 e.1 h.2 g.2
 
   states_sym : (a b : List ℕ) → IsAccepted s a → IsAccepted s b → StateSame s a b → StateSame s b a

@@ -1,5 +1,5 @@
 -- A sheet of one node and a sheet without records, through all definitions.
-use Rattle.std.proofs.Common.{◌≡◌, ◌≢◌, ◌∙◌, sym, subst, ap, refl, ℕ, zero, suc, ◌+◌, ◌-◌, ◌<◌, ◌≤◌, ◌^◌, ◌⊎◌, inl, inr, Bool, true, false, List, [], ◌∷◌, ◌++◌, length, map, Option, Some, None, codes, arith, lit≤, Any, true≢false}
+use Rattle.std.proofs.Common.{◌≡◌, ◌≢◌, ◌∙◌, sym, subst, ap, refl, ℕ, zero, suc, ◌+◌, ◌-◌, ◌<◌, ◌≤◌, ◌⊎◌, inl, inr, Bool, true, false, List, [], ◌∷◌, ◌++◌, length, map, Some, None, codes, arith, lit≤, Any, true≢false}
 use Rattle.std.specs.List.{AllByRecursion, AllZip}
 use Rattle.std.specs.Prelude.{slice_get, ◌==◌}
 use Rattle.edi_line.specs.Entry.{Entry}
@@ -9,9 +9,9 @@ use Rattle.edi_line.specs.Spelling.{reading_of, has_head}
 use Rattle.edi_line.specs.Zones.{zones_of, groups_of}
 use Rattle.edi_line.proofs.FirstBroken.{none_broken}
 use Rattle.edi_line.proofs.KnownFiles.{refused_as, unbroken_as, zones_as}
-use Rattle.edi_record.specs.Records.{States, StatesSheet}
+use Rattle.edi_record.specs.Records.{States}
 use Rattle.edi_record.specs.RecordRules.{BreaksRecordRule, record_tests}
-use Rattle.edi_record.specs.Rows.{one_node, the_node, rules_of, node_group}
+use Rattle.edi_record.specs.Rows.{the_node, node_group}
 use Rattle.edi_record.specs.declared.record.Kind.{Kind}
 use Rattle.edi_record.specs.declared.record.Kind.TheVariants.{Pno, Par, Pfe, Fea, Lnk}
 use Rattle.edi_record.specs.declared.record.Record.{Record}
@@ -21,18 +21,18 @@ use Rattle.edi_schema.specs.Classes.{Classes, IsSchema}
 use Rattle.edi_schema.specs.declared.role.Role.{Role}
 use Rattle.edi_schema.specs.declared.role.Role.TheVariants.{Initial, Final, Left, Right, Plain}
 use Rattle.edi_plan.specs.Plans.{Drawing, IsPlace, record_at}
-use Rattle.edi_plan.specs.PlanOf.{IsPlanOf}
 use Rattle.edi_plan.specs.ReferenceRules.{BreaksReferenceRule, IsAt, HasRole, JoinsArcTo}
 use Rattle.edi_plan.specs.ReferenceRules.BreaksReferenceRule.{repeats_name, lacks_class, lacks_attribute_class, leaves_subset, names_nothing, joins_wrong, repeats_side}
-use Rattle.edi_plan.specs.declared.record.PlanRecord.{PlanRecord}
 use Rattle.edi_topo.specs.TopologyRules.{BreaksTopologyRule}
 use Rattle.edi_topo.proofs.AtPlaces.{breaks_of_node, broken_place}
 use Rattle.edi_rank.specs.Alike.{BreaksObjectRule}
 use Rattle.edi_rank.specs.Alike.BreaksObjectRule.{repeats_object}
 use Rattle.edi_rank.specs.Arranged.{arranged}
-use Rattle.edi_rank.specs.InOrder.{AllRise, Both}
+use Rattle.edi_rank.specs.EndOrder.{OthersInOrder}
+use Rattle.edi_rank.specs.InOrder.{Both}
 use Rattle.edi_rank.specs.Labelling.{Labelling, AreLabels, number_of, order_of, turned_at, turned_by}
 use Rattle.edi_rank.specs.Turned.{is_backward}
+use Rattle.edi_rank.proofs.OthersSorted.{few_in_order}
 use Rattle.edi_write.specs.Layout.{layout}
 use Rattle.std.specs.Fmt.{digits}
 use Rattle.std.proofs.lemmas.Bool.{ltb-true}
@@ -40,7 +40,7 @@ use Rattle.edi_line.specs.Number.{fraction_digits, size_text, whole_number, frac
 use Rattle.edi_line.specs.Printing.{printed_zone, broken_into, content_text, line_text, next_zone}
 use Rattle.edi_record.specs.Texts.{pointer_text, point_text}
 use Rattle.edi_plan.proofs.Built.{both_true}
-use Rattle.edi_compare.specs.Canonical.{IsCanonical, IsFormOf, IsLayoutOf}
+use Rattle.edi_compare.specs.Canonical.{IsFormOf}
 use Rattle.edi_compare.specs.Files.{IsBytes}
 use Rattle.edi_compare.specs.Known.{node_classes, node_sheet, node_plan, node_file, empty_sheet, empty_file}
 use Rattle.edi_compare.specs.PlanOfFile.{IsSheetOf, IsPlanOfFile, StateSame}
@@ -192,7 +192,7 @@ sheet_accepted =
 -- its labels
 
 abbrev node_labels : Labelling
-node_labels = record { numbers = 1 ∷ []; turned = false ∷ []; nodes = 0 ∷ []; arcs = []; faces = []; objects = []; links = [] }
+node_labels = record { numbers = 1 ∷ []; turned = false ∷ []; others = [] ∷ []; nodes = 0 ∷ []; arcs = []; faces = []; objects = []; links = [] }
 
 at_zero : (P : ℕ → Type 0) → P 0 → (k : ℕ) → IsPlace node_plan k → P k
 at_zero P here k h = subst P (sym (one_place k h)) here
@@ -216,6 +216,7 @@ labels_hold : AreLabels node_classes node_plan node_labels
 labels_hold = record {
   all_numbered = refl;
   all_directed = refl;
+  all_ordered = refl;
   turned = at_zero (λ k. turned_at node_labels.turned k ≡ is_backward node_plan k) refl;
   from_one = at_zero (λ k. 1 ≤ number_of node_labels k) (lit≤ tt);
   to_count = at_zero (λ k. slice_get (order_of node_labels (record_at node_plan k).kind) (number_of node_labels k - 1) ≡ Some k) refl;
@@ -227,6 +228,7 @@ labels_hold = record {
     objects = λ i k both. absurd (none_lesser Fea i k both);
     links = λ i k both. absurd (none_lesser Lnk i k both);
   };
+  others = at_zero (OthersInOrder node_plan (number_of node_labels) node_labels.others) (few_in_order node_plan (number_of node_labels) [] (lit≤ tt));
 }
 
 node_laid_out : node_file ≡ layout node_classes (arranged node_classes node_labels node_plan)
@@ -251,7 +253,7 @@ abbrev empty_plan : Drawing
 empty_plan = record { cse = None; list = [] }
 
 abbrev empty_labels : Labelling
-empty_labels = record { numbers = []; turned = []; nodes = []; arcs = []; faces = []; objects = []; links = [] }
+empty_labels = record { numbers = []; turned = []; others = []; nodes = []; arcs = []; faces = []; objects = []; links = [] }
 
 empty_lines : IsUnbroken (BreaksLineRule empty_sheet)
 unfolding reading_of has_head
@@ -319,6 +321,7 @@ no_labels : AreLabels node_classes empty_plan empty_labels
 no_labels = record {
   all_numbered = refl;
   all_directed = refl;
+  all_ordered = refl;
   turned = λ k h. absurd (omega (arith, h));
   from_one = λ k h. absurd (omega (arith, h));
   to_count = λ k h. absurd (omega (arith, h));
@@ -330,6 +333,7 @@ no_labels = record {
     objects = λ i k both. let h = both.first in absurd (omega (arith, h));
     links = λ i k both. let h = both.first in absurd (omega (arith, h));
   };
+  others = λ k h. absurd (omega (arith, h));
 }
 
 empty_laid_out : empty_file ≡ layout node_classes (arranged node_classes empty_labels empty_plan)

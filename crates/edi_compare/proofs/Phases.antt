@@ -1,6 +1,5 @@
 -- The rules of a sheet, phase by phase: the least of the first broken phase is the least of all.
-use Rattle.std.proofs.Common.{◌≡◌, ◌∙◌, sym, subst, ap, refl, ℕ, ◌<◌, ◌≤◌, ◌⊎◌, inl, inr, List, [], ◌∷◌, ◌++◌, map, Err, arith}
-use Rattle.std.specs.List.{AllZip, AllByRecursion}
+use Rattle.std.proofs.Common.{◌≡◌, ◌∙◌, sym, subst, ℕ, ◌<◌, ◌≤◌, ◌⊎◌, inl, inr, List, [], ◌∷◌, ◌++◌, map, Err, arith}
 use Rattle.edi_line.specs.Entry.{Entry}
 use Rattle.edi_line.specs.LineRules.{IsZonesOf, BreaksLineRule, line_tests}
 use Rattle.edi_line.specs.Refusal.{IsUnbroken, IsLeastBroken, Breaks as BreaksTest}
@@ -8,16 +7,12 @@ use Rattle.edi_line.specs.Spelling.{Reading, reading_of}
 use Rattle.edi_line.specs.Lines.{contents_of}
 use Rattle.edi_line.proofs.Heads.{reading_rule_below}
 use Rattle.edi_record.specs.RecordRules.{BreaksRecordRule, record_tests}
-use Rattle.edi_record.specs.declared.record.Kind.{Kind}
-use Rattle.edi_record.specs.declared.record.Kind.TheVariants.{Pno, Fea}
 use Rattle.edi_record.specs.declared.record.Record.{Record}
 use Rattle.edi_record.specs.declared.sheet.Sheet.{Sheet}
 use Rattle.edi_schema.specs.Classes.{Classes}
-use Rattle.edi_plan.specs.Plans.{Drawing, IsPlace, record_at, kind_rank}
-use Rattle.edi_plan.specs.PlanOf.{IsPlanOf, StatesPlanRecord}
+use Rattle.edi_plan.specs.Plans.{Drawing}
 use Rattle.edi_plan.specs.ReferenceRules.{BreaksReferenceRule}
 use Rattle.edi_plan.specs.ReferenceRules.BreaksReferenceRule.{repeats_name, lacks_class, lacks_attribute_class, leaves_subset, names_nothing, joins_wrong, repeats_side}
-use Rattle.edi_plan.specs.declared.record.PlanRecord.{PlanRecord}
 use Rattle.edi_plan.proofs.Built.{one_plan_of}
 use Rattle.edi_topo.specs.TopologyRules.{BreaksTopologyRule}
 use Rattle.edi_topo.specs.TopologyRules.BreaksTopologyRule.{starts_elsewhere, ends_elsewhere, repeats_node, equals_reverse, repeats_arc, bounds_nothing}

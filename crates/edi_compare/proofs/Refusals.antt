@@ -25,15 +25,16 @@ use Rattle.edi_rank.specs.Alike.{BreaksObjectRule}
 use Rattle.edi_rank.specs.RankRefusal.{IsRankRefusal}
 use Rattle.edi_rank.specs.declared.fault.RankFault.{RankFault}
 use Rattle.edi_rank.specs.declared.fault.RankFault.TheVariants as rank
-use Rattle.edi_compare.specs.Faults.{of_line, of_record, of_reference, of_topology, of_rank}
+use Rattle.edi_compare.specs.Faults.{of_line, of_record, of_reference, of_topology, of_rank, of_first, of_second}
 use Rattle.edi_compare.specs.PlanOfFile.{IsSheetOf, IsPlanOfFile}
-use Rattle.edi_compare.specs.Refused.{IsRefusal}
-use Rattle.edi_compare.specs.Rules.{LinesHold, RecordsHold, ReferencesHold, TopologyHolds}
+use Rattle.edi_compare.specs.Refused.{IsRefusal, IsPairRefusal}
+use Rattle.edi_compare.specs.Rules.{LinesHold, RecordsHold, ReferencesHold, TopologyHolds, IsAccepted}
 use Rattle.edi_compare.specs.declared.fault.Fault.{Fault}
+use Rattle.edi_compare.specs.declared.fault.Fault.TheVariants as sheet
 use Rattle.edi_compare.proofs.Phases.{line_refusal, record_refusal, reference_refusal, topology_refusal, object_refusal}
 
 -- the fault that is handed on
-pub err_kept : {T : Type 0} (r : Result T Fault) (fault : Fault) (P : Fault → Type 0) → IsErrAnd r (λ e. e ≡ fault) → P fault → IfErr r P
+pub err_kept : {T E : Type 0} (r : Result T E) (fault : E) (P : E → Type 0) → IsErrAnd r (λ e. e ≡ fault) → P fault → IfErr r P
 err_kept (Ok x) fault P e h = tt
 err_kept (Err f) fault P e h = subst P (sym e) h
 
@@ -57,3 +58,15 @@ module _ (s : Classes) (b : List ℕ) where
   pub rank_fault : TopologyHolds s b → (plan : Drawing) → IsPlanOfFile s b plan → (f : RankFault) → IsRankRefusal (BreaksObjectRule plan) f → IsRefusal s b (of_rank f)
   rank_fault topology plan states (rank.Memory e) h = tt
   rank_fault topology plan states (rank.Broken rule at) h = object_refusal s b rule at topology plan states h
+
+-- the faults of two sheets
+
+pub first_fault : (s : Classes) (a b : List ℕ) (f : Fault) → IsRefusal s a f → IsPairRefusal s a b (of_first f)
+first_fault s a b (sheet.Memory e) h = tt
+first_fault s a b (sheet.Line rule at) h = (tt, h)
+first_fault s a b (sheet.Entry rule at) h = (tt, h)
+
+pub second_fault : (s : Classes) (a b : List ℕ) (f : Fault) → IsAccepted s a → IsRefusal s b f → IsPairRefusal s a b (of_second f)
+second_fault s a b (sheet.Memory e) accepted h = tt
+second_fault s a b (sheet.Line rule at) accepted h = (accepted, tt, h)
+second_fault s a b (sheet.Entry rule at) accepted h = (accepted, tt, h)

@@ -3,7 +3,7 @@ use Rattle.std.proofs.Common.{◌≡◌, ℕ, List, length, take, ◌≤◌, Res
 use Rattle.std.specs.Io.KnownBytes.{Appends}
 use Rattle.edi_schema.specs.Roles.{KindCodes}
 use Rattle.edi_compare.specs.Bundle.{AreParts, OfParts}
-use Rattle.edi_compare.specs.Runs.{Told, SheetFault, BundleFault, MatchFault, RefusesSchema, RefusesSheet, IsCanonOf, WritesAll, WritesFirst}
+use Rattle.edi_compare.specs.Runs.{TellBoth, Told, SheetFault, BundleFault, MatchFault, RefusesSchema, RefusesSheet, IsCanonOf, WritesAll, WritesFirst}
 use Rattle.edi_compare.specs.declared.fault.RunFault.{RunFault}
 use Rattle.edi_compare.specs.declared.fault.RunFault.TheVariants.{Memory, Read, TooLong, Schema, First, Second, Write}
 
@@ -17,6 +17,12 @@ told None b c x y z P h k l p = tt
 told (Some s) None c x y z P h k l p = tt
 told (Some s) (Some d) None x y z P h k l p = tt
 told (Some s) (Some d) (Some v) x y z P h k l p = subst (λ w. P s d w) l (subst (λ w. P s w z) k (subst (λ w. P w y z) h p))
+
+pub tell_both : (a b : Option (List ℕ)) (x y : List ℕ) (P : List ℕ → List ℕ → Type 0)
+    → IfSome a (λ t. x ≡ t) → IfSome b (λ t. y ≡ t) → P x y → TellBoth a b P
+tell_both None b x y P h k p = tt
+tell_both (Some s) None x y P h k p = tt
+tell_both (Some s) (Some d) x y P h k p = subst (P s) k (subst (λ w. P w y) h p)
 
 pub told_map : (a b c : Option (List ℕ)) (P Q : List ℕ → List ℕ → List ℕ → Type 0)
     → ((s d v : List ℕ) → P s d v → Q s d v) → Told a b c P → Told a b c Q
@@ -37,18 +43,18 @@ told_on (Err e) a b c x y z P h k l p = tt
 
 told_fault : (kinds : KindCodes) (e : RunFault) (a b c : Option (List ℕ)) (x y z : List ℕ) (R T W : ℕ → Type 0)
     → IfSome a (λ t. x ≡ t) → IfSome b (λ t. y ≡ t) → IfSome c (λ t. z ≡ t) → SheetFault kinds x y z e
-    → MatchFault e R T (λ f. Told a b c (λ s d v. RefusesSchema kinds s d f)) (λ f. Told a b c (λ s d v. RefusesSheet kinds s d v f)) (λ _. ⊥) W
+    → MatchFault e R T (λ f. TellBoth a b (λ s d. RefusesSchema kinds s d f)) (λ f. Told a b c (λ s d v. RefusesSheet kinds s d v f)) (λ _. ⊥) W
 told_fault kinds (Memory e) a b c x y z R T W h k l p = tt
 told_fault kinds (Read i) a b c x y z R T W h k l p = absurd p
 told_fault kinds (TooLong i) a b c x y z R T W h k l p = absurd p
-told_fault kinds (Schema f) a b c x y z R T W h k l p = told a b c x y z (λ s d v. RefusesSchema kinds s d f) h k l p
+told_fault kinds (Schema f) a b c x y z R T W h k l p = tell_both a b x y (λ s d. RefusesSchema kinds s d f) h k p
 told_fault kinds (First f) a b c x y z R T W h k l p = told a b c x y z (λ s d v. RefusesSheet kinds s d v f) h k l p
 told_fault kinds (Second f) a b c x y z R T W h k l p = absurd p
 told_fault kinds (Write w) a b c x y z R T W h k l p = absurd p
 
 pub told_err : {X : Type 0} (kinds : KindCodes) (r : Result X RunFault) (a b c : Option (List ℕ)) (x y z : List ℕ) (R T W : ℕ → Type 0)
     → IfSome a (λ t. x ≡ t) → IfSome b (λ t. y ≡ t) → IfSome c (λ t. z ≡ t) → IfErr r (SheetFault kinds x y z)
-    → IfErr r (λ e. MatchFault e R T (λ f. Told a b c (λ s d v. RefusesSchema kinds s d f)) (λ f. Told a b c (λ s d v. RefusesSheet kinds s d v f)) (λ _. ⊥) W)
+    → IfErr r (λ e. MatchFault e R T (λ f. TellBoth a b (λ s d. RefusesSchema kinds s d f)) (λ f. Told a b c (λ s d v. RefusesSheet kinds s d v f)) (λ _. ⊥) W)
 told_err kinds (Ok o) a b c x y z R T W h k l p = tt
 told_err kinds (Err e) a b c x y z R T W h k l p = told_fault kinds e a b c x y z R T W h k l p
 

@@ -11,6 +11,8 @@ use Rattle.edi_rank.specs.declared.fault.RankFault.{RankFault}
 use Rattle.edi_rank.specs.declared.fault.RankFault.TheVariants as rank
 use Rattle.edi_compare.specs.declared.fault.Fault.{Fault}
 use Rattle.edi_compare.specs.declared.fault.Fault.TheVariants.{Memory, Line, Entry}
+use Rattle.edi_compare.specs.declared.fault.CompareFault.{CompareFault}
+use Rattle.edi_compare.specs.declared.fault.CompareFault.TheVariants as pair
 
 abbrev pub of_line : LineFault → Fault
 of_line (line.Memory e) = Memory e
@@ -31,3 +33,14 @@ of_topology (topology.Broken rule at) = Entry rule at
 abbrev pub of_rank : RankFault → Fault
 of_rank (rank.Memory e) = Memory e
 of_rank (rank.Broken rule at) = Entry rule at
+
+-- the fault of the first of two sheets, or of the second
+abbrev pub of_first : Fault → CompareFault
+of_first (Memory e) = pair.Memory e
+of_first (Line rule at) = pair.First (Line rule at)
+of_first (Entry rule at) = pair.First (Entry rule at)
+
+abbrev pub of_second : Fault → CompareFault
+of_second (Memory e) = pair.Memory e
+of_second (Line rule at) = pair.Second (Line rule at)
+of_second (Entry rule at) = pair.Second (Entry rule at)

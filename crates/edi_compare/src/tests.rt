@@ -4,8 +4,11 @@ use crate::face_cases::FACE_CASES;
 use crate::link_cases::LINK_CASES;
 use crate::node_cases::NODE_CASES;
 use crate::object_cases::OBJECT_CASES;
+use crate::pair_cases::EQUAL_LINKS;
 use crate::sheet_cases::SHEET_CASES;
-use crate::{Accepted, Fault, accept, canon};
+use crate::{
+    Accepted, CompareFault, Fault, Pairing, Verdict, accept, canon, check_pairing, compare,
+};
 use edi_line::{ScriptOut, Sequence};
 use edi_rank::{ArcLayer, NodeLayer};
 use edi_schema::{Kinds, Schema, SchemaFault};
@@ -335,5 +338,128 @@ fn numbers_the_nodes_and_the_arcs_of_a_sound_plan(rt: HostRuntime) -> Result<(),
     let arcs = numbers_of(alloc, &ArcLayer::of(alloc, sound)?)?;
     assert_eq!(rt; nodes.as_slice(), [1u32, 2].as_slice());
     assert_eq!(rt; arcs.as_slice(), [2u32, 1].as_slice());
+    Ok(())
+}
+
+// The sheet of the case with this number, from 0.
+fn sheet_at(cases: &str, number: usize) -> Result<&[u8], Fail> {
+    let case = cases.split("--\n").nth(number).ok_or("no such case")?;
+    let (_title, case) = case.split_once("\n").ok_or("a case without a title")?;
+    let (sheet, _answer) = case.split_once("->\n").ok_or("a case without an answer")?;
+    Ok(sheet.as_bytes())
+}
+
+fn pairing_of(alloc: Global, to: &[u32], turned: &[bool]) -> Result<Pairing, Fail> {
+    let mut places = Vec::new(alloc);
+    places.extend_from_slice(to)?;
+    let mut flags = Vec::new(alloc);
+    flags.extend_from_slice(turned)?;
+    Ok(Pairing {
+        to: Sequence::from_vec(places),
+        turned: Sequence::from_vec(flags),
+    })
+}
+
+// Whether a pairing carries the plan of the first sheet onto that of the second.
+fn carries(
+    alloc: Global,
+    first: &[u8],
+    second: &[u8],
+    to: &[u32],
+    turned: &[bool],
+) -> Result<bool, Fail> {
+    let schema = schema(alloc)?;
+    let pairing = pairing_of(alloc, to, turned)?;
+    match (
+        accept(alloc, &schema, first),
+        accept(alloc, &schema, second),
+    ) {
+        (Ok(one), Ok(other)) => Ok(check_pairing(alloc, &schema, &one, &other, &pairing)?),
+        _ => Err("a sheet is refused".into()),
+    }
+}
+
+// The pairing of the whole sheet with itself in reverse order, whose third record, an arc, is turned.
+const REVERSED: [u32; 13] = [12, 11, 10, 9, 8, 7, 6, 5, 4, 3, 2, 1, 0];
+
+const ARC_TURNED: [bool; 13] = [
+    false, false, true, false, false, false, false, false, false, false, false, false, false,
+];
+
+const NODE_AND_ARC_TURNED: [bool; 13] = [
+    true, false, true, false, false, false, false, false, false, false, false, false, false,
+];
+
+#[test]
+fn pairs_a_sheet_with_its_reverse(rt: HostRuntime) -> Result<(), Fail> {
+    let alloc = rt.alloc();
+    let schema = schema(alloc)?;
+    let first = sheet_at(SHEET_CASES, 0)?;
+    let second = sheet_at(SHEET_CASES, 1)?;
+    match compare(alloc, &schema, first, second) {
+        Ok(Verdict::Same(pairing)) => {
+            assert_eq!(rt; pairing.to.as_slice(), REVERSED.as_slice());
+            assert_eq!(rt; pairing.turned.as_slice(), ARC_TURNED.as_slice());
+            Ok(())
+        }
+        _ => Err("the plans are the same".into()),
+    }
+}
+
+#[test]
+fn checks_the_pairing_of_a_sheet_with_its_reverse(rt: HostRuntime) -> Result<(), Fail> {
+    let alloc = rt.alloc();
+    let first = sheet_at(SHEET_CASES, 0)?;
+    let second = sheet_at(SHEET_CASES, 1)?;
+    assert!(rt; carries(alloc, first, second, &REVERSED, &ARC_TURNED)?);
+    assert!(rt; !carries(alloc, first, second, &REVERSED, &NODE_AND_ARC_TURNED)?);
+    Ok(())
+}
+
+#[test]
+fn equal_links_may_be_exchanged(rt: HostRuntime) -> Result<(), Fail> {
+    let alloc = rt.alloc();
+    let sheet = EQUAL_LINKS.as_bytes();
+    let none: [bool; 7] = [false; 7];
+    let equal: [u32; 7] = [0, 1, 2, 3, 5, 4, 6];
+    let unequal: [u32; 7] = [0, 1, 2, 3, 4, 6, 5];
+    assert!(rt; carries(alloc, sheet, sheet, &equal, &none)?);
+    assert!(rt; !carries(alloc, sheet, sheet, &unequal, &none)?);
+    Ok(())
+}
+
+#[test]
+fn empty_pairings_carry_character_sets(rt: HostRuntime) -> Result<(), Fail> {
+    let alloc = rt.alloc();
+    let bare = b"BOMT 01:X\nEOMT 00:\n".as_slice();
+    let set = b"BOMT 01:X\nCSET 03:IRV\nEOMT 00:\n".as_slice();
+    assert!(rt; carries(alloc, bare, bare, &[], &[])?);
+    assert!(rt; !carries(alloc, bare, set, &[], &[])?);
+    Ok(())
+}
+
+#[test]
+fn tells_where_canonical_files_differ(rt: HostRuntime) -> Result<(), Fail> {
+    let alloc = rt.alloc();
+    let without_records = sheet_at(NODE_CASES, 0)?;
+    match compare(alloc, &schema(alloc)?, SHEET, without_records) {
+        Ok(Verdict::Different { line }) => assert_eq!(rt; line, 2),
+        _ => return Err("the plans are different".into()),
+    }
+    Ok(())
+}
+
+#[test]
+fn names_the_refused_sheet(rt: HostRuntime) -> Result<(), Fail> {
+    let alloc = rt.alloc();
+    let schema = schema(alloc)?;
+    match compare(alloc, &schema, b"", b"") {
+        Err(CompareFault::First(Fault::Line { rule, at })) => assert_eq!(rt; (rule, at), (106, 1)),
+        _ => return Err("the first sheet is refused".into()),
+    }
+    match compare(alloc, &schema, SHEET, b"") {
+        Err(CompareFault::Second(Fault::Line { rule, at })) => assert_eq!(rt; (rule, at), (106, 1)),
+        _ => return Err("the second sheet is refused".into()),
+    }
     Ok(())
 }

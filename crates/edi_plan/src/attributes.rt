@@ -7,16 +7,8 @@ ghost use Rattle.edi_plan.specs.Orders.{attribute_cmp};
 use crate::record::PlanAttribute;
 use itertools::Itertools;
 use std::alloc::{AllocError, Global};
-use std::cmp::Ordering;
 
-/// Attributes go by class, then character set, then value.
-pub fn compare_attributes(a: &PlanAttribute, b: &PlanAttribute) -> Ordering
-    ensures { result ≡ attribute_cmp a.now b.now }
-{
-    a.cmp(b)
-}
-
-/// The attributes in their order, lent.
+/// The attributes by class, then character set, then value, lent.
 pub fn sorted_attributes<'a>(
     alloc: Global,
     attributes: &'a [PlanAttribute],

@@ -22,12 +22,12 @@ pub(crate) struct Names<'a> {
     pub(crate) repeat: Option<usize>,
 }
 
-fn name_of(record: &Record) -> RecordName<'_>
-    ensures { named result ≡ own_name record.now }
+fn name_of(stated: &Record) -> RecordName<'_>
+    ensures { named result ≡ own_name stated.now }
 {
     RecordName {
-        kind: record.kind,
-        rid: record.rid.as_slice(),
+        kind: stated.kind,
+        rid: stated.rid.as_slice(),
     }
 }
 

@@ -24,7 +24,7 @@ use Rattle.edi_rank.proofs.Arranging.{From, came_from}
 use Rattle.edi_rank.proofs.TurnedRecords.{record_turned, turned_long}
 
 -- the records of a kind stand before those of the kinds after it
-below_rank : (l : Labelling) (a b : Kind) → kind_rank a < kind_rank b → offset l a + length (order_of l a) ≤ offset l b
+pub below_rank : (l : Labelling) (a b : Kind) → kind_rank a < kind_rank b → offset l a + length (order_of l a) ≤ offset l b
 below_rank l Pno Pno h = absurd (omega (arith, h))
 below_rank l Pno Par h = omega arith
 below_rank l Pno Pfe h = omega arith
@@ -68,7 +68,7 @@ module _ (s : Classes) (p : Drawing) (l : Labelling) (labels : AreLabels s p l) 
   pub kind_from : (j : ℕ) (w : From s p l labels j) → (record_at (arranged s l p) j).kind ≡ kind_at w.old
   kind_from j w = ap (λ (r : PlanRecord). r.kind) w.made
 
-  number_within : (k : ℕ) → IsPlace p k → number_of l k - 1 < length (order_of l (kind_at k))
+  pub number_within : (k : ℕ) → IsPlace p k → number_of l k - 1 < length (order_of l (kind_at k))
   number_within k h = slice_get_within (order_of l (kind_at k)) (number_of l k - 1) k (labels.to_count k h)
 
   pub by_type : (i k : ℕ) → i < k → IsPlace (arranged s l p) k → kind_rank (record_at (arranged s l p) i).kind ≤ kind_rank (record_at (arranged s l p) k).kind

@@ -15,7 +15,7 @@ use Rattle.edi_schema.specs.Roles.{is_plain}
 use Rattle.edi_schema.specs.Sorted.{sort_by}
 use Rattle.edi_plan.specs.Joined.{IsJoined}
 use Rattle.edi_plan.specs.Places.{places_of, member_of}
-use Rattle.edi_plan.specs.Plans.{Drawing, IsPlace, record_at, is_arc, is_link}
+use Rattle.edi_plan.specs.Plans.{Drawing, IsPlace, record_at, is_arc, is_link, others_of}
 use Rattle.edi_plan.specs.Whole.{IsWhole}
 use Rattle.edi_plan.specs.declared.record.PlanRecord.{PlanRecord}
 use Rattle.edi_plan.specs.declared.record.PlanEnd.{PlanEnd}
@@ -24,18 +24,22 @@ use Rattle.edi_plan.proofs.PlaceLemmas.{places_rise, place_there, place_of_kind}
 use Rattle.edi_topo.specs.NodeKeys.{node_key, node_keys, node_key_cmp, no_node, no_point, IsNodeRanking}
 use Rattle.edi_topo.specs.TopologyRules.{BreaksTopologyRule}
 use Rattle.edi_topo.proofs.NodeOrders.{node_key_total}
+use Rattle.edi_rank.specs.EndOrder.{OthersInOrder, positions_at}
 use Rattle.edi_rank.specs.InOrder.{Both}
 use Rattle.edi_rank.specs.Keys.{end_cmp, numbered, ends_key, link_key, link_key_cmp, object_key, object_key_cmp, face_key_cmp, least_side}
 use Rattle.edi_rank.specs.Labelling.{Labelling, AreLabels, NumbersEach, number_of, turned_at, turned_by, order_of}
-use Rattle.edi_rank.specs.Layers.{arc_keys, face_keys, no_side, ranked, IsArcRanking, IsFaceRanking, IsLinkRanking, LinkSource, turned_link_key, placed_link_key, placed_link_cmp}
+use Rattle.edi_topo.specs.Arcs.{forward_keys, IsForwardRanking}
+use Rattle.edi_topo.specs.Directions.{forward}
+use Rattle.edi_topo.proofs.FirstArcRepeat.{key_is}
+use Rattle.edi_rank.specs.Layers.{face_keys, no_side, ranked, IsFaceRanking, IsLinkRanking, LinkSource, turned_link_key, placed_link_key, placed_link_cmp}
 use Rattle.edi_rank.specs.Same.{class_after, directed}
 use Rattle.edi_rank.specs.Turned.{is_forward, is_backward, turned_record}
-use Rattle.edi_rank.proofs.ArcKeys.{arc_points, arc_key_is}
 use Rattle.edi_rank.proofs.ArrangedOrder.{no_ends}
 use Rattle.edi_rank.proofs.FaceKeys.{least_alike}
 use Rattle.edi_rank.proofs.FacesApart.{least_is}
-use Rattle.edi_rank.proofs.KeysKept.{two_hold}
+use Rattle.edi_rank.proofs.KeysKept.{all_weaker, two_hold}
 use Rattle.edi_rank.proofs.LinksApart.{placed_total}
+use Rattle.edi_rank.proofs.OthersSorted.{in_order_alike, rest_hold}
 use Rattle.edi_rank.proofs.TurnedRecords.{record_turned, turned_place}
 use Rattle.edi_rank.proofs.Orders.{face_key_total}
 use Rattle.edi_rank.proofs.RankedApart.{place_of_member}
@@ -107,8 +111,9 @@ module _ (s : Classes) (p : Drawing) (whole : IsWhole p) (joined : IsJoined p) (
     (kinds : (kind : Kind) → KindLabels p kind (ranks_of r kind) (order_of l kind))
     (numbers : (k : ℕ) → IsPlace p k → number_of l k ≡ get_or (ranks_of r (record_at p k).kind) (member_of p k) 0)
     (lower : (k : ℕ) → IsPlace p k → is_link (record_at p k).kind ≡ false → number_of l k ≡ get_or unlinked k 0)
-    (by_node : IsNodeRanking p r.nodes) (by_arc : IsArcRanking p r.arcs) (by_face : IsFaceRanking p r.arcs r.faces)
-    (by_link : IsLinkRanking (record { plan = p; classes = s; turned = l.turned; numbers = unlinked }) r.links) where
+    (by_node : IsNodeRanking p r.nodes) (by_arc : IsForwardRanking p r.arcs) (by_face : IsFaceRanking p r.arcs r.faces)
+    (by_link : IsLinkRanking (record { plan = p; classes = s; turned = l.turned; numbers = unlinked }) r.links)
+    (all_ordered : length l.others ≡ length p.list) (in_order : (k : ℕ) → IsPlace p k → OthersInOrder p (λ j. get_or unlinked j 0) l.others k) where
   abbrev made : Drawing
   made = turned_by s l p
 
@@ -181,10 +186,10 @@ module _ (s : Classes) (p : Drawing) (whole : IsWhole p) (joined : IsJoined p) (
 
   -- arcs
 
-  arc_stays : (k : ℕ) → IsPlace p k → (record_at p k).kind ≡ Par → get_or (arc_keys p) (member_of p k) [] ≡ (record_at made k).points
+  arc_stays : (k : ℕ) → IsPlace p k → (record_at p k).kind ≡ Par → get_or (forward_keys p) (member_of p k) [] ≡ (record_at made k).points
   arc_stays k h is =
       let m = member Par k h is in
-      arc_key_is p (member_of p k) m.0 ∙ (ap (arc_points p) m.1 ∙ (sym (ap (λ kind. directed (is_arc kind && not (is_forward (record_at p k).points)) (record_at p k).points) is)
+      key_is p (member_of p k) m.0 ∙ (ap (λ k. forward (record_at p k).points) m.1 ∙ (sym (ap (λ kind. directed (is_arc kind && not (is_forward (record_at p k).points)) (record_at p k).points) is)
       ∙ (sym (ap (λ t. directed t (record_at p k).points) (directions k h)) ∙ sym (ap (λ (r : PlanRecord). r.points) (after k h)))))
 
   arcs_rise : (i k : ℕ) → Both made (number_of l) Par i k → points_cmp (record_at made i).points (record_at made k).points ≡ Less
@@ -194,7 +199,7 @@ module _ (s : Classes) (p : Drawing) (whole : IsWhole p) (joined : IsJoined p) (
       let first = first_is i k Par both in
       let second = second_is i k Par both in
       ap₂ points_cmp (sym (arc_stays i h first)) (sym (arc_stays k g second))
-      ∙ keys_rise points_cmp points_total (λ m. get_or (arc_keys p) m []) (length (places_of Par p)) r.arcs by_arc (member_of p i) (member_of p k) (member Par i h first).0 (member Par k g second).0 (lesser i k Par both)
+      ∙ keys_rise points_cmp points_total (λ m. get_or (forward_keys p) m []) (length (places_of Par p)) r.arcs by_arc (member_of p i) (member_of p k) (member Par i h first).0 (member Par k g second).0 (lesser i k Par both)
 
   -- faces
 
@@ -228,9 +233,12 @@ module _ (s : Classes) (p : Drawing) (whole : IsWhole p) (joined : IsJoined p) (
   ends_stay [] all = refl
   ends_stay (e ∷ ends) all = ap₂ ◌∷◌ (end_stays e all.0) (ap (sort_by end_cmp) (map_alike Named (numbered p (λ k. get_or unlinked k 0)) (numbered made (number_of l)) end_stays ends all.1))
 
+  ends_named : (k : ℕ) → IsPlace p k → AllByRecursion Named (record_at p k).ends
+  ends_named k h = two_hold (λ e. IsPlace p e.target) (λ e. is_link (record_at p e.target).kind ≡ false) (record_at p k).ends (whole.there k h) (whole.no_link k h)
+
   link_stays : (k : ℕ) → IsPlace p k → turned_link_key source k ≡ link_key made (number_of l) (record_at made k)
   link_stays k h =
-      let ends = ends_stay (record_at p k).ends (two_hold (λ e. IsPlace p e.target) (λ e. is_link (record_at p e.target).kind ≡ false) (record_at p k).ends (whole.there k h) (whole.no_link k h)) in
+      let ends = ends_stay (record_at p k).ends (ends_named k h) in
       let own = turned_link_key source k in
       let same : own ≡ link_key made (number_of l) (turned_record (partner_of s) (turned_at l.turned) k (record_at p k)) = λ i. record { class = own.class; ends = ends i; attributes = own.attributes; extras = own.extras } in
       same ∙ sym (ap (link_key made (number_of l)) (after k h))
@@ -248,10 +256,18 @@ module _ (s : Classes) (p : Drawing) (whole : IsWhole p) (joined : IsJoined p) (
       (subst (λ j. placed_link_cmp (placed_link_key source i) (placed_link_key source j) ≡ Less) (member Lnk k g second).1
       (subst (λ j. placed_link_cmp (placed_link_key source j) (placed_link_key source (get_or (places_of Lnk p) (member_of p k) 0)) ≡ Less) (member Lnk i h first).1 less))
 
+  -- other ends
+
+  others_ordered : (k : ℕ) → IsPlace p k → OthersInOrder p (number_of l) l.others k
+  others_ordered k h = in_order_alike p (λ j. get_or unlinked j 0) (number_of l) (positions_at l.others k) (others_of (record_at p k))
+      (all_weaker Named (λ e. get_or unlinked e.target 0 ≡ number_of l e.target) (λ e named. sym (lower e.target named.0 named.1)) (others_of (record_at p k)) (rest_hold Named (record_at p k).ends (ends_named k h)))
+      (in_order k h)
+
   pub labels_made : ((i k : ℕ) → Both made (number_of l) Fea i k → object_key_cmp (object_key made (number_of l) i) (object_key made (number_of l) k) ≡ Less) → AreLabels s p l
   labels_made objects_rise = record {
     all_numbered = all_numbered;
     all_directed = all_directed;
+    all_ordered = all_ordered;
     turned = directions;
     from_one = λ k h.
         let of = kinds (record_at p k).kind in
@@ -261,6 +277,7 @@ module _ (s : Classes) (p : Drawing) (whole : IsWhole p) (joined : IsJoined p) (
     to_count = λ k h. ap (λ n. slice_get (order_of l (record_at p k).kind) (n - 1)) (numbers k h) ∙ order_at p (record_at p k).kind (ranks_of r (record_at p k).kind) (order_of l (record_at p k).kind) (kinds (record_at p k).kind) k h refl;
     orders = λ kind i k e. let at = found_at p kind (ranks_of r kind) (order_of l kind) (kinds kind) i k e in (at.0, at.1, number_is kind k at.0 at.1 ∙ at.2);
     rise = record { nodes = nodes_rise; arcs = arcs_rise; faces = faces_rise; objects = objects_rise; links = links_rise };
+    others = others_ordered;
   }
 
 -- a kind that is ranked

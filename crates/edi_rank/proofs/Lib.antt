@@ -15,12 +15,12 @@ pub mod LabelsMade
 pub mod LinksApart
 pub mod FacesApart
 pub mod Rankings
+pub mod OthersSorted
 pub mod FaceKeys
 pub mod KindNumbers
 pub mod LeastSides
 pub mod Sided
 pub mod KeyOrders
-pub mod ArcKeys
 pub mod Along
 pub mod TurnedRecords
 pub mod Arranging
@@ -31,3 +31,5 @@ pub mod ObjectKeys
 pub mod Renumbered
 pub mod ArrangedRises
 pub mod RankedApart
+pub mod Carried
+pub mod Offsets

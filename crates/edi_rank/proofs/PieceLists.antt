@@ -1,13 +1,17 @@
 -- The links that are pieces of each object, gathered in one pass.
-use Rattle.std.proofs.Common.{◌≡◌, ℕ, zero, suc, ◌+◌, ◌<◌, ◌≤◌, ◌⊎◌, inl, inr, Bool, true, false, cond, nat_eq, List, [], ◌∷◌, ◌++◌, map, filter_map, length, get_or, set, drop, Some, refl, sym, ap, ap₂, ◌∙◌, arith, add-one, eqb-true, eq-eqb, ne_eqb}
+use Rattle.std.proofs.Common.{◌≡◌, ℕ, zero, suc, ◌+◌, ◌<◌, ◌≤◌, ◌⊎◌, inl, inr, Bool, true, false, cond, nat_eq, List, [], ◌∷◌, ◌++◌, map, filter_map, length, get_or, set, drop, Some, refl, sym, ap, ap₂, ◌∙◌, subst, arith, add-one, eqb-true, eq-eqb, ne_eqb}
 use Rattle.std.specs.List.{AllByRecursion}
 use Rattle.std.proofs.lemmas.Bool.{cases_eq}
 use Rattle.std.proofs.lemmas.List.{get_or-set_same, get_or-set_other, append_assoc}
-use Rattle.edi_plan.specs.Plans.{Drawing, IsPlace, record_at, blank, is_object}
+use Rattle.edi_schema.proofs.SortedLists.{count_by-cons}
+use Rattle.edi_plan.proofs.Built.{both_true}
+use Rattle.edi_plan.specs.Plans.{Drawing, IsPlace, record_at, blank, is_object, others_of, rest_of}
 use Rattle.edi_plan.specs.declared.record.PlanRecord.{PlanRecord}
+use Rattle.edi_plan.specs.declared.record.PlanEnd.{PlanEnd}
 use Rattle.edi_rank.specs.Keys.{is_piece, marked, piece_by, link_key}
-use Rattle.edi_rank.specs.Pieces.{is_owner, pieces_from, piece_places}
+use Rattle.edi_rank.specs.Pieces.{is_owner, object_count, pieces_from, piece_places}
 use Rattle.edi_rank.specs.declared.keys.LinkKey.{LinkKey}
+use Rattle.edi_rank.proofs.KeysKept.{all_weaker}
 
 drop_here : {X : Type 0} (xs : List X) (n : ℕ) (d : X) → n < length xs → drop n xs ≡ get_or xs n d ∷ drop (suc n) xs
 drop_here [] n d h = absurd (omega (arith, h))
@@ -65,6 +69,32 @@ module _ (p : Drawing) (o : ℕ) where
 
   pub pieces_there : AllByRecursion (IsPlace p) (piece_places p o)
   pieces_there = there_from 0 p.list (omega arith)
+
+  -- they are those of pieces, of whose other ends one at most is an object
+  abbrev IsOwnPlace : ℕ → Type 0
+  IsOwnPlace k = IsPlace p k × (object_count p (others_of (record_at p k)) ≤ 1)
+
+  few_others : (r : PlanRecord) → is_piece p o r ≡ true → object_count p (others_of r) ≤ 1
+  few_others r h = go r.ends (eqb-true (object_count p r.ends) 1 (both_true _ _ (both_true _ _ h).0).1)
+    where
+      go : (ends : List PlanEnd) → object_count p ends ≡ 1 → object_count p (rest_of ends) ≤ 1
+      go [] e = omega arith
+      go (x ∷ ends) e = let more = count_by-cons (λ (x : PlanEnd). is_object (record_at p x.target).kind) x ends in omega (arith, more, e)
+
+  own_from : (place : ℕ) (rs : List PlanRecord) → place + length rs ≤ length p.list → ((i : ℕ) → i < length rs → record_at p (place + i) ≡ get_or rs i blank) → AllByRecursion IsOwnPlace (pieces_from p o place rs)
+  own_from place [] h same = tt
+  own_from place (r ∷ rs) h same =
+      go (is_piece p o r) refl (own_from (place + 1) rs (omega (arith, h)) (λ i g. let e : (place + 1) + i ≡ place + suc i = omega arith in ap (record_at p) e ∙ same (suc i) (omega (arith, g))))
+    where
+      first : record_at p place ≡ r
+      first = let e : place ≡ place + 0 = omega arith in ap (record_at p) e ∙ same 0 (omega arith)
+
+      go : (b : Bool) → is_piece p o r ≡ b → AllByRecursion IsOwnPlace (pieces_from p o (place + 1) rs) → AllByRecursion IsOwnPlace (cond b (place ∷ pieces_from p o (place + 1) rs) (pieces_from p o (place + 1) rs))
+      go true e more = ((omega (arith, h), subst (λ (q : PlanRecord). object_count p (others_of q) ≤ 1) (sym first) (few_others r e)), more)
+      go false e more = more
+
+  pub pieces_with : (P : ℕ → Type 0) → ((k : ℕ) → IsPlace p k → object_count p (others_of (record_at p k)) ≤ 1 → P k) → AllByRecursion P (piece_places p o)
+  pieces_with P each = all_weaker IsOwnPlace P (λ k h. each k h.0 h.1) (piece_places p o) (own_from 0 p.list (omega arith) (λ i h. let e : 0 + i ≡ i = omega arith in ap (record_at p) e))
 
   module _ (number : ℕ → ℕ) (own : number o ≡ 0) where
     unmarked : marked number o ≡ number

@@ -27,7 +27,7 @@ use Rattle.edi_rank.proofs.SameLaws.{map-map}
 
 -- orders
 
-then_alike : (o x y : Ordering) → (o ≡ Equal → x ≡ y) → ordering_then o x ≡ ordering_then o y
+pub then_alike : (o x y : Ordering) → (o ≡ Equal → x ≡ y) → ordering_then o x ≡ ordering_then o y
 then_alike Less x y h = refl
 then_alike Equal x y h = h refl
 then_alike Greater x y h = refl

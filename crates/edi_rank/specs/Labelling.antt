@@ -6,11 +6,13 @@ use Rattle.edi_schema.specs.Classes.{Classes, partner_of}
 use Rattle.edi_plan.specs.Plans.{Drawing, IsPlace, record_at}
 use Rattle.edi_rank.specs.Turned.{is_backward, turned_plan}
 use Rattle.edi_rank.specs.InOrder.{AllRise}
+use Rattle.edi_rank.specs.EndOrder.{OthersInOrder}
 
--- the number of each record, whether each is turned, and the places of each type by number
+-- the number of each record, whether each is turned, the positions of its other ends in their order, and the places of each type by number
 pub record Labelling : Type 0 where
   pub numbers : List ℕ
   pub turned : List Bool
+  pub others : List (List ℕ)
   pub nodes : List ℕ
   pub arcs : List ℕ
   pub faces : List ℕ
@@ -34,15 +36,18 @@ turned_at turned place = slice_index_or turned place false
 abbrev pub turned_by : Classes → Labelling → Drawing → Drawing
 turned_by s l p = turned_plan (partner_of s) (turned_at l.turned) p
 
--- The labels of a plan: the arcs that aren't forward are turned; the numbers of each type are 1 to their count, each once, and then the records rise.
+-- The labels of a plan: the arcs that aren't forward are turned; the numbers of each type are 1 to their count, each once, and then the records rise;
+-- and the other ends of each link are put in their order.
 pub record AreLabels (s : Classes) (p : Drawing) (l : Labelling) : Type 0 where
   pub all_numbered : length l.numbers ≡ length p.list
   pub all_directed : length l.turned ≡ length p.list
+  pub all_ordered : length l.others ≡ length p.list
   pub turned : (k : ℕ) → IsPlace p k → turned_at l.turned k ≡ is_backward p k
   pub from_one : (k : ℕ) → IsPlace p k → 1 ≤ number_of l k
   pub to_count : (k : ℕ) → IsPlace p k → slice_get (order_of l (record_at p k).kind) (number_of l k - 1) ≡ Some k
   pub orders : (kind : Kind) (i k : ℕ) → slice_get (order_of l kind) i ≡ Some k → IsPlace p k × ((record_at p k).kind ≡ kind) × (number_of l k ≡ i + 1)
   pub rise : AllRise (turned_by s l p) (number_of l)
+  pub others : (k : ℕ) → IsPlace p k → OthersInOrder p (number_of l) l.others k
 
 -- the numbers of members: from 1 to their count, no two equal
 pub record NumbersEach (numbers : List ℕ) : Type 0 where

@@ -2,10 +2,8 @@
 use Rattle.std.specs.Prelude.{ℕ, Bool, List, [], map, length, slice_index, slice_index_or, unwrap_or}
 use Rattle.std.specs.Ordering.{ordering_then, nat_cmp}
 use Rattle.std.specs.declared.cmp.Ordering.{Ordering}
-use Rattle.edi_record.specs.Orders.{points_cmp}
 use Rattle.edi_record.specs.declared.record.Kind.{Kind}
 use Rattle.edi_record.specs.declared.record.Kind.TheVariants.{Pno, Par, Pfe, Fea, Lnk}
-use Rattle.edi_record.specs.declared.record.Point.{Point}
 use Rattle.edi_schema.specs.Classes.{Classes, partner_of}
 use Rattle.edi_schema.specs.declared.role.Role.TheVariants.{Plain}
 use Rattle.edi_plan.specs.Places.{places_of, member_of}
@@ -39,19 +37,12 @@ no_side = record { arc = 0; side = Plain }
 abbrev pub no_object : ObjectKey
 no_object = record { class = 0; attributes = []; extras = []; pieces = [] }
 
-abbrev pub arc_keys : Drawing → List (List Point)
-arc_keys p = map (λ k. (record_at (forward_plan p) k).points) (places_of Par p)
-
 -- the least side of each face, where the arcs have these numbers
 abbrev pub face_keys : Drawing → List ℕ → List FaceKey
 face_keys p arcs = map (λ k. unwrap_or (least_side (forward_plan p) (ranked p [] arcs []) k) no_side) (places_of Pfe p)
 
 abbrev pub object_keys : Drawing → List ℕ → List ℕ → List ℕ → List ObjectKey
 object_keys p nodes arcs faces = map (object_key p (ranked p nodes arcs faces)) (places_of Fea p)
-
--- the numbers of the arcs by their keys, in file order
-abbrev pub IsArcRanking : Drawing → List ℕ → Type 0
-IsArcRanking p numbers = IsRanking points_cmp (λ m. slice_index_or (arc_keys p) m []) (length (places_of Par p)) numbers
 
 -- the numbers of the faces by their keys, where the arcs have these numbers
 abbrev pub IsFaceRanking : Drawing → List ℕ → List ℕ → Type 0

@@ -1,6 +1,7 @@
 pub mod Same
 pub mod Turned
 pub mod Keys
+pub mod EndOrder
 pub mod InOrder
 pub mod Alike
 pub mod RankRefusal

@@ -3,7 +3,7 @@
 ghost use Rattle.std.specs.Prelude.{◌≡◌, ℕ, [], length, slice_index_or, IfOk};
 ghost use Rattle.edi_record.specs.declared.record.Kind.TheVariants.{Par};
 ghost use Rattle.edi_plan.specs.Places.{places_of};
-ghost use Rattle.edi_rank.specs.Layers.{arc_keys};
+ghost use Rattle.edi_topo.specs.Arcs.{forward_keys};
 
 use edi_topo::{ForwardPoints, Layer, PlanArcs, Sound};
 use std::alloc::{AllocError, Global};
@@ -38,7 +38,7 @@ impl<'a> Layer for ArcLayer<'a> {
 
     ghost size = { λ l. length (places_of Par l) };
 
-    ghost key_of = { λ l m. slice_index_or (arc_keys l) m [] };
+    ghost key_of = { λ l m. slice_index_or (forward_keys l) m [] };
 
     fn len(&self) -> u32 {
         self.arcs.len()

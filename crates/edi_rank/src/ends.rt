@@ -1,15 +1,13 @@
 //! The ends of links by the numbers of what they name.
 
-ghost use Rattle.std.specs.Prelude.{◌≡◌, length, map, slice_index, IfOk};
-ghost use Rattle.std.specs.List.{AllByRecursion};
-ghost use Rattle.edi_plan.specs.Plans.{IsPlace};
-ghost use Rattle.edi_schema.specs.Sorted.{sort_by};
-ghost use Rattle.edi_rank.specs.Keys.{end_cmp, numbered};
+ghost use Rattle.std.specs.Prelude.{◌≡◌, ◌<◌, length, slice_index, slice_index_or};
+ghost use Rattle.edi_plan.specs.Plans.{IsPlace, record_at, others_of};
+ghost use Rattle.edi_rank.specs.EndOrder.{GivesEach, ends_at, no_end};
+ghost use Rattle.edi_rank.specs.Keys.{numbered};
 
 use crate::keys::NumberedEnd;
 use edi_line::Lent;
 use edi_plan::{Plan, PlanEnd};
-use std::alloc::{AllocError, Global};
 
 /// An end, with the number of what it names.
 pub fn numbered_end<'a>(plan: &Plan, numbers: &[u32], end: &'a PlanEnd) -> NumberedEnd<'a>
@@ -28,35 +26,26 @@ pub fn numbered_end<'a>(plan: &Plan, numbers: &[u32], end: &'a PlanEnd) -> Numbe
     }
 }
 
-fn all_numbered<'a>(
-    alloc: Global,
-    plan: &Plan,
-    numbers: &[u32],
-    ends: &'a [PlanEnd],
-) -> Result<Vec<NumberedEnd<'a>>, AllocError>
-    requires places { AllByRecursion (λ e. IsPlace plan.now e.target) ends.now }
-    requires numbers { length numbers.now ≡ length plan.now.list }
-    ensures { IfOk result (λ keys. keys.items ≡ map (numbered plan.now (slice_index numbers.now)) ends.now) }
+/// The end at an index, where the ends are taken by their positions, or as they stand if there are no positions.
+pub fn end_in_order<'a>(positions: &[usize], ends: &'a [PlanEnd], index: usize) -> &'a PlanEnd
+    requires each { GivesEach positions.now ends.now }
+    requires index { index < length ends.now }
+    ensures { result.now ≡ slice_index_or (ends_at positions.now ends.now) index no_end }
 {
-    let mut keys = Vec::with_capacity(alloc, ends.len())?;
-    for end in ends {
-        keys.push(numbered_end(plan, numbers, end))?;
+    match positions {
+        [] => &ends[index],
+        _ => &ends[positions[index]],
     }
-    Ok(keys)
 }
 
-/// The ends in their order, with the numbers of what they name.
-pub fn sorted_ends<'a>(
-    alloc: Global,
-    plan: &Plan,
-    numbers: &[u32],
-    ends: &'a [PlanEnd],
-) -> Result<Vec<NumberedEnd<'a>>, AllocError>
-    requires places { AllByRecursion (λ e. IsPlace plan.now e.target) ends.now }
-    requires numbers { length numbers.now ≡ length plan.now.list }
-    ensures { IfOk result (λ keys. keys.items ≡ sort_by end_cmp (map (numbered plan.now (slice_index numbers.now)) ends.now)) }
+/// The ends of a record but its origin.
+pub(crate) fn other_ends(plan: &Plan, place: u32) -> &[PlanEnd]
+    requires { IsPlace plan.now place }
+    ensures { result.now ≡ others_of (record_at plan.now place) }
 {
-    let mut keys = all_numbered(alloc, plan, numbers, ends)?;
-    keys.sort_unstable();
-    Ok(keys)
+    let ends = plan.ends(place);
+    match ends {
+        [_, others @ ..] => others,
+        [] => ends,
+    }
 }

@@ -1,17 +1,20 @@
-ghost use Rattle.std.specs.Prelude.{◌≡◌, ◌<◌, ◌-◌, ℕ, length, true, slice_index, slice_index_or, OnOk, IfOk, IfErr};
+ghost use Rattle.std.specs.Prelude.{◌≡◌, ◌≢◌, ◌<◌, ◌≤◌, ◌-◌, ℕ, length, true, slice_index, slice_index_or, OnOk, IfOk, IfErr};
 ghost use Rattle.edi_plan.specs.Agreeing.{Agrees};
-ghost use Rattle.edi_plan.specs.Places.{places_of};
-ghost use Rattle.edi_plan.specs.Plans.{IsPlace, record_at, is_object};
+ghost use Rattle.edi_plan.specs.Places.{places_of, member_of};
+ghost use Rattle.edi_plan.specs.Plans.{IsPlace, record_at, others_of, is_object};
 ghost use Rattle.edi_rank.specs.Alike.{BreaksObjectRule};
 ghost use Rattle.edi_rank.specs.Laws.{TellsApart};
-ghost use Rattle.edi_rank.specs.Pieces.{IsObjectRanking};
+ghost use Rattle.edi_rank.specs.EndOrder.{OthersInOrder};
+ghost use Rattle.edi_rank.specs.Pieces.{IsObjectRanking, object_count};
 ghost use Rattle.edi_rank.specs.RankRefusal.{IsRankRefusal};
 ghost use Rattle.edi_topo.specs.NodeKeys.{IsNodeRanking};
-ghost use Rattle.edi_record.specs.declared.record.Kind.TheVariants.{Pno, Par, Pfe};
-ghost use Rattle.edi_rank.specs.Layers.{IsArcRanking, IsFaceRanking, IsLinkRanking, ranked};
+ghost use Rattle.edi_record.specs.declared.record.Kind.TheVariants.{Pno, Par, Pfe, Fea};
+ghost use Rattle.edi_topo.specs.Arcs.{IsForwardRanking};
+ghost use Rattle.edi_rank.specs.Layers.{IsFaceRanking, IsLinkRanking, ranked};
 ghost use Rattle.edi_rank.specs.Labelling.{NumbersEach};
 ghost use Rattle.edi_line.specs.Refusal.{IsUnbroken};
 
+use crate::end_orders::{all_orders, lower_orders};
 use crate::face_layer::FaceLayer;
 use crate::fault::RankFault;
 use crate::forward::turned_arcs;
@@ -26,11 +29,12 @@ use edi_topo::{Ranks, Sound, TieFault, ranks};
 use std::alloc::{AllocError, Global};
 use std::marker::Model;
 
-/// The numbers of a plan's records, and which of its arcs are turned.
+/// The numbers of a plan's records, which of its arcs are turned, and the order of the other ends of its links.
 #[derive(Drop)]
 pub struct Labels {
     numbers: Sequence<u32>,
     turned: Sequence<bool>,
+    others: Sequence<Sequence<usize>>,
     nodes: Sequence<u32>,
     arcs: Sequence<u32>,
     faces: Sequence<u32>,
@@ -43,10 +47,11 @@ impl Model for Labels {
 
     ghost Value = { Labelling };
 
-    ghost view = { λ l. record { numbers = l.numbers; turned = l.turned; nodes = l.nodes; arcs = l.arcs; faces = l.faces; objects = l.objects; links = l.links } };
+    ghost view = { λ l. record { numbers = l.numbers; turned = l.turned; others = l.others; nodes = l.nodes; arcs = l.arcs; faces = l.faces; objects = l.objects; links = l.links } };
 }
 
 impl Labels {
+    ghost use Rattle.edi_rank.specs.EndOrder.{positions_at};
     ghost use Rattle.edi_rank.specs.Labelling.{AreLabels, order_of, number_of, turned_at};
     ghost use Rattle.edi_plan.specs.Agreeing.{Agrees};
 
@@ -62,17 +67,17 @@ impl Labels {
         let turned = turned_arcs(alloc, plan)?;
         let lower = lower_ranks(alloc, sound)?;
         let unnamed = lower_numbers(alloc, plan, &lower)?;
-        let objects = object_ranks(alloc, sound, &unnamed)?;
-        let unlinked = number_kind(plan, Kind::Fea, &objects, unnamed);
-        let links = link_ranks(alloc, schema, plan, &turned, &unlinked)?;
-        let numbers = number_kind(plan, Kind::Lnk, &links, unlinked);
+        let named = name_objects(alloc, sound, unnamed)?;
+        let links = link_ranks(alloc, schema, plan, &turned, &named.numbers, &named.others)?;
+        let numbers = number_kind(plan, Kind::Lnk, &links, named.numbers);
         Ok(Labels {
             numbers: Sequence::from_vec(numbers),
             turned: Sequence::from_vec(turned),
+            others: Sequence::from_vec(named.others),
             nodes: kind_by_number(alloc, plan, Kind::Pno, lower.nodes)?,
             arcs: kind_by_number(alloc, plan, Kind::Par, lower.arcs)?,
             faces: kind_by_number(alloc, plan, Kind::Pfe, &lower.faces)?,
-            objects: kind_by_number(alloc, plan, Kind::Fea, &objects)?,
+            objects: kind_by_number(alloc, plan, Kind::Fea, &named.objects)?,
             links: kind_by_number(alloc, plan, Kind::Lnk, &links)?,
         })
     }
@@ -92,12 +97,28 @@ impl Labels {
         self.numbers.as_slice()
     }
 
+    /// Whether each record is an arc that is turned, by place.
+    pub fn turned_arcs(&self) -> &[bool]
+        ensures { result.now ≡ self.now.turned }
+    {
+        self.turned.as_slice()
+    }
+
     /// Whether a record is an arc that is turned.
     pub fn turned(&self, place: u32) -> bool
         requires { place < length self.now.turned }
         ensures { result ≡ turned_at self.now.turned place }
     {
-        self.turned.as_slice()[place as usize]
+        self.turned_arcs()[place as usize]
+    }
+
+    /// The positions of the ends of a record behind its origin, in their order. Where there is none, the
+    /// ends go as they stand.
+    pub fn others(&self, place: u32) -> &[usize]
+        requires { place < length self.now.others }
+        ensures { result.now ≡ positions_at self.now.others place }
+    {
+        self.others.as_slice()[place as usize].as_slice()
     }
 
     /// The places of the records of a type, by number.
@@ -114,16 +135,9 @@ impl Labels {
     }
 }
 
-/// The numbers of the arcs, in file order, which are those of the keys of the plan that is turned forward.
-fn arc_ranks(sound: &Sound) -> &Ranks
-    ensures { IsArcRanking sound.now result.now }
-{
-    sound.arc_ranks()
-}
-
 /// The numbers of the faces, in file order.
 fn face_ranks(alloc: Global, sound: &Sound, arcs: &Ranks) -> Result<Ranks, AllocError>
-    requires { IsArcRanking sound.now arcs.now }
+    requires { IsForwardRanking sound.now arcs.now }
     ensures { IfOk result (IsFaceRanking sound.now arcs.now) }
 {
     let _plan = sound.plan();
@@ -136,16 +150,23 @@ fn face_ranks(alloc: Global, sound: &Sound, arcs: &Ranks) -> Result<Ranks, Alloc
 }
 
 /// The numbers of the objects, in file order, where the nodes, arcs and faces have these numbers, by place, and objects 0.
-fn object_ranks(alloc: Global, sound: &Sound, numbers: &[u32]) -> Result<Ranks, RankFault>
+fn object_ranks(
+    alloc: Global,
+    sound: &Sound,
+    numbers: &[u32],
+    orders: &[Sequence<usize>],
+) -> Result<Ranks, RankFault>
     requires numbers { length numbers.now ≡ length sound.now.list }
     requires objects { (k : ℕ) → IsPlace sound.now k → is_object (record_at sound.now k).kind ≡ true → slice_index_or numbers.now k 0 ≡ 0 }
     requires apart { TellsApart sound.now (slice_index numbers.now) }
+    requires ordered { length orders.now ≡ length sound.now.list }
+    requires orders { (k : ℕ) → IsPlace sound.now k → object_count sound.now (others_of (record_at sound.now k)) ≤ 1 → OthersInOrder sound.now (slice_index numbers.now) orders.now k }
     ensures ranks { IfOk result (IsObjectRanking (record { plan = sound.now; numbers = numbers.now })) }
     ensures distinct { OnOk result (IsUnbroken (BreaksObjectRule sound.now)) }
     ensures least { IfErr result (IsRankRefusal (BreaksObjectRule sound.now)) }
 {
     let _plan = sound.plan();
-    let layer = ObjectLayer::of(alloc, sound, numbers)?;
+    let layer = ObjectLayer::of(alloc, sound, numbers, orders)?;
     match ranks(alloc, &layer) {
         Ok(ranks) => Ok(ranks),
         Err(TieFault::Memory(error)) => Err(RankFault::Memory(error)),
@@ -156,6 +177,41 @@ fn object_ranks(alloc: Global, sound: &Sound, numbers: &[u32]) -> Result<Ranks, 
     }
 }
 
+/// The numbers of the objects, in file order; those of all records but the links, by place; and the
+/// positions of the other ends of each record in their order, by place.
+#[derive(Drop)]
+struct Named {
+    objects: Ranks,
+    numbers: Vec<u32>,
+    others: Vec<Sequence<usize>>,
+}
+
+/// Numbers the objects and puts other ends in order, where the nodes, arcs and faces have these numbers, by place, and objects 0.
+fn name_objects(alloc: Global, sound: &Sound, numbers: Vec<u32>) -> Result<Named, RankFault>
+    requires numbers { length numbers.items ≡ length sound.now.list }
+    requires objects { (k : ℕ) → IsPlace sound.now k → is_object (record_at sound.now k).kind ≡ true → slice_index_or numbers.items k 0 ≡ 0 }
+    requires apart { TellsApart sound.now (slice_index numbers.items) }
+    ensures ranks { IfOk result (λ named. IsObjectRanking (record { plan = sound.now; numbers = numbers.items }) named.objects) }
+    ensures length { IfOk result (λ named. length named.numbers.items ≡ length sound.now.list) }
+    ensures each { IfOk result (λ named. (k : ℕ) → IsPlace sound.now k → (record_at sound.now k).kind ≡ Fea → slice_index named.numbers.items k ≡ slice_index named.objects (member_of sound.now k)) }
+    ensures rest { IfOk result (λ named. (k : ℕ) → IsPlace sound.now k → (record_at sound.now k).kind ≢ Fea → slice_index named.numbers.items k ≡ slice_index numbers.items k) }
+    ensures ordered { IfOk result (λ named. length named.others.items ≡ length sound.now.list) }
+    ensures others { IfOk result (λ named. (k : ℕ) → IsPlace sound.now k → OthersInOrder sound.now (slice_index named.numbers.items) named.others.items k) }
+    ensures distinct { OnOk result (IsUnbroken (BreaksObjectRule sound.now)) }
+    ensures least { IfErr result (IsRankRefusal (BreaksObjectRule sound.now)) }
+{
+    let plan = sound.plan();
+    let lower = lower_orders(alloc, plan, &numbers)?;
+    let objects = object_ranks(alloc, sound, &numbers, &lower)?;
+    let numbers = number_kind(plan, Kind::Fea, &objects, numbers);
+    let others = all_orders(alloc, plan, &numbers, lower)?;
+    Ok(Named {
+        objects,
+        numbers,
+        others,
+    })
+}
+
 /// The numbers of the links, in file order. No two are equal, since a link's place is in its key.
 fn link_ranks(
     alloc: Global,
@@ -163,13 +219,16 @@ fn link_ranks(
     plan: &Plan,
     turned: &[bool],
     numbers: &[u32],
+    orders: &[Sequence<usize>],
 ) -> Result<Ranks, AllocError>
     requires agrees { Agrees schema.now plan.now }
     requires turned { length turned.now ≡ length plan.now.list }
     requires numbers { length numbers.now ≡ length plan.now.list }
+    requires ordered { length orders.now ≡ length plan.now.list }
+    requires orders { (k : ℕ) → IsPlace plan.now k → OthersInOrder plan.now (slice_index numbers.now) orders.now k }
     ensures { IfOk result (IsLinkRanking (record { plan = plan.now; classes = schema.now; turned = turned.now; numbers = numbers.now })) }
 {
-    let layer = LinkLayer::of(alloc, schema, plan, turned, numbers)?;
+    let layer = LinkLayer::of(alloc, schema, plan, turned, numbers, orders)?;
     match ranks(alloc, &layer) {
         Ok(ranks) => Ok(ranks),
         Err(TieFault::Memory(error)) => Err(error),
@@ -187,11 +246,11 @@ struct LowerRanks<'a> {
 
 fn lower_ranks<'a>(alloc: Global, sound: &'a Sound) -> Result<LowerRanks<'a>, AllocError>
     ensures nodes { IfOk result (λ lower. IsNodeRanking sound.now lower.nodes.now) }
-    ensures arcs { IfOk result (λ lower. IsArcRanking sound.now lower.arcs.now) }
+    ensures arcs { IfOk result (λ lower. IsForwardRanking sound.now lower.arcs.now) }
     ensures faces { IfOk result (λ lower. IsFaceRanking sound.now lower.arcs.now lower.faces) }
 {
     let nodes = sound.node_ranks();
-    let arcs = arc_ranks(sound);
+    let arcs = sound.arc_ranks();
     let faces = face_ranks(alloc, sound, arcs)?;
     Ok(LowerRanks { nodes, arcs, faces })
 }

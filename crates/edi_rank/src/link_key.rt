@@ -1,37 +1,61 @@
 //! The keys of links.
 
-ghost use Rattle.std.specs.Prelude.{◌≡◌, ◌<◌, length, slice_index, IfOk};
+ghost use Rattle.std.specs.Prelude.{◌≡◌, ◌<◌, ◌++◌, length, map, slice_index, IfOk, OnOk};
 ghost use Rattle.std.specs.List.{AllByRecursion, list_any};
-ghost use Rattle.edi_plan.specs.Plans.{IsPlace, record_at};
+ghost use Rattle.edi_plan.specs.Plans.{IsPlace, record_at, others_of, rest_of};
 ghost use Rattle.edi_schema.specs.Classes.{partner_of};
 ghost use Rattle.edi_schema.specs.Sorted.{sort_by};
 ghost use Rattle.edi_plan.specs.Orders.{attribute_cmp};
-ghost use Rattle.edi_rank.specs.Keys.{ends_key};
+ghost use Rattle.edi_rank.specs.EndOrder.{GivesEach, PutsInOrder, ends_at};
+ghost use Rattle.edi_rank.specs.Keys.{ends_key, numbered};
 ghost use Rattle.edi_rank.specs.Labelling.{turned_at};
 ghost use Rattle.edi_rank.specs.Same.{class_after};
 
-use crate::ends::{numbered_end, sorted_ends};
+use crate::ends::{end_in_order, numbered_end};
 use crate::keys::{LinkKey, NumberedEnd};
 use edi_line::{Lent, LentEach, Sequence};
 use edi_plan::{Plan, PlanEnd, sorted_attributes};
 use edi_schema::{ClassRef, Role, Schema};
 use std::alloc::{AllocError, Global};
 
+/// Appends the other ends of a link in their order.
+fn push_others<'a>(
+    keys: &mut Vec<NumberedEnd<'a>>,
+    plan: &Plan,
+    numbers: &[u32],
+    order: &[usize],
+    others: &'a [PlanEnd],
+) -> Result<(), AllocError>
+    requires places { AllByRecursion (λ e. IsPlace plan.now e.target) others.now }
+    requires numbers { length numbers.now ≡ length plan.now.list }
+    requires order { GivesEach order.now others.now }
+    ensures { OnOk result (keys.new.items ≡ keys.old.items ++ map (numbered plan.now (slice_index numbers.now)) (ends_at order.now others.now)) }
+{
+    for index in 0..others.len() {
+        let end = end_in_order(order, others, index);
+        keys.push(numbered_end(plan, numbers, end))?;
+    }
+    Ok(())
+}
+
 /// The origin, and then the other ends in their order.
 fn numbered_ends<'a>(
     alloc: Global,
     plan: &Plan,
     numbers: &[u32],
+    order: &[usize],
     ends: &'a [PlanEnd],
 ) -> Result<Vec<NumberedEnd<'a>>, AllocError>
     requires places { AllByRecursion (λ e. IsPlace plan.now e.target) ends.now }
     requires numbers { length numbers.now ≡ length plan.now.list }
+    requires order { PutsInOrder plan.now (slice_index numbers.now) order.now (rest_of ends.now) }
     ensures { IfOk result (λ keys. keys.items ≡ ends_key plan.now (slice_index numbers.now) ends.now) }
 {
     match ends {
         [origin, others @ ..] => {
-            let mut keys = sorted_ends(alloc, plan, numbers, others)?;
-            keys.insert(0, numbered_end(plan, numbers, origin))?;
+            let mut keys = Vec::with_capacity(alloc, ends.len())?;
+            keys.push(numbered_end(plan, numbers, origin))?;
+            push_others(&mut keys, plan, numbers, order, others)?;
             Ok(keys)
         }
         [] => Ok(Vec::new(alloc)),
@@ -51,8 +75,9 @@ fn ends_at_turned(turned: &[bool], ends: &[PlanEnd]) -> bool
     false
 }
 
-/// The class of a record after the reversals.
-pub(crate) fn class_turned(schema: &Schema, plan: &Plan, turned: &[bool], place: u32) -> ClassRef
+/// The class of a record after the reversals: that of a link of the four kinds is exchanged with its
+/// partner where an end is an arc that is turned. `turned` says of each record whether it is one, by place.
+pub fn class_turned(schema: &Schema, plan: &Plan, turned: &[bool], place: u32) -> ClassRef
     requires place { IsPlace plan.now place }
     requires class { (record_at plan.now place).class < length schema.now }
     requires turned { length turned.now ≡ length plan.now.list }
@@ -72,20 +97,22 @@ pub(crate) fn class_turned(schema: &Schema, plan: &Plan, turned: &[bool], place:
     }
 }
 
-/// The key of a link with this class.
+/// The key of a link with this class, by the positions of its other ends in their order.
 pub(crate) fn link_key_at<'a>(
     alloc: Global,
     plan: &'a Plan,
     numbers: &[u32],
+    order: &[usize],
     class: ClassRef,
     place: u32,
 ) -> Result<LinkKey<'a>, AllocError>
     requires place { IsPlace plan.now place }
     requires numbers { length numbers.now ≡ length plan.now.list }
+    requires order { PutsInOrder plan.now (slice_index numbers.now) order.now (others_of (record_at plan.now place)) }
     ensures { IfOk result (λ key. key ≡ record { class = class; ends = ends_key plan.now (slice_index numbers.now) (record_at plan.now place).ends; attributes = sort_by attribute_cmp (record_at plan.now place).attributes; extras = (record_at plan.now place).extras }) }
 {
     plan.keeps();
-    let ends = numbered_ends(alloc, plan, numbers, plan.ends(place))?;
+    let ends = numbered_ends(alloc, plan, numbers, order, plan.ends(place))?;
     let attributes = sorted_attributes(alloc, plan.attributes(place))?;
     Ok(LinkKey {
         class,

@@ -4,10 +4,13 @@ ghost use Rattle.std.specs.Prelude.{◌≡◌, ◌<◌, ℕ, length, slice_index
 ghost use Rattle.edi_record.specs.declared.record.Kind.TheVariants.{Lnk};
 ghost use Rattle.edi_plan.specs.Agreeing.{Agrees};
 ghost use Rattle.edi_plan.specs.Places.{places_of};
+ghost use Rattle.edi_plan.specs.Plans.{IsPlace};
+ghost use Rattle.edi_rank.specs.EndOrder.{OthersInOrder};
 ghost use Rattle.edi_rank.specs.Layers.{placed_link_key};
 
 use crate::keys::LinkKey;
 use crate::link_key::{class_turned, link_key_at};
+use edi_line::Sequence;
 use edi_plan::Plan;
 use edi_record::Kind;
 use edi_schema::Schema;
@@ -22,35 +25,43 @@ pub(crate) struct LinkLayer<'a> {
     schema: &'a Schema,
     turned: &'a [bool],
     numbers: &'a [u32],
+    orders: &'a [Sequence<usize>],
     places: Vec<u32>,
 }
 
 impl<'a> Model for LinkLayer<'a> {
-    ghost use Rattle.std.specs.Prelude.{◌≡◌, length};
+    ghost use Rattle.std.specs.Prelude.{◌≡◌, ℕ, length, slice_index};
     ghost use Rattle.edi_record.specs.declared.record.Kind.TheVariants.{Lnk};
     ghost use Rattle.edi_plan.specs.Agreeing.{Agrees};
     ghost use Rattle.edi_plan.specs.Places.{places_of};
+    ghost use Rattle.edi_plan.specs.Plans.{IsPlace};
+    ghost use Rattle.edi_rank.specs.EndOrder.{OthersInOrder};
     ghost use Rattle.edi_rank.specs.Layers.{LinkSource};
 
     ghost Value = { LinkSource };
 
     ghost view = { λ l. record { plan = l.plan.now; classes = l.schema.now; turned = l.turned.now; numbers = l.numbers.now } };
 
-    ghost invariant = { λ l. (l.places.items ≡ places_of Lnk l.plan.now) × Agrees l.schema.now l.plan.now × (length l.turned.now ≡ length l.plan.now.list) × (length l.numbers.now ≡ length l.plan.now.list) };
+    ghost invariant = { λ l. (l.places.items ≡ places_of Lnk l.plan.now) × Agrees l.schema.now l.plan.now × (length l.turned.now ≡ length l.plan.now.list) × (length l.numbers.now ≡ length l.plan.now.list)
+        × (length l.orders.now ≡ length l.plan.now.list) × ((k : ℕ) → IsPlace l.plan.now k → OthersInOrder l.plan.now (slice_index l.numbers.now) l.orders.now k) };
 }
 
 impl<'a> LinkLayer<'a> {
-    /// The links of a plan, with the records that are turned and the numbers of the other records, by place.
+    /// The links of a plan, with the records that are turned, the numbers of the other records, and the
+    /// positions of the other ends of each in their order, by place.
     pub(crate) fn of(
         alloc: Global,
         schema: &'a Schema,
         plan: &'a Plan,
         turned: &'a [bool],
         numbers: &'a [u32],
+        orders: &'a [Sequence<usize>],
     ) -> Result<LinkLayer<'a>, AllocError>
         requires agrees { Agrees schema.now plan.now }
         requires turned { length turned.now ≡ length plan.now.list }
         requires numbers { length numbers.now ≡ length plan.now.list }
+        requires ordered { length orders.now ≡ length plan.now.list }
+        requires orders { (k : ℕ) → IsPlace plan.now k → OthersInOrder plan.now (slice_index numbers.now) orders.now k }
         ensures { IfOk result (λ layer. layer ≡ record { plan = plan.now; classes = schema.now; turned = turned.now; numbers = numbers.now }) }
     {
         let places = plan.places(alloc, Kind::Lnk)?;
@@ -59,6 +70,7 @@ impl<'a> LinkLayer<'a> {
             schema,
             turned,
             numbers,
+            orders,
             places,
         })
     }
@@ -87,7 +99,8 @@ impl<'a> Layer for LinkLayer<'a> {
     fn key(&self, alloc: Global, member: u32) -> Result<(LinkKey<'a>, u32), AllocError> {
         let place = self.place(member);
         let class = class_turned(self.schema, self.plan, self.turned, place);
-        let key = link_key_at(alloc, self.plan, self.numbers, class, place)?;
+        let order = self.orders[place as usize].as_slice();
+        let key = link_key_at(alloc, self.plan, self.numbers, order, class, place)?;
         Ok((key, place))
     }
 }

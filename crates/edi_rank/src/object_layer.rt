@@ -1,11 +1,12 @@
 //! The objects by their keys.
 
-ghost use Rattle.std.specs.Prelude.{◌≡◌, ◌≢◌, ◌<◌, ℕ, [], true, length, map, slice_index, slice_index_or, All, IfOk, MatchOption, ⊤, ◌==◌};
+ghost use Rattle.std.specs.Prelude.{◌≡◌, ◌≢◌, ◌<◌, ◌≤◌, ℕ, [], true, length, map, slice_index, slice_index_or, All, IfOk, MatchOption, ⊤, ◌==◌};
 ghost use Rattle.std.specs.List.{AllByRecursion, list_any};
 ghost use Rattle.edi_record.specs.declared.record.Kind.TheVariants.{Fea};
 ghost use Rattle.edi_plan.specs.Places.{places_of};
-ghost use Rattle.edi_plan.specs.Plans.{IsPlace, record_at, is_object as is_object_kind};
+ghost use Rattle.edi_plan.specs.Plans.{IsPlace, record_at, others_of, is_object as is_object_kind};
 ghost use Rattle.edi_schema.specs.Sorted.{sort_by};
+ghost use Rattle.edi_rank.specs.EndOrder.{OthersInOrder};
 ghost use Rattle.edi_rank.specs.Keys.{is_piece, link_key, link_key_cmp};
 ghost use Rattle.edi_rank.specs.Pieces.{is_owner, object_count, object_key_at, piece_places};
 
@@ -23,16 +24,18 @@ use std::marker::Model;
 pub struct ObjectLayer<'a> {
     plan: &'a Plan,
     numbers: &'a [u32],
+    orders: &'a [Sequence<usize>],
     places: Vec<u32>,
     links: Vec<Vec<u32>>,
 }
 
 impl<'a> Model for ObjectLayer<'a> {
-    ghost use Rattle.std.specs.Prelude.{◌≡◌, ℕ, [], true, map, length, slice_index_or};
+    ghost use Rattle.std.specs.Prelude.{◌≡◌, ◌≤◌, ℕ, [], true, map, length, slice_index, slice_index_or};
     ghost use Rattle.edi_record.specs.declared.record.Kind.TheVariants.{Fea};
     ghost use Rattle.edi_plan.specs.Places.{places_of};
-    ghost use Rattle.edi_plan.specs.Plans.{IsPlace, record_at, is_object};
-    ghost use Rattle.edi_rank.specs.Pieces.{ObjectSource, piece_places};
+    ghost use Rattle.edi_plan.specs.Plans.{IsPlace, record_at, others_of, is_object};
+    ghost use Rattle.edi_rank.specs.EndOrder.{OthersInOrder};
+    ghost use Rattle.edi_rank.specs.Pieces.{ObjectSource, object_count, piece_places};
 
     ghost Value = { ObjectSource };
 
@@ -40,18 +43,24 @@ impl<'a> Model for ObjectLayer<'a> {
 
     ghost invariant = { λ l. (l.places.items ≡ places_of Fea l.plan.now) × (length l.numbers.now ≡ length l.plan.now.list) × (length l.links.items ≡ length l.plan.now.list)
         × ((k : ℕ) → IsPlace l.plan.now k → is_object (record_at l.plan.now k).kind ≡ true → slice_index_or l.numbers.now k 0 ≡ 0)
-        × ((k : ℕ) → IsPlace l.plan.now k → is_object (record_at l.plan.now k).kind ≡ true → slice_index_or (map (λ v. v.items) l.links.items) k [] ≡ piece_places l.plan.now k) };
+        × ((k : ℕ) → IsPlace l.plan.now k → is_object (record_at l.plan.now k).kind ≡ true → slice_index_or (map (λ v. v.items) l.links.items) k [] ≡ piece_places l.plan.now k)
+        × (length l.orders.now ≡ length l.plan.now.list)
+        × ((k : ℕ) → IsPlace l.plan.now k → object_count l.plan.now (others_of (record_at l.plan.now k)) ≤ 1 → OthersInOrder l.plan.now (slice_index l.numbers.now) l.orders.now k) };
 }
 
 impl<'a> ObjectLayer<'a> {
-    /// The objects of a plan, where its nodes, arcs and faces have these numbers, by place, and its objects have 0.
+    /// The objects of a plan, where its nodes, arcs and faces have these numbers, by place, and its objects have 0,
+    /// with the positions of the other ends of each record in their order, where at most one is an object.
     pub fn of(
         alloc: Global,
         sound: &'a Sound,
         numbers: &'a [u32],
+        orders: &'a [Sequence<usize>],
     ) -> Result<ObjectLayer<'a>, AllocError>
         requires numbers { length numbers.now ≡ length sound.now.list }
         requires objects { (k : ℕ) → IsPlace sound.now k → is_object_kind (record_at sound.now k).kind ≡ true → slice_index_or numbers.now k 0 ≡ 0 }
+        requires ordered { length orders.now ≡ length sound.now.list }
+        requires orders { (k : ℕ) → IsPlace sound.now k → object_count sound.now (others_of (record_at sound.now k)) ≤ 1 → OthersInOrder sound.now (slice_index numbers.now) orders.now k }
         ensures { IfOk result (λ layer. layer ≡ record { plan = sound.now; numbers = numbers.now }) }
     {
         let plan = sound.plan();
@@ -60,6 +69,7 @@ impl<'a> ObjectLayer<'a> {
         Ok(ObjectLayer {
             plan,
             numbers,
+            orders,
             places,
             links,
         })
@@ -90,7 +100,8 @@ impl<'a> Layer for ObjectLayer<'a> {
         let place = self.place(member);
         let attributes = sorted_attributes(alloc, self.plan.attributes(place))?;
         let links: &[Vec<u32>] = &self.links;
-        let pieces = sorted_pieces(alloc, self.plan, self.numbers, &links[place as usize])?;
+        let own: &[u32] = &links[place as usize];
+        let pieces = sorted_pieces(alloc, self.plan, self.numbers, self.orders, own)?;
         Ok(ObjectKey {
             class: self.plan.scp(place),
             attributes: LentEach::from_vec(attributes),
@@ -100,7 +111,7 @@ impl<'a> Layer for ObjectLayer<'a> {
     }
 }
 
-fn is_object(plan: &Plan, place: u32) -> bool
+pub(crate) fn is_object(plan: &Plan, place: u32) -> bool
     requires { IsPlace plan.now place }
     ensures { result ≡ is_object_kind (record_at plan.now place).kind }
 {
@@ -170,15 +181,19 @@ fn piece_keys<'a>(
     alloc: Global,
     plan: &'a Plan,
     numbers: &[u32],
+    orders: &[Sequence<usize>],
     links: &[u32],
 ) -> Result<Vec<LinkKey<'a>>, AllocError>
     requires links { AllByRecursion (IsPlace plan.now) links.now }
     requires numbers { length numbers.now ≡ length plan.now.list }
+    requires ordered { length orders.now ≡ length plan.now.list }
+    requires orders { AllByRecursion (OthersInOrder plan.now (slice_index numbers.now) orders.now) links.now }
     ensures { IfOk result (λ keys. keys.items ≡ map (λ k. link_key plan.now (slice_index numbers.now) (record_at plan.now k)) links.now) }
 {
     let mut keys = Vec::with_capacity(alloc, links.len())?;
     for link in links {
-        keys.push(link_key_at(alloc, plan, numbers, plan.scp(*link), *link)?)?;
+        let order = orders[*link as usize].as_slice();
+        keys.push(link_key_at(alloc, plan, numbers, order, plan.scp(*link), *link)?)?;
     }
     Ok(keys)
 }
@@ -188,13 +203,16 @@ fn sorted_pieces<'a>(
     alloc: Global,
     plan: &'a Plan,
     numbers: &[u32],
+    orders: &[Sequence<usize>],
     links: &[u32],
 ) -> Result<Vec<LinkKey<'a>>, AllocError>
     requires links { AllByRecursion (IsPlace plan.now) links.now }
     requires numbers { length numbers.now ≡ length plan.now.list }
+    requires ordered { length orders.now ≡ length plan.now.list }
+    requires orders { AllByRecursion (OthersInOrder plan.now (slice_index numbers.now) orders.now) links.now }
     ensures { IfOk result (λ keys. keys.items ≡ sort_by link_key_cmp (map (λ k. link_key plan.now (slice_index numbers.now) (record_at plan.now k)) links.now)) }
 {
-    let mut keys = piece_keys(alloc, plan, numbers, links)?;
+    let mut keys = piece_keys(alloc, plan, numbers, orders, links)?;
     keys.sort_unstable();
     Ok(keys)
 }

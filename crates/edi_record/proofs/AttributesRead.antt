@@ -1,7 +1,7 @@
 -- Steps of the loops that read attributes.
 use Rattle.std.proofs.Common.{◌≡◌, ℕ, true, false, ◌||◌, List, [], ◌∷◌, ◌++◌, ◌≤◌, ◌<◌, ◌-◌, length, get_or, take, drop, arith, map, Option, Some, None, is_none, codes, bytes_eq, refl, sym, ap, ◌∙◌}
 use Rattle.std.specs.List.{list_any}
-use Rattle.std.proofs.lemmas.List.{append-nil, take_all}
+use Rattle.std.proofs.lemmas.List.{take_all}
 use Rattle.edi_line.specs.Entry.{Entry, entry, entries}
 use Rattle.edi_line.specs.declared.zone.Zone.{Zone}
 use Rattle.edi_record.specs.Texts.{PointerText, pointer}
@@ -90,6 +90,3 @@ more_found (d ∷ ds) a more = ap (λ t. Some d ∷ t) (more_found ds a more)
 
 pub one_found : {X : Type 0} (all found more : List (Option X)) (ds new : List X) (a : X) → all ≡ map Some ds ++ found → found ≡ Some a ∷ more → new ≡ ds ++ a ∷ [] → all ≡ map Some new ++ more
 one_found all found more ds new a kept here pushed = kept ∙ ap (λ t. map Some ds ++ t) here ∙ more_found ds a more ∙ ap (λ t. map Some t ++ more) (sym pushed)
-
-pub all_found : {X : Type 0} (all found : List (Option X)) (ds : List X) → all ≡ map Some ds ++ found → found ≡ [] → all ≡ map Some ds
-all_found all found ds kept here = kept ∙ ap (λ t. map Some ds ++ t) here ∙ append-nil (map Some ds)

@@ -1,14 +1,16 @@
 -- The zones of a record, cut off.
 use Rattle.std.proofs.Common.{◌≡◌, ℕ, ◌+◌, ◌-◌, ◌<◌, ◌≤◌, Bool, true, false, cond, not, ◌||◌, List, [], ◌∷◌, length, take, drop, get_or, position, Some, None, refl, sym, ap, ◌∙◌, arith, one-add}
 use Rattle.std.specs.List.{position_or_len}
-use Rattle.std.proofs.lemmas.Bool.{ltb-true, ltb-false}
-use Rattle.std.specs.Prelude.{codes}
+use Rattle.std.proofs.lemmas.Bool.{ltb-true, ltb-false, or_parts}
+use Rattle.std.specs.Prelude.{codes, option_and_then}
 use Rattle.std.proofs.lemmas.List.{take_all}
 use Rattle.std.proofs.lemmas.List.Sums.{prefix_len-le-length}
-use Rattle.edi_line.specs.Entry.{Entry, entry, entries, has_code}
+use Rattle.edi_line.specs.Entry.{Entry, entry, entries, has_code, first}
 use Rattle.edi_record.specs.Records.{values, group_at}
-use Rattle.edi_line.specs.Zones.{begins_group, ends_group, before_end}
+use Rattle.edi_line.specs.Zones.{begins_group, ends_group, before_end, groups_of}
 use Rattle.edi_line.specs.declared.zone.Zone.{Zone}
+use Rattle.edi_record.specs.RecordRules.{kind_named, kind_in}
+use Rattle.edi_record.specs.declared.record.Kind.{Kind}
 
 abbrev pub begins : Zone → Bool
 begins z = begins_group (entry z)
@@ -56,15 +58,6 @@ value_here code z zs value e same = rw (e, same) refl
 pub value_skipped : (code : List ℕ) (z : Entry) (zs : List Entry) → has_code code z ≡ false → values code (z ∷ zs) ≡ values code zs
 value_skipped code z zs e = rw e refl
 
--- ---- the record that begins at the first zone
-
-pub begun_here : (zs : List Zone) (n : ℕ) (z : Entry) (es : List Entry) → 0 < length zs → n ≡ position_or_len ends (drop 1 zs) → entries zs ≡ z ∷ es → entries (take (1 + n) zs) ≡ z ∷ before_end es
-begun_here [] n z es some e same = absurd (omega arith)
-begun_here (x ∷ xs) n z es some e same =
-    let head : entry x ≡ z = cc in
-    let tail : entries xs ≡ es = cc in
-    rw one-add (ap (λ k. entry x ∷ entries (take k xs)) e ∙ ap (λ t. entry x ∷ t) (before_here xs) ∙ ap (λ t. entry x ∷ before_end t) tail ∙ ap (λ y. y ∷ before_end es) head)
-
 -- ---- a group holds one type
 
 none_before : (zs : List Entry) → values (codes "RTY") (before_end zs) ≡ []
@@ -88,3 +81,18 @@ record_here (x ∷ xs) d z n some e begin count =
     let first : begins x ≡ true = ap begins (sym e) ∙ begin in
     let n_is : n ≡ position_or_len ends xs = count ∙ ap (position_or_len ends) all in
     rw (first, one-add, n_is) (ap (λ es. Some (entry x ∷ es)) (before_here xs))
+
+-- ---- the zones of a record, one after the other
+
+-- the type that the first zone names is that of the group
+pub head_kind : (z : Entry) (zs : List Entry) (text : List ℕ) (kind : Kind) → begins_group z ≡ true → text ≡ z.value → Some kind ≡ kind_named text → kind_in (z ∷ zs) ≡ Some kind
+head_kind z zs text kind e same read = ap (λ vs. option_and_then kind_named (first vs)) (value_here (codes "RTY") z zs text e same) ∙ sym read
+
+pub goes_on : (z : Entry) (zs : List Entry) → ends_group z ≡ false → before_end (z ∷ zs) ≡ z ∷ before_end zs
+goes_on z zs e = rw e refl
+
+pub stops : (z : Entry) (zs : List Entry) → ends_group z ≡ true → before_end (z ∷ zs) ≡ []
+stops z zs e = rw e refl
+
+pub no_group : (z : Entry) (zs : List Entry) → ends_group z ≡ false → groups_of (z ∷ zs) ≡ groups_of zs
+no_group z zs e = let parts = or_parts (begins_group z) (has_code (codes "EOM") z) e in rw parts.0 refl

@@ -5,6 +5,12 @@ pub mod RowsHold
 pub mod Numbered
 pub mod SheetStated
 pub mod AttributesRead
+pub mod AttributesKept
+pub mod EndsKept
+pub mod PointsKept
+pub mod Roles
+pub mod RecordKept
+pub mod RecordMade
 pub mod Passes
 pub mod GroupCuts
 pub mod Loops

@@ -80,6 +80,10 @@ skipped zones rest list z zs h e b = record {
   shape = h.shape;
 }
 
+-- the same list, where no group begins in the zones between
+pub moved : (zones rest left : List Entry) (list : List Record) → SoFar zones rest list → groups_of left ≡ groups_of rest → SoFar zones left list
+moved zones rest left list h e = record { done = h.done; cut = h.cut ∙ ap (λ t. h.done ++ t) (sym e); states = h.states; sound = h.sound; shape = h.shape }
+
 -- ---- the end
 
 all_cut : (zones rest : List Entry) (list : List Record) (h : SoFar zones rest list) → rest ≡ [] → groups_of zones ≡ h.done
@@ -130,19 +134,10 @@ few_so_far zones rest list z zs h e b few =
 pub few_in_all : (zones rest : List Entry) (list : List Record) → SoFar zones rest list → rest ≡ [] → length (groups_of zones) ≤ 9999999 → length list ≤ 9999999
 few_in_all zones rest list h e few = let count = zip_length h.done list h.states in let cut = ap length (all_cut zones rest list h e) in omega (arith, count, cut, few)
 
--- ---- the same, of the zones that were cut off
-
-pub one_more_of : (zones rest : List Entry) (list new : List Record) (z : Entry) (zs group : List Entry) (r : Record) → SoFar zones rest list → rest ≡ z ∷ zs → begins_group z ≡ true → group ≡ z ∷ before_end zs
-    → States group r → is_in_shape r ≡ true → IsSound group → new ≡ list ++ r ∷ [] → SoFar zones zs new
-one_more_of zones rest list new z zs group r h e b g states shape sound pushed =
-    one_more zones rest list new z zs r h e b (subst (λ t. States t r) g states) shape (subst IsSound g sound) pushed
-
-pub refusal_at : (zones rest : List Entry) (list : List Record) (z : Entry) (zs group : List Entry) (fault : GroupFault) (at : ℕ) (result : RecordFault) → SoFar zones rest list → rest ≡ z ∷ zs → begins_group z ≡ true → group ≡ z ∷ before_end zs
-    → at ≡ length list + 1 → result ≡ fault_at at fault → IsGroupRefusal group fault → IsRecordRefusal (BreaksRecordRule zones) result
-refusal_at zones rest list z zs group (GroupMemory e) at result h cut b g place is broken = subst (IsRecordRefusal (BreaksRecordRule zones)) (sym is) tt
-refusal_at zones rest list z zs group (GroupBroken rule) at result h cut b g place is broken =
-    subst (IsRecordRefusal (BreaksRecordRule zones)) (sym is)
-    (refused zones rest list z zs rule at h cut b place (subst (λ t. first_broken (record_tests t) ≡ Some rule) g broken))
+pub refusal_at : (zones rest : List Entry) (list : List Record) (z : Entry) (zs : List Entry) (fault : GroupFault) (at : ℕ) (result : RecordFault) → SoFar zones rest list → rest ≡ z ∷ zs → begins_group z ≡ true
+    → at ≡ length list + 1 → result ≡ fault_at at fault → IsGroupRefusal (z ∷ before_end zs) fault → IsRecordRefusal (BreaksRecordRule zones) result
+refusal_at zones rest list z zs (GroupMemory e) at result h cut b place is broken = subst (IsRecordRefusal (BreaksRecordRule zones)) (sym is) tt
+refusal_at zones rest list z zs (GroupBroken rule) at result h cut b place is broken = subst (IsRecordRefusal (BreaksRecordRule zones)) (sym is) (refused zones rest list z zs rule at h cut b place broken)
 
 -- ---- there are no more groups than zones
 

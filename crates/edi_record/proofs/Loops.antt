@@ -1,44 +1,24 @@
 -- Steps of the loops over the zones of a record.
-use Rattle.std.proofs.Common.{◌≡◌, ℕ, ◌+◌, ◌*◌, ◌-◌, ◌/◌, ◌%◌, ◌<◌, ◌≤◌, Bool, true, false, cond, not, ◌&&◌, ◌||◌, eqb, leb, List, [], ◌∷◌, ◌++◌, length, get_or, take, drop, map, filter, Option, Some, None, codes, refl, sym, ap, ◌∙◌, arith, add-one, one-add, eq-eqb, ltb, lt-ltb, is_some, MatchOption}
-use Rattle.std.specs.List.{list_any, before_first}
+use Rattle.std.proofs.Common.{◌≡◌, ℕ, ◌+◌, ◌*◌, ◌-◌, ◌/◌, ◌%◌, ◌<◌, ◌≤◌, Bool, true, false, not, ◌&&◌, eqb, List, [], ◌∷◌, ◌++◌, length, get_or, take, drop, Some, None, codes, refl, sym, ap, ◌∙◌, arith, add-one, one-add, eq-eqb, ltb, lt-ltb}
+use Rattle.std.specs.List.{list_any}
 use Rattle.std.specs.Str.{all_ascii_digits}
 use Rattle.std.specs.Char.{is_ascii_digit, digit_value}
-use Rattle.std.specs.Prelude.{count_by}
 use Rattle.std.proofs.lemmas.Bool.{eqb-true, eqb-false, ne_eqb}
 use Rattle.std.proofs.lemmas.Slice.Eq.{bytes_eq-Decides}
 use Rattle.std.proofs.lemmas.Bool.Decides.{nat_tests}
 use Rattle.std.proofs.Math.Seq.{drop-cons}
 use Rattle.std.proofs.Math.ListN.{drop_of_length-le}
-use Rattle.std.proofs.lemmas.List.{append_assoc, take_more, take_all, nil_from_length, length-map}
-use Rattle.std.proofs.lemmas.List.Recursion.{is_count_by}
+use Rattle.std.proofs.lemmas.List.{append_assoc, take_more, take_all, nil_from_length}
 use Rattle.std.specs.Str.Parse.{digits_value, digits_value_after}
 use Rattle.edi_line.specs.Entry.{Entry, entry, entries, has_code}
 use Rattle.edi_line.specs.declared.zone.Zone.{Zone}
-use Rattle.edi_record.specs.Records.{values, opens, closes, points_at, sns_after, end_of, ends, Placed, placed, is_open_after, is_extra, extra}
+use Rattle.edi_record.specs.Records.{opens, closes, points_at, sns_after, end_of, ends, placed, is_open_after, is_extra, extra}
 use Rattle.edi_record.specs.Texts.{PointerText, pointer, count}
-use Rattle.edi_record.specs.RecordRules.{count_until, kind_in, is_unknown_pointer, has_unknown_pointer, counts_right, counts_wrong}
+use Rattle.edi_record.specs.RecordRules.{kind_in, is_unknown_pointer, has_unknown_pointer, counts_right}
+use Rattle.edi_record.specs.Kept.{is_stray, extras_after, has_stray}
 use Rattle.edi_record.specs.declared.record.Kind.{Kind}
 use Rattle.edi_record.specs.declared.record.Extra.{Extra}
 use Rattle.edi_record.specs.declared.record.End.{End}
-
--- a value where no attribute is open
-abbrev pub is_stray : Placed → Bool
-is_stray p = closes p.zone && not p.open_before
-
-abbrev pub ends_stretch : List ℕ → List ℕ → Entry → Bool
-ends_stretch opening closing z = has_code opening z || has_code closing z
-
--- a stretch is open, and the code comes in it as often as is still wanted
-abbrev pub is_pending : Bool → Bool → (Entry → Bool) → List ℕ → List Entry → Bool
-is_pending is_open is_seen ends code zs = is_open && leb (cond is_seen 1 2) (count_until ends code zs)
-
--- the extras among zones before which an attribute is open or none is
-abbrev pub extras_after : Kind → Bool → List Entry → List Extra
-extras_after kind is_open zs = map (λ (p : Placed). extra p.zone) (filter (is_extra kind) (placed is_open zs))
-
--- an SNS comes before any end
-abbrev pub has_stray : List Entry → Bool
-has_stray zs = list_any (has_code (codes "SNS")) (before_first points_at zs)
 
 abbrev pub are_worth : List ℕ → ℕ → Bool
 are_worth digits number = all_ascii_digits digits && eqb (digits_value 10 digits) number
@@ -210,28 +190,6 @@ unfolding count
 says_none text n e is empty =
     let same : text ≡ [] = nil_from_length text (eqb-true _ _ (sym is ∙ empty)) in
     rw (empty, same) refl
-
-counted_zones : (code : List ℕ) (zs : List Zone) → length (values code (entries zs)) ≡ count_by (λ z. has_code code (entry z)) zs
-counted_zones code zs = length-map (filter (has_code code) (entries zs)) (λ (z : Entry). z.value) ∙ along zs
-  where
-    step : (z : Zone) (zs : List Zone) → length (filter (has_code code) (entries (z ∷ zs))) ≡ cond (has_code code (entry z)) (1 + length (filter (has_code code) (entries zs))) (length (filter (has_code code) (entries zs)))
-    step z zs = go (has_code code (entry z)) refl
-      where
-        go : (b : Bool) → has_code code (entry z) ≡ b → length (filter (has_code code) (entries (z ∷ zs))) ≡ cond b (1 + length (filter (has_code code) (entries zs))) (length (filter (has_code code) (entries zs)))
-        go true e = rw e (sym (one-add (length (filter (has_code code) (entries zs)))))
-        go false e = rw e refl
-
-    along : (zs : List Zone) → length (filter (has_code code) (entries zs)) ≡ count_by (λ z. has_code code (entry z)) zs
-    along zs = is_count_by (λ zs. length (filter (has_code code) (entries zs))) (λ z. has_code code (entry z)) refl step zs
-
-pub no_more : {X : Type 0} (o : Option X) (P : Type 0) (Q : X → Type 0) (b : Bool) → b ≡ is_some o → b ≡ false → MatchOption o P Q → P
-no_more None P Q b is none h = h
-no_more (Some x) P Q b is none h = let f : true ≡ false = sym is ∙ none in absurd (cc)
-
-pub count_said : (counting counted text : List ℕ) (zs after : List Zone) (n : ℕ) (r : Bool) → values counting (entries zs) ≡ text ∷ values counting (entries after) → values counting (entries after) ≡ []
-    → n ≡ count_by (λ z. has_code counted (entry z)) zs → r ≡ counts_right (text ∷ []) n → not r ≡ counts_wrong counting counted (entries zs)
-count_said counting counted text zs after n r here none count says =
-    ap not (says ∙ ap (counts_right (text ∷ [])) (count ∙ sym (counted_zones counted zs)) ∙ ap (λ vs. counts_right vs (length (values counted (entries zs)))) (sym (here ∙ ap (λ vs. text ∷ vs) none)))
 
 -- ---- pointers that aren't known
 

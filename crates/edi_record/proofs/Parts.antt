@@ -1,22 +1,21 @@
 -- The parts of a record, and the rules on them.
-use Rattle.std.proofs.Common.{◌≡◌, ℕ, suc, ◌<◌, ◌≤◌, Bool, true, false, cond, ◌||◌, ltb, List, [], ◌∷◌, length, map, Option, Some, None, is_none, option_map, codes, bytes_eq, refl, sym, ap, ◌∙◌, arith}
+use Rattle.std.proofs.Common.{◌≡◌, ℕ, suc, ◌<◌, ◌≤◌, Bool, true, false, cond, ◌||◌, ltb, List, [], ◌∷◌, length, map, Option, Some, None, is_none, codes, bytes_eq, refl, sym, ap, ◌∙◌, arith}
 use Rattle.std.specs.Prelude.{option_and_then}
 use Rattle.std.specs.List.{list_any}
-use Rattle.std.proofs.lemmas.Bool.{or_left, or_right, or_from, leb-true, le-leb, lt-ltb, le-ltb}
+use Rattle.std.proofs.lemmas.Bool.{or_left, or_right, or_from, leb-true, leb-false, lt-ltb, le-ltb}
 use Rattle.std.proofs.lemmas.List.{length-map}
 use Rattle.std.proofs.lemmas.Slice.Eq.{bytes_eq-Decides}
 use Rattle.edi_line.specs.Entry.{Entry, first}
 use Rattle.edi_record.specs.Texts.{PointerText, pointer, point}
-use Rattle.edi_record.specs.Shapes.{kind_code, may_have_points, may_have_ends}
+use Rattle.edi_record.specs.Shapes.{kind_code, may_have_points}
 use Rattle.edi_record.specs.Records.{values, has_points, is_link, opens, closes, set_after, value_after, attribute, attributes, points_at, sns_after, end_of, ends, placed}
-use Rattle.edi_record.specs.RecordRules.{kind_named, kind_in, count_until, repeats, some_no_pointer, has_bad_attribute, has_bad_point, has_bad_end}
+use Rattle.edi_record.specs.RecordRules.{kind_named, kind_in, repeats, some_no_pointer, has_bad_attribute, has_bad_point, has_bad_end}
 use Rattle.edi_record.specs.declared.record.Kind.{Kind}
 use Rattle.edi_record.specs.declared.record.Kind.TheVariants.{Pno, Par, Pfe, Fea, Lnk}
 use Rattle.edi_record.specs.declared.record.Attribute.{Attribute}
 use Rattle.edi_record.specs.declared.record.End.{End}
 use Rattle.edi_record.specs.declared.record.Point.{Point}
-use Rattle.edi_record.specs.Lent.{AreFound}
-use Rattle.edi_record.proofs.Loops.{is_stray, has_stray}
+use Rattle.edi_record.specs.Kept.{is_stray, has_stray}
 
 none_missing : {X : Type 0} (ys : List X) → list_any is_none (map Some ys) ≡ false
 none_missing [] = refl
@@ -27,14 +26,6 @@ all_there xs ys e = ap (list_any is_none) e ∙ none_missing ys
 
 pub same_length : {X : Type 0} (xs : List (Option X)) (ys : List X) → xs ≡ map Some ys → length xs ≡ length ys
 same_length xs ys e = ap length e ∙ length-map ys Some
-
-pub found_none : {X V : Type 0} (f : V → List X) (xs : List (Option X)) (o : Option V) → AreFound xs (option_map f o) → o ≡ None → list_any is_none xs ≡ true
-found_none f xs None h e = h
-found_none f xs (Some v) h e = absurd cc
-
-pub found_some : {X V : Type 0} (f : V → List X) (xs : List (Option X)) (o : Option V) (v : V) → AreFound xs (option_map f o) → o ≡ Some v → xs ≡ map Some (f v)
-found_some f xs None v h e = absurd cc
-found_some f xs (Some w) v h e = let same : w ≡ v = cc in h ∙ ap (λ u. map Some (f u)) same
 
 -- ---- attributes
 
@@ -53,6 +44,15 @@ attributes_lack (z ∷ zs) = go (opens z) refl (attributes_lack zs)
     go : (b : Bool) → opens z ≡ b → list_any is_none (attributes zs) ≡ some_no_pointer (values (codes "ATP") zs) → list_any is_none (attributes (z ∷ zs)) ≡ some_no_pointer (values (codes "ATP") (z ∷ zs))
     go true e more = rw (e, no_class z.value (set_after zs) (value_after zs), more) refl
     go false e more = rw (e, more) refl
+
+pub attributes_count : (g : List Entry) → length (attributes g) ≡ length (values (codes "ATP") g)
+unfolding attributes
+attributes_count [] = refl
+attributes_count (z ∷ zs) = go (opens z) refl (attributes_count zs)
+  where
+    go : (b : Bool) → opens z ≡ b → length (attributes zs) ≡ length (values (codes "ATP") zs) → length (attributes (z ∷ zs)) ≡ length (values (codes "ATP") (z ∷ zs))
+    go true e more = rw e (ap suc more)
+    go false e more = rw e more
 
 pub bad_class : (g : List Entry) → list_any is_none (attributes g) ≡ true → has_bad_attribute g ≡ true
 bad_class g e = or_left _ _ (sym (attributes_lack g) ∙ e)
@@ -86,6 +86,26 @@ right_points kind g ps k h e shape = go kind k h shape
     go Fea k h s = absurd cc
     go Lnk k h s = absurd cc
 
+or_true : (b : Bool) → (b || true) ≡ true
+or_true true = refl
+or_true false = refl
+
+pub wrong_number : (kind : Kind) (g : List Entry) (ps : List Point) → kind_in g ≡ Some kind → has_points kind ≡ true → map point (values (codes "COR") g) ≡ map Some ps → may_have_points kind (length ps) ≡ false → has_bad_point g ≡ true
+wrong_number kind g ps k h e shape = go kind k h shape
+  where
+    count : length (values (codes "COR") g) ≡ length ps
+    count = sym (length-map (values (codes "COR") g) point) ∙ same_length (map point (values (codes "COR") g)) ps e
+
+    go : (kind : Kind) → kind_in g ≡ Some kind → has_points kind ≡ true → may_have_points kind (length ps) ≡ false → has_bad_point g ≡ true
+    go Pno k h s = rw (k, count, s) (or_true (list_any (λ text. is_none (point text)) (values (codes "COR") g)))
+    go Par k h s =
+        let less = leb-false _ _ s in
+        let few : ltb (length ps) 2 ≡ true = lt-ltb (length ps) 2 (omega (arith, less)) in
+        rw (k, count, few) (or_true (list_any (λ text. is_none (point text)) (values (codes "COR") g)))
+    go Pfe k h s = absurd cc
+    go Fea k h s = absurd cc
+    go Lnk k h s = absurd cc
+
 -- ---- ends
 
 no_end : (text : List ℕ) (sns : Option (List ℕ)) → is_none (end_of text sns) ≡ is_none (pointer text)
@@ -113,21 +133,6 @@ ends_count (z ∷ zs) = go (points_at z) refl (ends_count zs)
     go true e more = rw e (ap suc more)
     go false e more = rw e more
 
-twice : (p : Bool) → (p || p) ≡ p
-twice true = refl
-twice false = refl
-
-count_same : (code : List ℕ) (zs : List Entry) → count_until (λ z. points_at z || points_at z) code zs ≡ count_until points_at code zs
-count_same code [] = refl
-count_same code (z ∷ zs) = rw (twice (points_at z), count_same code zs) refl
-
-repeats_same : (code : List ℕ) (zs : List Entry) → repeats points_at (λ z. points_at z || points_at z) code zs ≡ repeats points_at points_at code zs
-repeats_same code [] = refl
-repeats_same code (z ∷ zs) = rw (count_same code zs, repeats_same code zs) refl
-
-pub repeats_ends : (code : List ℕ) (zs : List Entry) (r : Bool) → r ≡ repeats points_at (λ z. points_at z || points_at z) code zs → r ≡ repeats points_at points_at code zs
-repeats_ends code zs r e = e ∙ repeats_same code zs
-
 pub link_end : (kind : Kind) (g : List Entry) → kind_in g ≡ Some kind → is_link kind ≡ true
     → has_bad_end g ≡ (some_no_pointer (values (codes "FTP") g) || (ltb (length (values (codes "FTP") g)) 2 || (has_stray g || repeats points_at points_at (codes "SNS") g)))
 link_end kind g k h = rw (k, h) refl
@@ -148,13 +153,6 @@ pub good_ends : (kind : Kind) (g : List Entry) (es : List End) (bad : Bool) → 
 good_ends kind g es bad k h e many s b =
     let count = sym (ends_count g) ∙ same_length (ends g) es e in
     link_end kind g k h ∙ or_from _ _ (sym (ends_lack g) ∙ all_there (ends g) es e) (or_from _ _ (le-ltb (length (values (codes "FTP") g)) 2 (omega (arith, count, many))) (sym s ∙ b))
-
-pub link_shape : (kind : Kind) (n : ℕ) → is_link kind ≡ true → 2 ≤ n → may_have_ends kind n ≡ true
-link_shape Lnk n h many = le-leb 2 n many
-link_shape Pno n h many = absurd cc
-link_shape Par n h many = absurd cc
-link_shape Pfe n h many = absurd cc
-link_shape Fea n h many = absurd cc
 
 -- ---- types
 

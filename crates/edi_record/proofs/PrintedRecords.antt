@@ -26,7 +26,8 @@ use Rattle.edi_record.specs.declared.record.End.{End}
 use Rattle.edi_record.specs.declared.record.Point.{Point}
 use Rattle.edi_record.proofs.Stated.{record_again, record_is, unknown, known_apart, joined, mapped, mapped_each, flat_mapped, HoldsInBody, HoldsBehind, body_each, behind, behind_is, behind_each, none_found, and_false, picked_extras}
 use Rattle.edi_record.proofs.Passes.{kind_is, has_kind, has_identifier, has_class}
-use Rattle.edi_record.proofs.Loops.{is_stray, has_stray, stray_skips, stray_end, stray_sns_goes_on}
+use Rattle.edi_record.specs.Kept.{is_stray, has_stray}
+use Rattle.edi_record.proofs.Loops.{stray_skips, stray_end, stray_sns_goes_on}
 use Rattle.edi_record.proofs.Parts.{same_length, good_attributes, right_points, ends_count, good_ends}
 
 -- ---- the zones before the attributes, and those from them on

@@ -4,6 +4,7 @@ pub mod Shapes
 pub mod Records
 pub mod RecordRules
 pub mod RecordRefusal
+pub mod Kept
 pub mod Layout
 pub mod Orders
 pub mod Rows

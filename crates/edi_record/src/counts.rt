@@ -1,22 +1,13 @@
 //! Counts of zones.
 
-ghost use Rattle.std.specs.Prelude.{◌≡◌, ◌==◌, ◌&&◌, [], ◌∷◌, count_by, Some};
+ghost use Rattle.std.specs.Prelude.{◌≡◌, ℕ, List, [], ◌∷◌, ◌==◌, ◌&&◌, not};
 ghost use Rattle.std.specs.Char.{is_ascii_digit, digit_value};
 ghost use Rattle.std.specs.Str.{all_ascii_digits};
 ghost use Rattle.std.specs.Str.Parse.{digits_value};
-ghost use Rattle.edi_line.specs.Entry.{entry, entries, has_code as code_test};
-ghost use Rattle.edi_record.specs.RecordRules.{kind_in, counts_right, counts_wrong as is_count_wrong, has_wrong_count as is_some_count_wrong};
+ghost use Rattle.edi_record.specs.RecordRules.{counts_right};
+ghost use Rattle.edi_record.specs.Kept.{AreTexts};
 
-use crate::groups::cut_value;
-use crate::record::Kind;
-use edi_line::Zone;
-
-/// How many zones have a code.
-pub(crate) fn count_of(group: &[Zone<'_>], code: [u8; 3]) -> usize
-    ensures { result ≡ count_by (λ z. code_test code (entry z)) group.now }
-{
-    group.iter().filter(|zone| zone.code == code).count()
-}
+use crate::only::Only;
 
 /// Whether a byte is the digit of this number.
 fn is_digit(byte: u8, number: usize) -> bool
@@ -48,26 +39,13 @@ fn says(text: &[u8], number: usize) -> bool
     !text.is_empty() && are_worth(text, number)
 }
 
-/// Whether a count is repeated, isn't digits, or isn't that of the zones that it counts. It may be
-/// absent.
-fn counts_wrong(group: &[Zone<'_>], counting: [u8; 3], counted: [u8; 3]) -> bool
-    ensures { result ≡ is_count_wrong counting counted (entries group.now) }
+/// Whether a count is repeated, isn't digits, or isn't this number. It may be absent.
+pub(crate) fn is_wrong(count: Only<'_>, number: usize) -> bool
+    ensures { (all : List (List ℕ)) → AreTexts count.entry [] all → result ≡ not (counts_right all number) }
 {
-    match cut_value(group, counting) {
-        Some((text, after)) => {
-            cut_value(after, counting).is_some() || !says(text, count_of(group, counted))
-        }
-        None => false,
+    match count {
+        Only::Absent => false,
+        Only::One(text) => !says(text, number),
+        Only::Repeated => true,
     }
-}
-
-/// Whether a record breaks rule 205: of its attributes, of an arc's points or of a link's ends, the
-/// count is wrong.
-pub(crate) fn has_wrong_count(kind: Kind, group: &[Zone<'_>]) -> bool
-    requires { kind_in (entries group.now) ≡ Some kind }
-    ensures { result ≡ is_some_count_wrong (entries group.now) }
-{
-    counts_wrong(group, *b"ATC", *b"ATP")
-        || (kind == Kind::Par && counts_wrong(group, *b"PTC", *b"COR"))
-        || (kind.is_link() && counts_wrong(group, *b"FTC", *b"FTP"))
 }

@@ -1,123 +1,134 @@
 //! The ends of a link.
 
-ghost use Rattle.std.specs.Prelude.{◌≡◌, ◌||◌, true, false, if◌then◌else◌, [], map, length, Some, option_map, IfOk, IfErr, OnOk};
-ghost use Rattle.std.specs.List.{list_any, before_first};
-ghost use Rattle.edi_line.specs.Entry.{entries, has_code};
-ghost use Rattle.edi_record.specs.Lent.{shown, AreFound};
+ghost use Rattle.std.specs.Prelude.{◌≡◌, ℕ, List, [], ◌++◌, codes, map, length, true, false, if◌then◌else◌, Some, None, option_map, IfOk, IfErr, OnOk};
+ghost use Rattle.edi_line.specs.Entry.{Entry};
 ghost use Rattle.edi_record.specs.Shapes.{may_have_ends};
-ghost use Rattle.edi_record.specs.Records.{is_link, points_at, sns_after as sns_in, ends};
-ghost use Rattle.edi_record.specs.RecordRules.{kind_in, repeats as repeats_in, has_bad_end};
+ghost use Rattle.edi_record.specs.Records.{is_link, ends};
+ghost use Rattle.edi_record.specs.RecordRules.{kind_in, has_bad_end};
 ghost use Rattle.edi_record.specs.RecordRefusal.{IsBreachOf};
+ghost use Rattle.edi_record.specs.Kept.{Takes, KeepsEnds, ended_with};
 
-use crate::attributes::{copied, repeats};
-use crate::counts::count_of;
+use crate::attributes::copied;
 use crate::fault::GroupFault;
 use crate::pointer::Pointer;
 use crate::record::{End, Kind};
-use edi_line::{Text, Zone};
+use edi_line::Text;
 use std::alloc::{AllocError, Global};
 
-const END: [u8; 3] = *b"FTP";
+/// An end whose SNS may still come. The zones lend its pointer and its SNS.
+#[derive(Clone, Copy)]
+pub(crate) struct OpenEnd<'a> {
+    pointer: Pointer<'a>,
+    sense: Option<&'a [u8]>,
+}
 
-const SENSE: [u8; 3] = *b"SNS";
-
-/// The first SNS before the next end.
-fn sns_after<'a>(zones: &'a [Zone<'_>]) -> Option<&'a [u8]>
-    ensures { option_map (λ s. s.now) result ≡ sns_in (entries zones.now) }
-{
-    let mut rest = zones;
-    while let [zone, after @ ..] = rest {
-        if zone.code == END {
-            return None;
-        }
-        if zone.code == SENSE {
-            return Some(zone.value.as_slice());
-        }
-        rest = after;
+impl<'a> OpenEnd<'a> {
+    fn end(self, alloc: Global) -> Result<End, AllocError>
+        ensures { IfOk result (λ e. e ≡ record {
+          lot = self.entry.pointer.lot.now;
+          subset = self.entry.pointer.subset.now;
+          target = record { rty = self.entry.pointer.rty.now; rid = self.entry.pointer.rid.now };
+          sns = option_map (λ s. s.now) self.entry.sense;
+        }) }
+    {
+        Ok(End {
+            lot: Text::from_slice(alloc, self.pointer.lot)?,
+            subset: Text::from_slice(alloc, self.pointer.subset)?,
+            target: self.pointer.name(alloc)?,
+            sns: copied(alloc, self.sense)?,
+        })
     }
-    None
 }
 
-/// Whether an SNS comes before any end.
-fn has_stray_sns(group: &[Zone<'_>]) -> bool
-    ensures { result ≡ list_any (has_code SENSE) (before_first points_at (entries group.now)) }
-{
-    let mut rest = group;
-    while let [zone, after @ ..] = rest {
-        if zone.code == END {
-            return false;
-        }
-        if zone.code == SENSE {
-            return true;
-        }
-        rest = after;
+/// The ends of the zones that have come. One is closed by the next or by the end of the zones.
+#[derive(Drop)]
+pub(crate) struct Ends<'a> {
+    done: Vec<End>,
+    opened: Option<OpenEnd<'a>>,
+    is_broken: bool,
+}
+
+impl<'a> Ends<'a> {
+    /// No ends, with room for two of a link, which mostly has no more.
+    pub(crate) fn new(alloc: Global, kind: Kind) -> Result<Ends<'a>, AllocError>
+        ensures { IfOk result (λ e. (group : List Entry) → KeepsEnds e group group) }
+    {
+        let room = if kind.is_link() { 2 } else { 0 };
+        Ok(Ends {
+            done: Vec::with_capacity(alloc, room)?,
+            opened: None,
+            is_broken: false,
+        })
     }
-    false
-}
 
-/// Whether an SNS comes before any end, or twice for one.
-fn has_bad_sns(group: &[Zone<'_>]) -> bool
-    ensures { result ≡ (list_any (has_code SENSE) (before_first points_at (entries group.now)) || repeats_in points_at points_at SENSE (entries group.now)) }
-{
-    has_stray_sns(group) || repeats(group, END, END, SENSE)
-}
+    /// Closes the end that is open, if one is.
+    fn close(&mut self, alloc: Global) -> Result<(), AllocError>
+        ensures broken { OnOk result (self.new.is_broken ≡ self.old.is_broken) }
+        ensures opened { OnOk result (self.new.opened ≡ None) }
+        ensures done { OnOk result (self.new.done.items ≡ self.old.done.items ++ ended_with self.old.opened) }
+    {
+        if let Some(opened) = self.opened.take() {
+            self.done.push(opened.end(alloc)?)?;
+        }
+        Ok(())
+    }
 
-/// The end that a pointer points at, with what the zones behind it say.
-fn end(alloc: Global, pointer: Pointer<'_>, behind: &[Zone<'_>]) -> Result<End, AllocError>
-    ensures { IfOk result (λ e. e ≡ record {
-      lot = pointer.entry.lot.now;
-      subset = pointer.entry.subset.now;
-      target = record { rty = pointer.entry.rty.now; rid = pointer.entry.rid.now };
-      sns = sns_in (entries behind.now);
-    }) }
-{
-    Ok(End {
-        lot: Text::from_slice(alloc, pointer.lot)?,
-        subset: Text::from_slice(alloc, pointer.subset)?,
-        target: pointer.name(alloc)?,
-        sns: copied(alloc, sns_after(behind))?,
-    })
-}
-
-/// The ends of a record's zones, or none where one of them is no pointer.
-fn ends_of(alloc: Global, group: &[Zone<'_>]) -> Result<Option<Vec<End>>, AllocError>
-    ensures { IfOk result (λ found. AreFound (ends (entries group.now)) (option_map (λ v. v.items) found)) }
-{
-    let mut done = Vec::with_capacity(alloc, count_of(group, END))?;
-    let mut rest = group;
-    while let [zone, after @ ..] = rest {
-        if zone.code == END {
-            match Pointer::read(zone.value.as_slice()) {
-                Some(pointer) => done.push(end(alloc, pointer, after)?)?,
-                None => return Ok(None),
+    /// Takes the pointer of the next end.
+    pub(crate) fn take_pointer(&mut self, alloc: Global, text: &'a [u8]) -> Result<(), AllocError>
+        ensures { OnOk result (Takes KeepsEnds (codes "FTP") text.entry.now self.old self.new) }
+    {
+        self.close(alloc)?;
+        match Pointer::read(text) {
+            Some(pointer) => {
+                self.opened = Some(OpenEnd {
+                    pointer,
+                    sense: None,
+                });
             }
+            None => self.is_broken = true,
         }
-        rest = after;
+        Ok(())
     }
-    Ok(Some(done))
-}
 
-/// The ends of a link, and none of other records; or rule 207, where one of them is no pointer, there
-/// are fewer than two, or an SNS comes before any end or twice for one.
-pub(crate) fn read_ends(
-    alloc: Global,
-    kind: Kind,
-    group: &[Zone<'_>],
-) -> Result<Vec<End>, GroupFault>
-    requires { kind_in (entries group.now) ≡ Some kind }
-    ensures states { IfOk result (λ v. (if is_link kind then ends (entries group.now) else []) ≡ map Some v.items) }
-    ensures shape { IfOk result (λ v. may_have_ends kind (length v.items) ≡ true) }
-    ensures sound { OnOk result (has_bad_end (entries group.now) ≡ false) }
-    ensures breach { IfErr result (IsBreachOf 207 (has_bad_end (entries group.now))) }
-{
-    if !kind.is_link() {
-        return Ok(Vec::new(alloc));
+    /// Takes an SNS.
+    pub(crate) fn take_sense(&mut self, text: &'a [u8])
+        ensures { Takes KeepsEnds (codes "SNS") text.entry.now self.old self.new }
+    {
+        let Some(opened) = self.opened else {
+            self.is_broken = true;
+            return;
+        };
+        if opened.sense.is_some() {
+            self.is_broken = true;
+            return;
+        }
+        self.opened = Some(OpenEnd {
+            pointer: opened.pointer,
+            sense: Some(text),
+        });
     }
-    let Some(found) = ends_of(alloc, group)? else {
-        return Err(GroupFault::Broken(207));
-    };
-    if found.len() < 2 || has_bad_sns(group) {
-        return Err(GroupFault::Broken(207));
+
+    /// The ends of a link, and none of other records; or rule 207, where one of them is no pointer,
+    /// there are fewer than two, or an SNS comes before any end or twice for one.
+    pub(crate) fn finish(mut self, alloc: Global, kind: Kind) -> Result<Vec<End>, GroupFault>
+        ensures states { IfOk result (λ v. (group : List Entry) → (is_link kind ≡ true → KeepsEnds self.entry [] group) → (if is_link kind then ends group else []) ≡ map Some v.items) }
+        ensures shape { IfOk result (λ v. may_have_ends kind (length v.items) ≡ true) }
+        ensures sound { OnOk result ((group : List Entry) → kind_in group ≡ Some kind → (is_link kind ≡ true → KeepsEnds self.entry [] group) → has_bad_end group ≡ false) }
+        ensures breach { IfErr result (λ fault. (group : List Entry) → kind_in group ≡ Some kind → (is_link kind ≡ true → KeepsEnds self.entry [] group) → IsBreachOf 207 (has_bad_end group) fault) }
+    {
+        if !kind.is_link() {
+            return Ok(Vec::new(alloc));
+        }
+        self.close(alloc)?;
+        let Ends {
+            mut done,
+            is_broken,
+            ..
+        } = self;
+        if is_broken || done.len() < 2 {
+            return Err(GroupFault::Broken(207));
+        }
+        done.shrink_to_fit();
+        Ok(done)
     }
-    Ok(found)
 }

@@ -1,69 +1,17 @@
 //! The zones of a record whose codes aren't known.
 
-ghost use Rattle.std.specs.Prelude.{◌≡◌, Some, IfOk, bytes_eq};
-ghost use Rattle.std.specs.List.{list_any};
-ghost use Rattle.edi_line.specs.Entry.{entry, entries};
-ghost use Rattle.edi_record.specs.Records.{known_anywhere, known_in, is_known as is_known_in, is_extra as is_extra_in, is_open_after as is_open_behind, value_of as value_in, may_be_number as number_format, extra as extra_in, extras};
-ghost use Rattle.edi_record.specs.RecordRules.{kind_in, is_unknown_pointer as is_pointer_unknown, has_unknown_pointer as is_some_pointer_unknown};
+ghost use Rattle.std.specs.Prelude.{◌≡◌, ◌==◌, ◌&&◌, nat_lt, length, Bool, false, List, [], Some, IfOk, IfErr, OnOk};
+ghost use Rattle.edi_line.specs.Entry.{Entry, entry};
+ghost use Rattle.edi_record.specs.Records.{value_of as value_in, may_be_number as number_format, extra as extra_in, extras};
+ghost use Rattle.edi_record.specs.RecordRules.{kind_in, has_unknown_pointer};
+ghost use Rattle.edi_record.specs.RecordRefusal.{IsBreachOf};
+ghost use Rattle.edi_record.specs.Kept.{KeepsExtras, TakesExtra};
+ghost use Rattle.edi_record.specs.declared.record.Kind.{Kind};
 
-use crate::record::{Extra, Kind, Value};
+use crate::fault::GroupFault;
+use crate::record::{Extra, Value};
 use edi_line::{Num, Text, Zone};
 use std::alloc::{AllocError, Global};
-
-/// The codes known in every record.
-const KNOWN_ANYWHERE: [[u8; 3]; 8] = [
-    *b"RTY", *b"RID", *b"SCP", *b"ATC", *b"ATP", *b"ATV", *b"QAC", *b"QAP",
-];
-
-/// The further codes known in nodes, in arcs and in links.
-const KNOWN_IN_NODE: [[u8; 3]; 1] = [*b"COR"];
-
-const KNOWN_IN_ARC: [[u8; 3]; 2] = [*b"COR", *b"PTC"];
-
-const KNOWN_IN_LINK: [[u8; 3]; 3] = [*b"FTC", *b"FTP", *b"SNS"];
-
-/// Whether a code is one of those known in records of a type alone.
-fn is_known_in_type(kind: Kind, code: [u8; 3]) -> bool
-    ensures { result ≡ list_any (bytes_eq code) (known_in kind) }
-{
-    match kind {
-        Kind::Pno => KNOWN_IN_NODE.iter().any(|known| code == *known),
-        Kind::Par => KNOWN_IN_ARC.iter().any(|known| code == *known),
-        Kind::Pfe | Kind::Fea => false,
-        Kind::Lnk => KNOWN_IN_LINK.iter().any(|known| code == *known),
-    }
-}
-
-fn is_known_anywhere(code: [u8; 3]) -> bool
-    ensures { result ≡ list_any (bytes_eq code) known_anywhere }
-{
-    KNOWN_ANYWHERE.iter().any(|known| code == *known)
-}
-
-/// Whether a code is known in records of a type.
-fn is_known(kind: Kind, code: [u8; 3]) -> bool
-    ensures { result ≡ is_known_in kind code }
-{
-    is_known_anywhere(code) || is_known_in_type(kind, code)
-}
-
-/// Whether a zone is an extra where an attribute is open before it or none is.
-fn is_extra(kind: Kind, is_open: bool, zone: &Zone<'_>) -> bool
-    ensures { result ≡ is_extra_in kind (record { open_before = is_open; zone = entry zone.now }) }
-{
-    !(zone.code == *b"TEX" && is_open || is_known(kind, zone.code))
-}
-
-/// Whether an attribute is open behind a zone.
-fn is_open_after(is_open: bool, zone: &Zone<'_>) -> bool
-    ensures { result ≡ is_open_behind is_open (entry zone.now) }
-{
-    match &zone.code {
-        b"ATP" => true,
-        b"ATV" => false,
-        _ => is_open,
-    }
-}
 
 /// Whether values of a format may be numbers.
 fn may_be_number(format: u8) -> bool
@@ -93,44 +41,57 @@ fn extra(alloc: Global, zone: &Zone<'_>) -> Result<Extra, AllocError>
     })
 }
 
-/// The extras of a record's zones, in their order.
-pub(crate) fn extras_of(
-    alloc: Global,
-    kind: Kind,
-    group: &[Zone<'_>],
-) -> Result<Vec<Extra>, AllocError>
-    ensures { IfOk result (λ v. extras kind (entries group.now) ≡ v.items) }
+/// Whether a zone is a pointer that isn't empty.
+fn is_pointer(zone: &Zone<'_>) -> bool
+    ensures { result ≡ ((zone.now.format == 80) && nat_lt 0 (length (entry zone.now).value)) }
 {
-    let mut done = Vec::new(alloc);
-    let mut is_open = false;
-    for zone in group {
-        if is_extra(kind, is_open, zone) {
-            done.push(extra(alloc, zone)?)?;
-        }
-        is_open = is_open_after(is_open, zone);
-    }
-    done.shrink_to_fit();
-    Ok(done)
+    zone.format == b'P' && !zone.value.as_slice().is_empty()
 }
 
-/// Whether a zone is an extra and a pointer that isn't empty.
-fn is_unknown_pointer(kind: Kind, is_open: bool, zone: &Zone<'_>) -> bool
-    ensures { result ≡ is_pointer_unknown kind (record { open_before = is_open; zone = entry zone.now }) }
-{
-    is_extra(kind, is_open, zone) && zone.format == b'P' && !zone.value.as_slice().is_empty()
+/// The extras of the zones that have come.
+#[derive(Drop)]
+pub(crate) struct Extras {
+    list: Vec<Extra>,
+    is_broken: bool,
 }
 
-/// Whether a record breaks rule 208: an extra is a pointer that isn't empty.
-pub(crate) fn has_unknown_pointer(kind: Kind, group: &[Zone<'_>]) -> bool
-    requires { kind_in (entries group.now) ≡ Some kind }
-    ensures { result ≡ is_some_pointer_unknown (entries group.now) }
-{
-    let mut is_open = false;
-    for zone in group {
-        if is_unknown_pointer(kind, is_open, zone) {
-            return true;
+impl Extras {
+    pub(crate) fn new(alloc: Global) -> Extras
+        ensures { (kind : Kind) (group : List Entry) → KeepsExtras kind false result group group }
+    {
+        Extras {
+            list: Vec::new(alloc),
+            is_broken: false,
         }
-        is_open = is_open_after(is_open, zone);
     }
-    false
+
+    /// Takes a zone that is an extra.
+    pub(crate) fn take(&mut self, alloc: Global, zone: &Zone<'_>) -> Result<(), AllocError>
+        ensures { OnOk result (TakesExtra (entry zone.now) self.old self.new) }
+    {
+        if is_pointer(zone) {
+            self.is_broken = true;
+            return Ok(());
+        }
+        self.list.push(extra(alloc, zone)?)?;
+        Ok(())
+    }
+
+    /// The extras, in the order of their zones; or rule 208, where one of them is a pointer that
+    /// isn't empty.
+    pub(crate) fn finish(self) -> Result<Vec<Extra>, GroupFault>
+        ensures states { IfOk result (λ v. (kind : Kind) (is_open : Bool) (group : List Entry) → KeepsExtras kind is_open self [] group → extras kind group ≡ v.items) }
+        ensures sound { OnOk result ((kind : Kind) (is_open : Bool) (group : List Entry) → kind_in group ≡ Some kind → KeepsExtras kind is_open self [] group → has_unknown_pointer group ≡ false) }
+        ensures breach { IfErr result (λ fault. (kind : Kind) (is_open : Bool) (group : List Entry) → kind_in group ≡ Some kind → KeepsExtras kind is_open self [] group → IsBreachOf 208 (has_unknown_pointer group) fault) }
+    {
+        let Extras {
+            mut list,
+            is_broken,
+        } = self;
+        if is_broken {
+            return Err(GroupFault::Broken(208));
+        }
+        list.shrink_to_fit();
+        Ok(list)
+    }
 }

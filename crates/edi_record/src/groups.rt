@@ -34,16 +34,6 @@ fn count_to_end(zones: &[Zone<'_>]) -> usize
     }
 }
 
-/// The zones of the record that begins at the first of these zones.
-pub(crate) fn group_at<'a, 'b>(zones: &'b [Zone<'a>]) -> &'b [Zone<'a>]
-    requires { 0 < length zones.now }
-    ensures { (z : Entry) (zs : List Entry) → entries zones.now ≡ z ∷ zs → entries result.now ≡ z ∷ before_end zs }
-{
-    let (_, behind) = zones.split_at(1);
-    let (group, _) = zones.split_at(1 + count_to_end(behind));
-    group
-}
-
 /// The zones of the record that begins with the first of these, if one does.
 pub fn group_here<'a, 'b>(zones: &'b [Zone<'a>]) -> Option<&'b [Zone<'a>]>
     ensures { option_map (λ g. entries g.now) result ≡ group_in (entries zones.now) }

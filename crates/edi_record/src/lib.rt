@@ -3,15 +3,18 @@
 
 mod attributes;
 mod counts;
+mod draft;
 mod ends;
 mod extras;
 pub mod fault;
 pub mod groups;
 pub mod name;
+mod only;
 pub mod pointer;
 mod points;
 pub mod reading;
 pub mod record;
+mod role;
 pub mod sheet;
 mod stating;
 

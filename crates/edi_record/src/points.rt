@@ -1,23 +1,20 @@
 //! The points of a record.
 
-ghost use Rattle.std.specs.Prelude.{◌≡◌, true, false, if◌then◌else◌, [], map, length, codes, Some, option_map, IfOk, IfErr, OnOk};
-ghost use Rattle.edi_line.specs.Entry.{entries};
-ghost use Rattle.edi_record.specs.Lent.{AreFound};
+ghost use Rattle.std.specs.Prelude.{◌≡◌, true, false, if◌then◌else◌, List, [], map, length, codes, Some, option_map, IfOk, IfErr, OnOk};
+ghost use Rattle.edi_line.specs.Entry.{Entry};
 ghost use Rattle.edi_line.specs.Number.{number};
 ghost use Rattle.edi_record.specs.Texts.{parts, point, flat_place, high_place, last_part};
 ghost use Rattle.edi_record.specs.Shapes.{may_have_points};
 ghost use Rattle.edi_record.specs.Records.{values, has_points};
 ghost use Rattle.edi_record.specs.RecordRules.{kind_in, has_bad_point};
 ghost use Rattle.edi_record.specs.RecordRefusal.{IsBreachOf};
+ghost use Rattle.edi_record.specs.Kept.{Takes, KeepsPoints};
 
-use crate::counts::count_of;
 use crate::fault::GroupFault;
 use crate::pointer::cut;
 use crate::record::{Kind, Point};
-use edi_line::{Num, Zone};
+use edi_line::Num;
 use std::alloc::{AllocError, Global};
-
-const PLACE: [u8; 3] = *b"COR";
 
 /// The place of two coordinates.
 fn flat(x: &[u8], y: &[u8]) -> Option<Point>
@@ -69,43 +66,61 @@ impl Point {
     }
 }
 
-/// The places of a record's zones, or none where one of them is no place.
-fn points_of(alloc: Global, group: &[Zone<'_>]) -> Result<Option<Vec<Point>>, AllocError>
-    ensures { IfOk result (λ found. AreFound (map point (values (codes "COR") (entries group.now))) (option_map (λ v. v.items) found)) }
-{
-    let mut done = Vec::with_capacity(alloc, count_of(group, PLACE))?;
-    for zone in group {
-        if zone.code == PLACE {
-            let Some(Point { x, y, z }) = Point::read(zone.value.as_slice()) else {
-                return Ok(None);
-            };
-            done.push(Point { x, y, z })?;
-        }
-    }
-    Ok(Some(done))
+/// The points of the zones that have come.
+#[derive(Drop)]
+pub(crate) struct Points {
+    list: Vec<Point>,
+    is_broken: bool,
 }
 
-/// The points of a node or an arc, and none of other records; or rule 206, where one of them is no
-/// place or their number isn't that of the type.
-pub(crate) fn read_points(
-    alloc: Global,
-    kind: Kind,
-    group: &[Zone<'_>],
-) -> Result<Vec<Point>, GroupFault>
-    requires { kind_in (entries group.now) ≡ Some kind }
-    ensures states { IfOk result (λ v. (if has_points kind then map point (values (codes "COR") (entries group.now)) else []) ≡ map Some v.items) }
-    ensures shape { IfOk result (λ v. may_have_points kind (length v.items) ≡ true) }
-    ensures sound { OnOk result (has_bad_point (entries group.now) ≡ false) }
-    ensures breach { IfErr result (IsBreachOf 206 (has_bad_point (entries group.now))) }
-{
-    if !kind.has_points() {
-        return Ok(Vec::new(alloc));
+impl Points {
+    /// No points, with room for the one of a node or two of an arc, so that most lists come out
+    /// exact.
+    pub(crate) fn new(alloc: Global, kind: Kind) -> Result<Points, AllocError>
+        ensures { IfOk result (λ p. (group : List Entry) → KeepsPoints p group group) }
+    {
+        let room = match kind {
+            Kind::Pno => 1,
+            Kind::Par => 2,
+            Kind::Pfe | Kind::Fea | Kind::Lnk => 0,
+        };
+        Ok(Points {
+            list: Vec::with_capacity(alloc, room)?,
+            is_broken: false,
+        })
     }
-    let Some(points) = points_of(alloc, group)? else {
-        return Err(GroupFault::Broken(206));
-    };
-    if !kind.may_have_points(points.len()) {
-        return Err(GroupFault::Broken(206));
+
+    /// Takes a place.
+    pub(crate) fn take(&mut self, text: &[u8]) -> Result<(), AllocError>
+        ensures { OnOk result (Takes KeepsPoints (codes "COR") text.now self.old self.new) }
+    {
+        let Some(Point { x, y, z }) = Point::read(text) else {
+            self.is_broken = true;
+            return Ok(());
+        };
+        self.list.push(Point { x, y, z })?;
+        Ok(())
     }
-    Ok(points)
+
+    /// The points of a node or an arc, and none of other records; or rule 206, where one of them is
+    /// no place or their number isn't that of the type.
+    pub(crate) fn finish(self, alloc: Global, kind: Kind) -> Result<Vec<Point>, GroupFault>
+        ensures states { IfOk result (λ v. (group : List Entry) → (has_points kind ≡ true → KeepsPoints self [] group) → (if has_points kind then map point (values (codes "COR") group) else []) ≡ map Some v.items) }
+        ensures shape { IfOk result (λ v. may_have_points kind (length v.items) ≡ true) }
+        ensures sound { OnOk result ((group : List Entry) → kind_in group ≡ Some kind → (has_points kind ≡ true → KeepsPoints self [] group) → has_bad_point group ≡ false) }
+        ensures breach { IfErr result (λ fault. (group : List Entry) → kind_in group ≡ Some kind → (has_points kind ≡ true → KeepsPoints self [] group) → IsBreachOf 206 (has_bad_point group) fault) }
+    {
+        if !kind.has_points() {
+            return Ok(Vec::new(alloc));
+        }
+        let Points {
+            mut list,
+            is_broken,
+        } = self;
+        if is_broken || !kind.may_have_points(list.len()) {
+            return Err(GroupFault::Broken(206));
+        }
+        list.shrink_to_fit();
+        Ok(list)
+    }
 }

@@ -1,9 +1,9 @@
 //! The records that zones state.
 
-ghost use Rattle.std.specs.Prelude.{◌≡◌, ◌≤◌, List, [], ◌∷◌, Some, None, Bool, ℕ, true, false, codes, length, option_map, IfOk, IfErr, OnOk};
+ghost use Rattle.std.specs.Prelude.{◌≡◌, ◌≤◌, ◌<◌, ◌+◌, List, [], ◌∷◌, Some, None, MatchOption, drop, Bool, ℕ, true, false, codes, length, option_map, IfOk, IfErr, OnOk};
 ghost use Rattle.std.specs.List.{AllZip};
 ghost use Rattle.edi_record.specs.Shapes.{AreInShape};
-ghost use Rattle.edi_line.specs.Entry.{Entry, entries};
+ghost use Rattle.edi_line.specs.Entry.{Entry, entry, entries};
 ghost use Rattle.edi_line.specs.Zones.{groups_of, charset_of as charset_in, zones_of};
 ghost use Rattle.edi_line.specs.Refusal.{IsUnbroken};
 ghost use Rattle.edi_record.specs.Records.{States, StatesSheet, value_of, IsValueOf};
@@ -18,7 +18,7 @@ ghost use Rattle.edi_record.specs.declared.record.Record.{Record};
 
 use crate::attributes::copied;
 use crate::fault::RecordFault;
-use crate::groups::{first_value, group_at};
+use crate::groups::first_value;
 use crate::record::Record;
 use crate::sheet::Sheet;
 use crate::stating::record_of;
@@ -36,6 +36,19 @@ fn charset_of(alloc: Global, zones: &[Zone<'_>]) -> Result<Option<Text>, AllocEr
     copied(alloc, first_value(zones, CHARSET))
 }
 
+/// The zone at this place and the zones behind it.
+fn zone_at<'a, 'b>(zones: &'b [Zone<'a>], at: usize) -> Option<(&'b Zone<'a>, &'b [Zone<'a>])>
+    requires { at ≤ length zones.now }
+    ensures { MatchOption result (length zones.now ≤ at)
+        (λ p. (at < length zones.now) × (entries (drop at zones.now) ≡ entry p.0.now ∷ entries p.1.now) × (p.1.now ≡ drop (at + 1) zones.now)) }
+{
+    let (_, rest) = zones.split_at(at);
+    match rest {
+        [zone, behind @ ..] => Some((zone, behind)),
+        [] => None,
+    }
+}
+
 /// The records that the groups of zones state, or the first that breaks a rule and the least rule
 /// that it breaks.
 fn list_of(alloc: Global, zones: &[Zone<'_>]) -> Result<Vec<Record>, RecordFault>
@@ -47,15 +60,18 @@ fn list_of(alloc: Global, zones: &[Zone<'_>]) -> Result<Vec<Record>, RecordFault
     ensures least { IfErr result (IsRecordRefusal (BreaksRecordRule (entries zones.now))) }
 {
     let mut list = Vec::new(alloc);
-    let mut rest = zones;
-    while let [zone, after @ ..] = rest {
+    let mut at = 0;
+    while let Some((zone, behind)) = zone_at(zones, at) {
+        at += 1;
         if zone.code == TYPE {
-            match record_of(alloc, group_at(rest)) {
-                Ok(record) => list.push(record)?,
+            match record_of(alloc, zone, behind) {
+                Ok((record, own)) => {
+                    list.push(record)?;
+                    at += own;
+                }
                 Err(fault) => return Err(fault.at(list.len() as u64 + 1)),
             }
         }
-        rest = after;
     }
     Ok(list)
 }

@@ -1,7 +1,8 @@
 //! Records and their parts.
 
-ghost use Rattle.std.specs.Prelude.{◌≡◌};
+ghost use Rattle.std.specs.Prelude.{◌≡◌, ◌||◌};
 ghost use Rattle.edi_record.specs.Records.{has_points as kind_has_points, is_link as kind_is_link};
+ghost use Rattle.edi_record.specs.RecordRules.{is_arc};
 ghost use Rattle.edi_record.specs.Shapes.{may_have_points as may_have_so_many};
 
 use crate::name::Name;
@@ -35,6 +36,16 @@ impl Kind {
         match self {
             Kind::Lnk => true,
             Kind::Pno | Kind::Par | Kind::Pfe | Kind::Fea => false,
+        }
+    }
+
+    /// Whether records of this type may count their points or ends.
+    pub(crate) fn has_count(self) -> bool
+        ensures { result ≡ (is_arc self || kind_is_link self) }
+    {
+        match self {
+            Kind::Par | Kind::Lnk => true,
+            Kind::Pno | Kind::Pfe | Kind::Fea => false,
         }
     }
 

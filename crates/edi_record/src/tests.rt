@@ -243,37 +243,11 @@ fn reads_places(rt: HostRuntime) -> Result<(), Fail> {
 #[test]
 fn refuses_the_least_broken_rule_of_a_node(rt: HostRuntime) -> Result<(), Fail> {
     let alloc = rt.alloc();
-    let table: [(&[u8], Option<(u16, u64)>); 23] = [
+    let table: [(&[u8], Option<(u16, u64)>); 12] = [
         (PLACE, None),
-        (b"CORCC12:+10.50;+020;\nREFCP00:\n", None),
-        (b"CORCC12:+10.50;+020;\nATCSN01:1\n", Some((205, 1))),
-        (b"CORCC12:+10.50;+020;\nATCSN05:00000\n", None),
-        (
-            b"CORCC12:+10.50;+020;\nATCSN01:0\nATCSN01:0\n",
-            Some((205, 1)),
-        ),
-        (b"CORCC12:+10.50;+020;\nATCSN00:\n", Some((205, 1))),
-        (
-            b"CORCC12:+10.50;+020;\nREFCP22:EDAB01;SeT1;PNO;Noeud_\n",
-            Some((208, 1)),
-        ),
-        (b"CORCC12:+10.50;+020;\nQAPCP03:;;;\n", None),
-        (b"CORCC12:+10.50;+020;\nATVSA01:x\n", Some((204, 1))),
-        (b"CORCC12:+10.50;+020;\nATPCP02:;;\n", Some((204, 1))),
-        (
-            b"CORCC12:+10.50;+020;\nATPCP03:;;;\nATVSA01:x\nATVSA01:y\n",
-            Some((204, 1)),
-        ),
-        (
-            b"CORCC12:+10.50;+020;\nATPCP03:;;;\nTEXT 01:x\nTEXT 01:y\n",
-            Some((204, 1)),
-        ),
-        (
-            b"CORCC12:+10.50;+020;\nATPCP03:;;;\nTEXT 01:x\nATVSA01:y\nTEXT 01:y\n",
-            None,
-        ),
         (b"CORCC12:+10.50;+020;\nRIDSA01:x\n", Some((202, 1))),
         (b"CORCC12:+10.50;+020;\nSCPCP03:;;;\n", Some((203, 1))),
+        (b"ATVSA01:x\nSCPCP03:;;;\nRIDSA01:x\n", Some((202, 1))),
         (b"", Some((206, 1))),
         (b"CORCC05:+1;+x\n", Some((206, 1))),
         (b"CORCC05:+1;+2\nCORCC05:+1;+2\n", Some((206, 1))),
@@ -285,6 +259,32 @@ fn refuses_the_least_broken_rule_of_a_node(rt: HostRuntime) -> Result<(), Fail> 
     ];
     for (lines, answer) in &table {
         assert_eq!(rt; node_refusal(alloc, lines)?, *answer);
+    }
+    Ok(())
+}
+
+#[test]
+fn refuses_what_stands_behind_the_place_of_a_node(rt: HostRuntime) -> Result<(), Fail> {
+    let alloc = rt.alloc();
+    let table: [(&[u8], Option<(u16, u64)>); 14] = [
+        (b"REFCP00:\n", None),
+        (b"ATCSN01:1\n", Some((205, 1))),
+        (b"ATCSN05:00000\n", None),
+        (b"ATCSN01:0\nATCSN01:0\n", Some((205, 1))),
+        (b"ATCSN00:\n", Some((205, 1))),
+        (b"REFCP22:EDAB01;SeT1;PNO;Noeud_\n", Some((208, 1))),
+        (b"QAPCP03:;;;\n", None),
+        (b"TEXCP03:;;;\n", Some((208, 1))),
+        (b"ATVSA01:x\n", Some((204, 1))),
+        (b"ATPCP02:;;\n", Some((204, 1))),
+        (b"ATPCP03:;;;\nATVSA01:x\nATVSA01:y\n", Some((204, 1))),
+        (b"ATPCP03:;;;\nTEXT 01:x\nTEXT 01:y\n", Some((204, 1))),
+        (b"ATPCP03:;;;\nTEXT 01:x\nATVSA01:y\nTEXT 01:y\n", None),
+        (b"ATPCP03:;;;\nATPCP03:;;;\nTEXT 01:x\nATCSN01:2\n", None),
+    ];
+    for (lines, answer) in &table {
+        let lines = joined(alloc, &[PLACE, lines])?;
+        assert_eq!(rt; node_refusal(alloc, &lines)?, *answer);
     }
     Ok(())
 }

@@ -65,11 +65,11 @@ fn type_named<'a>(words: Words<'_, 'a>, text: &[u8]) -> Option<Option<&'a [u8]>>
 }
 
 /// The first TYP of the record that the DIP of this one names; there is none where it has no DIP.
-fn type_of<'a>(words: Words<'_, 'a>, record: &Definition<'_>) -> Option<Option<&'a [u8]>>
+fn type_of<'a>(words: Words<'_, 'a>, definition: &Definition<'_>) -> Option<Option<&'a [u8]>>
     requires { map named words.titles.now.keys ≡ map (λ d. (said d).name) words.records.now }
-    ensures { option_map (option_map (λ t. t.now)) result ≡ type_by (map said words.entry.records.now) (said record.now).word }
+    ensures { option_map (option_map (λ t. t.now)) result ≡ type_by (map said words.entry.records.now) (said definition.now).word }
 {
-    match record.word {
+    match definition.word {
         Some(text) => type_named(words, text),
         None => Some(None),
     }
@@ -79,16 +79,16 @@ fn type_of<'a>(words: Words<'_, 'a>, record: &Definition<'_>) -> Option<Option<&
 fn draft_of<'a>(
     kinds: &Kinds<'_>,
     words: Words<'_, '_>,
-    record: &Definition<'a>,
+    definition: &Definition<'a>,
 ) -> Option<Draft<'a>>
     requires { map named words.titles.now.keys ≡ map (λ d. (said d).name) words.records.now }
-    ensures { option_map drafted result ≡ class_in kinds.now (map said words.entry.records.now) (said record.now) }
+    ensures { option_map drafted result ≡ class_in kinds.now (map said words.entry.records.now) (said definition.now) }
 {
-    let word_type = type_of(words, record)?;
+    let word_type = type_of(words, definition)?;
     Some(Draft {
-        title: record.title,
+        title: definition.title,
         class: Class {
-            role: kinds.role(record.kind, record.title.rid),
+            role: kinds.role(definition.kind, definition.title.rid),
             letter: letter(word_type),
             is_number: is_number(word_type),
         },
@@ -108,8 +108,8 @@ pub(crate) fn drafts<'a>(
         × IsFirstLacking (class_in kinds.now (map said words.entry.records.now)) (map said records.now) at)) }
 {
     let mut drafts = Vec::new(alloc);
-    for (place, record) in records.iter().enumerate() {
-        match draft_of(kinds, words, record) {
+    for (place, definition) in records.iter().enumerate() {
+        match draft_of(kinds, words, definition) {
             Some(draft) => drafts.push(draft)?,
             None => {
                 return Err(SchemaFault::Entry {

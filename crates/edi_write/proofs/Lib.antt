@@ -2,6 +2,7 @@ pub mod Putting
 pub mod Breaking
 pub mod Agreed
 pub mod LaidOut
+pub mod EndsWritten
 pub mod Naming
 pub mod WrittenRecords
 pub mod WrittenReferences

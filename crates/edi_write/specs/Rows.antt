@@ -78,7 +78,7 @@ backward_arc = record {
 }
 
 abbrev backward_labels : Labelling
-backward_labels = record { numbers = 1 ∷ 1 ∷ 1 ∷ 2 ∷ []; turned = false ∷ true ∷ false ∷ false ∷ []; nodes = 2 ∷ []; arcs = 1 ∷ []; faces = []; objects = []; links = 0 ∷ 3 ∷ [] }
+backward_labels = record { numbers = 1 ∷ 1 ∷ 1 ∷ 2 ∷ []; turned = false ∷ true ∷ false ∷ false ∷ []; others = [] ∷ [] ∷ [] ∷ [] ∷ []; nodes = 2 ∷ []; arcs = 1 ∷ []; faces = []; objects = []; links = 0 ∷ 3 ∷ [] }
 
 backward_arc_turned : arranged known_schema backward_labels backward_arc ≡ looped_arc
 backward_arc_turned = refl
@@ -102,7 +102,7 @@ abbrev joined_schema : Classes
 joined_schema = class (codes "OBJ") (codes "BAT_id") Plain ∷ class (codes "PGE") (codes "NOD_id") Plain ∷ class (codes "REL") (codes "SEM_id") Plain ∷ []
 
 abbrev joined_labels : Labelling
-joined_labels = record { numbers = 2 ∷ 1 ∷ 1 ∷ 1 ∷ []; turned = false ∷ false ∷ false ∷ false ∷ []; nodes = 1 ∷ 0 ∷ []; arcs = []; faces = []; objects = 2 ∷ []; links = 3 ∷ [] }
+joined_labels = record { numbers = 2 ∷ 1 ∷ 1 ∷ 1 ∷ []; turned = false ∷ false ∷ false ∷ false ∷ []; others = [] ∷ [] ∷ [] ∷ (1 ∷ 0 ∷ []) ∷ []; nodes = 1 ∷ 0 ∷ []; arcs = []; faces = []; objects = 2 ∷ []; links = 3 ∷ [] }
 
 joined_nodes_file : layout joined_schema (arranged joined_schema joined_labels joined_nodes) ≡ lines (codes "BOMT 09:CANON.VEC"
     ∷ codes "RTYSA03:PNO" ∷ codes "RIDSA02:N1" ∷ codes "SCPCP19:CANON;SD;PGE;NOD_id" ∷ codes "CORCC06:+0;+0;" ∷ codes "ATCSN01:0"

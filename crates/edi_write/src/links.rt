@@ -3,16 +3,16 @@
 ghost use Rattle.std.specs.Prelude.{◌≡◌, ◌++◌, length, map, flat_map, OnOk};
 ghost use Rattle.std.specs.List.{AllByRecursion};
 ghost use Rattle.edi_line.specs.Printing.{printed};
-ghost use Rattle.edi_schema.specs.Sorted.{sort_by};
-ghost use Rattle.edi_plan.specs.Plans.{IsPlace};
-ghost use Rattle.edi_rank.specs.Keys.{end_cmp, ends_key, numbered};
+ghost use Rattle.edi_plan.specs.Plans.{IsPlace, record_at};
+ghost use Rattle.edi_rank.specs.EndOrder.{GivesEach, OthersInOrder, ends_at};
+ghost use Rattle.edi_rank.specs.Keys.{ends_key, numbered};
 ghost use Rattle.edi_rank.specs.Labelling.{number_of};
 ghost use Rattle.edi_write.specs.Numbered.{numbered_end_zones};
 
 use crate::names::end_pointer;
 use crate::zones::{Head, write_zone};
 use edi_plan::{Plan, PlanEnd};
-use edi_rank::{Labels, NumberedEnd, numbered_end, sorted_ends};
+use edi_rank::{Labels, NumberedEnd, end_in_order, numbered_end};
 use std::alloc::{AllocError, Global};
 
 const END: Head = Head {
@@ -39,36 +39,25 @@ fn write_end(alloc: Global, out: &mut Vec<u8>, end: &NumberedEnd<'_>) -> Result<
     }
 }
 
-fn write_in_order(
-    alloc: Global,
-    out: &mut Vec<u8>,
-    ends: &[NumberedEnd<'_>],
-) -> Result<(), AllocError>
-    ensures { OnOk result (out.new.items ≡ out.old.items ++ printed (flat_map numbered_end_zones ends.now)) }
-{
-    for end in ends {
-        write_end(alloc, out, end)?;
-    }
-    Ok(())
-}
-
-/// Writes the ends of a link that stand behind its origin, by type, number and SNS.
+/// Writes the ends of a link that stand behind its origin, in this order.
 fn write_others(
     alloc: Global,
     out: &mut Vec<u8>,
     plan: &Plan,
     labels: &Labels,
+    order: &[usize],
     others: &[PlanEnd],
 ) -> Result<(), AllocError>
     requires numbered { length labels.now.numbers ≡ length plan.now.list }
     requires there { AllByRecursion (λ e. IsPlace plan.now e.target) others.now }
-    ensures { OnOk result (out.new.items ≡ out.old.items ++ printed (flat_map numbered_end_zones (sort_by end_cmp (map (numbered plan.now (number_of labels.now)) others.now)))) }
+    requires order { GivesEach order.now others.now }
+    ensures { OnOk result (out.new.items ≡ out.old.items ++ printed (flat_map numbered_end_zones (map (numbered plan.now (number_of labels.now)) (ends_at order.now others.now)))) }
 {
-    if let [other] = others {
-        return write_end(alloc, out, &numbered_end(plan, labels.numbers(), other));
+    for index in 0..others.len() {
+        let end = end_in_order(order, others, index);
+        write_end(alloc, out, &numbered_end(plan, labels.numbers(), end))?;
     }
-    let sorted = sorted_ends(alloc, plan, labels.numbers(), others)?;
-    write_in_order(alloc, out, &sorted)
+    Ok(())
 }
 
 /// Writes the ends of a link: the origin, and then the others in their order.
@@ -77,17 +66,24 @@ pub(crate) fn write_ends(
     out: &mut Vec<u8>,
     plan: &Plan,
     labels: &Labels,
-    ends: &[PlanEnd],
+    place: u32,
 ) -> Result<(), AllocError>
     requires numbered { length labels.now.numbers ≡ length plan.now.list }
-    requires there { AllByRecursion (λ e. IsPlace plan.now e.target) ends.now }
-    ensures { OnOk result (out.new.items ≡ out.old.items ++ printed (flat_map numbered_end_zones (ends_key plan.now (number_of labels.now) ends.now))) }
+    requires ordered { length labels.now.others ≡ length plan.now.list }
+    requires place { IsPlace plan.now place }
+    requires order { OthersInOrder plan.now (number_of labels.now) labels.now.others place }
+    ensures { OnOk result (out.new.items ≡ out.old.items ++ printed (flat_map numbered_end_zones (ends_key plan.now (number_of labels.now) (record_at plan.now place).ends))) }
 {
-    match ends {
+    plan.keeps();
+    match plan.ends(place) {
         [] => Ok(()),
         [origin, others @ ..] => {
             write_end(alloc, out, &numbered_end(plan, labels.numbers(), origin))?;
-            write_others(alloc, out, plan, labels, others)
+            // Nearly each link has one other end. Its order needn't be fetched.
+            if let [other] = others {
+                return write_end(alloc, out, &numbered_end(plan, labels.numbers(), other));
+            }
+            write_others(alloc, out, plan, labels, labels.others(place), others)
         }
     }
 }

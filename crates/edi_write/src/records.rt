@@ -1,15 +1,14 @@
 //! The bytes of records.
 
-ghost use Rattle.std.specs.Prelude.{◌≡◌, ℕ, length, ◌<◌, ◌++◌, OnOk, decimal, flat_map, map, reverse};
-ghost use Rattle.std.specs.List.{AllByRecursion, list_any};
+ghost use Rattle.std.specs.Prelude.{◌≡◌, length, ◌++◌, OnOk, decimal, flat_map, map, reverse};
+ghost use Rattle.std.specs.List.{AllByRecursion};
 ghost use Rattle.edi_line.specs.Printing.{printed, printed_zone};
 ghost use Rattle.edi_record.specs.Layout.{extra_zone, point_zone};
-ghost use Rattle.edi_schema.specs.Classes.{partner_of};
 ghost use Rattle.edi_plan.specs.Agreeing.{Agrees, AttributeAgrees};
 ghost use Rattle.edi_plan.specs.Plans.{IsPlace, record_at};
 ghost use Rattle.edi_rank.specs.Arranged.{arranged_record, old_places};
-ghost use Rattle.edi_rank.specs.Labelling.{AreLabels, number_of, order_of, turned_at};
-ghost use Rattle.edi_rank.specs.Same.{class_after as class_turned};
+ghost use Rattle.edi_rank.specs.EndOrder.{OthersInOrder};
+ghost use Rattle.edi_rank.specs.Labelling.{AreLabels, number_of, order_of};
 ghost use Rattle.edi_write.specs.Heads.{headed};
 ghost use Rattle.edi_write.specs.Layout.{attribute_zones, head_zones};
 ghost use Rattle.edi_write.specs.Numbered.{arc_body, link_body, numbered_body, numbered_zones, ordered_tail};
@@ -18,10 +17,10 @@ use crate::links::write_ends;
 use crate::names::{kind_code, record_identifier};
 use crate::parts::{write_attribute, write_class, write_extra, write_point};
 use crate::zones::{Head, write_zone};
-use edi_plan::{Plan, PlanAttribute, PlanEnd, sorted_attributes};
-use edi_rank::Labels;
+use edi_plan::{Plan, PlanAttribute, sorted_attributes};
+use edi_rank::{Labels, class_turned};
 use edi_record::{Extra, Kind, Point};
-use edi_schema::{ClassRef, Role, Schema};
+use edi_schema::Schema;
 use std::alloc::{AllocError, Global};
 
 const TYPE: Head = Head {
@@ -114,34 +113,6 @@ fn write_extras(alloc: Global, out: &mut Vec<u8>, extras: &[Extra]) -> Result<()
     Ok(())
 }
 
-/// Whether an end is an arc that is turned.
-fn has_turned_arc(labels: &Labels, ends: &[PlanEnd]) -> bool
-    requires { AllByRecursion (λ e. e.target < length labels.now.turned) ends.now }
-    ensures { result ≡ list_any (λ e. turned_at labels.now.turned e.target) ends.now }
-{
-    for end in ends {
-        if labels.turned(end.target) {
-            return true;
-        }
-    }
-    false
-}
-
-/// The class of a record, exchanged with its partner where an end is an arc that is turned.
-fn class_after(schema: &Schema, plan: &Plan, labels: &Labels, place: u32) -> ClassRef
-    requires agrees { Agrees schema.now plan.now }
-    requires labels { AreLabels schema.now plan.now labels.now }
-    requires place { IsPlace plan.now place }
-    ensures { result ≡ class_turned (partner_of schema.now) (turned_at labels.now.turned) (record_at plan.now place) }
-{
-    plan.keeps();
-    let class = plan.scp(place);
-    if plan.role(place) == Role::Plain || !has_turned_arc(labels, plan.ends(place)) {
-        return class;
-    }
-    schema.partner(class).unwrap_or(class)
-}
-
 /// Writes the type, the identifier and the class of a record.
 fn write_head(
     alloc: Global,
@@ -160,7 +131,7 @@ fn write_head(
     write_zone(out, TYPE, &kind_code(kind))?;
     let identifier = record_identifier(alloc, kind, labels.number(place))?;
     write_zone(out, IDENTIFIER, &identifier)?;
-    let class = class_after(schema, plan, labels, place);
+    let class = class_turned(schema, plan, labels.turned_arcs(), place);
     write_class(alloc, out, CLASS, schema.name(class))
 }
 
@@ -187,14 +158,16 @@ fn write_link(
     out: &mut Vec<u8>,
     plan: &Plan,
     labels: &Labels,
-    ends: &[PlanEnd],
+    place: u32,
 ) -> Result<(), AllocError>
     requires numbered { length labels.now.numbers ≡ length plan.now.list }
-    requires there { AllByRecursion (λ e. IsPlace plan.now e.target) ends.now }
-    ensures { OnOk result (out.new.items ≡ out.old.items ++ printed (link_body labels.now plan.now ends.now)) }
+    requires ordered { length labels.now.others ≡ length plan.now.list }
+    requires place { IsPlace plan.now place }
+    requires order { OthersInOrder plan.now (number_of labels.now) labels.now.others place }
+    ensures { OnOk result (out.new.items ≡ out.old.items ++ printed (link_body labels.now plan.now (record_at plan.now place).ends)) }
 {
-    write_number(alloc, out, ENDS, ends.len())?;
-    write_ends(alloc, out, plan, labels, ends)
+    write_number(alloc, out, ENDS, plan.ends(place).len())?;
+    write_ends(alloc, out, plan, labels, place)
 }
 
 /// Writes what stands between the class and the attributes: points or ends.
@@ -207,15 +180,16 @@ fn write_body(
 ) -> Result<(), AllocError>
     requires numbered { length labels.now.numbers ≡ length plan.now.list }
     requires directed { length labels.now.turned ≡ length plan.now.list }
+    requires ordered { length labels.now.others ≡ length plan.now.list }
     requires place { IsPlace plan.now place }
+    requires order { OthersInOrder plan.now (number_of labels.now) labels.now.others place }
     ensures { OnOk result (out.new.items ≡ out.old.items ++ printed (numbered_body labels.now plan.now place (record_at plan.now place).kind)) }
 {
-    plan.keeps();
     match plan.kind(place) {
         Kind::Pno => write_forward(alloc, out, plan.points(place)),
         Kind::Par => write_arc(alloc, out, plan.points(place), labels.turned(place)),
         Kind::Pfe | Kind::Fea => Ok(()),
-        Kind::Lnk => write_link(alloc, out, plan, labels, plan.ends(place)),
+        Kind::Lnk => write_link(alloc, out, plan, labels, place),
     }
 }
 

@@ -8,10 +8,10 @@ use Rattle.edicad.specs.Requests.{edicad}
 abbrev pub words_in : Text → List Text
 words_in line = slice_split (λ x. x == 32) line
 
--- the subcommand of a line, with the values of the option and of the four files
+-- the subcommand of a line, with the values of the option and of the files
 abbrev pub values_of : Text → Option (Text × List (Option Text))
 values_of line = option_map (λ met. (
   met.0,
   map (λ id. first_of id met.1)
-      (codes "kinds" ∷ codes "SCD" ∷ codes "DIC" ∷ codes "VEC" ∷ codes "OUT" ∷ []),
+      (codes "kinds" ∷ codes "SCD" ∷ codes "DIC" ∷ codes "VEC" ∷ codes "OUT" ∷ codes "A" ∷ codes "B" ∷ []),
 )) (subcommand_of edicad (words_in line))

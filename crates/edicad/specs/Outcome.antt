@@ -1,6 +1,6 @@
 -- The line and the status of each outcome.
 use Rattle.std.specs.Prelude.{ℕ, ◌-◌, ◌<◌, List, [], ◌∷◌, ◌++◌, length, codes, ⊤, map, zero, suc, ◌==◌, if◌then◌else◌}
-use Rattle.std.proofs.Common.{Bor}
+use Rattle.std.proofs.Common.{Bor, Result, Ok, Err}
 use Rattle.std.specs.Fmt.{decimal}
 use Rattle.edi_schema.specs.declared.fault.Source.{Source}
 use Rattle.edi_schema.specs.declared.fault.Source.TheVariants.{Scd, Dic}
@@ -8,6 +8,8 @@ use Rattle.edi_schema.specs.declared.fault.SchemaFault.{SchemaFault}
 use Rattle.edi_schema.specs.declared.fault.SchemaFault.TheVariants as schema
 use Rattle.edi_compare.specs.declared.fault.Fault.{Fault as SheetFault}
 use Rattle.edi_compare.specs.declared.fault.Fault.TheVariants as sheet
+use Rattle.edi_compare.specs.declared.pairing.Verdict.{Verdict}
+use Rattle.edi_compare.specs.declared.pairing.Verdict.TheVariants as verdict
 use Rattle.edi_compare.specs.declared.fault.RunFault.{RunFault}
 use Rattle.edi_compare.specs.declared.fault.RunFault.TheVariants.{Memory, Read, TooLong, Schema, First, Second, Write}
 use Rattle.edicad.specs.declared.outcome.Outcome.{Outcome}
@@ -106,3 +108,9 @@ HasNames Accepted names = ⊤
 HasNames Same names = ⊤
 HasNames (Different line) names = ⊤
 HasNames (Fault fault) names = FaultHasNames fault (length names)
+
+-- what a comparison came to
+abbrev pub outcome_for : Result Verdict RunFault → Outcome
+outcome_for (Ok (verdict.Same pairing)) = Same
+outcome_for (Ok (verdict.Different line)) = Different line
+outcome_for (Err fault) = Fault fault

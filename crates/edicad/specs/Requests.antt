@@ -6,7 +6,8 @@ use Rattle.clap.specs.declared.error.kind.ErrorKind.{ErrorKind}
 use Rattle.clap.specs.declared.error.kind.ErrorKind.TheVariants.{OutOfMemory, DisplayHelp, DisplayVersion}
 use Rattle.edi_schema.specs.Roles.{KindCodes, AreKindCodes}
 use Rattle.edicad.specs.declared.words.Request.{Request}
-use Rattle.edicad.specs.declared.words.Request.TheVariants.{Bundle, Check, Canon, Answered}
+use Rattle.edicad.specs.declared.words.Request.TheVariants.{Bundle, Check, Canon, Compare, Answered}
+use Rattle.edicad.specs.declared.words.PairFiles.{PairFiles}
 use Rattle.edicad.specs.declared.words.SheetFiles.{SheetFiles}
 
 -- the option with the codes, which has one value
@@ -17,15 +18,22 @@ kinds_rule = record (new_rule (codes "kinds")) { long = Some (codes "kinds"); va
 abbrev pub file_rule : Text → Rule
 file_rule id = record (new_rule id) { required = true }
 
--- a subcommand over the files of a sheet
-abbrev pub sheet_command : Text → App
-sheet_command name = with_rule (with_rule (with_rule (with_rule (new_app name) kinds_rule)
-    (file_rule (codes "SCD"))) (file_rule (codes "DIC"))) (file_rule (codes "VEC"))
+-- a subcommand over the files of a schema
+abbrev pub schema_command : Text → App
+schema_command name = with_rule (with_rule (with_rule (new_app name) kinds_rule) (file_rule (codes "SCD"))) (file_rule (codes "DIC"))
 
--- the command, with its subcommands check and canon
+-- the subcommands: over a sheet, over a sheet and where its canonical file goes, over two sheets
+abbrev pub check_command : App
+check_command = with_rule (schema_command (codes "check")) (file_rule (codes "VEC"))
+
+abbrev pub canon_command : App
+canon_command = with_rule (with_rule (schema_command (codes "canon")) (file_rule (codes "VEC"))) (file_rule (codes "OUT"))
+
+abbrev pub compare_command : App
+compare_command = with_rule (with_rule (schema_command (codes "compare")) (file_rule (codes "A"))) (file_rule (codes "B"))
+
 abbrev pub edicad : App
-edicad = with_subcommand (with_subcommand (new_app (codes "edicad")) (sheet_command (codes "check")).top)
-    (with_rule (sheet_command (codes "canon")) (file_rule (codes "OUT"))).top
+edicad = with_subcommand (with_subcommand (with_subcommand (new_app (codes "edicad")) check_command.top) canon_command.top) compare_command.top
 
 -- IND, FND, LPO and RPO
 abbrev pub usual_kinds : KindCodes
@@ -45,27 +53,38 @@ AreKindsOf None k = k ≡ usual_kinds
 abbrev pub value_at : Text → List Row → List ℕ
 value_at id rows = unwrap_or (first_of id rows) []
 
--- the codes and the files that the arguments name
-pub record AreGiven (rows : List Row) (k : KindCodes) (files : SheetFiles) : Type 0 where
-  pub kinds : AreKindsOf (first_of (codes "kinds") rows) k
+-- the arguments give these codes
+abbrev pub GiveKinds : List Row → KindCodes → Type 0
+GiveKinds rows k = AreKindsOf (first_of (codes "kinds") rows) k
+
+-- the arguments name the files of a sheet
+pub record AreSheetFiles (rows : List Row) (files : SheetFiles) : Type 0 where
   pub scd : files.scd.now ≡ value_at (codes "SCD") rows
   pub dic : files.dic.now ≡ value_at (codes "DIC") rows
   pub vec : files.vec.now ≡ value_at (codes "VEC") rows
 
+-- the arguments name the files of two sheets
+pub record ArePairFiles (rows : List Row) (files : PairFiles) : Type 0 where
+  pub scd : files.scd.now ≡ value_at (codes "SCD") rows
+  pub dic : files.dic.now ≡ value_at (codes "DIC") rows
+  pub first : files.first.now ≡ value_at (codes "A") rows
+  pub second : files.second.now ≡ value_at (codes "B") rows
+
 -- the arguments name no good codes
 abbrev pub HasBadKinds : List Row → Type 0
-HasBadKinds rows = (k : KindCodes) → ¬ AreKindsOf (first_of (codes "kinds") rows) k
+HasBadKinds rows = (k : KindCodes) → ¬ GiveKinds rows k
 
--- the subcommand is check or canon
+-- the subcommand is check, canon or compare
 abbrev pub IsOwn : Option (Text × List Row) → Type 0
-IsOwn met = IfSome met (λ p. (p.0 ≡ codes "check") ⊎ (p.0 ≡ codes "canon"))
+IsOwn met = IfSome met (λ p. (p.0 ≡ codes "check") ⊎ ((p.0 ≡ codes "canon") ⊎ (p.0 ≡ codes "compare")))
 
 -- what the subcommand and its arguments ask for
 abbrev pub Means : Option (Text × List Row) → Request → Type 0
 Means met Bundle = met ≡ None
-Means met (Check kinds files) = (rows : List Row) × (met ≡ Some (codes "check", rows)) × AreGiven rows kinds files
-Means met (Canon kinds files out) = (rows : List Row) × (met ≡ Some (codes "canon", rows)) × AreGiven rows kinds files
+Means met (Check kinds files) = (rows : List Row) × (met ≡ Some (codes "check", rows)) × GiveKinds rows kinds × AreSheetFiles rows files
+Means met (Canon kinds files out) = (rows : List Row) × (met ≡ Some (codes "canon", rows)) × GiveKinds rows kinds × AreSheetFiles rows files
     × (out.now ≡ value_at (codes "OUT") rows)
+Means met (Compare kinds files) = (rows : List Row) × (met ≡ Some (codes "compare", rows)) × GiveKinds rows kinds × ArePairFiles rows files
 Means met (Answered status) = (name : Text) × (rows : List Row) × (met ≡ Some (name, rows)) × HasBadKinds rows × (status ≡ 3)
 
 -- 5 without memory, 0 where help was asked for, and else 3

@@ -1,14 +1,16 @@
 //! What the program does with its words.
 ghost use Rattle.std.specs.Prelude.{◌≡◌, ℕ, List, Option, map, string_bytes};
 ghost use Rattle.std.specs.Io.KnownBytes.{Appends};
+ghost use Rattle.edicad.specs.Outcome.{outcome_for};
 ghost use Rattle.edicad.specs.Requests.{IsAsked};
-ghost use Rattle.edicad.specs.Statuses.{IsAnswered, IsBundleStatus, IsCanonStatus, IsFileStatus, IsStatus};
+ghost use Rattle.edicad.specs.Statuses.{IsAnswered, IsBundleStatus, IsCanonStatus, IsCompareStatus, IsFileStatus, IsStatus};
 ghost use Rattle.edicad.specs.declared.words.Request.{Request};
 
 use crate::outcome::Outcome;
 use crate::system::{Disk, Errors, Folder};
-use crate::words::{Request, SheetFiles, asked};
+use crate::words::{PairFiles, Request, SheetFiles, asked};
 use crate::{report, sheets};
+use edi_compare::{RunFault, Verdict};
 use edi_line::{ByteIn, ByteOut, FromRead, ToWrite};
 use edi_schema::Kinds;
 use std::alloc::Global;
@@ -89,6 +91,7 @@ pub fn answered<F: Folder, I: ByteIn, O: ByteOut, E: ByteOut>(
             files,
             out: path,
         } => canon(alloc, folder, &kinds, &files, path, out, err),
+        Request::Compare { kinds, files } => compare(alloc, folder, &kinds, &files, out, err),
         Request::Answered(status) => status,
     }
 }
@@ -160,5 +163,38 @@ fn canon<F: Folder, O: ByteOut, E: ByteOut>(
     match sheets::canon(alloc, folder, kinds, files, path) {
         Ok(()) => report::told(alloc, out, err, &Outcome::Accepted, &names),
         Err(fault) => report::told(alloc, out, err, &Outcome::Fault(fault), &names),
+    }
+}
+
+// Whether two sheets state the same plan.
+fn compare<F: Folder, O: ByteOut, E: ByteOut>(
+    alloc: Global,
+    folder: &F,
+    kinds: &Kinds<'_>,
+    files: &PairFiles<'_>,
+    out: &mut O,
+    err: &mut E,
+) -> u8
+    ensures { IsCompareStatus (F.holds folder.now) (O.told out.old) (O.told out.new) kinds.now files.now result }
+{
+    let names = [
+        files.scd.as_bytes(),
+        files.dic.as_bytes(),
+        files.first.as_bytes(),
+        files.second.as_bytes(),
+        b"standard output",
+    ];
+    let outcome = outcome_of(sheets::compare(alloc, folder, kinds, files));
+    report::told(alloc, out, err, &outcome, &names)
+}
+
+// What a comparison came to.
+fn outcome_of(compared: Result<Verdict, RunFault>) -> Outcome
+    ensures { result ≡ outcome_for compared }
+{
+    match compared {
+        Ok(Verdict::Same(_)) => Outcome::Same,
+        Ok(Verdict::Different { line }) => Outcome::Different(line),
+        Err(fault) => Outcome::Fault(fault),
     }
 }

@@ -9,12 +9,15 @@ ghost use Rattle.edicad.specs.Known.{values_of, words_in};
 pub fn known_words_are_asked()
     ensures bundle { subcommand_of edicad (words_in (codes "edicad")) ≡ None }
     ensures check { values_of (codes "edicad check s d v")
-        ≡ Some (codes "check", None ∷ Some (codes "s") ∷ Some (codes "d") ∷ Some (codes "v") ∷ None ∷ []) }
+        ≡ Some (codes "check", None ∷ Some (codes "s") ∷ Some (codes "d") ∷ Some (codes "v") ∷ None ∷ None ∷ None ∷ []) }
     ensures canon { values_of (codes "edicad canon s --kinds=A,B,C,D d v o")
-        ≡ Some (codes "canon", Some (codes "A,B,C,D") ∷ Some (codes "s") ∷ Some (codes "d") ∷ Some (codes "v") ∷ Some (codes "o") ∷ []) }
+        ≡ Some (codes "canon", Some (codes "A,B,C,D") ∷ Some (codes "s") ∷ Some (codes "d") ∷ Some (codes "v") ∷ Some (codes "o") ∷ None ∷ None ∷ []) }
+    ensures compare { values_of (codes "edicad compare s d a b")
+        ≡ Some (codes "compare", None ∷ Some (codes "s") ∷ Some (codes "d") ∷ None ∷ None ∷ Some (codes "a") ∷ Some (codes "b") ∷ []) }
     ensures no_bundle_fault { fault_of edicad (words_in (codes "edicad")) ≡ [] }
     ensures no_check_fault { fault_of edicad (words_in (codes "edicad check s d v")) ≡ [] }
     ensures no_canon_fault { fault_of edicad (words_in (codes "edicad canon s --kinds=A,B,C,D d v o")) ≡ [] }
+    ensures no_compare_fault { fault_of edicad (words_in (codes "edicad compare s d a b")) ≡ [] }
     ensures help { fault_of edicad (words_in (codes "edicad --help")) ≡ DisplayHelp ∷ [] }
     ensures lacking { fault_of edicad (words_in (codes "edicad canon s d v")) ≡ MissingRequiredArgument ∷ [] }
     ensures unknown { fault_of edicad (words_in (codes "edicad paint")) ≡ UnknownArgument ∷ InvalidSubcommand ∷ [] }

@@ -2,14 +2,14 @@
 ghost use Rattle.std.specs.Prelude.{◌≡◌, ℕ, List, Option, OnOk, IfOk, IfErr, IfSome, IsTrue};
 ghost use Rattle.std.specs.Io.KnownBytes.{Appends};
 ghost use Rattle.edi_compare.specs.Bundle.{OfParts};
-ghost use Rattle.edi_compare.specs.Runs.{BeforeWriting, InputFault, IsCanonOf, IsSheetUnder, WritesAll, WritesFirst};
+ghost use Rattle.edi_compare.specs.Runs.{BeforeWriting, InputFault, IsCanonOf, IsSheetUnder, IsVerdictOf, WritesAll, WritesFirst};
 ghost use Rattle.edicad.specs.Outcome.{FaultHasNames};
 ghost use Rattle.edicad.specs.Requests.{usual_kinds};
-ghost use Rattle.edicad.specs.SheetRuns.{FileFault, OfFiles, SendsCanon, SentFirst};
+ghost use Rattle.edicad.specs.SheetRuns.{FileFault, OfFiles, OfPair, PairFileFault, SendsCanon, SentFirst};
 
 use crate::system::Folder;
-use crate::words::SheetFiles;
-use edi_compare::{RunFault, canon_of, run_bundle, run_check};
+use crate::words::{PairFiles, SheetFiles};
+use edi_compare::{RunFault, Verdict, canon_of, run_bundle, run_check, run_compare};
 use edi_line::{ByteIn, ByteOut};
 use edi_schema::Kinds;
 use edi_write::{Written, put_all};
@@ -70,6 +70,24 @@ pub fn canon<F: Folder>(
         },
         None => Err(RunFault::Write(Written { count: 0 })),
     }
+}
+
+/// Whether the two sheets of four files state the same plan. All are opened before the first is read.
+pub fn compare<F: Folder>(
+    alloc: Global,
+    folder: &F,
+    kinds: &Kinds<'_>,
+    files: &PairFiles<'_>,
+) -> Result<Verdict, RunFault>
+    ensures ok { IfOk result (λ verdict. OfPair (F.holds folder.now) files.now (λ s d a b. IsVerdictOf kinds.now s d a b verdict)) }
+    ensures err { IfErr result (PairFileFault (F.holds folder.now) kinds.now files.now) }
+    ensures names { IfErr result (λ e. FaultHasNames e 5) }
+{
+    let mut scd = opened(folder, files.scd, 1)?;
+    let mut dic = opened(folder, files.dic, 2)?;
+    let mut first = opened(folder, files.first, 3)?;
+    let mut second = opened(folder, files.second, 4)?;
+    run_compare(alloc, kinds, &mut scd, &mut dic, &mut first, &mut second)
 }
 
 // The canonical file of the sheet of three files.

@@ -231,3 +231,43 @@ fn writes_an_accepted_sheet_alone(rt: HostRuntime) -> Result<(), Fail> {
     fs::remove_dir_all(&rt, "edicad_written")?;
     Ok(())
 }
+
+// The same plan under another name, and another plan.
+const RENAMED: &str =
+    "BOMT 12:EDAB01T1.VEC\nRTYSA03:PNO\nRIDSA01:X\nSCPCP22:EDAB01;SeSD;PGE;NOD_id\nCORCC09:10.5;20.0\nEOMT 00:\n";
+
+const MOVED: &str =
+    "BOMT 12:EDAB01T1.VEC\nRTYSA03:PNO\nRIDSA01:X\nSCPCP22:EDAB01;SeSD;PGE;NOD_id\nCORCC09:10.5;20.1\nEOMT 00:\n";
+
+// The status of a comparison of two files of the folder.
+fn compared(rt: &HostRuntime, first: &str, second: &str) -> Result<u8, Fail> {
+    let line = format!(in rt.alloc();
+        "edicad compare edicad_pair/s edicad_pair/d edicad_pair/{first} edicad_pair/{second}"
+    )?;
+    status(rt, &line)
+}
+
+// Two sheets are the same or different, and each can be refused or missing.
+#[test]
+fn compares_two_sheets(rt: HostRuntime) -> Result<(), Fail> {
+    fs::create_dir_all(&rt, "edicad_pair")?;
+    for (name, text) in [
+        ("s", PLACES),
+        ("d", WORDS),
+        ("v", SHEET),
+        ("renamed", RENAMED),
+        ("moved", MOVED),
+        ("empty", ""),
+    ] {
+        let path = format!(in rt.alloc(); "edicad_pair/{name}")?;
+        fs::write(&rt, &path, text)?;
+    }
+    assert_eq!(rt; compared(&rt, "v", "renamed")?, 0);
+    assert_eq!(rt; compared(&rt, "v", "moved")?, 1);
+    assert_eq!(rt; compared(&rt, "empty", "v")?, 2);
+    assert_eq!(rt; compared(&rt, "v", "empty")?, 2);
+    assert_eq!(rt; compared(&rt, "v", "absent")?, 4);
+    assert_eq!(rt; status(&rt, "edicad compare s d a")?, 3);
+    fs::remove_dir_all(&rt, "edicad_pair")?;
+    Ok(())
+}

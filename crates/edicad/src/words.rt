@@ -1,8 +1,8 @@
 //! What the words of the command line ask for.
 ghost use Rattle.std.specs.Prelude.{◌≡◌, IfErr, IfOk, MatchOption, OnOk, [], map, option_map, string_bytes};
-ghost use Rattle.clap.specs.Words.{HasKind, app_of, fault_of, found_of, kind_of, rows_of, rule_of, subcommand_of, subcommand_rows_of};
+ghost use Rattle.clap.specs.Words.{HasKind, app_of, fault_of, found_of, kind_of, rows_of, rule_of, subcommand_of, subcommand_rows_of, with_rule};
 ghost use Rattle.edi_schema.specs.Roles.{KindCodes};
-ghost use Rattle.edicad.specs.Requests.{AreKindsIn, AreKindsOf, IsAsked, IsOwn, Means, edicad, file_rule, kinds_rule, sheet_command, status_of_kind, value_at};
+ghost use Rattle.edicad.specs.Requests.{AreKindsIn, AreKindsOf, ArePairFiles, AreSheetFiles, IsAsked, IsOwn, Means, canon_command, check_command, compare_command, edicad, file_rule, kinds_rule, schema_command, status_of_kind, value_at};
 
 use crate::report;
 use crate::system::Errors;
@@ -13,12 +13,23 @@ use std::alloc::{AllocError, Global};
 
 const USAGE_STATUS: u8 = 3;
 
+const SHEET: &str = "The sheet: nodes, arcs, faces, objects and links, as a file of type VEC";
+
 /// The files of a sheet: of classes, of words, and the sheet's own.
 #[derive(Clone, Copy, Debug)]
 pub struct SheetFiles<'a> {
     pub scd: &'a str,
     pub dic: &'a str,
     pub vec: &'a str,
+}
+
+/// The files of two sheets: of classes, of words, and each sheet's own.
+#[derive(Clone, Copy, Debug)]
+pub struct PairFiles<'a> {
+    pub scd: &'a str,
+    pub dic: &'a str,
+    pub first: &'a str,
+    pub second: &'a str,
 }
 
 /// What is asked for.
@@ -36,6 +47,11 @@ pub enum Request<'a> {
         kinds: Kinds<'a>,
         files: SheetFiles<'a>,
         out: &'a str,
+    },
+    /// Whether two sheets state the same plan.
+    Compare {
+        kinds: Kinds<'a>,
+        files: PairFiles<'a>,
     },
     /// Nothing more: the words were answered on standard error, and this is the exit status.
     Answered(u8),
@@ -64,51 +80,98 @@ fn parsed<'a>(alloc: Global, words: &'a [String]) -> Result<ArgMatches<'a>, Erro
 fn command<'a>(alloc: Global) -> Result<Command<'a>, AllocError>
     ensures { IfOk result (λ c. app_of c ≡ edicad) }
 {
-    let out = file(
-        alloc,
-        "OUT",
-        "Where the canonical file goes: made or emptied once the sheet is accepted",
-    );
     Command::new(alloc, "edicad")
         .about(
-            "Checks EDIGeO sheets of the cadastral plan and writes their canonical files, which are equal exactly if two sheets state the same plan. Without a subcommand, reads SCD, DIC and VEC one after the other from standard input, and writes the canonical file to standard output. Exit status: 0 accepted, 2 refused (the first broken rule is printed, with its line or record), 3 words that can't be read, 4 a file that can't be read or written, 5 out of memory.",
+            "Checks EDIGeO sheets of the cadastral plan, writes their canonical files, which are equal exactly if two sheets state the same plan, and compares two sheets. Without a subcommand, reads SCD, DIC and VEC one after the other from standard input, and writes the canonical file to standard output. Exit status: 0 accepted or the same, 1 different, 2 refused (the first broken rule is printed, with its line or record), 3 words that can't be read, 4 a file that can't be read or written, 5 out of memory.",
         )
-        .subcommand(over_files(alloc, "check")?.about(
-            "Tells whether a sheet breaks no rule: prints accepted with status 0, or the first broken rule, with its line or record, with status 2. Other statuses: 3 words that can't be read, 4 a file that can't be read, 5 out of memory",
-        ))?
-        .subcommand(
-            over_files(alloc, "canon")?
-                .about(
-                    "Writes the canonical file of a sheet to OUT: the same plan, with its records renamed, turned and put in order. Prints accepted with status 0, or the first broken rule, with its line or record, with status 2; OUT is then left as it is. Other statuses: 3 words that can't be read, 4 a file that can't be read or written, 5 out of memory",
-                )
-                .arg(out)?,
-        )
+        .subcommand(check(alloc)?)?
+        .subcommand(canon(alloc)?)?
+        .subcommand(compare(alloc)?)
 }
 
-// A subcommand over the files of a sheet.
-fn over_files<'a>(alloc: Global, name: &'a str) -> Result<Command<'a>, AllocError>
-    ensures { IfOk result (λ c. app_of c ≡ sheet_command name.entry.now) }
+// The subcommand that checks a sheet.
+fn check<'a>(alloc: Global) -> Result<Command<'a>, AllocError>
+    ensures { IfOk result (λ c. app_of c ≡ check_command) }
 {
-    let scd = file(
+    let over_schema = over_schema(alloc, "check")?.about(
+        "Tells whether a sheet breaks no rule: prints accepted with status 0, or the first broken rule, with its line or record, with status 2. Other statuses: 3 words that can't be read, 4 a file that can't be read, 5 out of memory",
+    );
+    with_file(alloc, over_schema, "VEC", SHEET)
+}
+
+// The subcommand that writes a sheet's canonical file.
+fn canon<'a>(alloc: Global) -> Result<Command<'a>, AllocError>
+    ensures { IfOk result (λ c. app_of c ≡ canon_command) }
+{
+    let over_schema = over_schema(alloc, "canon")?.about(
+        "Writes the canonical file of a sheet to OUT: the same plan, with its records renamed, turned and put in order. Prints accepted with status 0, or the first broken rule, with its line or record, with status 2; OUT is then left as it is. Other statuses: 3 words that can't be read, 4 a file that can't be read or written, 5 out of memory",
+    );
+    let over_sheet = with_file(alloc, over_schema, "VEC", SHEET)?;
+    with_file(
         alloc,
+        over_sheet,
+        "OUT",
+        "Where the canonical file goes: made or emptied once the sheet is accepted",
+    )
+}
+
+// The subcommand that compares two sheets.
+fn compare<'a>(alloc: Global) -> Result<Command<'a>, AllocError>
+    ensures { IfOk result (λ c. app_of c ≡ compare_command) }
+{
+    let over_schema = over_schema(alloc, "compare")?.about(
+        "Tells whether two sheets state the same plan, up to the names of their records, the order of what has none and the direction of arcs. Prints same with status 0; different with status 1, and the first line in which their canonical files differ; or, with status 2, the first broken rule of A, or else of B, with its line or record. Other statuses: 3 words that can't be read, 4 a file that can't be read, 5 out of memory",
+    );
+    let over_sheet = with_file(
+        alloc,
+        over_schema,
+        "A",
+        "The one sheet, as a file of type VEC",
+    )?;
+    with_file(
+        alloc,
+        over_sheet,
+        "B",
+        "The other sheet, as a file of type VEC",
+    )
+}
+
+// A subcommand over the files of a schema.
+fn over_schema<'a>(alloc: Global, name: &'a str) -> Result<Command<'a>, AllocError>
+    ensures { IfOk result (λ c. app_of c ≡ schema_command name.entry.now) }
+{
+    let with_kinds = Command::new(alloc, name).arg(kinds_option(alloc))?;
+    let with_scd = with_file(
+        alloc,
+        with_kinds,
         "SCD",
         "The schema of the delivery: its classes, as a file of type SCD",
-    );
-    let dic = file(
+    )?;
+    with_file(
         alloc,
+        with_scd,
         "DIC",
         "The dictionary of the delivery, as a file of type DIC",
-    );
-    let vec = file(
-        alloc,
-        "VEC",
-        "The sheet: nodes, arcs, faces, objects and links, as a file of type VEC",
-    );
-    Command::new(alloc, name)
-        .arg(kinds_option(alloc))?
-        .arg(scd)?
-        .arg(dic)?
-        .arg(vec)
+    )
+}
+
+// A command with one more file, which has to be named.
+fn with_file<'a>(
+    alloc: Global,
+    command: Command<'a>,
+    id: &'a str,
+    help: &'a str,
+) -> Result<Command<'a>, AllocError>
+    ensures { IfOk result (λ c. app_of c ≡ with_rule (app_of command.entry) (file_rule id.entry.now)) }
+{
+    command.arg(file(alloc, id, help))
+}
+
+// A file that has to be named.
+fn file<'a>(alloc: Global, id: &'a str, help: &'a str) -> Arg<'a>
+    ensures { rule_of result ≡ file_rule id.entry.now }
+{
+    Arg::new(alloc, id).required(true).help(help)
 }
 
 // The option with the codes of the kinds.
@@ -123,13 +186,6 @@ fn kinds_option<'a>(alloc: Global) -> Arg<'a>
         )
 }
 
-// A file that has to be named.
-fn file<'a>(alloc: Global, id: &'a str, help: &'a str) -> Arg<'a>
-    ensures { rule_of result ≡ file_rule id.entry.now }
-{
-    Arg::new(alloc, id).required(true).help(help)
-}
-
 // What words in good form ask for.
 fn meant<'a, R: Eprint>(rt: &R, matches: &ArgMatches<'a>) -> Request<'a>
     requires { IsOwn (subcommand_rows_of matches.now) }
@@ -142,18 +198,43 @@ fn meant<'a, R: Eprint>(rt: &R, matches: &ArgMatches<'a>) -> Request<'a>
         let _ = rt.eprint("bad kinds\n");
         return Request::Answered(USAGE_STATUS);
     };
-    let files = SheetFiles {
+    match name {
+        "check" => Request::Check {
+            kinds,
+            files: sheet_files(given),
+        },
+        "canon" => Request::Canon {
+            kinds,
+            files: sheet_files(given),
+            out: path(given, "OUT"),
+        },
+        _ => Request::Compare {
+            kinds,
+            files: pair_files(given),
+        },
+    }
+}
+
+// The files of a sheet, as the arguments name them.
+fn sheet_files<'a>(given: &ArgMatches<'a>) -> SheetFiles<'a>
+    ensures { AreSheetFiles (rows_of (found_of given.now)) result }
+{
+    SheetFiles {
         scd: path(given, "SCD"),
         dic: path(given, "DIC"),
         vec: path(given, "VEC"),
-    };
-    match name {
-        "check" => Request::Check { kinds, files },
-        _ => Request::Canon {
-            kinds,
-            files,
-            out: path(given, "OUT"),
-        },
+    }
+}
+
+// The files of two sheets, as the arguments name them.
+fn pair_files<'a>(given: &ArgMatches<'a>) -> PairFiles<'a>
+    ensures { ArePairFiles (rows_of (found_of given.now)) result }
+{
+    PairFiles {
+        scd: path(given, "SCD"),
+        dic: path(given, "DIC"),
+        first: path(given, "A"),
+        second: path(given, "B"),
     }
 }
 

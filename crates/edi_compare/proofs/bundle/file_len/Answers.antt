@@ -1,6 +1,5 @@
-use Rattle.std.proofs.Common.{◌≡◌, ◌≤◌, ◌<◌, ◌+◌, ◌-◌, length, take, drop, arith, ◌∙◌, sym, ap}
+use Rattle.std.proofs.Common.{◌≤◌, ◌+◌, length, drop, arith, ◌∙◌, sym}
 use Rattle.std.proofs.lemmas.List.{take_rest, length-drop, length-take-le}
-use Rattle.edi_compare.specs.Bundle.{first_file, later_files, is_last_line}
 use Rattle.edi_compare.proofs.Cuts.{first_file_ends, first_file_goes}
 use Rattle.edi_compare.proofs.bundle.file_len.Goals as goal
 

@@ -1,32 +1,35 @@
-use Rattle.std.proofs.Common.{◌∙◌, ◌+◌, ◌-◌, length, take, drop, sym, ap, arith, codes}
+use Rattle.std.proofs.Common.{◌≡◌, ◌∙◌, ◌+◌, length, drop, sym, ap, arith, length-drop}
+use Rattle.std.proofs.lemmas.List.{drop-drop}
 use Rattle.edi_line.specs.Entry.{entry, entries}
-use Rattle.edi_record.specs.Records.{values}
-use Rattle.edi_record.proofs.AttributesRead.{cut_first, nothing_left}
-use Rattle.edi_record.proofs.GroupCuts.{one_type}
-use Rattle.edi_record.proofs.ListRead.{one_more_of, refusal_at, all_unbroken, few_in_all}
+use Rattle.edi_line.specs.Zones.{groups_of}
+use Rattle.edi_record.proofs.ListRead.{one_more, moved, refusal_at, all_unbroken, few_in_all}
+use Rattle.edi_record.proofs.Loops.{no_zone}
 use Rattle.edi_record.proofs.reading.list_of.Goals as goal
 
-pub record_of-requires : goal.record_of-requires
-record_of-requires c =
-    let behind = (entries (take (length c.loop-rest.rest.now - 1) (drop 1 c.loop-rest.rest.now))) in
-    record { one_type = ap (λ es. length (values (codes "RTY") es)) (c.group_at.ensures (entry c.zone-item.result) behind (cut_first c.loop-rest.rest.now _ c.zone-item.result c.in-len1-up.len_at_least c.zone-item.is)) ∙ one_type (entry c.zone-item.result) behind (sym c.eq.ensures ∙ c.if-eq.true) }
+pub loop-zone-preserved-in-Ok : goal.loop-zone-preserved-in-Ok
+loop-zone-preserved-in-Ok c =
+    let zones = entries c.args.zones.now in
+    let zone = entry c.in-Some.zone.now in
+    let behind = c.in-Some.behind.now in
+    let here = c.in-Some.ensures in
+    let long = ap length here.2 in
+    let left : drop c.in-Ok.own behind ≡ drop (c.loop-zone.at + 1 + c.in-Ok.own) c.args.zones.now = ap (drop c.in-Ok.own) here.2 ∙ drop-drop c.in-Ok.own (c.loop-zone.at + 1) c.args.zones.now in
+    record {
+      within = omega (arith, c.in-Ok.ensures.within, long, length-drop (c.loop-zone.at + 1) c.args.zones.now, here.0);
+      so_far =
+          moved zones (entries behind) (entries (drop (c.loop-zone.at + 1 + c.in-Ok.own) c.args.zones.now)) c.push.new.self.items
+          (one_more zones (entries (drop c.loop-zone.at c.args.zones.now)) c.loop-zone.list.items c.push.new.self.items zone (entries behind) c.in-Ok.record c.loop-zone.invariant.so_far here.1 (sym c.eq.ensures ∙ c.if-eq.true)
+          c.in-Ok.ensures.states c.in-Ok.ensures.shape c.in-Ok.ensures.sound c.in_ok-push-in-Ok.ensures.items)
+          (ap (λ zs. groups_of (entries zs)) (sym left) ∙ c.in-Ok.ensures.left);
+    }
 
 pub returns-in-Err-clause-least : goal.returns-in-Err-clause-least
 returns-in-Err-clause-least c =
-    let behind = (entries (take (length c.loop-rest.rest.now - 1) (drop 1 c.loop-rest.rest.now))) in
-    let cut = cut_first c.loop-rest.rest.now _ c.zone-item.result c.in-len1-up.len_at_least c.zone-item.is in
-    refusal_at (entries c.args.zones.now) (entries c.loop-rest.rest.now) c.loop-rest.list.items (entry c.zone-item.result) behind (entries c.group_at.result.now) c.in-Err.fault (c.len.result + 1) c.at.result
-    c.loop-rest.invariant cut (sym c.eq.ensures ∙ c.if-eq.true) (c.group_at.ensures (entry c.zone-item.result) behind cut) (omega (arith, c.len.ensures, c.loop-rest.list.ok.0)) c.at.ensures c.in-Err.ensures.least
-
-pub loop-rest-preserved-in_ok-push-in-Ok : goal.loop-rest-preserved-in_ok-push-in-Ok
-loop-rest-preserved-in_ok-push-in-Ok c =
-    let behind = (entries (take (length c.loop-rest.rest.now - 1) (drop 1 c.loop-rest.rest.now))) in
-    let cut = cut_first c.loop-rest.rest.now _ c.zone-item.result c.in-len1-up.len_at_least c.zone-item.is in
-    one_more_of (entries c.args.zones.now) (entries c.loop-rest.rest.now) c.loop-rest.list.items _ (entry c.zone-item.result) behind (entries c.group_at.result.now) c.in-Ok.record
-    c.loop-rest.invariant cut (sym c.eq.ensures ∙ c.if-eq.true) (c.group_at.ensures (entry c.zone-item.result) behind cut) c.in-Ok.ensures.states c.in-Ok.ensures.shape c.in-Ok.ensures.sound c.in_ok-push-in-Ok.ensures.items
+    refusal_at (entries c.args.zones.now) (entries (drop c.loop-zone.at c.args.zones.now)) c.loop-zone.list.items (entry c.in-Some.zone.now) (entries c.in-Some.behind.now) c.in-Err.fault (c.len.result + 1) c.at.result c.loop-zone.invariant.so_far
+    c.in-Some.ensures.1 (sym c.eq.ensures ∙ c.if-eq.true) (omega (arith, c.len.ensures, c.loop-zone.list.ok.0)) c.at.ensures c.in-Err.ensures.least
 
 pub returns-clause-few : goal.returns-clause-few
-returns-clause-few c = few_in_all _ _ _ c.loop-rest.invariant (nothing_left c.loop-rest.rest.now c.in_default.len_below) c.requires.few
+returns-clause-few c = few_in_all _ _ _ c.loop-zone.invariant.so_far (no_zone c.args.zones.now c.loop-zone.at c.in_default.ensures) c.requires.few
 
 pub returns-clause-sound : goal.returns-clause-sound
-returns-clause-sound c = all_unbroken _ _ _ c.loop-rest.invariant (nothing_left c.loop-rest.rest.now c.in_default.len_below)
+returns-clause-sound c = all_unbroken _ _ _ c.loop-zone.invariant.so_far (no_zone c.args.zones.now c.loop-zone.at c.in_default.ensures)

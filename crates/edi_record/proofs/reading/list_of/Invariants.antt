@@ -1,10 +1,13 @@
-use Rattle.std.proofs.Common.{length}
+use Rattle.std.proofs.Common.{◌≤◌, ◌-◌, length, drop}
 use Rattle.edi_line.specs.Entry.{entries}
 use Rattle.edi_record.proofs.ListRead.{SoFar}
 use Rattle.edi_record.proofs.reading.list_of.Given as goal
 
-abbrev pub invariant-loop-rest : goal.invariant-loop-rest
-invariant-loop-rest l = SoFar (entries l.fn.zones) (entries l.rest) l.list.items
+abbrev pub invariant-loop-zone : goal.invariant-loop-zone
+invariant-loop-zone l = record {
+  within : l.at ≤ length l.zones;
+  so_far : SoFar (entries l.fn.zones) (entries (drop l.at l.zones)) l.list.items;
+}
 
-abbrev pub decreases-loop-rest : goal.decreases-loop-rest
-decreases-loop-rest l = length l.rest
+abbrev pub decreases-loop-zone : goal.decreases-loop-zone
+decreases-loop-zone l = length l.zones - l.at

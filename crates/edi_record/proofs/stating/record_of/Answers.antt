@@ -1,16 +1,75 @@
-use Rattle.std.proofs.Common.{◌∙◌, ◌∷◌, [], Some, map, sym, ap, codes}
-use Rattle.edi_line.specs.Entry.{entries}
-use Rattle.edi_record.specs.Records.{values}
-use Rattle.edi_record.proofs.Parts.{type_is}
+use Rattle.std.proofs.Common.{◌≡◌, ◌∙◌, ◌∷◌, [], ◌+◌, drop, inl, refl, sym, ap, subst, codes, arith, Some}
+use Rattle.std.proofs.lemmas.Slice.Eq.{bytes_eq-Decides}
+use Rattle.edi_line.specs.Entry.{entry, entries}
+use Rattle.edi_line.specs.Zones.{before_end, groups_of}
+use Rattle.edi_record.specs.RecordRules.{kind_in}
+use Rattle.edi_record.specs.RecordRefusal.{IsGroupRefusal}
+use Rattle.edi_record.specs.Kept.{KeepsRecord}
+use Rattle.edi_record.proofs.GroupCuts.{head_kind, one_type, goes_on, stops, no_group}
+use Rattle.edi_record.proofs.Loops.{next_zone, no_zone}
+use Rattle.edi_record.proofs.RecordKept.{skipped}
+use Rattle.edi_record.proofs.RecordMade.{err_kept}
 use Rattle.edi_record.proofs.stating.record_of.Goals as goal
+use Rattle.edi_record.proofs.stating.record_of.Goals.{else-loop-zone-test, then-loop-zone-test+then-ends_record}
+
+pub loop-zone-init : goal.loop-zone-init
+loop-zone-init c =
+    let head = entry c.args.head.now in
+    let left = before_end (entries c.args.behind.now) in
+    record {
+      own = refl;
+      kind = refl;
+      counted = omega (arith, c.in_ok-draft.ensures.counted);
+      keeps = skipped c.in_ok-draft.draft head left (head ∷ left) (inl ((bytes_eq-Decides head.code (codes "RTY")).0 c.requires)) (c.in_ok-draft.ensures.keeps (head ∷ left));
+      left = refl;
+    }
+
+pub loop-zone-preserved : goal.loop-zone-preserved
+loop-zone-preserved c =
+    let kept = c.loop-zone.invariant in
+    let zone = entry c.zone-item.result in
+    let group = entry c.args.head.now ∷ before_end (entries c.args.behind.now) in
+    let after = entries (drop (c.loop-zone.zone-index + 1) c.args.behind.now) in
+    let next = next_zone c.args.behind.now c.loop-zone.zone-index c.zone-item.result c.loop-zone-test.true c.zone-item.is in
+    let inner = sym c.ends_record.ensures ∙ c.if-ends_record.false in
+    record {
+      own = ap (λ n. n + 1) kept.own;
+      kind = c.in_ok-take.ensures.kind ∙ kept.kind;
+      counted = omega (arith, c.in_ok-take.ensures.counted, kept.counted);
+      keeps = c.in_ok-take.ensures.keeps (before_end after) group (subst (λ zs. KeepsRecord c.loop-zone.draft zs group) (ap before_end next ∙ goes_on zone after inner) kept.keeps);
+      left = sym (ap groups_of next ∙ no_group zone after inner) ∙ kept.left;
+    }
+
+pub returns-in_err-finish-clause-least : goal.returns-in_err-finish-clause-least
+returns-in_err-finish-clause-least c =
+    let head = entry c.args.head.now in
+    let group = head ∷ before_end (entries c.args.behind.now) in
+    let over : before_end (entries (drop c.loop-zone.zone-index c.args.behind.now)) ≡ [] = elim c.loop-zone-test.branch [
+      | else-loop-zone-test w ↦ ap before_end (no_zone c.args.behind.now c.loop-zone.zone-index w.loop-zone-test.false)
+      | then-loop-zone-test+then-ends_record w ↦ ap before_end (next_zone c.args.behind.now c.loop-zone.zone-index w.zone-item.result w.loop-zone-test.true w.zone-item.is) ∙ stops (entry w.zone-item.result) (entries (drop (c.loop-zone.zone-index + 1) c.args.behind.now)) (sym w.ends_record.ensures ∙ w.if-ends_record.true)
+    ] in
+    let kind : kind_in group ≡ Some c.loop-zone.draft.kind = head_kind head (before_end (entries c.args.behind.now)) c.as_slice.result.now c.in-Some.kind c.requires c.as_slice.ensures.value c.in-Some.ensures ∙ ap (λ k. Some k) (sym c.in_ok-draft.ensures.kind ∙ sym c.loop-zone.invariant.kind) in
+    err_kept _ c.in_err-finish.field-0.0 (IsGroupRefusal group) c.from_residual-in_err-finish.ensures.1
+    (c.in_err-finish.ensures.least group kind (subst (λ zs. KeepsRecord c.loop-zone.draft zs group) over c.loop-zone.invariant.keeps))
 
 pub returns-clause-states : goal.returns-clause-states
-returns-clause-states c = record {
-  type = type_is (values (codes "RTY") (entries c.args.group.now)) c.in-Some.kind c.requires.one_type (sym c.in-Some.ensures);
-  rid = c.in-Some-identifier_of.ensures.1 ∙ ap (λ t. t ∷ []) (sym c.in_ok-from_slice.ensures);
-  scp = c.in-Some-class_pointer.ensures.1 ∙ ap (λ n. Some n ∷ []) (sym c.in_ok-name.ensures);
-  points = c.in_ok-points.ensures.states ∙ ap (λ t. map Some t) (sym c.from_vec.ensures);
-  ends = c.in_ok-ends.ensures.states ∙ ap (λ t. map Some t) (sym c.from_vec-2.ensures);
-  attributes = c.in_ok-attributes.ensures.states ∙ ap (λ t. map Some t) (sym c.from_vec-3.ensures);
-  extras = c.in_ok-extras_of.ensures ∙ sym c.from_vec-4.ensures;
-}
+returns-clause-states c =
+    let head = entry c.args.head.now in
+    let group = head ∷ before_end (entries c.args.behind.now) in
+    let over : before_end (entries (drop c.loop-zone.zone-index c.args.behind.now)) ≡ [] = elim c.loop-zone-test.branch [
+      | else-loop-zone-test w ↦ ap before_end (no_zone c.args.behind.now c.loop-zone.zone-index w.loop-zone-test.false)
+      | then-loop-zone-test+then-ends_record w ↦ ap before_end (next_zone c.args.behind.now c.loop-zone.zone-index w.zone-item.result w.loop-zone-test.true w.zone-item.is) ∙ stops (entry w.zone-item.result) (entries (drop (c.loop-zone.zone-index + 1) c.args.behind.now)) (sym w.ends_record.ensures ∙ w.if-ends_record.true)
+    ] in
+    let kind : kind_in group ≡ Some c.loop-zone.draft.kind = head_kind head (before_end (entries c.args.behind.now)) c.as_slice.result.now c.in-Some.kind c.requires c.as_slice.ensures.value c.in-Some.ensures ∙ ap (λ k. Some k) (sym c.in_ok-draft.ensures.kind ∙ sym c.loop-zone.invariant.kind) in
+    c.in_ok-finish.ensures.states group (one_type head (entries c.args.behind.now) c.requires) kind (subst (λ zs. KeepsRecord c.loop-zone.draft zs group) over c.loop-zone.invariant.keeps)
+
+pub returns-clause-sound : goal.returns-clause-sound
+returns-clause-sound c =
+    let head = entry c.args.head.now in
+    let group = head ∷ before_end (entries c.args.behind.now) in
+    let over : before_end (entries (drop c.loop-zone.zone-index c.args.behind.now)) ≡ [] = elim c.loop-zone-test.branch [
+      | else-loop-zone-test w ↦ ap before_end (no_zone c.args.behind.now c.loop-zone.zone-index w.loop-zone-test.false)
+      | then-loop-zone-test+then-ends_record w ↦ ap before_end (next_zone c.args.behind.now c.loop-zone.zone-index w.zone-item.result w.loop-zone-test.true w.zone-item.is) ∙ stops (entry w.zone-item.result) (entries (drop (c.loop-zone.zone-index + 1) c.args.behind.now)) (sym w.ends_record.ensures ∙ w.if-ends_record.true)
+    ] in
+    let kind : kind_in group ≡ Some c.loop-zone.draft.kind = head_kind head (before_end (entries c.args.behind.now)) c.as_slice.result.now c.in-Some.kind c.requires c.as_slice.ensures.value c.in-Some.ensures ∙ ap (λ k. Some k) (sym c.in_ok-draft.ensures.kind ∙ sym c.loop-zone.invariant.kind) in
+    c.in_ok-finish.ensures.sound group kind (subst (λ zs. KeepsRecord c.loop-zone.draft zs group) over c.loop-zone.invariant.keeps)

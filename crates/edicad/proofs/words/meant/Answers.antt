@@ -28,12 +28,19 @@ returns-in-check g c =
     let rows = rows_of (found_of c.in-Some.given.now) in (
       rows,
       pair_of _ _ _ _ c.in-Some.ensures.name c.in-Some.ensures.rows ∙ ap (λ name. Some (name, rows)) c.in-check.is,
-      record {
-        kinds = subst (λ t. AreKindsOf t c.in-Some-kinds_of.kinds) text_is c.in-Some-kinds_of.ensures;
-        scd = c.path.ensures;
-        dic = c.path-2.ensures;
-        vec = c.path-3.ensures;
-      },
+      subst (λ t. AreKindsOf t c.in-Some-kinds_of.kinds) text_is c.in-Some-kinds_of.ensures,
+      c.sheet_files.ensures,
+    )
+
+pub returns-in-canon : goal.returns-in-canon
+returns-in-canon g c =
+    let text_is = c.get_str.ensures ∙ first_value-rows (found_of c.in-Some.given.now) _ in
+    let rows = rows_of (found_of c.in-Some.given.now) in (
+      rows,
+      pair_of _ _ _ _ c.in-Some.ensures.name c.in-Some.ensures.rows ∙ ap (λ name. Some (name, rows)) c.in-canon.is,
+      subst (λ t. AreKindsOf t c.in-Some-kinds_of.kinds) text_is c.in-Some-kinds_of.ensures,
+      c.sheet_files-in-canon.ensures,
+      c.path.ensures,
     )
 
 pub returns-in_default-name : goal.returns-in_default-name
@@ -42,14 +49,13 @@ returns-in_default-name g c =
     let rows = rows_of (found_of c.in-Some.given.now) in
     let met = pair_of _ _ _ _ c.in-Some.ensures.name c.in-Some.ensures.rows in
     let own = subst IsOwn met c.requires in
-    let name_is : c.in-Some.name.now ≡ codes "canon" = elim own [ inl e ↦ absurd (c.in_default-name.not-check e) | inr e ↦ e ] in (
+    let name_is : c.in-Some.name.now ≡ codes "compare" = elim own [
+      | inl e ↦ absurd (c.in_default-name.not-check e)
+      | inr (inl e) ↦ absurd (c.in_default-name.not-canon e)
+      | inr (inr e) ↦ e
+    ] in (
       rows,
       met ∙ ap (λ name. Some (name, rows)) name_is,
-      record {
-        kinds = subst (λ t. AreKindsOf t c.in-Some-kinds_of.kinds) text_is c.in-Some-kinds_of.ensures;
-        scd = c.path.ensures;
-        dic = c.path-2.ensures;
-        vec = c.path-3.ensures;
-      },
-      c.path-in_default-name.ensures,
+      subst (λ t. AreKindsOf t c.in-Some-kinds_of.kinds) text_is c.in-Some-kinds_of.ensures,
+      c.pair_files.ensures,
     )

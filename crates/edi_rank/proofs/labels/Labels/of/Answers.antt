@@ -1,4 +1,4 @@
-use Rattle.std.proofs.Common.{◌≡◌, ◌≢◌, ◌∙◌, ◌⊎◌, inl, inr, ℕ, true, false, true≢false, List, [], sym, subst, ap, length, get_or, refl}
+use Rattle.std.proofs.Common.{◌≡◌, ◌≢◌, ◌∙◌, ◌⊎◌, inl, inr, ℕ, true, true≢false, List, [], sym, subst, ap, length, get_or, refl}
 use Rattle.edi_line.specs.Refusal.{IsUnbroken}
 use Rattle.edi_record.specs.Orders.{points_cmp}
 use Rattle.edi_record.specs.declared.record.Kind.{Kind}
@@ -11,15 +11,18 @@ use Rattle.edi_plan.proofs.Orders.{points_total}
 use Rattle.edi_topo.specs.NodeKeys.{node_key_cmp, node_keys, no_node, IsNodeRanking}
 use Rattle.edi_topo.specs.TopologyRules.{BreaksTopologyRule}
 use Rattle.edi_topo.proofs.NodeOrders.{node_key_total}
+use Rattle.edi_rank.specs.EndOrder.{OthersInOrder}
 use Rattle.edi_rank.specs.Laws.{TellsApart}
-use Rattle.edi_rank.specs.Pieces.{ObjectSource, IsObjectRanking}
+use Rattle.edi_rank.specs.Pieces.{IsObjectRanking}
 use Rattle.edi_rank.specs.Keys.{face_key_cmp, object_key, object_key_cmp}
 use Rattle.edi_rank.specs.Labelling.{Labelling, AreLabels, order_of}
-use Rattle.edi_rank.specs.Layers.{arc_keys, face_keys, no_side, number_by, ranked, placed_link_cmp, placed_link_key, LinkSource, IsArcRanking, IsFaceRanking, IsLinkRanking}
+use Rattle.edi_topo.specs.Arcs.{forward_keys, IsForwardRanking}
+use Rattle.edi_rank.specs.Layers.{face_keys, no_side, number_by, ranked, placed_link_cmp, placed_link_key, LinkSource, IsFaceRanking, IsLinkRanking}
 use Rattle.edi_rank.proofs.LabelsMade.{KindLabels, Ranked, ranks_of, kind_labels, lower_ranked, link_or_not, no_link, labels_made}
 use Rattle.edi_rank.proofs.LinksApart.{placed_total}
 use Rattle.edi_rank.proofs.Orders.{face_key_total, object_key_total}
 use Rattle.edi_rank.proofs.ObjectsRise.{objects_rise}
+use Rattle.edi_rank.proofs.OthersSorted.{no_object}
 use Rattle.edi_rank.proofs.RankedApart.{ranked_apart}
 use Rattle.edi_rank.proofs.Rankings.{ranks_each}
 use Rattle.edi_rank.proofs.labels.Labels.of.Goals as goal
@@ -30,7 +33,7 @@ kind_by_number-requires-clause-each c =
 
 pub kind_by_number-requires-2-clause-each : goal.kind_by_number-requires-2-clause-each
 kind_by_number-requires-2-clause-each c =
-    ranks_each points_cmp points_total (λ m. get_or (arc_keys c.args.sound.now) m []) (length (places_of Par c.args.sound.now)) c.in_ok-lower.lower.arcs.now c.in_ok-lower.ensures.arcs
+    ranks_each points_cmp points_total (λ m. get_or (forward_keys c.args.sound.now) m []) (length (places_of Par c.args.sound.now)) c.in_ok-lower.lower.arcs.now c.in_ok-lower.ensures.arcs
 
 pub kind_by_number-requires-3-clause-each : goal.kind_by_number-requires-3-clause-each
 kind_by_number-requires-3-clause-each c =
@@ -39,12 +42,12 @@ kind_by_number-requires-3-clause-each c =
 pub kind_by_number-requires-4-clause-each : goal.kind_by_number-requires-4-clause-each
 kind_by_number-requires-4-clause-each c =
     let p = c.args.sound.now in
-    ranks_each object_key_cmp object_key_total (λ m. object_key p (λ k. get_or c.deref.result.now k 0) (get_or (places_of Fea p) m 0)) (length (places_of Fea p)) c.in_ok-objects.objects c.in_ok-objects.ensures.ranks
+    ranks_each object_key_cmp object_key_total (λ m. object_key p (λ k. get_or c.in_ok-unnamed.unnamed.items k 0) (get_or (places_of Fea p) m 0)) (length (places_of Fea p)) c.in_ok-named.named.objects c.in_ok-named.ensures.ranks
 
 pub kind_by_number-requires-5-clause-each : goal.kind_by_number-requires-5-clause-each
 kind_by_number-requires-5-clause-each c =
     let p = c.plan-plan.result.now in
-    let source : LinkSource = record { plan = p; classes = c.args.schema.now; turned = c.deref-2.result.now; numbers = c.deref-3.result.now } in
+    let source : LinkSource = record { plan = p; classes = c.args.schema.now; turned = c.deref.result.now; numbers = c.deref-2.result.now } in
     ranks_each placed_link_cmp placed_total (λ m. placed_link_key source (get_or (places_of Lnk p) m 0)) (length (places_of Lnk p)) c.in_ok-links.links c.in_ok-links.ensures
 
 pub returns-clause-labels : goal.returns-clause-labels
@@ -58,13 +61,17 @@ returns-clause-labels c =
     let lower = c.in_ok-lower.lower in
     let turned = c.in_ok-turned.turned.items in
     let unnamed = c.in_ok-unnamed.unnamed.items in
-    let unlinked = c.number_kind-unlinked.result.items in
+    let unlinked = c.in_ok-named.named.numbers.items in
+    let others = c.in_ok-named.named.others.items in
+    let objects_ranked = c.in_ok-named.named.objects in
     let numbered : c.from_vec.result ≡ c.number_kind-numbers.result.items = c.from_vec.ensures in
     let directed : c.from_vec-2.result ≡ turned = c.from_vec-2.ensures in
-    let r : Ranked = record { nodes = lower.nodes.now; arcs = lower.arcs.now; faces = lower.faces; objects = c.in_ok-objects.objects; links = c.in_ok-links.links } in
+    let ordered : c.from_vec-3.result ≡ others = c.from_vec-3.ensures in
+    let r : Ranked = record { nodes = lower.nodes.now; arcs = lower.arcs.now; faces = lower.faces; objects = objects_ranked; links = c.in_ok-links.links } in
     let l : Labelling = record {
       numbers = c.number_kind-numbers.result.items;
       turned = turned;
+      others = others;
       nodes = c.in_ok-kind_by_number.field-0;
       arcs = c.in_ok-kind_by_number-2.field-0;
       faces = c.in_ok-kind_by_number-3.field-0;
@@ -72,33 +79,39 @@ returns-clause-labels c =
       links = c.in_ok-kind_by_number-5.field-0;
     } in
     let by_node : IsNodeRanking p lower.nodes.now = subst (λ q. IsNodeRanking q lower.nodes.now) (sym is) c.in_ok-lower.ensures.nodes in
-    let by_arc : IsArcRanking p lower.arcs.now = subst (λ q. IsArcRanking q lower.arcs.now) (sym is) c.in_ok-lower.ensures.arcs in
+    let by_arc : IsForwardRanking p lower.arcs.now = subst (λ q. IsForwardRanking q lower.arcs.now) (sym is) c.in_ok-lower.ensures.arcs in
     let by_face : IsFaceRanking p lower.arcs.now lower.faces = subst (λ q. IsFaceRanking q lower.arcs.now lower.faces) (sym is) c.in_ok-lower.ensures.faces in
     let source : LinkSource = record { plan = p; classes = s; turned = turned; numbers = unlinked } in
     let by_link : IsLinkRanking source c.in_ok-links.links = subst (λ (l : LinkSource). IsLinkRanking l c.in_ok-links.links)
-    (λ i. record { plan = p; classes = s; turned = c.deref-2.ensures.value i; numbers = c.deref-3.ensures.value i }) c.in_ok-links.ensures in
-    let by_object : IsObjectRanking (record { plan = p; numbers = unnamed }) c.in_ok-objects.objects = subst (λ (l : ObjectSource). IsObjectRanking l c.in_ok-objects.objects)
-    (λ i. record { plan = sym is i; numbers = c.deref.ensures.value i }) c.in_ok-objects.ensures.ranks in
+    (λ i. record { plan = p; classes = s; turned = c.deref.ensures.value i; numbers = c.deref-2.ensures.value i }) c.in_ok-links.ensures in
+    let by_object : IsObjectRanking (record { plan = p; numbers = unnamed }) objects_ranked = subst (λ (q : Drawing). IsObjectRanking (record { plan = q; numbers = unnamed }) objects_ranked) (sym is) c.in_ok-named.ensures.ranks in
     let numbering = c.number_kind-numbers.ensures in
-    let named = c.number_kind-unlinked.ensures in
+    let named_each : (k : ℕ) → IsPlace p k → (record_at p k).kind ≡ Fea → get_or unlinked k 0 ≡ get_or objects_ranked (member_of p k) 0 =
+    subst (λ (q : Drawing). (k : ℕ) → IsPlace q k → (record_at q k).kind ≡ Fea → get_or unlinked k 0 ≡ get_or objects_ranked (member_of q k) 0) (sym is) c.in_ok-named.ensures.each in
+    let named_rest : (k : ℕ) → IsPlace p k → (record_at p k).kind ≢ Fea → get_or unlinked k 0 ≡ get_or unnamed k 0 =
+    subst (λ (q : Drawing). (k : ℕ) → IsPlace q k → (record_at q k).kind ≢ Fea → get_or unlinked k 0 ≡ get_or unnamed k 0) (sym is) c.in_ok-named.ensures.rest in
+    let in_order : (k : ℕ) → IsPlace p k → OthersInOrder p (λ j. get_or unlinked j 0) others k =
+    subst (λ (q : Drawing). (k : ℕ) → IsPlace q k → OthersInOrder q (λ j. get_or unlinked j 0) others k) (sym is) c.in_ok-named.ensures.others in
+    let ordered_long : length others ≡ length p.list = subst (λ (q : Drawing). length others ≡ length q.list) (sym is) c.in_ok-named.ensures.ordered in
     let objects : KindLabels p Fea r.objects l.objects = kind_labels object_key_cmp object_key_total (λ m. object_key p (λ k. get_or unnamed k 0) (get_or (places_of Fea p) m 0)) p Fea r.objects l.objects by_object
     c.in_ok-kind_by_number-4.ensures.length c.in_ok-kind_by_number-4.ensures.places in
     let made : AreLabels s p l = labels_made s p whole joined sound l r unlinked numbering.length c.in_ok-turned.ensures.length c.in_ok-turned.ensures.turned
     (kinds p r l
     (kind_labels node_key_cmp node_key_total (λ m. get_or (node_keys p) m no_node) p Pno lower.nodes.now l.nodes by_node c.in_ok-kind_by_number.ensures.length c.in_ok-kind_by_number.ensures.places)
-    (kind_labels points_cmp points_total (λ m. get_or (arc_keys p) m []) p Par lower.arcs.now l.arcs by_arc c.in_ok-kind_by_number-2.ensures.length c.in_ok-kind_by_number-2.ensures.places)
+    (kind_labels points_cmp points_total (λ m. get_or (forward_keys p) m []) p Par lower.arcs.now l.arcs by_arc c.in_ok-kind_by_number-2.ensures.length c.in_ok-kind_by_number-2.ensures.places)
     (kind_labels face_key_cmp face_key_total (λ m. get_or (face_keys p lower.arcs.now) m no_side) p Pfe lower.faces l.faces by_face c.in_ok-kind_by_number-3.ensures.length c.in_ok-kind_by_number-3.ensures.places)
     objects
     (kind_labels placed_link_cmp placed_total (λ m. placed_link_key source (get_or (places_of Lnk p) m 0)) p Lnk c.in_ok-links.links l.links by_link c.in_ok-kind_by_number-5.ensures.length c.in_ok-kind_by_number-5.ensures.places))
-    (λ k h. number_is p r l.numbers unlinked unnamed k h (numbering.each k h) (numbering.others k h) (named.each k h) (named.others k h) (c.in_ok-unnamed.ensures.ranked k h) (link_or_not (record_at p k).kind) (object_or_not (record_at p k).kind))
+    (λ k h. number_is p r l.numbers unlinked unnamed k h (numbering.each k h) (numbering.others k h) (named_each k h) (named_rest k h) (c.in_ok-unnamed.ensures.ranked k h) (link_or_not (record_at p k).kind) (object_or_not (record_at p k).kind))
     (λ k h e. numbering.others k h (no_link (record_at p k).kind e))
-    by_node by_arc by_face by_link
-    (objects_rise s p whole joined l r.objects l.objects unnamed (λ k h e f. numbering.others k h (no_link (record_at p k).kind e) ∙ named.others k h (no_object (record_at p k).kind f))
-    objects (λ k h e. numbering.others k h (λ f. object_link (sym e ∙ f)) ∙ named.each k h e) by_object) in
-    let last : Labelling = record { numbers = c.from_vec.result; turned = c.from_vec-2.result; nodes = l.nodes; arcs = l.arcs; faces = l.faces; objects = l.objects; links = l.links } in
+    by_node by_arc by_face by_link ordered_long in_order
+    (objects_rise s p whole joined l r.objects l.objects unnamed (λ k h e f. numbering.others k h (no_link (record_at p k).kind e) ∙ named_rest k h (no_object (record_at p k).kind f))
+    objects (λ k h e. numbering.others k h (λ f. object_link (sym e ∙ f)) ∙ named_each k h e) by_object) in
+    let last : Labelling = record { numbers = c.from_vec.result; turned = c.from_vec-2.result; others = c.from_vec-3.result; nodes = l.nodes; arcs = l.arcs; faces = l.faces; objects = l.objects; links = l.links } in
     subst (λ q. AreLabels s q last) is (subst (AreLabels s p) (λ i. record {
       numbers = sym numbered i;
       turned = sym directed i;
+      others = sym ordered i;
       nodes = l.nodes;
       arcs = l.arcs;
       faces = l.faces;
@@ -108,13 +121,6 @@ returns-clause-labels c =
   where
     object_link : Fea ≡ Lnk → ⊥
     object_link e = cc
-
-    no_object : (kind : Kind) → is_object kind ≡ false → kind ≢ Fea
-    no_object Pno h e = cc
-    no_object Par h e = cc
-    no_object Pfe h e = cc
-    no_object Fea h e = true≢false h
-    no_object Lnk h e = cc
 
     object_or_not : (kind : Kind) → (kind ≡ Fea) ⊎ (kind ≢ Fea)
     object_or_not Pno = inr (λ e. cc)
@@ -141,13 +147,13 @@ returns-clause-labels c =
     number_is p r numbers unlinked unnamed k h links others objects rest ranked (inr e) (inl f) = others e ∙ (objects f ∙ sym (ap (λ kind. get_or (ranks_of r kind) (member_of p k) 0) f))
     number_is p r numbers unlinked unnamed k h links others objects rest ranked (inr e) (inr f) = others e ∙ (rest f ∙ (ranked ∙ lower_ranked r (record_at p k).kind (member_of p k) e f))
 
-pub object_ranks-requires-clause-objects : goal.object_ranks-requires-clause-objects
-object_ranks-requires-clause-objects c k h e =
+pub name_objects-requires-clause-objects : goal.name_objects-requires-clause-objects
+name_objects-requires-clause-objects c k h e =
     let p = c.plan-plan.result.now in
     let is = c.plan-plan.ensures.plan in
     let there : IsPlace p k = subst (λ q. IsPlace q k) (sym is) h in
     let object : is_object (record_at p k).kind ≡ true = subst (λ q. is_object (record_at q k).kind ≡ true) (sym is) e in
-    ap (λ xs. get_or xs k 0) c.deref.ensures.value ∙ (c.in_ok-unnamed.ensures.ranked k there ∙ zero_for (record_at p k).kind object)
+    c.in_ok-unnamed.ensures.ranked k there ∙ zero_for (record_at p k).kind object
   where
     zero_for : (kind : Kind) → is_object kind ≡ true → number_by c.in_ok-lower.lower.nodes.now c.in_ok-lower.lower.arcs.now c.in_ok-lower.lower.faces kind (member_of c.plan-plan.result.now k) ≡ 0
     zero_for Pno f = absurd (true≢false (sym f))
@@ -156,17 +162,36 @@ object_ranks-requires-clause-objects c k h e =
     zero_for Fea f = refl
     zero_for Lnk f = absurd (true≢false (sym f))
 
-pub object_ranks-requires-clause-apart : goal.object_ranks-requires-clause-apart
-object_ranks-requires-clause-apart c =
+pub name_objects-requires-clause-apart : goal.name_objects-requires-clause-apart
+name_objects-requires-clause-apart c =
     let p = c.plan-plan.result.now in
     let is = c.plan-plan.ensures.plan in
     let lower = c.in_ok-lower.lower in
     let by_node : IsNodeRanking p lower.nodes.now = subst (λ q. IsNodeRanking q lower.nodes.now) (sym is) c.in_ok-lower.ensures.nodes in
-    let by_arc : IsArcRanking p lower.arcs.now = subst (λ q. IsArcRanking q lower.arcs.now) (sym is) c.in_ok-lower.ensures.arcs in
+    let by_arc : IsForwardRanking p lower.arcs.now = subst (λ q. IsForwardRanking q lower.arcs.now) (sym is) c.in_ok-lower.ensures.arcs in
     let by_face : IsFaceRanking p lower.arcs.now lower.faces = subst (λ q. IsFaceRanking q lower.arcs.now lower.faces) (sym is) c.in_ok-lower.ensures.faces in
     let ranks = ranked_apart p lower.nodes.now lower.arcs.now lower.faces
     (ranks_each node_key_cmp node_key_total (λ m. get_or (node_keys p) m no_node) (length (places_of Pno p)) lower.nodes.now by_node) by_node.all
-    (ranks_each points_cmp points_total (λ m. get_or (arc_keys p) m []) (length (places_of Par p)) lower.arcs.now by_arc) by_arc.all
+    (ranks_each points_cmp points_total (λ m. get_or (forward_keys p) m []) (length (places_of Par p)) lower.arcs.now by_arc) by_arc.all
     (ranks_each face_key_cmp face_key_total (λ m. get_or (face_keys p lower.arcs.now) m no_side) (length (places_of Pfe p)) lower.faces by_face) by_face.all in
-    let number : (k : ℕ) → IsPlace p k → get_or c.deref.result.now k 0 ≡ ranked p lower.nodes.now lower.arcs.now lower.faces k = λ k h. ap (λ xs. get_or xs k 0) c.deref.ensures.value ∙ c.in_ok-unnamed.ensures.ranked k h in
-    subst (λ q. TellsApart q (λ k. get_or c.deref.result.now k 0)) is (record { apart = λ i k h g kinds below e. ranks.apart i k h g kinds below (sym (number i h) ∙ (e ∙ number k g)) })
+    let number : (k : ℕ) → IsPlace p k → get_or c.in_ok-unnamed.unnamed.items k 0 ≡ ranked p lower.nodes.now lower.arcs.now lower.faces k = λ k h. c.in_ok-unnamed.ensures.ranked k h in
+    subst (λ q. TellsApart q (λ k. get_or c.in_ok-unnamed.unnamed.items k 0)) is (record { apart = λ i k h g kinds below e. ranks.apart i k h g kinds below (sym (number i h) ∙ (e ∙ number k g)) })
+
+pub name_objects-requires-clause-numbers : goal.name_objects-requires-clause-numbers
+name_objects-requires-clause-numbers c = c.in_ok-unnamed.ensures.length ∙ ap (λ (q : Drawing). length q.list) c.plan-plan.ensures.plan
+
+pub link_ranks-requires-clause-numbers : goal.link_ranks-requires-clause-numbers
+link_ranks-requires-clause-numbers c = ap length c.deref-2.ensures.value ∙ (c.in_ok-named.ensures.length ∙ ap (λ (q : Drawing). length q.list) (sym c.plan-plan.ensures.plan))
+
+pub link_ranks-requires-clause-ordered : goal.link_ranks-requires-clause-ordered
+link_ranks-requires-clause-ordered c = ap length c.deref-3.ensures.value ∙ (c.in_ok-named.ensures.ordered ∙ ap (λ (q : Drawing). length q.list) (sym c.plan-plan.ensures.plan))
+
+pub link_ranks-requires-clause-orders : goal.link_ranks-requires-clause-orders
+link_ranks-requires-clause-orders c =
+    let p = c.plan-plan.result.now in
+    subst (λ (orders : List (List ℕ)). (k : ℕ) → IsPlace p k → OthersInOrder p (λ j. get_or c.deref-2.result.now j 0) orders k) (sym c.deref-3.ensures.value)
+    (subst (λ (numbers : List ℕ). (k : ℕ) → IsPlace p k → OthersInOrder p (λ j. get_or numbers j 0) c.in_ok-named.named.others.items k) (sym c.deref-2.ensures.value)
+    (subst (λ (q : Drawing). (k : ℕ) → IsPlace q k → OthersInOrder q (λ j. get_or c.in_ok-named.named.numbers.items j 0) c.in_ok-named.named.others.items k) (sym c.plan-plan.ensures.plan) c.in_ok-named.ensures.others))
+
+pub number_kind-numbers-requires-clause-numbers : goal.number_kind-numbers-requires-clause-numbers
+number_kind-numbers-requires-clause-numbers c = c.in_ok-named.ensures.length ∙ ap (λ (q : Drawing). length q.list) (sym c.plan-plan.ensures.plan)

@@ -1,7 +1,9 @@
-use Rattle.std.proofs.Common.{◌<◌, sym, subst, length}
+use Rattle.std.proofs.Common.{◌<◌, ◌∙◌, ℕ, [], sym, subst, arith, length, get_or}
+use Rattle.std.proofs.lemmas.List.{get_or_default}
 use Rattle.edi_record.specs.declared.record.Kind.TheVariants.{Lnk}
-use Rattle.edi_plan.specs.Plans.{IsPlace}
+use Rattle.edi_plan.specs.Plans.{IsPlace, others_of, record_at}
 use Rattle.edi_plan.proofs.PlaceLemmas.{place_there}
+use Rattle.edi_rank.specs.EndOrder.{PutsInOrder}
 use Rattle.edi_rank.specs.Layers.{LinkSource}
 use Rattle.edi_rank.proofs.SameLaws.{record_agrees}
 use Rattle.edi_rank.proofs.link_layer.LinkLayerLayer.key.Goals as goal
@@ -19,3 +21,18 @@ class_turned-class-requires-clause-class c =
 pub link_key_at-requires-clause-place : goal.link_key_at-requires-clause-place
 link_key_at-requires-clause-place c = subst (λ (l : LinkSource). c.place-place.result < length l.plan.list) (sym c.self.view_is)
     (subst (IsPlace c.args.self.now.plan) (sym c.place-place.ensures) (place_there Lnk c.args.self.now.plan c.args.member c.requires))
+
+pub bounds-self-inside-place : goal.bounds-self-inside-place
+bounds-self-inside-place c =
+    let there : c.place-place.result < length c.self.inside.plan.now.list = subst (λ (l : LinkSource). c.place-place.result < length l.plan.list) (sym c.self.view_is)
+    (subst (IsPlace c.args.self.now.plan) (sym c.place-place.ensures) (place_there Lnk c.args.self.now.plan c.args.member c.requires)) in
+    omega (arith, there, c.self.invariant.4)
+
+pub link_key_at-requires-clause-order : goal.link_key_at-requires-clause-order
+link_key_at-requires-clause-order c =
+    let there : c.place-place.result < length c.self.inside.plan.now.list = subst (λ (l : LinkSource). c.place-place.result < length l.plan.list) (sym c.self.view_is)
+    (subst (IsPlace c.args.self.now.plan) (sym c.place-place.ensures) (place_there Lnk c.args.self.now.plan c.args.member c.requires)) in
+    let number : ℕ → ℕ = λ k. get_or c.self.inside.numbers.now k 0 in
+    subst (λ order. PutsInOrder c.self.inside.plan.now number order (others_of (record_at c.self.inside.plan.now c.place-place.result)))
+    (sym (c.as_slice-order.ensures ∙ get_or_default c.self.inside.orders.now c.place-place.result c.index-self-place.result [] (omega (arith, there, c.self.invariant.4))))
+    (c.self.invariant.5 c.place-place.result there)

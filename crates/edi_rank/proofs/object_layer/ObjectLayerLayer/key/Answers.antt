@@ -6,10 +6,11 @@ use Rattle.edi_plan.specs.Plans.{IsPlace, record_at, is_object}
 use Rattle.edi_plan.specs.Orders.{attribute_cmp}
 use Rattle.edi_plan.proofs.PlaceLemmas.{place_there, place_of_kind}
 use Rattle.edi_schema.specs.Sorted.{sort_by}
+use Rattle.edi_rank.specs.EndOrder.{OthersInOrder}
 use Rattle.edi_rank.specs.Keys.{link_key, link_key_cmp, piece_by}
 use Rattle.edi_rank.specs.Pieces.{ObjectSource, object_key_at, piece_places}
 use Rattle.edi_rank.specs.declared.keys.ObjectKey.{ObjectKey}
-use Rattle.edi_rank.proofs.PieceLists.{pieces_there, pieces_keyed_by}
+use Rattle.edi_rank.proofs.PieceLists.{pieces_there, pieces_with, pieces_keyed_by}
 use Rattle.edi_rank.proofs.object_layer.ObjectLayerLayer.key.Goals as goal
 
 there_in : (l q : ObjectSource) (m k : ℕ) → q ≡ l → k ≡ get_or (Rattle.edi_plan.specs.Places.places_of Fea l.plan) m 0 → m < length (Rattle.edi_plan.specs.Places.places_of Fea l.plan) → IsPlace q.plan k × (is_object (record_at q.plan k).kind ≡ Rattle.std.proofs.Common.true)
@@ -34,16 +35,26 @@ pub sorted_pieces-requires-clause-links : goal.sorted_pieces-requires-clause-lin
 sorted_pieces-requires-clause-links c =
     let there = there_in c.args.self.now (record { plan = c.self.inside.plan.now; numbers = c.self.inside.numbers.now }) c.args.member c.place-place.result c.self.view_is c.place-place.ensures c.requires in
     let within : c.place-place.result < length c.deref-links.result.now = omega (arith, ap length c.deref-links.ensures.value, c.self.invariant.2, there.0) in
-    let is : c.deref.result.now ≡ piece_places c.self.inside.plan.now c.place-place.result = c.deref.ensures.value ∙ (ap (λ v. v.items) c.index-links-place.is
+    let is : c.deref-own.result.now ≡ piece_places c.self.inside.plan.now c.place-place.result = c.deref-own.ensures.value ∙ (ap (λ v. v.items) c.index-links-place.is
     ∙ (sym (get_or-map (λ v. v.items) c.deref-links.result.now c.place-place.result c.index-links-place.result [] within)
     ∙ (ap (λ ls. get_or (map (λ v. v.items) ls) c.place-place.result []) c.deref-links.ensures.value ∙ c.self.invariant.4 c.place-place.result there.0 there.1))) in
     subst (AllByRecursion (IsPlace c.self.inside.plan.now)) (sym is) (pieces_there c.self.inside.plan.now c.place-place.result)
+
+pub sorted_pieces-requires-clause-orders : goal.sorted_pieces-requires-clause-orders
+sorted_pieces-requires-clause-orders c =
+    let there = there_in c.args.self.now (record { plan = c.self.inside.plan.now; numbers = c.self.inside.numbers.now }) c.args.member c.place-place.result c.self.view_is c.place-place.ensures c.requires in
+    let within : c.place-place.result < length c.deref-links.result.now = omega (arith, ap length c.deref-links.ensures.value, c.self.invariant.2, there.0) in
+    let is : c.deref-own.result.now ≡ piece_places c.self.inside.plan.now c.place-place.result = c.deref-own.ensures.value ∙ (ap (λ v. v.items) c.index-links-place.is
+    ∙ (sym (get_or-map (λ v. v.items) c.deref-links.result.now c.place-place.result c.index-links-place.result [] within)
+    ∙ (ap (λ ls. get_or (map (λ v. v.items) ls) c.place-place.result []) c.deref-links.ensures.value ∙ c.self.invariant.4 c.place-place.result there.0 there.1))) in
+    subst (AllByRecursion (OthersInOrder c.self.inside.plan.now (λ k. get_or c.self.inside.numbers.now k 0) c.self.inside.orders.now)) (sym is)
+    (pieces_with c.self.inside.plan.now c.place-place.result (OthersInOrder c.self.inside.plan.now (λ k. get_or c.self.inside.numbers.now k 0) c.self.inside.orders.now) c.self.invariant.6)
 
 pub returns : goal.returns
 returns c =
     let there = there_in c.args.self.now (record { plan = c.self.inside.plan.now; numbers = c.self.inside.numbers.now }) c.args.member c.place-place.result c.self.view_is c.place-place.ensures c.requires in
     let within : c.place-place.result < length c.deref-links.result.now = omega (arith, ap length c.deref-links.ensures.value, c.self.invariant.2, there.0) in
-    let is : c.deref.result.now ≡ piece_places c.self.inside.plan.now c.place-place.result = c.deref.ensures.value ∙ (ap (λ v. v.items) c.index-links-place.is
+    let is : c.deref-own.result.now ≡ piece_places c.self.inside.plan.now c.place-place.result = c.deref-own.ensures.value ∙ (ap (λ v. v.items) c.index-links-place.is
     ∙ (sym (get_or-map (λ v. v.items) c.deref-links.result.now c.place-place.result c.index-links-place.result [] within)
     ∙ (ap (λ ls. get_or (map (λ v. v.items) ls) c.place-place.result []) c.deref-links.ensures.value ∙ c.self.invariant.4 c.place-place.result there.0 there.1))) in
     let p = c.self.inside.plan.now in

@@ -1,0 +1,170 @@
+-- The first line in which two files differ.
+use Rattle.std.proofs.Common.{◌≡◌, ◌≢◌, ℕ, zero, suc, ◌+◌, ◌<◌, ◌≤◌, ◌⊎◌, inl, inr, eqb, eq-eqb, cond, true, false, Bool, List, [], ◌∷◌, length, drop, get_or, min, Option, Some, None, refl, sym, ap, ◌∙◌, subst, arith}
+use Rattle.std.specs.List.{onto_first, slice_get}
+use Rattle.std.proofs.lemmas.Bool.{ne_eqb, cases_eq, cases_lt}
+use Rattle.std.proofs.lemmas.List.{drop_all}
+use Rattle.std.proofs.Math.Seq.{drop-cons}
+use Rattle.edi_line.specs.Lines.{lines_of}
+use Rattle.edi_compare.specs.Pairings.{IsFirstDifference}
+
+-- the number of the first line in which they differ, where the first of their lines has this number
+abbrev pub differ_from : ℕ → List ℕ → List ℕ → Option ℕ
+differ_from line [] [] = None
+differ_from line [] (y ∷ ys) = Some line
+differ_from line (x ∷ xs) [] = Some line
+differ_from line (x ∷ xs) (y ∷ ys) = cond (eqb x y) (differ_from (cond (eqb x 10) (line + 1) line) xs ys) (Some line)
+
+-- the lines before this place are alike, and those at it aren't
+pub record DifferAt (lines others : List (List ℕ)) (place : ℕ) : Type 0 where
+  pub differ : get_or lines place [] ≢ get_or others place []
+  pub before : (k : ℕ) → k < place → slice_get lines k ≡ slice_get others k
+
+-- a byte before the first line
+
+first_onto : (c : ℕ) (lines : List (List ℕ)) → slice_get (onto_first c lines) 0 ≡ Some (c ∷ get_or lines 0 [])
+first_onto c [] = refl
+first_onto c (line ∷ lines) = refl
+
+head_onto : (c : ℕ) (lines : List (List ℕ)) → get_or (onto_first c lines) 0 [] ≡ c ∷ get_or lines 0 []
+head_onto c [] = refl
+head_onto c (line ∷ lines) = refl
+
+later_onto : (c : ℕ) (lines : List (List ℕ)) (k : ℕ) → slice_get (onto_first c lines) (suc k) ≡ slice_get lines (suc k)
+later_onto c [] k = refl
+later_onto c (line ∷ lines) k = refl
+
+after_onto : (c : ℕ) (lines : List (List ℕ)) (k : ℕ) → get_or (onto_first c lines) (suc k) [] ≡ get_or lines (suc k) []
+after_onto c [] k = refl
+after_onto c (line ∷ lines) k = refl
+
+heads_alike : (lines others : List (List ℕ)) → slice_get lines 0 ≡ slice_get others 0 → get_or lines 0 [] ≡ get_or others 0 []
+heads_alike [] [] e = refl
+heads_alike [] (y ∷ ys) e = cc
+heads_alike (x ∷ xs) [] e = cc
+heads_alike (x ∷ xs) (y ∷ ys) e = cc
+
+differ_onto : (c : ℕ) (lines others : List (List ℕ)) (place : ℕ) → DifferAt lines others place → DifferAt (onto_first c lines) (onto_first c others) place
+differ_onto c lines others zero d = record {
+  differ = λ e. let same : c ∷ get_or lines 0 [] ≡ c ∷ get_or others 0 [] = sym (head_onto c lines) ∙ (e ∙ head_onto c others) in d.differ (cc);
+  before = λ k h. absurd (omega arith);
+}
+differ_onto c lines others (suc place) d = record {
+  differ = λ e. d.differ (sym (after_onto c lines place) ∙ (e ∙ after_onto c others place));
+  before = before;
+}
+  where
+    before : (k : ℕ) → k < suc place → slice_get (onto_first c lines) k ≡ slice_get (onto_first c others) k
+    before zero h = first_onto c lines ∙ (ap (λ l. Some (c ∷ l)) (heads_alike lines others (d.before 0 h)) ∙ sym (first_onto c others))
+    before (suc k) h = later_onto c lines k ∙ (d.before (suc k) h ∙ sym (later_onto c others k))
+
+differ_behind : (line : List ℕ) (lines others : List (List ℕ)) (place : ℕ) → DifferAt lines others place → DifferAt (line ∷ lines) (line ∷ others) (suc place)
+differ_behind line lines others place d = record { differ = d.differ; before = before }
+  where
+    before : (k : ℕ) → k < suc place → slice_get (line ∷ lines) k ≡ slice_get (line ∷ others) k
+    before zero h = refl
+    before (suc k) h = d.before k (omega arith)
+
+-- the first line begins with the first byte
+begins : (c : ℕ) (cs : List ℕ) → (rest : List ℕ) × (get_or (lines_of (c ∷ cs)) 0 [] ≡ c ∷ rest)
+begins c cs = go (eqb c 10) refl
+  where
+    go : (b : Bool) → eqb c 10 ≡ b → (rest : List ℕ) × (get_or (lines_of (c ∷ cs)) 0 [] ≡ c ∷ rest)
+    go true e = ([], rw e refl)
+    go false e = (get_or (lines_of cs) 0 [], rw e (head_onto c (lines_of cs)))
+
+-- a byte more of both
+
+differ_fed : (x y : ℕ) (xs ys : List ℕ) (place : ℕ) → x ≡ 10 → y ≡ 10 → DifferAt (lines_of xs) (lines_of ys) place → DifferAt (lines_of (x ∷ xs)) (lines_of (y ∷ ys)) (suc place)
+differ_fed x y xs ys place feed feed' d = rw (feed, feed') (differ_behind (10 ∷ []) (lines_of xs) (lines_of ys) place d)
+
+differ_unfed : (x y : ℕ) (xs ys : List ℕ) (place : ℕ) → x ≡ y → (x ≡ 10 → ⊥) → DifferAt (lines_of xs) (lines_of ys) place → DifferAt (lines_of (x ∷ xs)) (lines_of (y ∷ ys)) place
+differ_unfed x y xs ys place same other d =
+    subst (λ c. DifferAt (lines_of (x ∷ xs)) (lines_of (c ∷ ys)) place) same (rw (ne_eqb x 10 other) (differ_onto x (lines_of xs) (lines_of ys) place d))
+
+told : (line x y : ℕ) (xs ys : List ℕ) (n : ℕ) → x ≡ y → differ_from line (x ∷ xs) (y ∷ ys) ≡ Some n → differ_from (cond (eqb x 10) (line + 1) line) xs ys ≡ Some n
+told line x y xs ys n same e = sym (ap (λ b. cond b (differ_from (cond (eqb x 10) (line + 1) line) xs ys) (Some line)) (eq-eqb x y same)) ∙ e
+
+-- where it is told, they differ there
+
+pub record Found (line : ℕ) (xs ys : List ℕ) (n : ℕ) : Type 0 where
+  pub place : ℕ
+  pub counts : n ≡ line + place
+  pub differ : DifferAt (lines_of xs) (lines_of ys) place
+
+here : (line : ℕ) (xs ys : List ℕ) (n : ℕ) → line ≡ n → get_or (lines_of xs) 0 [] ≢ get_or (lines_of ys) 0 [] → Found line xs ys n
+here line xs ys n e ne = record { place = 0; counts = omega (arith, e); differ = record { differ = ne; before = λ k h. absurd (omega arith) } }
+
+pub found : (line : ℕ) (xs ys : List ℕ) (n : ℕ) → differ_from line xs ys ≡ Some n → Found line xs ys n
+found line [] [] n e = cc
+found line [] (y ∷ ys) n e = let b = begins y ys in here line [] (y ∷ ys) n (cc) (λ same. let f : [] ≡ y ∷ b.0 = same ∙ b.1 in cc)
+found line (x ∷ xs) [] n e = let b = begins x xs in here line (x ∷ xs) [] n (cc) (λ same. let f : x ∷ b.0 ≡ [] = sym b.1 ∙ same in cc)
+found line (x ∷ xs) (y ∷ ys) n e = go (cases_eq x y) (cases_eq x 10) (found (cond (eqb x 10) (line + 1) line) xs ys n)
+  where
+    go : (x ≡ y) ⊎ (x ≡ y → ⊥) → (x ≡ 10) ⊎ (x ≡ 10 → ⊥) → (differ_from (cond (eqb x 10) (line + 1) line) xs ys ≡ Some n → Found (cond (eqb x 10) (line + 1) line) xs ys n)
+        → Found line (x ∷ xs) (y ∷ ys) n
+    go (inr other) feed more =
+        let b = begins x xs in
+        let d = begins y ys in
+        let told : Some line ≡ Some n = sym (ap (λ b. cond b (differ_from (cond (eqb x 10) (line + 1) line) xs ys) (Some line)) (ne_eqb x y other)) ∙ e in
+        here line (x ∷ xs) (y ∷ ys) n (cc) (λ same. let f : x ∷ b.0 ≡ y ∷ d.0 = sym b.1 ∙ (same ∙ d.1) in other (cc))
+    go (inl same) (inl feed) more =
+        let f = more (told line x y xs ys n same e) in
+        let counts : n ≡ (line + 1) + f.place = f.counts ∙ ap (λ b. cond b (line + 1) line + f.place) (eq-eqb x 10 feed) in
+        record { place = suc f.place; counts = omega (arith, counts); differ = differ_fed x y xs ys f.place feed (sym same ∙ feed) f.differ }
+    go (inl same) (inr no_feed) more =
+        let f = more (told line x y xs ys n same e) in
+        let counts : n ≡ line + f.place = f.counts ∙ ap (λ b. cond b (line + 1) line + f.place) (ne_eqb x 10 no_feed) in
+        record { place = f.place; counts = counts; differ = differ_unfed x y xs ys f.place same no_feed f.differ }
+
+-- and where nothing is told, they are equal
+pub none_found : (line : ℕ) (xs ys : List ℕ) → differ_from line xs ys ≡ None → xs ≡ ys
+none_found line [] [] e = refl
+none_found line [] (y ∷ ys) e = cc
+none_found line (x ∷ xs) [] e = cc
+none_found line (x ∷ xs) (y ∷ ys) e = go (cases_eq x y) (none_found (cond (eqb x 10) (line + 1) line) xs ys)
+  where
+    go : (x ≡ y) ⊎ (x ≡ y → ⊥) → (differ_from (cond (eqb x 10) (line + 1) line) xs ys ≡ None → xs ≡ ys) → x ∷ xs ≡ y ∷ ys
+    go (inl same) more = let f : xs ≡ ys = more (sym (ap (λ b. cond b (differ_from (cond (eqb x 10) (line + 1) line) xs ys) (Some line)) (eq-eqb x y same)) ∙ e) in cc
+    go (inr other) more = let f : Some line ≡ None = sym (ap (λ b. cond b (differ_from (cond (eqb x 10) (line + 1) line) xs ys) (Some line)) (ne_eqb x y other)) ∙ e in cc
+
+-- a differing line has the next number
+
+pub first_difference : (xs ys : List ℕ) (n : ℕ) → differ_from 1 xs ys ≡ Some n → IsFirstDifference xs ys n
+first_difference xs ys n e =
+    let f = found 1 xs ys n e in
+    record {
+      lines = lines_of xs;
+      others = lines_of ys;
+      place = f.place;
+      is_lines = refl;
+      is_others = refl;
+      counts = omega (arith, f.counts);
+      differ = λ same. f.differ.differ (line_read (lines_of xs) (lines_of ys) f.place same);
+      before = f.differ.before;
+    }
+  where
+    line_read : (lines others : List (List ℕ)) (place : ℕ) → slice_get lines place ≡ slice_get others place → get_or lines place [] ≡ get_or others place []
+    line_read [] [] place e = refl
+    line_read [] (y ∷ ys) zero e = cc
+    line_read [] (y ∷ ys) (suc place) e = line_read [] ys place e
+    line_read (x ∷ xs) [] zero e = cc
+    line_read (x ∷ xs) [] (suc place) e = line_read xs [] place e
+    line_read (x ∷ xs) (y ∷ ys) zero e = cc
+    line_read (x ∷ xs) (y ∷ ys) (suc place) e = line_read xs ys place e
+
+-- the bytes from a place on
+
+pub differ_here : (line : ℕ) (xs ys : List ℕ) (i : ℕ) → i < length xs → i < length ys → get_or xs i 0 ≢ get_or ys i 0 → differ_from line (drop i xs) (drop i ys) ≡ Some line
+differ_here line xs ys i h g ne = rw (drop-cons xs i 0 h, drop-cons ys i 0 g, ne_eqb (get_or xs i 0) (get_or ys i 0) ne) refl
+
+pub equal_end : (line : ℕ) (xs ys : List ℕ) (i : ℕ) → i ≡ min (length xs) (length ys) → length xs ≡ length ys → differ_from line (drop i xs) (drop i ys) ≡ None
+equal_end line xs ys i e same = rw (drop_all i xs (omega (arith, e, same)), drop_all i ys (omega (arith, e, same))) refl
+
+pub differ_end : (line : ℕ) (xs ys : List ℕ) (i : ℕ) → i ≡ min (length xs) (length ys) → length xs ≢ length ys → differ_from line (drop i xs) (drop i ys) ≡ Some line
+differ_end line xs ys i e other = go (cases_lt (length xs) (length ys))
+  where
+    go : (length xs < length ys) ⊎ (length ys ≤ length xs) → differ_from line (drop i xs) (drop i ys) ≡ Some line
+    go (inl less) = rw (drop_all i xs (omega (arith, e, less)), drop-cons ys i 0 (omega (arith, e, less))) refl
+    go (inr more) =
+        let long : length ys < length xs = omega (arith, more, other) in
+        rw (drop-cons xs i 0 (omega (arith, e, long)), drop_all i ys (omega (arith, e, long))) refl

@@ -1,0 +1,18 @@
+use Rattle.std.proofs.Common.{refl, sym, subst, arith}
+use Rattle.edi_record.specs.Kept.{KeepsExtras}
+use Rattle.edi_record.proofs.draft.Draft.new.Goals as goal
+
+pub returns-clause-keeps : goal.returns-clause-keeps
+returns-clause-keeps c = λ group. record {
+  identifier = refl;
+  class = refl;
+  attribute_count = refl;
+  point_count = λ k. refl;
+  end_count = λ k. refl;
+  counted_points = λ k. omega arith;
+  counted_ends = λ k. omega arith;
+  attributes = c.new-3.ensures.keeps group;
+  points = λ k. c.in_ok-points.ensures group;
+  ends = λ k. c.in_ok-ends.ensures group;
+  extras = λ b. subst (λ o. KeepsExtras c.args.kind o c.new-4.result group group) (sym c.new-3.ensures.closed) (c.new-4.ensures c.args.kind group);
+}

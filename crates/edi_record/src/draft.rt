@@ -1,0 +1,162 @@
+//! What is kept of a record whose zones are still coming.
+
+ghost use Rattle.std.specs.Prelude.{◌≡◌, ℕ, ◌+◌, ◌<◌, ◌≤◌, ◌^◌, ◌&&◌, ◌||◌, not, true, false, List, [], ◌∷◌, map, length, codes, Some, None, is_some, MatchOption, IfOk, IfErr, OnOk};
+ghost use Rattle.edi_line.specs.Entry.{Entry, entry};
+ghost use Rattle.edi_line.specs.Refusal.{first_broken};
+ghost use Rattle.edi_record.specs.Texts.{pointer, class_of};
+ghost use Rattle.edi_record.specs.Shapes.{is_in_shape};
+ghost use Rattle.edi_record.specs.Records.{values, is_link, States};
+ghost use Rattle.edi_record.specs.RecordRules.{kind_in, is_arc, counts_right, just_one, is_identifier as is_identifier_text, record_tests};
+ghost use Rattle.edi_record.specs.RecordRefusal.{IsGroupRefusal};
+ghost use Rattle.edi_record.specs.Kept.{AreTexts, KeepsRecord};
+
+use crate::attributes::Attributes;
+use crate::counts::is_wrong;
+use crate::ends::Ends;
+use crate::extras::Extras;
+use crate::fault::GroupFault;
+use crate::groups::is_identifier;
+use crate::only::Only;
+use crate::pointer::Pointer;
+use crate::points::Points;
+use crate::record::{Kind, Record};
+use crate::role::{Role, role_of};
+use edi_line::{Sequence, Text, Zone};
+use std::alloc::{AllocError, Global};
+
+/// What is kept of the zones of a record that have come, each looked at once. The zones lend what
+/// is copied when the record is made.
+#[derive(Drop)]
+pub(crate) struct Draft<'a> {
+    kind: Kind,
+    identifier: Only<'a>,
+    class: Only<'a>,
+    attribute_count: Only<'a>,
+    /// The count of an arc's points or of a link's ends.
+    body_count: Only<'a>,
+    /// How many points or ends have come.
+    counted: usize,
+    attributes: Attributes<'a>,
+    points: Points,
+    ends: Ends<'a>,
+    extras: Extras,
+}
+
+impl<'a> Draft<'a> {
+    /// Nothing of a record of this type has come but its type.
+    pub(crate) fn new(alloc: Global, kind: Kind) -> Result<Draft<'a>, AllocError>
+        ensures keeps { IfOk result (λ d. (group : List Entry) → KeepsRecord d group group) }
+        ensures kind { IfOk result (λ d. d.kind ≡ kind) }
+        ensures counted { IfOk result (λ d. d.counted ≡ 0) }
+    {
+        let points = Points::new(alloc, kind)?;
+        let ends = Ends::new(alloc, kind)?;
+        Ok(Draft {
+            kind,
+            identifier: Only::Absent,
+            class: Only::Absent,
+            attribute_count: Only::Absent,
+            body_count: Only::Absent,
+            counted: 0,
+            attributes: Attributes::new(alloc),
+            points,
+            ends,
+            extras: Extras::new(alloc),
+        })
+    }
+
+    /// Takes the next zone of the record.
+    pub(crate) fn take(&mut self, alloc: Global, zone: &'a Zone<'_>) -> Result<(), AllocError>
+        requires { self.old.counted + 1 < 2 ^ 64 }
+        ensures kind { OnOk result (self.new.kind ≡ self.old.kind) }
+        ensures counted { OnOk result (self.new.counted ≤ self.old.counted + 1) }
+        ensures keeps { OnOk result ((left group : List Entry) → KeepsRecord self.old (entry zone.entry.now ∷ left) group → KeepsRecord self.new left group) }
+    {
+        let text = zone.value.as_slice();
+        match role_of(self.kind, zone.code) {
+            Role::Identifier => self.identifier.take(text),
+            Role::Class => self.class.take(text),
+            Role::AttributeCount => self.attribute_count.take(text),
+            Role::AttributeClass => self.attributes.take_class(alloc, text)?,
+            Role::AttributeSet if self.attributes.is_open() => self.attributes.take_set(text),
+            Role::AttributeSet => self.extras.take(alloc, zone)?,
+            Role::AttributeValue => self.attributes.take_value(alloc, text)?,
+            Role::BodyCount => self.body_count.take(text),
+            Role::Place => {
+                self.counted += 1;
+                self.points.take(text)?;
+            }
+            Role::EndPointer => {
+                self.counted += 1;
+                self.ends.take_pointer(alloc, text)?;
+            }
+            Role::EndSense => self.ends.take_sense(text),
+            Role::Skipped => {}
+            Role::Unknown => self.extras.take(alloc, zone)?,
+        }
+        Ok(())
+    }
+
+    /// The record, of which all zones have come, or the least of the rules 202 to 208 that it breaks.
+    pub(crate) fn finish(self, alloc: Global) -> Result<Record, GroupFault>
+        ensures states { IfOk result (λ r. (group : List Entry) → length (values (codes "RTY") group) ≡ 1 → kind_in group ≡ Some self.entry.kind → KeepsRecord self.entry [] group → States group r) }
+        ensures shape { IfOk result (λ r. is_in_shape r ≡ true) }
+        ensures sound { OnOk result ((group : List Entry) → kind_in group ≡ Some self.entry.kind → KeepsRecord self.entry [] group → first_broken (record_tests group) ≡ None) }
+        ensures least { IfErr result (λ fault. (group : List Entry) → kind_in group ≡ Some self.entry.kind → KeepsRecord self.entry [] group → IsGroupRefusal group fault) }
+    {
+        let Some(rid) = identifier_of(self.identifier) else {
+            return Err(GroupFault::Broken(202));
+        };
+        let Some(class) = class_pointer(self.class) else {
+            return Err(GroupFault::Broken(203));
+        };
+        let attributes = self.attributes.finish(alloc)?;
+        if is_wrong(self.attribute_count, attributes.len())
+            || is_body_wrong(self.kind, self.body_count, self.counted)
+        {
+            return Err(GroupFault::Broken(205));
+        }
+        let points = self.points.finish(alloc, self.kind)?;
+        let ends = self.ends.finish(alloc, self.kind)?;
+        let extras = self.extras.finish()?;
+        Ok(Record {
+            kind: self.kind,
+            rid: Text::from_slice(alloc, rid)?,
+            scp: class.name(alloc)?,
+            points: Sequence::from_vec(points),
+            ends: Sequence::from_vec(ends),
+            attributes: Sequence::from_vec(attributes),
+            extras: Sequence::from_vec(extras),
+        })
+    }
+}
+
+/// The identifier of a record, or none where rule 202 is broken.
+fn identifier_of(kept: Only<'_>) -> Option<&[u8]>
+    ensures { MatchOption result ((all : List (List ℕ)) → AreTexts kept.entry [] all → just_one is_identifier_text all ≡ false)
+        (λ text. (all : List (List ℕ)) → AreTexts kept.entry [] all → (just_one is_identifier_text all ≡ true) × (all ≡ text.now ∷ [])) }
+{
+    match kept {
+        Only::One(text) if is_identifier(text) => Some(text),
+        _ => None,
+    }
+}
+
+/// The pointer to the class of a record, or none where rule 203 is broken.
+fn class_pointer(kept: Only<'_>) -> Option<Pointer<'_>>
+    ensures { MatchOption result ((all : List (List ℕ)) → AreTexts kept.entry [] all → just_one (λ text. is_some (pointer text)) all ≡ false)
+        (λ p. (all : List (List ℕ)) → AreTexts kept.entry [] all → (just_one (λ text. is_some (pointer text)) all ≡ true) × (map class_of all ≡ Some (record { rty = p.rty.now; rid = p.rid.now }) ∷ [])) }
+{
+    match kept {
+        Only::One(text) => Pointer::read(text),
+        _ => None,
+    }
+}
+
+/// Whether the count of an arc's points or of a link's ends is wrong.
+fn is_body_wrong(kind: Kind, count: Only<'_>, counted: usize) -> bool
+    ensures { (points ends : List (List ℕ)) → (is_arc kind ≡ true → AreTexts count.entry [] points) → (is_link kind ≡ true → AreTexts count.entry [] ends)
+        → result ≡ ((is_arc kind && not (counts_right points counted)) || (is_link kind && not (counts_right ends counted))) }
+{
+    kind.has_count() && is_wrong(count, counted)
+}
