@@ -10,7 +10,7 @@ use Rattle.edi_compare.specs.declared.pairing.Verdict.TheVariants.{Same, Differe
 use Rattle.edi_compare.specs.Bundle.{OfParts}
 use Rattle.edi_compare.specs.Runs.{IsSheetUnder, IsVerdictOf, RefusesSchema, RefusesSecond, RefusesSheet, WritesAll}
 use Rattle.edicad.specs.Outcome.{ended, schema_text, sheet_text}
-use Rattle.edicad.specs.Requests.{usual_kinds}
+use Rattle.edicad.specs.Requests.{IsAsked, usual_kinds}
 use Rattle.edicad.specs.SheetRuns.{Contents, OfFiles, OfPair, SendsCanon}
 use Rattle.edicad.specs.declared.words.PairFiles.{PairFiles}
 use Rattle.edicad.specs.declared.words.SheetFiles.{SheetFiles}
@@ -25,9 +25,21 @@ IsSheetStatus s = (s ≡ 0) ⊎ ((s ≡ 2) ⊎ ((s ≡ 4) ⊎ (s ≡ 5)))
 abbrev pub IsPairStatus : ℕ → Type 0
 IsPairStatus s = (s ≡ 1) ⊎ IsSheetStatus s
 
--- of any run: those, or that of words that ask for nothing
+-- of what was asked for, whatever the files hold
+abbrev pub IsStatusOf : Request → ℕ → Type 0
+IsStatusOf Bundle s = IsSheetStatus s
+IsStatusOf (Check kinds files) s = IsSheetStatus s
+IsStatusOf (Canon kinds files out) s = IsSheetStatus s
+IsStatusOf (Compare kinds files) s = IsPairStatus s
+IsStatusOf (Answered status) s = s ≡ status
+
+-- the words ask for something, and the status is of that
+abbrev pub HasStatus : List (List ℕ) → ℕ → Type 0
+HasStatus words s = (request : Request) × IsAsked words request × IsStatusOf request s
+
+-- of any run: that of words, that of words that are no text, or that of no memory for them
 abbrev pub IsStatus : ℕ → Type 0
-IsStatus s = (s ≡ 3) ⊎ IsPairStatus s
+IsStatus s = ((words : List (List ℕ)) × HasStatus words s) ⊎ ((s ≡ 3) ⊎ (s ≡ 5))
 
 -- the schema or the sheet is refused, and the line of the refusal went out
 abbrev pub SaysRefusal : Option (List ℕ) → Option (List ℕ) → KindCodes → List ℕ → List ℕ → List ℕ → Type 0

@@ -3,7 +3,7 @@ ghost use Rattle.std.specs.Prelude.{◌≡◌, ℕ, List, Option, map, string_by
 ghost use Rattle.std.specs.Io.KnownBytes.{Appends};
 ghost use Rattle.edicad.specs.Outcome.{outcome_for};
 ghost use Rattle.edicad.specs.Requests.{IsAsked};
-ghost use Rattle.edicad.specs.Statuses.{IsAnswered, IsBundleStatus, IsCanonStatus, IsCompareStatus, IsFileStatus, IsStatus};
+ghost use Rattle.edicad.specs.Statuses.{HasStatus, IsAnswered, IsBundleStatus, IsCanonStatus, IsCompareStatus, IsFileStatus, IsStatus};
 ghost use Rattle.edicad.specs.declared.words.Request.{Request};
 
 use crate::outcome::Outcome;
@@ -42,7 +42,7 @@ fn words<R: Runtime + AllocGlobal>(rt: &R) -> io::Result<Vec<String>> {
 
 /// Does what the words ask for, over the files and the streams of the system.
 pub fn run_words<R: Runtime + AllocGlobal>(rt: &R, words: &[String]) -> u8
-    ensures { IsStatus result }
+    ensures { HasStatus (map string_bytes words.now) result }
 {
     let mut folder = Disk { files: rt };
     let mut input = FromRead::new(rt.reader());
