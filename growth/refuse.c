@@ -1,5 +1,5 @@
 /* Refuses one growth of memory: that with the number of the environment's REFUSE, counted from 1.
-   It tells that it did on descriptor 9. Preloaded, so that the program under test is the built one. */
+   It tells that it did on the descriptor that NOTES names. Preloaded, so that the program under test is the built one. */
 #define _GNU_SOURCE
 #include <dlfcn.h>
 #include <stddef.h>
@@ -19,7 +19,8 @@ static int refused(void) {
     if (number == 0 || ++seen != number) {
         return 0;
     }
-    (void)!write(9, "refused\n", 8);
+    const char *notes = getenv("NOTES");
+    (void)!write(notes ? atoi(notes) : 2, "refused\n", 8);
     return 1;
 }
 

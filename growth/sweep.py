@@ -24,11 +24,9 @@ def run(words, library, number, out):
     if os.path.exists(out):
         os.remove(out)
     reading, writing = os.pipe()
-    os.set_inheritable(writing, True)
-    environment = dict(os.environ, LD_PRELOAD=library, REFUSE=str(number)) if number else dict(os.environ)
+    environment = dict(os.environ, LD_PRELOAD=library, REFUSE=str(number), NOTES=str(writing))
     with open(os.path.join(NODE, "bundle"), "rb") as source:
-        done = subprocess.run(["bash", "-c", f'exec 9>&{writing}; exec "$0" "$@"', PROGRAM, *words],
-                              stdin=source, capture_output=True, env=environment, pass_fds=[writing])
+        done = subprocess.run([PROGRAM, *words], stdin=source, capture_output=True, env=environment, pass_fds=[writing])
     os.close(writing)
     with os.fdopen(reading, "rb") as notes:
         met = notes.read() != b""

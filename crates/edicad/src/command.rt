@@ -3,7 +3,7 @@ ghost use Rattle.std.specs.Prelude.{◌≡◌, ℕ, List, Option, map, string_by
 ghost use Rattle.std.specs.Io.KnownBytes.{Appends};
 ghost use Rattle.edicad.specs.Outcome.{outcome_for};
 ghost use Rattle.edicad.specs.Requests.{IsAsked};
-ghost use Rattle.edicad.specs.Statuses.{HasStatus, IsAnswered, IsBundleStatus, IsCanonStatus, IsCompareStatus, IsFileStatus, IsStatus};
+ghost use Rattle.edicad.specs.Statuses.{HasStatus, IsAnswered, IsBundleStatus, IsCanonStatus, IsCompareStatus, IsFileStatus, IsStatus, IsStatusOf};
 ghost use Rattle.edicad.specs.declared.words.Request.{Request};
 
 use crate::outcome::Outcome;
@@ -61,7 +61,8 @@ pub fn run_over<R: Eprint + AllocGlobal, F: Folder, I: ByteIn, O: ByteOut, E: By
     err: &mut E,
     words: &[String],
 ) -> u8
-    ensures { (request : Request) × IsAsked (map string_bytes words.now) request
+    ensures status { HasStatus (map string_bytes words.now) result }
+    ensures answer { (request : Request) × IsAsked (map string_bytes words.now) request
         × IsAnswered (F.holds folder.old) (λ path c. (made : Option (List ℕ)) × (file : F.Writer)
         × F.makes folder.old path made × Appends made (F.Writer.told file) c)
         (I.told input.old) (O.told out.old) (O.told out.new) request result }
@@ -79,7 +80,8 @@ pub fn answered<F: Folder, I: ByteIn, O: ByteOut, E: ByteOut>(
     err: &mut E,
     request: Request<'_>,
 ) -> u8
-    ensures { IsAnswered (F.holds folder.old) (λ path c. (made : Option (List ℕ)) × (file : F.Writer)
+    ensures status { IsStatusOf request.entry result }
+    ensures answer { IsAnswered (F.holds folder.old) (λ path c. (made : Option (List ℕ)) × (file : F.Writer)
         × F.makes folder.old path made × Appends made (F.Writer.told file) c)
         (I.told input.old) (O.told out.old) (O.told out.new) request.entry result }
 {

@@ -1,0 +1,8 @@
+use Rattle.std.proofs.Common.{refl}
+use Rattle.edicad.proofs.command.answered.Goals as goal
+
+pub returns-in-Answered-clause-answer : goal.returns-in-Answered-clause-answer
+returns-in-Answered-clause-answer g c = rw c.in-Answered.is refl
+
+pub returns-in-Answered-clause-status : goal.returns-in-Answered-clause-status
+returns-in-Answered-clause-status g c = rw c.in-Answered.is refl
