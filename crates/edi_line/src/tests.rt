@@ -6,7 +6,7 @@ use crate::{
     ByteIn, ByteOut, Feed, FromRead, LineFault, Num, ReadFault, ScriptIn, ScriptOut, Sequence,
     Text, ToWrite, Zone, read_all, zones, zones_of_pieces,
 };
-use std::alloc::Global;
+use std::alloc::{AllocError, Global};
 use std::borrow::CowSlice;
 use std::hash::{BuildHasher, BuildHasherDefault, DefaultHasher};
 use std::test::Fail;
@@ -137,20 +137,13 @@ fn have_values(zones: &[Zone], values: &[(u64, &[u8], bool)]) -> bool {
 fn continues_values_over_remarks_and_blank_lines(rt: HostRuntime) -> Result<(), Fail> {
     let bytes = b"\nREMT 05:hello\r\nNEXT 03:abc\nBOMT 01:X\n  \r\nNEXT 02:YZ\n\
 RTYSA03:PNO\nATVSA02:ab\n  \nREMT 00:\nNEXT 01:c\nEOMT 00:";
-    match zones(rt.alloc(), bytes) {
-        Ok(zones) => assert!(rt;
-            have_values(
-                &zones,
-                &[
-                    (4, b"XYZ", false),
-                    (7, b"PNO", true),
-                    (8, b"ab", true),
-                    (12, b"", true)
-                ]
-            )
-        ),
-        Err(_) => assert!(rt; false),
-    }
+    let values: [(u64, &[u8], bool); 4] = [
+        (4, b"XYZ", false),
+        (7, b"PNO", true),
+        (8, b"ab", true),
+        (12, b"", true),
+    ];
+    assert!(rt; have_values(&zones(rt.alloc(), bytes)?, &values));
     Ok(())
 }
 
@@ -225,7 +218,7 @@ fn passes_bytes_on(rt: HostRuntime) -> Result<(), Fail> {
     let bytes: &[u8] = b"BOMT 01:X\nEOMT 00:\n";
     let whole = read_all(alloc, &mut FromRead::new(bytes), 100);
     assert_eq!(rt; told(&whole), Ok(bytes));
-    let mut taken = Vec::new(alloc);
+    let mut taken = Vec::with_capacity(alloc, 20)?;
     let mut writer = ToWrite::new(&mut taken);
     assert_eq!(rt; writer.write(bytes), Some(bytes.len()));
     assert_eq!(rt; writer.write(b""), Some(0));
@@ -276,12 +269,12 @@ fn compares_texts(rt: HostRuntime) -> Result<(), Fail> {
 const SHEET: &[u8] =
     b"BOMT 01:X\r\nRTYSA03:PNO\n\r\nREMT 02:hi\nATVSA02:ab\r\n \nNEXT 01:c\nEOMT 00:\r\n";
 
-// The rule and the line of a fault; 0 and 0 for want of memory.
-fn answer<T: Drop>(given: &Result<T, LineFault>) -> Result<(), (u16, u64)> {
+// The rule and the line of a fault, where it is not want of memory.
+fn answer<T: Drop>(given: &Result<T, LineFault>) -> Result<Result<(), (u16, u64)>, AllocError> {
     match given {
-        Ok(_) => Ok(()),
-        Err(LineFault::Broken { rule, at }) => Err((*rule, *at)),
-        Err(LineFault::Memory(_)) => Err((0, 0)),
+        Ok(_) => Ok(Ok(())),
+        Err(LineFault::Broken { rule, at }) => Ok(Err((*rule, *at))),
+        Err(LineFault::Memory(_)) => Err(AllocError),
     }
 }
 
@@ -414,17 +407,20 @@ fn fed_in_two(
 }
 
 // How many bytes were taken one by one, and what the end is answered.
-fn fed_in_bytes(alloc: Global, bytes: &[u8]) -> (usize, Result<Vec<Zone<'static>>, LineFault>)
+fn fed_in_bytes(
+    alloc: Global,
+    bytes: &[u8],
+) -> Result<(usize, Result<Vec<Zone<'static>>, LineFault>), AllocError>
     requires { length bytes.now < 10000 }
 {
     let mut feed = Feed::new(alloc);
     let mut taken = 0;
     for byte in bytes {
-        if feed.feed(&[*byte]).is_ok() {
+        if answer(&feed.feed(&[*byte]))?.is_ok() {
             taken += 1;
         }
     }
-    (taken, feed.finish())
+    Ok((taken, feed.finish()))
 }
 
 fn are_same(left: &[Zone], right: &[Zone]) -> bool {
@@ -441,40 +437,34 @@ fn are_same(left: &[Zone], right: &[Zone]) -> bool {
 #[test]
 fn takes_a_sheet_in_pieces(rt: HostRuntime) -> Result<(), Fail> {
     let alloc = rt.alloc();
-    let whole = zones(alloc, SHEET).ok().ok_or("no zones")?;
+    let whole = zones(alloc, SHEET)?;
     assert_eq!(rt; whole.len(), 4);
     for cut in 0..=SHEET.len() {
         let (front, behind) = SHEET.split_at(cut);
         let (first, second, end) = fed_in_two(alloc, front, behind);
-        assert!(rt; first.is_ok() && second.is_ok());
-        assert!(rt;
-            are_same(&end.ok().ok_or("no zones")?, &whole),
-            "cut at {cut}"
-        );
+        assert_eq!(rt; (answer(&first)?, answer(&second)?), (Ok(()), Ok(())));
+        assert!(rt; are_same(&end?, &whole), "cut at {cut}");
     }
-    let (taken, end) = fed_in_bytes(alloc, SHEET);
+    let (taken, end) = fed_in_bytes(alloc, SHEET)?;
     assert_eq!(rt; taken, SHEET.len());
-    assert!(rt; are_same(&end.ok().ok_or("no zones")?, &whole));
+    assert!(rt; are_same(&end?, &whole));
     Ok(())
 }
 
 #[test]
 fn takes_a_plan_in_pieces(rt: HostRuntime) -> Result<(), Fail> {
     let alloc = rt.alloc();
-    let whole = zones(alloc, PLAN).ok().ok_or("no zones")?;
+    let whole = zones(alloc, PLAN)?;
     assert_eq!(rt; whole.len(), 106);
     for cut in 0..=PLAN.len() {
         let (front, behind) = PLAN.split_at(cut);
         let (first, second, end) = fed_in_two(alloc, front, behind);
-        assert!(rt; first.is_ok() && second.is_ok());
-        assert!(rt;
-            are_same(&end.ok().ok_or("no zones")?, &whole),
-            "cut at {cut}"
-        );
+        assert_eq!(rt; (answer(&first)?, answer(&second)?), (Ok(()), Ok(())));
+        assert!(rt; are_same(&end?, &whole), "cut at {cut}");
     }
-    let (taken, end) = fed_in_bytes(alloc, PLAN);
+    let (taken, end) = fed_in_bytes(alloc, PLAN)?;
     assert_eq!(rt; taken, PLAN.len());
-    assert!(rt; are_same(&end.ok().ok_or("no zones")?, &whole));
+    assert!(rt; are_same(&end?, &whole));
     Ok(())
 }
 
@@ -488,22 +478,22 @@ fn fed_in_three(alloc: Global, pieces: [&[u8]; 3]) -> Result<Vec<Zone<'static>>,
 #[test]
 fn refuses_a_line_as_it_ends(rt: HostRuntime) -> Result<(), Fail> {
     let alloc = rt.alloc();
-    let none = answer(&Feed::new(alloc).finish());
+    let none = answer(&Feed::new(alloc).finish())?;
     assert_eq!(rt; none, Err((106, 1)));
     let (first, second, end) = fed_in_two(alloc, b"", b"BOMT 01:X\nx");
-    assert_eq!(rt; answer(&first), Ok(()));
-    assert_eq!(rt; answer(&second), Ok(()));
-    assert_eq!(rt; answer(&end), Err((101, 2)));
+    assert_eq!(rt; answer(&first)?, Ok(()));
+    assert_eq!(rt; answer(&second)?, Ok(()));
+    assert_eq!(rt; answer(&end)?, Err((101, 2)));
     let (first, second, end) = fed_in_two(alloc, b"BOMT 01:X\nEOMT 00:\nEOMT 00:\n", b"BOM");
-    assert_eq!(rt; answer(&first), Err((107, 3)));
-    assert_eq!(rt; answer(&second), Err((107, 3)));
-    assert_eq!(rt; answer(&end), Err((107, 3)));
+    assert_eq!(rt; answer(&first)?, Err((107, 3)));
+    assert_eq!(rt; answer(&second)?, Err((107, 3)));
+    assert_eq!(rt; answer(&end)?, Err((107, 3)));
     let pieces: [&[u8]; 3] = [b"BOMT 01:X", b"\nx", b"\nEOMT 00:\n"];
-    assert_eq!(rt; answer(&fed_in_three(alloc, pieces)), Err((101, 2)));
+    assert_eq!(rt; answer(&fed_in_three(alloc, pieces))?, Err((101, 2)));
     let pieces: [&[u8]; 3] = [b"BOMT 01:X\n", b"EOMT 0", b"0:\n"];
-    assert_eq!(rt; answer(&fed_in_three(alloc, pieces)), Ok(()));
-    let (taken, end) = fed_in_bytes(alloc, b"BOMT 01:X\nx\n");
+    assert_eq!(rt; answer(&fed_in_three(alloc, pieces))?, Ok(()));
+    let (taken, end) = fed_in_bytes(alloc, b"BOMT 01:X\nx\n")?;
     assert_eq!(rt; taken, 11);
-    assert_eq!(rt; answer(&end), Err((101, 2)));
+    assert_eq!(rt; answer(&end)?, Err((101, 2)));
     Ok(())
 }
