@@ -102,4 +102,5 @@ def main():
         print(f"{count:6} {name}")
 
 
-main()
+if __name__ == "__main__":
+    main()

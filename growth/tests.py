@@ -39,7 +39,7 @@ def sweep(name, program, test, library):
             break
         if passes:
             same += 1
-        elif b"AllocError" in said or b"OutOfMemory" in said:
+        elif any(word in said for word in (b"AllocError", b"AllocFailed", b"OutOfMemory")):
             memory += 1
         else:
             sys.exit(f"{name} {test}: growth {number} gives {said.decode(errors='replace')}")
