@@ -2,11 +2,8 @@
 use Rattle.std.proofs.Common.{◌≡◌, ℕ, zero, suc, ◌+◌, ◌-◌, ◌<◌, ◌≤◌, Bool, true, false, cond, true≢false, ◌&&◌, not, List, [], ◌∷◌, map, reverse, length, refl, sym, ap, ap₂, ◌∙◌, subst, arith, IsPermutation, count_by, Ordering, Less, Equal, Greater, is_gt, is_lt}
 use Rattle.std.specs.List.{AllByRecursion}
 use Rattle.std.specs.Option.{option_cmp}
-use Rattle.std.specs.Ordering.{ordering_reverse}
-use Rattle.std.proofs.lemmas.List.{reverse-reverse}
 use Rattle.std.proofs.lemmas.List.Sorted.{IsPermutation-sym}
 use Rattle.edi_line.specs.Refusal.{IsUnbroken}
-use Rattle.edi_record.specs.Orders.{point_cmp, points_cmp}
 use Rattle.edi_record.specs.Shapes.{may_have_points, may_have_ends}
 use Rattle.edi_record.specs.declared.record.Kind.{Kind}
 use Rattle.edi_record.specs.declared.record.Kind.TheVariants.{Par, Pfe, Fea, Lnk}
@@ -19,7 +16,6 @@ use Rattle.edi_plan.specs.Plans.{Drawing, IsPlace, record_at, is_arc, is_object,
 use Rattle.edi_plan.specs.Whole.{IsWhole}
 use Rattle.edi_plan.specs.declared.record.PlanRecord.{PlanRecord}
 use Rattle.edi_plan.specs.declared.record.PlanEnd.{PlanEnd}
-use Rattle.edi_plan.proofs.Orders.{points_total, exact_lists, point_exact}
 use Rattle.edi_topo.specs.TopologyRules.{BreaksTopologyRule}
 use Rattle.edi_topo.specs.TopologyRules.BreaksTopologyRule.{equals_reverse}
 use Rattle.edi_rank.specs.Arranged.{offset, new_place, numbered_cmp, ordered_ends, arranged_record, arranged}
@@ -31,19 +27,10 @@ use Rattle.edi_rank.specs.Turned.{is_forward, turned_record, role_after}
 use Rattle.edi_rank.proofs.ArrangedOrder.{by_type, attributes_in_order, both_before, kind_from, nodes_rise, arcs_rise}
 use Rattle.edi_rank.proofs.ArrangedUnder.{all_along, directed_long, plain_after}
 use Rattle.edi_rank.proofs.Arranging.{From, came_from, new_places, record_placed, carries_record, carries_arranged, numbered_total}
-use Rattle.edi_rank.proofs.KeysKept.{Kept, all_weaker, two_hold, counted_alike, link_key_kept, face_key_kept, object_key_kept}
-use Rattle.edi_rank.proofs.TurnedRecords.{record_turned, turned_long}
+use Rattle.edi_rank.proofs.KeysKept.{Kept, kept_from, all_weaker, two_hold, counted_alike, link_key_kept, face_key_kept, object_key_kept}
+use Rattle.edi_rank.proofs.TurnedRecords.{record_turned, turned_long, reverse_forward}
 use Rattle.edi_rank.proofs.Renumbered.{up, shift, shift_cmp, link_shift, link_shift_cmp, object_shift, object_shift_cmp, face_shift, faces_shift_cmp, link_up, object_up, least_up, shifted, shifted_is, never-map}
-use Rattle.edi_rank.proofs.SameLaws.{map_alike, map-map, ends_moved}
-
--- points that are not before their reverse, and differ from it, are after it
-turned_forward : (points : List Point) → is_forward points ≡ false → (points ≡ reverse points → ⊥) → is_forward (reverse points) ≡ true
-turned_forward points behind differs = go (points_cmp points (reverse points)) refl behind
-  where
-    go : (o : Ordering) → points_cmp points (reverse points) ≡ o → is_lt o ≡ false → is_lt (points_cmp (reverse points) (reverse (reverse points))) ≡ true
-    go Less e h = absurd (true≢false h)
-    go Equal e h = absurd (differs (exact_lists point_cmp point_exact points (reverse points) e))
-    go Greater e h = ap (λ xs. is_lt (points_cmp (reverse points) xs)) (reverse-reverse points) ∙ ap is_lt (points_total.antisymm (reverse points) points ∙ ap ordering_reverse e)
+use Rattle.edi_rank.proofs.SameLaws.{map_alike, map-map}
 
 module _ (s : Classes) (p : Drawing) (l : Labelling) (labels : AreLabels s p l) (whole : IsWhole p) where
   abbrev to : ℕ → ℕ
@@ -99,21 +86,17 @@ module _ (s : Classes) (p : Drawing) (l : Labelling) (labels : AreLabels s p l) 
 
   kept_made : (k : ℕ) → Kept to (turned_record (partner_of s) (turned_at l.turned) k (record_at p k)) (arranged_record s l p k)
   kept_made k =
-      let c = carries_record s p l labels k in
-      record {
-        kind = refl;
-        attributes = c.attributes;
-        extras = refl;
-        class = refl;
-        role = refl;
-        points = refl;
-        origin = c.origin;
-        others = c.others;
-        ends = ends_moved s to (turned_at l.turned) k (record_at p k) (arranged_record s l p k) c;
-      }
+      let c = kept_from s to (turned_at l.turned) k (record_at p k) (arranged_record s l p k) (carries_record s p l labels k) in
+      record { kind = c.kind; attributes = c.attributes; extras = c.extras; origin = c.origin; others = c.others; ends = c.ends }
 
   kept : (k : ℕ) → IsPlace turned k → Kept to (record_at turned k) (record_at made (to k))
   kept k h = subst (λ r. Kept to r (record_at made (to k))) (sym (after k h)) (subst (Kept to (turned_record (partner_of s) (turned_at l.turned) k (record_at p k))) (sym (record_placed s p l labels k (there_before k h))) (kept_made k))
+
+  class_kept : (k : ℕ) → IsPlace turned k → (record_at made (to k)).class ≡ (record_at turned k).class
+  class_kept k h = ap (λ (r : PlanRecord). r.class) (record_placed s p l labels k (there_before k h)) ∙ sym (ap (λ (r : PlanRecord). r.class) (after k h))
+
+  role_kept : (k : ℕ) → IsPlace turned k → (record_at made (to k)).role ≡ (record_at turned k).role
+  role_kept k h = ap (λ (r : PlanRecord). r.role) (record_placed s p l labels k (there_before k h)) ∙ sym (ap (λ (r : PlanRecord). r.role) (after k h))
 
   places : OneToOne to (length turned.list) (length made.list)
   places = subst (λ n. OneToOne to n (length made.list)) (sym long) (new_places s p l labels)
@@ -130,15 +113,16 @@ module _ (s : Classes) (p : Drawing) (l : Labelling) (labels : AreLabels s p l) 
 
   face_made : (j : ℕ) (w : From s p l labels j) → least_side made suc j ≡ Rattle.std.proofs.Common.option_map (face_shift off) (least_side turned (number_of l) w.old)
   face_made j w = ap (least_side made suc) (sym w.is)
-      ∙ (ap first_of (face_key_kept turned made whole_turned to places kept number suc (λ t h arc. number_is t h) w.old (there_too w.old w.there)) ∙ least_up off turned (number_of l) w.old)
+      ∙ (ap first_of (face_key_kept turned made whole_turned.there to places kept number suc role_kept (λ t h arc. number_is t h) w.old (there_too w.old w.there)) ∙ least_up off turned (number_of l) w.old)
 
   object_made : (j : ℕ) (w : From s p l labels j) → (record_at turned w.old).kind ≡ Fea → object_key made suc j ≡ object_shift off (object_key turned (number_of l) w.old)
   object_made j w object = ap (object_key made suc) (sym w.is)
-      ∙ (object_key_kept turned made whole_turned to places kept number suc (λ t h lower. number_is t h) w.old (there_too w.old w.there) (ap is_object object) ∙ object_up off turned (number_of l) w.old)
+      ∙ (object_key_kept turned made whole_turned to places kept number suc (λ t h lower. number_is t h) w.old (there_too w.old w.there) (ap is_object object)
+      (class_kept w.old (there_too w.old w.there)) (λ i h piece. class_kept i h) ∙ object_up off turned (number_of l) w.old)
 
   link_made : (j : ℕ) (w : From s p l labels j) → link_key made suc (record_at made j) ≡ link_shift off (link_key turned (number_of l) (record_at turned w.old))
   link_made j w = ap (λ i. link_key made suc (record_at made i)) (sym w.is)
-      ∙ (link_key_kept turned made whole_turned to places kept number suc (record_at turned w.old) (record_at made (to w.old)) (kept w.old (there_too w.old w.there))
+      ∙ (link_key_kept turned made whole_turned.there to places kept number suc (record_at turned w.old) (record_at made (to w.old)) (kept w.old (there_too w.old w.there)) (class_kept w.old (there_too w.old w.there))
       (all_weaker (λ e. IsPlace turned e.target) (λ e. IsPlace turned e.target × (suc (to e.target) ≡ number e.target)) (λ e t. (t, number_is e.target t)) (record_at turned w.old).ends (whole_turned.there w.old (there_too w.old w.there)))
       ∙ link_up off turned (number_of l) (record_at turned w.old))
 
@@ -207,7 +191,7 @@ module _ (s : Classes) (p : Drawing) (l : Labelling) (labels : AreLabels s p l) 
 
         go : (b : Bool) → is_forward points ≡ b → is_forward (directed (not b) points) ≡ true
         go true e = e
-        go false e = turned_forward points e differs
+        go false e = reverse_forward points differs ∙ ap not e
 
     pub arranged_in_order : IsInOrder made
     arranged_in_order = record {

@@ -110,7 +110,7 @@ same_others : (p : Drawing) (number to : ℕ → ℕ) (xs : List PlanEnd) → Is
 same_others p number to [] = IsPermutation-refl []
 same_others p number to (x ∷ xs) = IsPermutation-map (moved to) _ _ (IsPermutation-sym _ _ (IsPermutation-sort_by (numbered_cmp p number) (numbered_total p number) xs))
 
-backward_arc : (kind : Kind) (b : Bool) → is_arc kind && b ≡ true → kind ≡ Par
+pub backward_arc : (kind : Kind) (b : Bool) → is_arc kind && b ≡ true → kind ≡ Par
 backward_arc Pno b h = absurd (true≢false (sym h))
 backward_arc Par b h = refl
 backward_arc Pfe b h = absurd (true≢false (sym h))

@@ -21,6 +21,7 @@ use Rattle.edi_topo.specs.TopologyRules.{BreaksTopologyRule}
 use Rattle.edi_topo.specs.TopologyRules.BreaksTopologyRule.{bounds_nothing}
 use Rattle.edi_rank.specs.Beside.{arc_and_other, side_for}
 use Rattle.edi_rank.specs.Keys.{side_by, side_of, least_side, face_key_cmp}
+use Rattle.edi_rank.specs.KeyLaws.{IsNowhereBroken, TellsTypeApart}
 use Rattle.edi_rank.specs.Labelling.{NumbersEach}
 use Rattle.edi_rank.specs.Layers.{forward_plan, face_keys, no_side, number_by, ranked}
 use Rattle.edi_rank.specs.Turned.{is_backward}
@@ -40,7 +41,7 @@ side_is_role Left s e = cc
 side_is_role Right s e = cc
 side_is_role Plain s e = cc
 
-exchanged_back : (r : Role) → exchanged (exchanged r) ≡ r
+pub exchanged_back : (r : Role) → exchanged (exchanged r) ≡ r
 exchanged_back Initial = refl
 exchanged_back Final = refl
 exchanged_back Left = refl
@@ -195,30 +196,18 @@ module _ (p : Drawing) where
     right_sided true = (Left, refl)
     right_sided false = (Right, refl)
 
-    pub some_side : IsUnbroken (BreaksTopologyRule p) → (x : ℕ) → IsPlace p x → (record_at p x).kind ≡ Pfe → (key : FaceKey) × (least_side (forward_plan p) number x ≡ Some key)
-    some_side sound x h face = go (least_side (forward_plan p) number x) refl
+    pub some_side : IsNowhereBroken p 406 → (x : ℕ) → IsPlace p x → (record_at p x).kind ≡ Pfe → (key : FaceKey) × (least_side (forward_plan p) number x ≡ Some key)
+    some_side bounded x h face = go (least_side (forward_plan p) number x) refl
       where
         go : (o : Option FaceKey) → least_side (forward_plan p) number x ≡ o → (key : FaceKey) × (o ≡ Some key)
         go (Some key) e = (key, refl)
-        go None e = absurd (sound 406 (suc x) (bounds_nothing refl (x, (record_at p x).points, refl, (h, face, refl), λ a. none a)))
+        go None e = absurd (bounded (suc x) (bounds_nothing refl (x, (record_at p x).points, refl, (h, face, refl), λ a. none a)))
           where
             none : (a : ℕ) → Side p a Left x ⊎ Side p a Right x → ⊥
             none a (inl side) = has_side Left left_sided x a face side e
             none a (inr side) = has_side Right right_sided x a face side e
 
-  module _ (whole : IsWhole p) (joined : IsJoined p) (arcs : List ℕ) (each : NumbersEach arcs) (long : length arcs ≡ length (places_of Par p)) where
-    abbrev number : ℕ → ℕ
-    number = ranked p [] arcs []
-
-    one_arc : (a b : ℕ) → IsPlace p a → IsPlace p b → (record_at p a).kind ≡ Par → (record_at p b).kind ≡ Par → number a ≡ number b → a ≡ b
-    one_arc a b h l arc other e =
-        let first = subst (λ kind. (member_of p a < length (places_of kind p)) × (get_or (places_of kind p) (member_of p a) 0 ≡ a)) arc (place_of_member p a h) in
-        let second = subst (λ kind. (member_of p b < length (places_of kind p)) × (get_or (places_of kind p) (member_of p b) 0 ≡ b)) other (place_of_member p b l) in
-        let numbers : get_or arcs (member_of p a) 0 ≡ get_or arcs (member_of p b) 0 =
-        sym (ap (λ kind. number_by [] arcs [] kind (member_of p a)) arc) ∙ (e ∙ ap (λ kind. number_by [] arcs [] kind (member_of p b)) other) in
-        let same = each.apart (member_of p a) (member_of p b) (omega (arith, first.0, long)) (omega (arith, second.0, long)) numbers in
-        sym first.1 ∙ (ap (λ m. get_or (places_of Par p) m 0) same ∙ second.1)
-
+  module _ (whole : IsWhole p) (joined : IsJoined p) (number : ℕ → ℕ) (one_arc : TellsTypeApart p Par number) where
     join_of : (x : ℕ) (key : FaceKey) (on : On number x key) → IsJoin p on.link
     join_of x key on = record { there = on.there; is_link = link on.ends; not_plain = not_plain (is_backward p on.arc) (record_at p on.link).role key.side on.side }
       where
@@ -242,6 +231,24 @@ module _ (p : Drawing) where
         let link : on.link ≡ other.link = joined.one_side on.link other.link on.arc x y (join_of x key on) (join_of y key other) role on.arc_is on.ends ends in
         one_other (targets (record_at p on.link)) on.arc x y on.ends (subst (λ k. HasEnds p k on.arc y) (sym link) ends)
 
+    pub one_face : IsNowhereBroken p 406 → TellsTypeApart p Pfe (least_side (forward_plan p) number)
+    one_face bounded x y h g face other e =
+        let side = some_side whole number bounded x h face in
+        same_face x y side.0 (on_side whole number x side.0 side.1) (on_side whole number y side.0 (sym e ∙ side.1))
+
+  module _ (whole : IsWhole p) (joined : IsJoined p) (arcs : List ℕ) (each : NumbersEach arcs) (long : length arcs ≡ length (places_of Par p)) where
+    abbrev number : ℕ → ℕ
+    number = ranked p [] arcs []
+
+    one_arc : TellsTypeApart p Par number
+    one_arc a b h l arc other e =
+        let first = subst (λ kind. (member_of p a < length (places_of kind p)) × (get_or (places_of kind p) (member_of p a) 0 ≡ a)) arc (place_of_member p a h) in
+        let second = subst (λ kind. (member_of p b < length (places_of kind p)) × (get_or (places_of kind p) (member_of p b) 0 ≡ b)) other (place_of_member p b l) in
+        let numbers : get_or arcs (member_of p a) 0 ≡ get_or arcs (member_of p b) 0 =
+        sym (ap (λ kind. number_by [] arcs [] kind (member_of p a)) arc) ∙ (e ∙ ap (λ kind. number_by [] arcs [] kind (member_of p b)) other) in
+        let same = each.apart (member_of p a) (member_of p b) (omega (arith, first.0, long)) (omega (arith, second.0, long)) numbers in
+        sym first.1 ∙ (ap (λ m. get_or (places_of Par p) m 0) same ∙ second.1)
+
     abbrev face_place : ℕ → ℕ
     face_place m = get_or (places_of Pfe p) m 0
 
@@ -252,15 +259,15 @@ module _ (p : Drawing) where
       -- the least side of a face is its key
       pub least_is : (m : ℕ) → m < length (places_of Pfe p) → least_side (forward_plan p) number (face_place m) ≡ Some (get_or (face_keys p arcs) m no_side)
       least_is m h =
-          let s = some_side whole number sound (face_place m) (place_there Pfe p m h) (place_of_kind Pfe p m h) in
+          let s = some_side whole number (sound 406) (face_place m) (place_there Pfe p m h) (place_of_kind Pfe p m h) in
           s.1 ∙ ap Some (sym (face_key_is m h ∙ ap (λ o. unwrap_or o no_side) s.1))
 
       pub no_face_ties : (m : ℕ) → ¬ (Ties face_key_cmp (λ n. get_or (face_keys p arcs) n no_side) (length (places_of Pfe p)) m)
       no_face_ties m tie =
           let n = tie.1.0 in
           let less : n < length (places_of Pfe p) = omega (arith, tie.0, tie.1.1) in
-          let key = get_or (face_keys p arcs) m no_side in
-          let keys : get_or (face_keys p arcs) n no_side ≡ key = face_key_exact (get_or (face_keys p arcs) n no_side) key tie.1.2 in
+          let keys = face_key_exact (get_or (face_keys p arcs) n no_side) (get_or (face_keys p arcs) m no_side) tie.1.2 in
           let same : face_place n ≡ face_place m =
-          same_face (face_place n) (face_place m) key (on_side whole number (face_place n) key (least_is n less ∙ ap Some keys)) (on_side whole number (face_place m) key (least_is m tie.0)) in
+          one_face whole joined number one_arc (sound 406) (face_place n) (face_place m) (place_there Pfe p n less) (place_there Pfe p m tie.0) (place_of_kind Pfe p n less) (place_of_kind Pfe p m tie.0)
+          (least_is n less ∙ (ap Some keys ∙ sym (least_is m tie.0))) in
           omega (arith, same, places_rise Pfe p n m tie.1.1 tie.0)

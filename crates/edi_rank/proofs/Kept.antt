@@ -1,5 +1,5 @@
 -- What is kept from a plan to each plan that is the same: the sides of its arcs, the rules of topology, its joins.
-use Rattle.std.proofs.Common.{◌≡◌, ◌≢◌, ℕ, suc, ◌+◌, ◌<◌, ◌≤◌, Bool, true, false, cond, ◌||◌, List, [], ◌∷◌, ◌++◌, map, reverse, length, option_map, refl, sym, ap, ap₂, ◌∙◌, subst, arith, ◌⊎◌, inl, inr, IsPermutation, count_by, true≢false, eqb-true}
+use Rattle.std.proofs.Common.{◌≡◌, ◌≢◌, ℕ, suc, ◌+◌, ◌<◌, ◌≤◌, Bool, true, false, cond, ◌||◌, List, [], ◌∷◌, ◌++◌, map, reverse, length, get_or, option_map, refl, sym, ap, ap₂, ◌∙◌, subst, arith, ◌⊎◌, inl, inr, IsPermutation, count_by, true≢false, eqb-true}
 use mathlib.Core.List.{reverse-cons}
 use Rattle.std.specs.List.{list_any, AllByRecursion}
 use Rattle.std.proofs.lemmas.Bool.{cases_order}
@@ -17,6 +17,10 @@ use Rattle.edi_schema.specs.declared.role.Role.{Role}
 use Rattle.edi_schema.specs.declared.role.Role.TheVariants.{Initial, Final, Left, Right, Plain}
 use Rattle.edi_plan.specs.Plans.{Drawing, IsPlace, record_at, is_arc, first_of, rest_of}
 use Rattle.edi_plan.specs.Sides.{Side, targets}
+use Rattle.edi_plan.specs.Whole.{IsWhole}
+use Rattle.edi_plan.specs.Orders.{attribute_cmp}
+use Rattle.edi_plan.proofs.Orders.{attribute_total, attribute_exact}
+use Rattle.edi_topo.specs.NodeKeys.{no_point, node_key}
 use Rattle.edi_plan.specs.declared.record.PlanEnd.{PlanEnd}
 use Rattle.edi_topo.specs.TopologyRules.{BreaksTopologyRule, HasPoints, AreAlikeNodes}
 use Rattle.edi_topo.specs.TopologyRules.BreaksTopologyRule.{starts_elsewhere, ends_elsewhere, repeats_node, equals_reverse, repeats_arc, bounds_nothing}
@@ -24,7 +28,7 @@ use Rattle.edi_rank.specs.Same.{has_turned_arc, directed, moved, Carries, Same}
 use Rattle.edi_rank.specs.Laws.{IsPlanUnder}
 use Rattle.edi_plan.specs.Joined.{beside, HasEnds, JoinsArc, IsJoin, IsJoined}
 use Rattle.edi_rank.proofs.SameLaws.{list_any-map, not_true, role_at, same_sym}
-use Rattle.edi_schema.proofs.SortedLists.{count_by-cons}
+use Rattle.edi_schema.proofs.SortedLists.{count_by-cons, counts_from_permutation, sort_by-same}
 
 -- roles
 
@@ -42,13 +46,21 @@ plain_not r e f = true≢false (sym (ap is_plain f) ∙ e)
 abbrev pub role_turned : Bool → Role → Role
 role_turned t r = cond t (exchanged r) r
 
-plain_turned : (t : Bool) (r : Role) → is_plain (role_turned t r) ≡ is_plain r
+pub plain_turned : (t : Bool) (r : Role) → is_plain (role_turned t r) ≡ is_plain r
 plain_turned false r = refl
 plain_turned true Initial = refl
 plain_turned true Final = refl
 plain_turned true Left = refl
 plain_turned true Right = refl
 plain_turned true Plain = refl
+
+pub plain_stays : (t : Bool) (r : Role) → is_plain r ≡ true → role_turned t r ≡ r
+plain_stays false r e = refl
+plain_stays true Initial e = absurd (true≢false (sym e))
+plain_stays true Final e = absurd (true≢false (sym e))
+plain_stays true Left e = absurd (true≢false (sym e))
+plain_stays true Right e = absurd (true≢false (sym e))
+plain_stays true Plain e = refl
 
 beside_turned : (t : Bool) (r : Role) → beside (role_turned t r) ≡ beside r
 beside_turned false r = refl
@@ -139,12 +151,47 @@ palindrome_turned true a e = ap reverse e
 abbrev pub Broken : Drawing → Type 0
 Broken p = (rule at : ℕ) × BreaksTopologyRule p rule at
 
+module _ (s : Classes) (p q : Drawing) (whole : IsWhole p) (to : ℕ → ℕ) (turned : ℕ → Bool) (c : Carries s to turned p q) where
+  straight : (i : ℕ) → IsPlace p i → (kind : Kind) → (record_at p i).kind ≡ kind → is_arc kind ≡ false → turned i ≡ false
+  straight i h kind is plain = not_true (turned i) (λ t. true≢false (ap is_arc (sym (c.arcs i h t)) ∙ (ap is_arc is ∙ plain)))
+
+  -- a node has no ends, so its class stays
+  node_class : (i : ℕ) → IsPlace p i → (record_at p i).kind ≡ Pno → (record_at q (to i)).class ≡ (record_at p i).class
+  node_class i h is = (c.each i h).class ∙ go (record_at p i).role (record_at p i).ends (subst (λ k. may_have_ends k (length (record_at p i).ends) ≡ true) is (whole.ends i h))
+    where
+      go : (role : Role) (xs : List PlanEnd) → may_have_ends Pno (length xs) ≡ true
+          → cond (is_plain role) (record_at p i).class (cond (list_any (λ (x : PlanEnd). turned x.target) xs) (partner_of s (record_at p i).class) (record_at p i).class) ≡ (record_at p i).class
+      go role [] none = elim (is_plain role) as (λ b. cond b (record_at p i).class (record_at p i).class ≡ (record_at p i).class) [ true ↦ refl | false ↦ refl ]
+      go role (x ∷ xs) none = let e : suc (length xs) ≡ 0 = eqb-true _ _ none in absurd (omega (arith, e))
+
+  node_points : (i : ℕ) → IsPlace p i → (record_at p i).kind ≡ Pno → (record_at q (to i)).points ≡ (record_at p i).points
+  node_points i h is = (c.each i h).points ∙ ap (λ t. directed t (record_at p i).points) (straight i h Pno is refl)
+
+  pub node_key_kept : (i : ℕ) → IsPlace p i → (record_at p i).kind ≡ Pno → node_key (record_at q (to i)) ≡ node_key (record_at p i)
+  node_key_kept i h is =
+      let k = c.each i h in
+      let points = node_points i h is in
+      let class = node_class i h is in
+      let attributes = sym (sort_by-same attribute_cmp attribute_total attribute_exact (record_at p i).attributes (record_at q (to i)).attributes (counts_from_permutation _ _ k.attributes)) in
+      λ j. record { point = get_or (points j) 0 no_point; class = class j; attributes = attributes j; extras = k.extras j }
+
 module _ (s : Classes) (p q : Drawing) (under : IsPlanUnder s p) (under' : IsPlanUnder s q) (to : ℕ → ℕ) (turned : ℕ → Bool) (c : Carries s to turned p q) where
   kind_kept : (i : ℕ) → IsPlace p i → (record_at q (to i)).kind ≡ (record_at p i).kind
   kind_kept i h = (c.each i h).kind
 
-  straight : (i : ℕ) → IsPlace p i → (kind : Kind) → (record_at p i).kind ≡ kind → is_arc kind ≡ false → turned i ≡ false
-  straight i h kind is plain = not_true (turned i) (λ t. true≢false (ap is_arc (sym (c.arcs i h t)) ∙ (ap is_arc is ∙ plain)))
+  -- a role is exchanged with an arc that is reversed
+  pub role_carried : (i : ℕ) → IsPlace p i → (record_at q (to i)).role ≡ role_turned (has_turned_arc turned (record_at p i)) (record_at p i).role
+  role_carried i h = role_at s q under' (to i) (c.places.within i h)
+      ∙ (ap (role_of s) (c.each i h).class ∙ (go (is_plain (record_at p i).role) (has_turned_arc turned (record_at p i)) refl ∙ ap (role_turned (has_turned_arc turned (record_at p i))) (sym role)))
+    where
+      role : (record_at p i).role ≡ role_of s (record_at p i).class
+      role = role_at s p under i h
+
+      go : (b t : Bool) → is_plain (record_at p i).role ≡ b
+          → role_of s (cond b (record_at p i).class (cond t (partner_of s (record_at p i).class) (record_at p i).class)) ≡ role_turned t (role_of s (record_at p i).class)
+      go true t e = sym (plain_stays t (role_of s (record_at p i).class) (ap is_plain (sym role) ∙ e))
+      go false true e = under.paired.exchanges (record_at p i).class (ap is_plain (sym role) ∙ e)
+      go false false e = refl
 
   ends_there : (k a x : ℕ) → IsPlace p k → HasEnds p k a x → IsPlace p a × IsPlace p x
   ends_there k a x h (inl e) = both_there (IsPlace p) (record_at p k).ends a x e (under.whole.there k h)
@@ -172,17 +219,7 @@ module _ (s : Classes) (p q : Drawing) (under : IsPlanUnder s p) (under' : IsPla
         go (inr e) = rw (e, other_straight) (or_false (turned a))
 
     pub role_kept : (record_at q (to k)).role ≡ role_turned (turned a) (record_at p k).role
-    role_kept = role_at s q under' (to k) (c.places.within k join.there) ∙ (ap (role_of s) class ∙ (by_class (turned a) ∙ ap (role_turned (turned a)) (sym role)))
-      where
-        role : (record_at p k).role ≡ role_of s (record_at p k).class
-        role = role_at s p under k join.there
-
-        class : (record_at q (to k)).class ≡ cond (turned a) (partner_of s (record_at p k).class) (record_at p k).class
-        class = (c.each k join.there).class ∙ rw (join.not_plain, told_by_arc)
-
-        by_class : (t : Bool) → role_of s (cond t (partner_of s (record_at p k).class) (record_at p k).class) ≡ role_turned t (role_of s (record_at p k).class)
-        by_class true = under.paired.exchanges (record_at p k).class (ap is_plain (sym role) ∙ join.not_plain)
-        by_class false = refl
+    role_kept = role_carried k join.there ∙ ap (λ t. role_turned t (record_at p k).role) told_by_arc
 
     pub join_kept : IsJoin q (to k)
     join_kept = record {
@@ -211,7 +248,7 @@ module _ (s : Classes) (p q : Drawing) (under : IsPlanUnder s p) (under' : IsPla
   points_kept kind i points h = (c.places.within i h.0, kind_kept i h.0 ∙ h.1, (c.each i h.0).points ∙ ap (directed (turned i)) h.2)
 
   straight_kept : (kind : Kind) (i : ℕ) (points : List Point) → is_arc kind ≡ false → HasPoints p kind i points → HasPoints q kind (to i) points
-  straight_kept kind i points plain h = subst (λ t. HasPoints q kind (to i) (directed t points)) (straight i h.0 kind h.1 plain) (points_kept kind i points h)
+  straight_kept kind i points plain h = subst (λ t. HasPoints q kind (to i) (directed t points)) (straight s p q under.whole to turned c i h.0 kind h.1 plain) (points_kept kind i points h)
 
   -- the rules that say what is there go forth
 
@@ -235,29 +272,23 @@ module _ (s : Classes) (p q : Drawing) (under : IsPlanUnder s p) (under' : IsPla
       go false points d = (402, suc (to a), ends_elsewhere refl (to a, to n, last, place, others, refl, points, d, there, ne))
       go true points d = (401, suc (to a), starts_elsewhere refl (to a, to n, last, place, reverse others, refl, subst (HasPoints q Par (to a)) (reverse-append others (last ∷ [])) points, d, there, ne))
 
-  -- a node has no ends, so its class stays
-  node_class : (i : ℕ) → IsPlace p i → (record_at p i).kind ≡ Pno → (record_at q (to i)).class ≡ (record_at p i).class
-  node_class i h is = (c.each i h).class ∙ go (record_at p i).role (record_at p i).ends (subst (λ k. may_have_ends k (length (record_at p i).ends) ≡ true) is (under.whole.ends i h))
-    where
-      go : (role : Role) (xs : List PlanEnd) → may_have_ends Pno (length xs) ≡ true
-          → cond (is_plain role) (record_at p i).class (cond (list_any (λ (x : PlanEnd). turned x.target) xs) (partner_of s (record_at p i).class) (record_at p i).class) ≡ (record_at p i).class
-      go role [] none = elim (is_plain role) as (λ b. cond b (record_at p i).class (record_at p i).class ≡ (record_at p i).class) [ true ↦ refl | false ↦ refl ]
-      go role (x ∷ xs) none = let e : suc (length xs) ≡ 0 = eqb-true _ _ none in absurd (omega (arith, e))
-
-  node_points : (i : ℕ) → IsPlace p i → (record_at p i).kind ≡ Pno → (record_at q (to i)).points ≡ (record_at p i).points
-  node_points i h is = (c.each i h).points ∙ ap (λ t. directed t (record_at p i).points) (straight i h Pno is refl)
-
   alike_kept : (m n : ℕ) → AreAlikeNodes p m n → AreAlikeNodes q (to m) (to n)
   alike_kept m n d = record {
     first = c.places.within m d.first;
     second = c.places.within n d.second;
     first_node = kind_kept m d.first ∙ d.first_node;
     second_node = kind_kept n d.second ∙ d.second_node;
-    points = node_points m d.first d.first_node ∙ (d.points ∙ sym (node_points n d.second d.second_node));
-    class = node_class m d.first d.first_node ∙ (d.class ∙ sym (node_class n d.second d.second_node));
+    points = points m d.first d.first_node ∙ (d.points ∙ sym (points n d.second d.second_node));
+    class = class m d.first d.first_node ∙ (d.class ∙ sym (class n d.second d.second_node));
     attributes = IsPermutation-trans _ _ _ (IsPermutation-sym _ _ (c.each m d.first).attributes) (IsPermutation-trans _ _ _ d.attributes (c.each n d.second).attributes);
     extras = (c.each m d.first).extras ∙ (d.extras ∙ sym (c.each n d.second).extras);
   }
+    where
+      points : (i : ℕ) → IsPlace p i → (record_at p i).kind ≡ Pno → (record_at q (to i)).points ≡ (record_at p i).points
+      points = node_points s p q under.whole to turned c
+
+      class : (i : ℕ) → IsPlace p i → (record_at p i).kind ≡ Pno → (record_at q (to i)).class ≡ (record_at p i).class
+      class = node_class s p q under.whole to turned c
 
   alike_back : (m n : ℕ) → AreAlikeNodes q m n → AreAlikeNodes q n m
   alike_back m n d = record { first = d.second; second = d.first; first_node = d.second_node; second_node = d.first_node; points = sym d.points; class = sym d.class; attributes = IsPermutation-sym _ _ d.attributes; extras = sym d.extras }
@@ -306,21 +337,7 @@ module _ (s : Classes) (p q : Drawing) (under : IsPlanUnder s p) (under' : IsPla
   -- the joins
 
   plain_kept : (i : ℕ) → IsPlace p i → is_plain (record_at q (to i)).role ≡ is_plain (record_at p i).role
-  plain_kept i h = go (is_plain (record_at p i).role) (has_turned_arc turned (record_at p i)) refl (c.each i h).class
-    where
-      role : (record_at p i).role ≡ role_of s (record_at p i).class
-      role = role_at s p under i h
-
-      role' : is_plain (record_at q (to i)).role ≡ is_plain (role_of s (record_at q (to i)).class)
-      role' = ap is_plain (role_at s q under' (to i) (c.places.within i h))
-
-      go : (b t : Bool) → is_plain (record_at p i).role ≡ b
-          → (record_at q (to i)).class ≡ cond b (record_at p i).class (cond t (partner_of s (record_at p i).class) (record_at p i).class) → is_plain (record_at q (to i)).role ≡ b
-      go true t e f = role' ∙ (ap (λ k. is_plain (role_of s k)) f ∙ (ap is_plain (sym role) ∙ e))
-      go false false e f = role' ∙ (ap (λ k. is_plain (role_of s k)) f ∙ (ap is_plain (sym role) ∙ e))
-      go false true e f =
-          let not_plain : is_plain (role_of s (record_at p i).class) ≡ false = ap is_plain (sym role) ∙ e in
-          role' ∙ (ap (λ k. is_plain (role_of s k)) f ∙ (ap is_plain (under.paired.exchanges (record_at p i).class not_plain) ∙ (plain_turned true (role_of s (record_at p i).class) ∙ not_plain)))
+  plain_kept i h = ap is_plain (role_carried i h) ∙ plain_turned (has_turned_arc turned (record_at p i)) (record_at p i).role
 
   joins_on : IsJoined p → (k : ℕ) → IsJoin q k → JoinsArc q k
   joins_on joined k join = go (c.places.onto k join.there).0 (c.places.onto k join.there).1 (c.places.onto k join.there).2

@@ -6,31 +6,39 @@ use Rattle.std.proofs.lemmas.List.Elements.{recursion_from_All, All-from_recursi
 use Rattle.std.proofs.lemmas.List.Sorted.{IsPermutation-map, IsPermutation-sym, All-permutation, length_permutation}
 use Rattle.edi_record.specs.declared.record.Kind.{Kind}
 use Rattle.edi_record.specs.declared.record.Kind.TheVariants.{Pno, Par, Pfe, Fea, Lnk}
+use Rattle.edi_schema.specs.Classes.{Classes}
 use Rattle.edi_schema.specs.Sorted.{sort_by}
 use Rattle.edi_plan.specs.Plans.{Drawing, record_at, blank, kind_rank, is_arc, is_object, is_link, first_of, rest_of, origin_of, others_of}
 use Rattle.edi_plan.specs.Whole.{IsWhole}
 use Rattle.edi_plan.specs.declared.record.PlanRecord.{PlanRecord}
 use Rattle.edi_plan.specs.declared.record.PlanEnd.{PlanEnd}
-use Rattle.edi_rank.specs.Same.{OneToOne, moved}
+use Rattle.edi_rank.specs.Same.{OneToOne, moved, CarriesRecord}
 use Rattle.edi_plan.specs.Orders.{attribute_cmp}
 use Rattle.edi_rank.specs.Keys.{end_cmp, numbered, ends_key, link_key, link_key_cmp, arc_beside, side_by, face_key_cmp, sides_of, is_piece, marked, piece_by, object_key}
-use Rattle.edi_rank.proofs.SameLaws.{list_any-map, passes_alike, map_alike, map-map, none_where_none}
+use Rattle.edi_rank.proofs.SameLaws.{list_any-map, passes_alike, map_alike, map-map, none_where_none, ends_moved}
 use Rattle.edi_schema.proofs.SortedLists.{counts_from_permutation, count_by-cons, sort_by-same}
 use Rattle.edi_rank.proofs.Gathered.{gathered_alike}
 use Rattle.edi_plan.proofs.Orders.{attribute_total, attribute_exact}
 use Rattle.edi_rank.proofs.Orders.{end_total, end_exact, link_key_total, link_key_exact, face_key_total, face_key_exact}
 
--- a record that was carried with no arc reversed
+-- a record that was carried, its class, its role and its points aside
 pub record Kept (to : ℕ → ℕ) (a b : PlanRecord) : Type 0 where
   pub kind : b.kind ≡ a.kind
   pub attributes : IsPermutation a.attributes b.attributes
   pub extras : b.extras ≡ a.extras
-  pub class : b.class ≡ a.class
-  pub role : b.role ≡ a.role
-  pub points : b.points ≡ a.points
   pub origin : origin_of b ≡ option_map (moved to) (origin_of a)
   pub others : IsPermutation (map (moved to) (others_of a)) (others_of b)
   pub ends : IsPermutation (map (moved to) a.ends) b.ends
+
+pub kept_from : (s : Classes) (to : ℕ → ℕ) (turned : ℕ → Bool) (i : ℕ) (a b : PlanRecord) → CarriesRecord s to turned i a b → Kept to a b
+kept_from s to turned i a b c = record {
+  kind = c.kind;
+  attributes = c.attributes;
+  extras = c.extras;
+  origin = c.origin;
+  others = c.others;
+  ends = ends_moved s to turned i a b c;
+}
 
 one_left : {X : Type 0} (x : X) (ys : List X) → IsPermutation (x ∷ []) ys → ys ≡ x ∷ []
 one_left x [] same = absurd (omega (arith, length_permutation _ _ same))
@@ -45,13 +53,11 @@ pub counted_alike : {X : Type 0} (P : X → Type 0) (t u : X → Bool) → ((x :
 counted_alike P t u same [] all = refl
 counted_alike P t u same (x ∷ xs) all = count_by-cons t x xs ∙ (rw (same x all.0, counted_alike P t u same xs all.1) (sym (count_by-cons u x xs)))
 
-module _ (p q : Drawing) (whole : IsWhole p) (to : ℕ → ℕ) (places : OneToOne to (length p.list) (length q.list))
+module _ (p q : Drawing) (ends_there : (i : ℕ) → i < length p.list → AllByRecursion (λ e. e.target < length p.list) (record_at p i).ends)
+    (to : ℕ → ℕ) (places : OneToOne to (length p.list) (length q.list))
     (kept : (i : ℕ) → i < length p.list → Kept to (record_at p i) (record_at q (to i))) where
   abbrev pub IsThere : PlanEnd → Type 0
   IsThere x = x.target < length p.list
-
-  ends_there : (i : ℕ) → i < length p.list → AllByRecursion IsThere ((record_at p i).ends)
-  ends_there i h = whole.there i h
 
   pub same_place : (i k : ℕ) → i < length p.list → k < length p.list → nat_eq (to i) (to k) ≡ nat_eq i k
   same_place i k h l = go (cases_eq i k)
@@ -83,15 +89,16 @@ module _ (p q : Drawing) (whole : IsWhole p) (to : ℕ → ℕ) (places : OneToO
         let same : y ≡ moved to x = cc in
         ap₂ ◌∷◌ (ap (numbered q nq) same ∙ end_kept x all.0) (others_kept xs ys all.1 h)
 
-    pub link_key_kept : (a b : PlanRecord) → Kept to a b → AllByRecursion IsNumbered a.ends → link_key q nq b ≡ link_key p np a
-    link_key_kept a b k all =
+    pub link_key_kept : (a b : PlanRecord) → Kept to a b → b.class ≡ a.class → AllByRecursion IsNumbered a.ends → link_key q nq b ≡ link_key p np a
+    link_key_kept a b k class all =
         let x = ends_kept a.ends b.ends all k.origin k.others in
         let t = sym (sort_by-same attribute_cmp attribute_total attribute_exact a.attributes b.attributes (counts_from_permutation _ _ k.attributes)) in
-        λ i. record { class = k.class i; ends = x i; attributes = t i; extras = k.extras i }
+        λ i. record { class = class i; ends = x i; attributes = t i; extras = k.extras i }
 
     -- faces
 
-    module _ (arcs : (t : ℕ) → t < length p.list → is_arc (record_at p t).kind ≡ true → nq (to t) ≡ np t) (face : ℕ) (there : face < length p.list) where
+    module _ (roles : (i : ℕ) → i < length p.list → (record_at q (to i)).role ≡ (record_at p i).role)
+        (arcs : (t : ℕ) → t < length p.list → is_arc (record_at p t).kind ≡ true → nq (to t) ≡ np t) (face : ℕ) (there : face < length p.list) where
       if_arc : (k b : Bool) (m m' : ℕ) (z z' : Option ℕ) → (k ≡ true → m' ≡ m) → z' ≡ z → cond (k && b) (Some m') z' ≡ cond (k && b) (Some m) z
       if_arc true true m m' z z' h e = ap Some (h refl)
       if_arc true false m m' z z' h e = e
@@ -117,7 +124,7 @@ module _ (p q : Drawing) (whole : IsWhole p) (to : ℕ → ℕ) (places : OneToO
           (if_arc (is_arc (record_at p w.target).kind) (x.target == face) (np w.target) (nq (to w.target)) _ _ (arcs w.target all.1.0) refl))
 
       side_kept : (i : ℕ) → i < length p.list → side_by p np face (record_at p i) ≡ side_by q nq (to face) (record_at q (to i))
-      side_kept i h = sym (rw ((kept i h).role, beside_kept (record_at p i).ends (record_at q (to i)).ends (ends_there i h) (kept i h).origin (kept i h).others))
+      side_kept i h = sym (rw (roles i h, beside_kept (record_at p i).ends (record_at q (to i)).ends (ends_there i h) (kept i h).origin (kept i h).others))
 
       pub face_key_kept : sides_of q nq (to face) ≡ sides_of p np face
       face_key_kept = sym (sort_by-same face_key_cmp face_key_total face_key_exact (filter_map (side_by p np face) p.list) (filter_map (side_by q nq (to face)) q.list)
@@ -172,12 +179,14 @@ below_object Lnk h g = absurd (true≢false h)
 module _ (p q : Drawing) (whole : IsWhole p) (to : ℕ → ℕ) (places : OneToOne to (length p.list) (length q.list))
     (kept : (i : ℕ) → i < length p.list → Kept to (record_at p i) (record_at q (to i)))
     (np nq : ℕ → ℕ) (below : (t : ℕ) → t < length p.list → kind_rank (record_at p t).kind < 3 → nq (to t) ≡ np t)
-    (object : ℕ) (there : object < length p.list) (is : is_object (record_at p object).kind ≡ true) where
+    (object : ℕ) (there : object < length p.list) (is : is_object (record_at p object).kind ≡ true)
+    (class : (record_at q (to object)).class ≡ (record_at p object).class)
+    (classes : (i : ℕ) → i < length p.list → is_piece p object (record_at p i) ≡ true → (record_at q (to i)).class ≡ (record_at p i).class) where
   abbrev object_end : Drawing → PlanEnd → Bool
   object_end plan x = is_object (record_at plan x.target).kind
 
   same_object : (t : ℕ) → t < length p.list → nat_eq (to t) (to object) ≡ nat_eq t object
-  same_object t h = same_place p q whole to places kept t object h there
+  same_object t h = same_place p q whole.there to places kept t object h there
 
   count_kept : (i : ℕ) → i < length p.list → count_by (object_end q) (record_at q (to i)).ends ≡ count_by (object_end p) ((record_at p i).ends)
   count_kept i h = sym (counts_from_permutation _ _ (kept i h).ends (object_end q)) ∙ (count_by-map (object_end q) (moved to) ((record_at p i).ends)
@@ -212,7 +221,7 @@ module _ (p q : Drawing) (whole : IsWhole p) (to : ℕ → ℕ) (places : OneToO
   piece_kept i h = sym (rw (is_piece_kept i h) (go (is_piece p object (record_at p i)) refl))
     where
       go : (b : Bool) → is_piece p object (record_at p i) ≡ b → cond b (Some (link_key q (marked nq (to object)) (record_at q (to i)))) None ≡ cond b (Some (link_key p (marked np object) (record_at p i))) None
-      go true e = ap Some (link_key_kept p q whole to places kept (marked np object) (marked nq (to object)) (record_at p i) (record_at q (to i)) (kept i h) (piece_ends i h e))
+      go true e = ap Some (link_key_kept p q whole.there to places kept (marked np object) (marked nq (to object)) (record_at p i) (record_at q (to i)) (kept i h) (classes i h e) (piece_ends i h e))
       go false e = refl
 
   pub object_key_kept : object_key q nq (to object) ≡ object_key p np object
@@ -221,4 +230,4 @@ module _ (p q : Drawing) (whole : IsWhole p) (to : ℕ → ℕ) (places : OneToO
       let t = sym (sort_by-same attribute_cmp attribute_total attribute_exact (record_at p object).attributes (record_at q (to object)).attributes (counts_from_permutation _ _ k.attributes)) in
       let x = sym (sort_by-same link_key_cmp link_key_total link_key_exact (filter_map (piece_by p np object) p.list) (filter_map (piece_by q nq (to object)) q.list)
       (gathered_alike to p.list q.list blank places (piece_by p np object) (piece_by q nq (to object)) piece_kept)) in
-      λ i. record { class = k.class i; attributes = t i; extras = k.extras i; pieces = x i }
+      λ i. record { class = class i; attributes = t i; extras = k.extras i; pieces = x i }

@@ -33,3 +33,5 @@ pub mod ArrangedRises
 pub mod RankedApart
 pub mod Carried
 pub mod Offsets
+pub mod KeysApart
+pub mod KeysCarried

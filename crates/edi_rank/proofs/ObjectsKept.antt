@@ -16,6 +16,7 @@ use Rattle.edi_schema.specs.declared.role.Role.{Role}
 use Rattle.edi_schema.specs.declared.role.Role.TheVariants.{Initial, Final, Left, Right, Plain}
 use Rattle.edi_schema.proofs.SortedLists.{sort_by-same, IsPermutation-sort_by, counts_from_permutation}
 use Rattle.edi_plan.specs.Plans.{Drawing, IsPlace, record_at, blank, is_object, is_link, first_of, others_of}
+use Rattle.edi_plan.specs.Whole.{IsWhole}
 use Rattle.edi_plan.specs.declared.record.PlanRecord.{PlanRecord}
 use Rattle.edi_plan.specs.declared.record.PlanEnd.{PlanEnd}
 use Rattle.edi_rank.specs.Alike.{Mark, mark, Piece, piece, pieces, SamePiece, SameUpTo, AreAlike, BreaksObjectRule}
@@ -182,7 +183,7 @@ alike_back p m n a = record {
   pieces = up_to_sym SamePiece piece_sym (pieces p m) (pieces p n) a.pieces;
 }
 
-module _ (s : Classes) (p q : Drawing) (under : IsPlanUnder s p) (joined : IsJoined p) (to : ℕ → ℕ) (turned : ℕ → Bool) (c : Carries s to turned p q) where
+module _ (s : Classes) (p q : Drawing) (whole : IsWhole p) (joined : IsJoined p) (to : ℕ → ℕ) (turned : ℕ → Bool) (c : Carries s to turned p q) where
   abbrev IsThere : PlanEnd → Type 0
   IsThere e = IsPlace p e.target
 
@@ -201,10 +202,10 @@ module _ (s : Classes) (p q : Drawing) (under : IsPlanUnder s p) (joined : IsJoi
       let counts = sym (counts_from_permutation _ _ (ends_moved s to turned i a b (c.each i h)) (λ (e : PlanEnd). is_object (record_at q e.target).kind)) in
       let mapped = count_by-map (λ (e : PlanEnd). is_object (record_at q e.target).kind) (moved to) a.ends in
       let alike = counted_alike IsThere (λ e. is_object (record_at q (to e.target)).kind) (λ e. is_object (record_at p e.target).kind)
-      (λ e t. ap is_object (c.each e.target t).kind) a.ends (under.whole.there i h) in
+      (λ e t. ap is_object (c.each e.target t).kind) a.ends (whole.there i h) in
       let objects = counts ∙ (mapped ∙ alike) in
       let own = tested_before s to turned i a b (c.each i h) (λ t. nat_eq t (to m))
-      ∙ passes_alike IsThere (λ e. nat_eq (to e.target) (to m)) (λ e. nat_eq e.target m) (λ e t. same_place e.target m t l) a.ends (under.whole.there i h) in
+      ∙ passes_alike IsThere (λ e. nat_eq (to e.target) (to m)) (λ e. nat_eq e.target m) (λ e t. same_place e.target m t l) a.ends (whole.there i h) in
       λ j. kind j && (objects j == 1) && own j
 
   -- a link of one of the four kinds is no piece
@@ -247,14 +248,18 @@ module _ (s : Classes) (p q : Drawing) (under : IsPlanUnder s p) (joined : IsJoi
   first_kept m l [] all = refl
   first_kept m l (x ∷ xs) all = ap Some (sym (mark_kept m l x all.0))
 
+  pub piece_class : (m i : ℕ) → IsPlace p i → (record_at p m).kind ≡ Fea → is_piece p m (record_at p i) ≡ true → (record_at q (to i)).class ≡ (record_at p i).class
+  piece_class m i h object test =
+      let a = record_at p i in
+      (c.each i h).class ∙ ap (λ t. cond t a.class (cond (has_turned_arc turned a) (partner_of s a.class) a.class)) (plain_piece m i h object test)
+
   piece_kept : (m i : ℕ) → IsPlace p m → IsPlace p i → (record_at p m).kind ≡ Fea → is_piece p m (record_at p i) ≡ true → SamePiece (moved_piece to (piece m (record_at p i))) (piece (to m) (record_at q (to i)))
   piece_kept m i l h object test =
       let a = record_at p i in
       let b = record_at q (to i) in
-      let there = under.whole.there i h in
-      let plain = plain_piece m i h object test in
+      let there = whole.there i h in
       record {
-        class = sym ((c.each i h).class ∙ ap (λ t. cond t a.class (cond (has_turned_arc turned a) (partner_of s a.class) a.class)) plain);
+        class = sym (piece_class m i h object test);
         origin = first_kept m l a.ends there ∙ sym (ap (option_map (mark (to m))) (c.each i h).origin);
         others = subst (λ xs. IsPermutation xs (map (mark (to m)) (others_of b)))
             (map-map (mark (to m)) (moved to) (others_of a) ∙ (map_alike IsThere (λ e. mark (to m) (moved to e)) (λ e. moved_mark to (mark m e)) (mark_kept m l) (others_of a) (all_others IsThere a.ends there)
@@ -299,9 +304,9 @@ module _ (s : Classes) (p q : Drawing) (under : IsPlanUnder s p) (joined : IsJoi
           (zip_maps SamePiece (λ i. IsPlace p i × (is_piece p m (record_at p i) ≡ true)) (λ i. moved_piece to (piece m (record_at p i))) (λ i. piece (to m) (record_at q (to i)))
           (λ i at. piece_kept m i l at.0 object at.1) (piece_places p m) (all_passing (IsPlace p) (λ i. is_piece p m (record_at p i)) (places_from (length p.list) 0) (all_within (length p.list))))
 
-  class_kept : (m : ℕ) → IsPlace p m → (record_at p m).kind ≡ Fea → (record_at q (to m)).class ≡ (record_at p m).class
+  pub class_kept : (m : ℕ) → IsPlace p m → (record_at p m).kind ≡ Fea → (record_at q (to m)).class ≡ (record_at p m).class
   class_kept m l object =
-      let none : (record_at p m).ends ≡ [] = no_ends (record_at p m).ends (ap (λ kind. may_have_ends kind (length (record_at p m).ends)) (sym object) ∙ under.whole.ends m l) in
+      let none : (record_at p m).ends ≡ [] = no_ends (record_at p m).ends (ap (λ kind. may_have_ends kind (length (record_at p m).ends)) (sym object) ∙ whole.ends m l) in
       let tests : has_turned_arc turned (record_at p m) ≡ false = ap (λ xs. list_any (λ (e : PlanEnd). turned e.target) xs) none in
       (c.each m l).class ∙ (rw tests (after_none s (record_at p m).role (record_at p m).class))
 
@@ -339,5 +344,5 @@ objects_kept s p q under under' joined same none rule at broken = go broken
 
     go : BreaksObjectRule q rule at → ⊥
     go (repeats_object {m = m} {n = n} e f less alike) =
-        let before = repeat_kept s q p under' (joins_kept s p q under under' same joined) back.0 back.1 back.2 m n less alike in
+        let before = repeat_kept s q p under'.whole (joins_kept s p q under under' same joined) back.0 back.1 back.2 m n less alike in
         none before.0 before.1 before.2

@@ -18,19 +18,20 @@ use Rattle.edi_rank.specs.Same.{moved, has_turned_arc, Carries}
 use Rattle.edi_rank.specs.Laws.{IsPlanUnder}
 use Rattle.edi_rank.specs.InOrder.{Both, IsInOrder}
 use Rattle.edi_plan.specs.Orders.{attribute_cmp}
-use Rattle.edi_topo.specs.NodeKeys.{no_point, node_key, node_key_cmp}
+use Rattle.edi_topo.specs.NodeKeys.{node_key, node_key_cmp}
 use Rattle.edi_rank.specs.Keys.{end_cmp, numbered, ends_key, link_key, link_key_cmp, face_key_cmp, least_side, object_key, object_key_cmp}
 use Rattle.edi_rank.specs.declared.keys.NumberedEnd.{NumberedEnd}
 use Rattle.edi_rank.specs.declared.keys.LinkKey.{LinkKey}
-use Rattle.edi_rank.proofs.SameLaws.{none_passes, passes_alike, after_none, ends_moved, role_at}
+use Rattle.edi_rank.proofs.SameLaws.{none_passes, passes_alike, after_none, role_at}
 use Rattle.edi_rank.proofs.Sums.{sum_below-renamed}
-use Rattle.edi_schema.proofs.SortedLists.{counts_from_permutation, same_order, sort_by-same, sort_by-in_order}
+use Rattle.edi_schema.proofs.SortedLists.{counts_from_permutation, same_order, sort_by-in_order}
 use Rattle.edi_rank.proofs.Gathered.{gathered_alike}
 use Rattle.edi_plan.proofs.Orders.{points_total, attribute_total, attribute_exact}
 use Rattle.edi_plan.proofs.PlaceLemmas.{one_kind}
 use Rattle.edi_topo.proofs.NodeOrders.{node_key_total}
 use Rattle.edi_rank.proofs.Orders.{end_total, end_exact, link_key_total, link_key_exact, face_options_total, object_key_total, not_both_less}
-use Rattle.edi_rank.proofs.KeysKept.{Kept, link_key_kept, others_kept, face_key_kept, object_key_kept, all_weaker, two_hold}
+use Rattle.edi_rank.proofs.Kept.{node_key_kept}
+use Rattle.edi_rank.proofs.KeysKept.{Kept, kept_from, link_key_kept, others_kept, face_key_kept, object_key_kept, all_weaker, two_hold}
 
 arc_rank : (k : Kind) → is_arc k ≡ true → kind_rank k ≡ 1
 arc_rank Pno h = absurd (true≢false (sym h))
@@ -193,23 +194,19 @@ module _ (s : Classes) (p q : Drawing) (up : IsInOrder p) (up' : IsInOrder q) (u
   ends_there i h = under.whole.there i h
 
   kept : (i : ℕ) → i < length p.list → Kept to (record_at p i) (record_at q (to i))
-  kept i h =
-      let k = c.each i h in
-      let class : (record_at q (to i)).class ≡ (record_at p i).class = k.class ∙ (rw untouched (after_none s (record_at p i).role (record_at p i).class)) in
-      record {
-        kind = k.kind;
-        attributes = k.attributes;
-        extras = k.extras;
-        class = class;
-        role = role_at s q under' (to i) (c.places.within i h) ∙ (ap (role_of s) class ∙ sym (role_at s p under i h));
-        points = k.points ∙ rw (none_turned i h);
-        origin = k.origin;
-        others = k.others;
-        ends = ends_moved s to turned i (record_at p i) (record_at q (to i)) k;
-      }
+  kept i h = kept_from s to turned i (record_at p i) (record_at q (to i)) (c.each i h)
+
+  points_kept : (i : ℕ) → i < length p.list → (record_at q (to i)).points ≡ (record_at p i).points
+  points_kept i h = (c.each i h).points ∙ rw (none_turned i h)
+
+  class_kept : (i : ℕ) → i < length p.list → (record_at q (to i)).class ≡ (record_at p i).class
+  class_kept i h = (c.each i h).class ∙ (rw untouched (after_none s (record_at p i).role (record_at p i).class))
     where
       untouched : has_turned_arc turned (record_at p i) ≡ false
       untouched = passes_alike (λ (x : PlanEnd). x.target < length p.list) (λ x. turned x.target) (λ _. false) (λ x l. none_turned x.target l) (record_at p i).ends (ends_there i h) ∙ none_passes (record_at p i).ends
+
+  role_kept : (i : ℕ) → i < length p.list → (record_at q (to i)).role ≡ (record_at p i).role
+  role_kept i h = role_at s q under' (to i) (c.places.within i h) ∙ (ap (role_of s) (class_kept i h) ∙ sym (role_at s p under i h))
 
   -- what is of a lower type stands before
   lower : (i t : ℕ) → i < length p.list → t < length p.list → kind_rank (kind_at t) < kind_rank (kind_at i) → t < i
@@ -244,31 +241,28 @@ module _ (s : Classes) (p q : Drawing) (up : IsInOrder p) (up' : IsInOrder q) (u
 
       by_points : points_cmp (record_at p i).points (record_at p k).points ≡ Less → points_cmp (record_at q i).points (record_at q (to i)).points ≡ Less → ⊥
       by_points l l' = not_both_less points_total (record_at p i).points (record_at p k).points l
-          (subst (λ x. points_cmp x (record_at p i).points ≡ Less) (ap (λ j. (record_at q j).points) (sym e) ∙ (kept k h).points) (subst (λ x. points_cmp (record_at q i).points x ≡ Less) (kept i here).points l'))
+          (subst (λ x. points_cmp x (record_at p i).points ≡ Less) (ap (λ j. (record_at q j).points) (sym e) ∙ points_kept k h) (subst (λ x. points_cmp (record_at q i).points x ≡ Less) (points_kept i here) l'))
 
-      node_kept : (t : ℕ) → t < length p.list → node_key (record_at q (to t)) ≡ node_key (record_at p t)
-      node_kept t l =
-          let k = kept t l in
-          let x = sym (sort_by-same attribute_cmp attribute_total attribute_exact (record_at p t).attributes (record_at q (to t)).attributes (counts_from_permutation _ _ k.attributes)) in
-          λ j. record { point = get_or (k.points j) 0 no_point; class = k.class j; attributes = x j; extras = k.extras j }
+      node_kept : (t : ℕ) → t < length p.list → kind_at t ≡ Pno → node_key (record_at q (to t)) ≡ node_key (record_at p t)
+      node_kept = node_key_kept s p q under.whole to turned c
 
-      by_place : node_key_cmp (node_key (record_at p i)) (node_key (record_at p k)) ≡ Less → node_key_cmp (node_key (record_at q i)) (node_key (record_at q (to i))) ≡ Less → ⊥
-      by_place l l' = not_both_less node_key_total (node_key (record_at p i)) (node_key (record_at p k)) l
-          (subst (λ x. node_key_cmp x (node_key (record_at p i)) ≡ Less) (ap (λ j. node_key (record_at q j)) (sym e) ∙ node_kept k h) (subst (λ x. node_key_cmp (node_key (record_at q i)) x ≡ Less) (node_kept i here) l'))
+      by_place : kind_at i ≡ Pno → node_key_cmp (node_key (record_at p i)) (node_key (record_at p k)) ≡ Less → node_key_cmp (node_key (record_at q i)) (node_key (record_at q (to i))) ≡ Less → ⊥
+      by_place is l l' = not_both_less node_key_total (node_key (record_at p i)) (node_key (record_at p k)) l
+          (subst (λ x. node_key_cmp x (node_key (record_at p i)) ≡ Less) (ap (λ j. node_key (record_at q j)) (sym e) ∙ node_kept k h (alike ∙ is)) (subst (λ x. node_key_cmp (node_key (record_at q i)) x ≡ Less) (node_kept i here is) l'))
 
       go : (kind : Kind) → kind_at i ≡ kind → ⊥
-      go Pno is = by_place (up.rise.nodes i k (both Pno is)) (up'.rise.nodes i (to i) (both' Pno is))
+      go Pno is = by_place is (up.rise.nodes i k (both Pno is)) (up'.rise.nodes i (to i) (both' Pno is))
       go Par is = by_points (up.rise.arcs i k (both Par is)) (up'.rise.arcs i (to i) (both' Par is))
       go Pfe is =
           let arcs = λ (t : ℕ) (l : t < length p.list) (a : is_arc (kind_at t) ≡ true). lower_kept t l (omega (arith, arc_rank (kind_at t) a, ap kind_rank is)) in
-          let x : least_side q suc (to i) ≡ least_side p suc i = ap first_of (face_key_kept p q under.whole to c.places kept suc suc arcs i here) in
-          let y : least_side q suc i ≡ least_side p suc k = ap (least_side q suc) (sym e) ∙ ap first_of (face_key_kept p q under.whole to c.places kept suc suc arcs k h) in
+          let x : least_side q suc (to i) ≡ least_side p suc i = ap first_of (face_key_kept p q under.whole.there to c.places kept suc suc role_kept arcs i here) in
+          let y : least_side q suc i ≡ least_side p suc k = ap (least_side q suc) (sym e) ∙ ap first_of (face_key_kept p q under.whole.there to c.places kept suc suc role_kept arcs k h) in
           not_both_less face_options_total (least_side p suc i) (least_side p suc k) (up.rise.faces i k (both Pfe is))
           (subst (λ v. option_cmp face_key_cmp v (least_side p suc i) ≡ Less) y (subst (λ v. option_cmp face_key_cmp (least_side q suc i) v ≡ Less) x (up'.rise.faces i (to i) (both' Pfe is))))
       go Fea is =
           let below = λ (t : ℕ) (l : t < length p.list) (d : kind_rank (kind_at t) < 3). lower_kept t l (omega (arith, ap kind_rank is)) in
-          let x = object_key_kept p q under.whole to c.places kept suc suc below i here (ap is_object is) in
-          let y = ap (object_key q suc) (sym e) ∙ object_key_kept p q under.whole to c.places kept suc suc below k h (ap is_object (alike ∙ is)) in
+          let x = object_key_kept p q under.whole to c.places kept suc suc below i here (ap is_object is) (class_kept i here) (λ j l piece. class_kept j l) in
+          let y = ap (object_key q suc) (sym e) ∙ object_key_kept p q under.whole to c.places kept suc suc below k h (ap is_object (alike ∙ is)) (class_kept k h) (λ j l piece. class_kept j l) in
           not_both_less object_key_total (object_key p suc i) (object_key p suc k) (up.rise.objects i k (both Fea is))
           (subst (λ v. object_key_cmp v (object_key p suc i) ≡ Less) y (subst (λ v. object_key_cmp (object_key q suc i) v ≡ Less) x (up'.rise.objects i (to i) (both' Fea is))))
       go Lnk is = true≢false (sym (ap is_link is) ∙ plain)
@@ -316,7 +310,7 @@ module _ (s : Classes) (p q : Drawing) (up : IsInOrder p) (up' : IsInOrder q) (u
           let place : to x.target ≡ x.target = ap pred all.0.1 in
           let keys : map (numbered q suc) ys ≡ map (numbered p suc) xs =
           sym (sort_by-in_order end_cmp end_total end_exact (map (numbered q suc) ys) u')
-          ∙ (others_kept p q under.whole to c.places kept suc suc xs ys all.1 same ∙ sort_by-in_order end_cmp end_total end_exact (map (numbered p suc) xs) u) in
+          ∙ (others_kept p q under.whole.there to c.places kept suc suc xs ys all.1 same ∙ sort_by-in_order end_cmp end_total end_exact (map (numbered p suc) xs) u) in
           ap₂ ◌∷◌ (first ∙ ap (λ t. record { target = t; sns = x.sns }) place) (sym (ends_back q ys) ∙ (ap (map end_of) keys ∙ ends_back p xs))
 
   -- each record is the same in both plans, wherever it stands
@@ -326,13 +320,16 @@ module _ (s : Classes) (p q : Drawing) (up : IsInOrder p) (up' : IsInOrder q) (u
       let x = ends_same i h in
       let t = same_order attribute_cmp attribute_total attribute_exact (record_at q (to i)).attributes (record_at p i).attributes (up'.attributes (to i) (c.places.within i h)) (up.attributes i h)
       (λ test. sym (counts_from_permutation _ _ k.attributes test)) in
-      λ j. record { kind = k.kind j; class = k.class j; role = k.role j; points = k.points j; attributes = t j; extras = k.extras j; ends = x j }
+      let class = class_kept i h in
+      let role = role_kept i h in
+      let points = points_kept i h in
+      λ j. record { kind = k.kind j; class = class j; role = role j; points = points j; attributes = t j; extras = k.extras j; ends = x j }
 
   link_keys_same : filter_map (key_or_none p) p.list ≡ filter_map (key_or_none q) q.list
   link_keys_same = same_order link_key_cmp link_key_total link_key_exact _ _
       (keys_never_fall p p.list blank (λ i k l h is is'. up.rise.links i k (record { first = omega arith; second = h; first_kind = is; second_kind = is'; lesser = omega arith })))
       (keys_never_fall q q.list blank (λ i k l h is is'. up'.rise.links i k (record { first = omega arith; second = h; first_kind = is; second_kind = is'; lesser = omega arith })))
-      (gathered_alike to p.list q.list blank c.places (key_or_none p) (key_or_none q) (λ i h. sym (rw ((kept i h).kind, link_key_kept p q under.whole to c.places kept suc suc (record_at p i) (record_at q (to i)) (kept i h) (ends_placed i h)))))
+      (gathered_alike to p.list q.list blank c.places (key_or_none p) (key_or_none q) (λ i h. sym (rw ((kept i h).kind, link_key_kept p q under.whole.there to c.places kept suc suc (record_at p i) (record_at q (to i)) (kept i h) (class_kept i h) (ends_placed i h)))))
 
   links_same : filter_map link_or_none p.list ≡ filter_map link_or_none q.list
   links_same =

@@ -12,3 +12,4 @@ pub mod Labelling
 pub mod Arranged
 pub mod Laws
 pub mod Kept
+pub mod KeyLaws
