@@ -15,9 +15,10 @@ laid_out c = record {
 }
 
 pub returns-clause-form : goal.returns-clause-form
-returns-clause-form c =
-    canonical_file c.args.schema.now c.args.bytes.now c.in_ok-file.file.items c.keeps.ensures c.hold_bytes.ensures.short
-    (subst IsBytes c.deref.ensures.value c.hold_bytes-2.ensures.bytes) (laid_out c)
-
-pub returns-clause-states : goal.returns-clause-states
-returns-clause-states c = states_arranged c.args.schema.now c.args.bytes.now c.in_ok-file.file.items (laid_out c) c.keeps.ensures c.hold_bytes.ensures.short
+returns-clause-form c = record {
+  file = canonical_file c.args.schema.now c.args.bytes.now c.in_ok-file.file.items c.keeps.ensures c.hold_bytes.ensures.short
+      (subst IsBytes c.deref.ensures.value c.hold_bytes-2.ensures.bytes) (laid_out c);
+  plan = c.in_ok-labelled.ensures.plan;
+  labels = c.in_ok-labelled.ensures.labels;
+  arranged_plan = states_arranged c.args.schema.now c.args.bytes.now c.in_ok-file.file.items (laid_out c) c.keeps.ensures c.hold_bytes.ensures.short;
+}
