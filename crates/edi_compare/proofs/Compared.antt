@@ -7,7 +7,8 @@ use Rattle.edi_plan.specs.Plans.{Drawing}
 use Rattle.edi_rank.specs.Arranged.{arranged}
 use Rattle.edi_rank.specs.Labelling.{Labelling}
 use Rattle.edi_compare.specs.Forms.{HasForm}
-use Rattle.edi_compare.specs.Pairings.{PairingCarries, CountAlike, PairsByNumber, IsFirstDifference}
+use Rattle.edi_compare.specs.Namesakes.{CountAlike, PairsByNumber}
+use Rattle.edi_compare.specs.Pairings.{PairingCarries, IsFirstDifference}
 use Rattle.edi_compare.specs.PlanOfFile.{IsPlanOfFile, StateSame}
 use Rattle.edi_compare.specs.Verdicts.{IsVerdict}
 use Rattle.edi_compare.specs.declared.canonical.Form.{Form}
