@@ -5,8 +5,7 @@ use crate::tests::{CANON, Refusal, SHEET, answer, case_at, file, schema, sheet_a
 use std::process::Abort;
 use std::test::Fail;
 
-// A sheet that is cut inside a line is refused for that line, and one cut between two lines for want of an end in the
-// line behind its last. Without its last line feed alone it is the sheet.
+// A cut inside a line breaks that line, one between two lines leaves no end, and only the last line feed may be missing.
 #[test]
 fn refuses_each_cut_of_a_sheet(rt: HostRuntime) -> Result<(), Fail> {
     let alloc = rt.alloc();
@@ -14,20 +13,20 @@ fn refuses_each_cut_of_a_sheet(rt: HostRuntime) -> Result<(), Fail> {
     let sheet = sheet_at(SHEET_CASES, 0)?;
     let (_, cut) = sheet.split_last().ok_or("an empty sheet")?;
     let mut line = 1u64;
-    let mut is_between = true;
+    let mut starts_line = true;
     for length in 0..cut.len() {
         let refusal = answer(alloc, &schema, &cut[..length])?.err();
         let ends_line = cut[length] == b'\n';
         if ends_line {
             line = line.saturating_add(1);
         }
-        if is_between || ends_line {
+        if starts_line || ends_line {
             assert_eq!(rt; refusal, Some(Refusal::Line(106, line)));
         } else {
             let is_no_line = refusal == Some(Refusal::Line(101, line));
             assert!(rt; is_no_line || refusal == Some(Refusal::Line(102, line)));
         }
-        is_between = ends_line;
+        starts_line = ends_line;
     }
     assert_eq!(rt; file(alloc, &schema, cut)?, file(alloc, &schema, sheet)?);
     Ok(())
