@@ -20,7 +20,7 @@ use Rattle.edi_plan.specs.Plans.{Drawing}
 use Rattle.edi_topo.specs.TopologyRules.{BreaksTopologyRule}
 use Rattle.edi_rank.specs.Alike.{BreaksObjectRule}
 use Rattle.edi_rank.specs.Arranged.{new_place, arranged}
-use Rattle.edi_rank.specs.Labelling.{turned_at}
+use Rattle.edi_rank.specs.Labelling.{AreLabels, turned_at}
 use Rattle.edi_rank.specs.Laws.{IsPlanUnder}
 use Rattle.edi_rank.specs.Same.{Same}
 use Rattle.edi_rank.proofs.ArrangedRises.{arranged_in_order}
@@ -28,6 +28,7 @@ use Rattle.edi_rank.proofs.ArrangedUnder.{under_arranged}
 use Rattle.edi_rank.proofs.Arranging.{carries_arranged}
 use Rattle.edi_rank.proofs.Kept.{topology_kept, joins_kept}
 use Rattle.edi_rank.proofs.ObjectsKept.{objects_kept}
+use Rattle.edi_write.specs.Layout.{layout}
 use Rattle.edi_write.specs.Written.{letters, written_records, CanBePrinted, HasAttributeClasses}
 use Rattle.edi_write.proofs.KindNames.{kinds_printable}
 use Rattle.edi_write.proofs.WrittenPrinted.{letters_printable, written_printable, attribute_classes}
@@ -35,8 +36,10 @@ use Rattle.edi_write.proofs.WrittenRecords.{written_layout, written_plan, writte
 use Rattle.edi_write.proofs.WrittenReferences.{written_references}
 use Rattle.edi_compare.specs.Canonical.{IsCanonical, IsLayoutOf, IsFormOf}
 use Rattle.edi_compare.specs.Files.{IsBytes}
+use Rattle.edi_compare.specs.Forms.{HasForm}
 use Rattle.edi_compare.specs.PlanOfFile.{IsSheetOf, IsPlanOfFile, StateSame}
 use Rattle.edi_compare.specs.Rules.{ReferencesHold, IsAccepted}
+use Rattle.edi_compare.specs.declared.canonical.Form.{Form}
 use Rattle.edi_compare.proofs.Headline.{plan_under, plan_joined, records_hold, references_hold, topology_hold, objects_hold, decide}
 use Rattle.edi_compare.proofs.Phases.{records_held, references_held, topology_held, all_held}
 use Rattle.edi_compare.proofs.Reading.{reading_is_one}
@@ -147,7 +150,7 @@ module _ (s : Classes) (b c : List ℕ) (f : IsLayoutOf s b c) (keeps : IsSchema
   states_same = (p, q, f.states, states_form, same)
 
 -- and it states the plan that the labels make
-pub states_arranged : (s : Classes) (b c : List ℕ) (f : IsLayoutOf s b c) → IsSchema s → length b < 2 ^ 64 → IsPlanOfFile s c (arranged s f.labels f.plan)
+states_arranged : (s : Classes) (b c : List ℕ) (f : IsLayoutOf s b c) → IsSchema s → length b < 2 ^ 64 → IsPlanOfFile s c (arranged s f.labels f.plan)
 states_arranged s b c f keeps short = states_form s b c f keeps short
 
 -- the layout of an accepted sheet is its canonical file
@@ -156,3 +159,16 @@ canonical_file s b c keeps short bytes f =
     let form = canonical s b c f keeps short bytes in
     let same = states_same s b c f keeps short in
     record { accepted = f.accepted; canonical = form; same = same; only = decide reading_is_one s keeps b c f.accepted form same }
+
+-- and what is kept of the sheet is its form
+pub has_form : (s : Classes) (b : List ℕ) (form : Form) → IsSchema s → length b < 2 ^ 64 → IsBytes form.file.items → IsAccepted s b → IsPlanOfFile s b form.labelled.sound
+    → AreLabels s form.labelled.sound form.labelled.labels → form.file.items ≡ layout s (arranged s form.labelled.labels form.labelled.sound) → HasForm s b form
+has_form s b form keeps short bytes accepted states labels laid_out = record {
+  file = canonical_file s b form.file.items keeps short bytes layout_of;
+  plan = states;
+  labels = labels;
+  arranged_plan = states_arranged s b form.file.items layout_of keeps short;
+}
+  where
+    layout_of : IsLayoutOf s b form.file.items
+    layout_of = record { plan = form.labelled.sound; labels = form.labelled.labels; accepted = accepted; states = states; are_labels = labels; laid_out = laid_out }

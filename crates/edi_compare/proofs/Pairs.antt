@@ -16,19 +16,16 @@ use Rattle.edi_rank.proofs.Arranging.{carries_arranged}
 use Rattle.edi_rank.proofs.Carried.{carries_between}
 use Rattle.edi_rank.proofs.Offsets.{one_offset, one_count}
 use Rattle.edi_rank.proofs.SameLaws.{differ}
-use Rattle.edi_compare.specs.Pairings.{PairingCarries, CountAlike, one_of_two, namesake, PairsByNumber}
+use Rattle.edi_compare.specs.Namesakes.{CountAlike, namesake, PairsByNumber}
+use Rattle.edi_compare.specs.Pairings.{PairingCarries}
 use Rattle.edi_compare.specs.declared.pairing.Pairing.{Pairing}
 
 -- what `!=` says of truths
-pub told_differ : (a b : Bool) → not (beq a b) ≡ one_of_two a b
+told_differ : (a b : Bool) → not (beq a b) ≡ differ a b
 told_differ true true = refl
 told_differ true false = refl
 told_differ false true = refl
 told_differ false false = refl
-
-is_differ : (a b : Bool) → one_of_two a b ≡ differ a b
-is_differ true b = refl
-is_differ false b = refl
 
 module _ (s : Classes) (p q : Drawing) (l m : Labelling) (labels : AreLabels s p l) (labels' : AreLabels s q m) (one : arranged s l p ≡ arranged s m q) where
   number_fits : (k : ℕ) → IsPlace p k → number_of l k - 1 < length (order_of m (record_at p k).kind)
@@ -67,7 +64,7 @@ module _ (s : Classes) (p q : Drawing) (l m : Labelling) (labels : AreLabels s p
         (slice_index pairing.to) (turned_at pairing.turned)
         (λ i h. subst (IsPlace q) (sym (by.to i h)) (namesake_there i h))
         (λ i h. ap (new_place m q) (by.to i h) ∙ namesake_goes i h)
-        (λ i h. by.turned i h ∙ (is_differ (turned_at l.turned i) (turned_at m.turned (namesake p l m i)) ∙ ap (λ j. differ (turned_at l.turned i) (turned_at m.turned j)) (sym (by.to i h))));
+        (λ i h. by.turned i h ∙ (told_differ (turned_at l.turned i) (turned_at m.turned (namesake p l m i)) ∙ ap (λ j. differ (turned_at l.turned i) (turned_at m.turned j)) (sym (by.to i h))));
   }
 
 -- one value more of a map

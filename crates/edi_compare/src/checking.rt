@@ -32,8 +32,7 @@ pub fn check_pairing(
     second: &Accepted,
     pairing: &Pairing,
 ) -> Result<bool, AllocError>
-    requires first_agrees { Agrees schema.now first.now }
-    requires second_agrees { Agrees schema.now second.now }
+    requires { Agrees schema.now first.now }
     ensures { IfOk result (λ answer. IsTrue answer ↔ PairingCarries schema.now first.now second.now pairing.now) }
 {
     let plan = first.sound().plan();

@@ -1,4 +1,8 @@
 //! Known sheets.
+
+ghost use Rattle.std.specs.Prelude.{IfOk};
+ghost use Rattle.edi_plan.specs.Agreeing.{Agrees};
+
 use crate::arc_cases::ARC_CASES;
 use crate::face_cases::FACE_CASES;
 use crate::link_cases::LINK_CASES;
@@ -12,7 +16,7 @@ use crate::{
 use edi_line::{ScriptOut, Sequence};
 use edi_rank::{ArcLayer, NodeLayer};
 use edi_schema::{Kinds, Schema, SchemaFault};
-use edi_topo::{Layer, TieFault, ranks};
+use edi_topo::{Layer, Sound, TieFault, ranks};
 use edi_write::put_all;
 use std::alloc::{AllocError, Global};
 use std::process::Abort;
@@ -67,7 +71,7 @@ KNDSA02:XD\n";
 const PLAIN_RELATION: &[u8] = b"RTYSA03:REL\nRIDSA06:CMP_id\nKNDSA03:ICO\nEOMT 00:\n";
 
 // The words of the two attributes.
-const WORDS: &[u8] = b"BOMT 12:EDAB01DI.DIC\n\
+pub(crate) const WORDS: &[u8] = b"BOMT 12:EDAB01DI.DIC\n\
 CSET 03:IRV\n\
 RTYSA03:DIA\n\
 RIDSA05:SUP_n\n\
@@ -78,7 +82,7 @@ TYPSA01:A\n\
 EOMT 00:\n";
 
 // A sheet of one node.
-const SHEET: &[u8] = b"BOMT 12:EDAB01T1.VEC\n\
+pub(crate) const SHEET: &[u8] = b"BOMT 12:EDAB01T1.VEC\n\
 CSET 03:IRV\n\
 RTYSA03:PNO\n\
 RIDSA07:Noeud_1\n\
@@ -87,7 +91,7 @@ CORCC12:+10.50;+020;\n\
 EOMT 00:\n";
 
 // The canonical file of that sheet.
-const CANON: &[u8] = b"BOMT 09:CANON.VEC\r\n\
+pub(crate) const CANON: &[u8] = b"BOMT 09:CANON.VEC\r\n\
 CSET 03:IRV\r\n\
 RTYSA03:PNO\r\n\
 RIDSA02:N1\r\n\
@@ -148,17 +152,28 @@ EOMT 00:\r\n";
 
 // The rule that a sheet breaks, with its line or its record from 1.
 #[derive(Clone, Copy, Debug, PartialEq, Eq)]
-enum Refusal {
+pub(crate) enum Refusal {
     Line(u16, u64),
     Entry(u16, u64),
 }
 
-// The schema of the classes and the words, with these kinds under these codes.
-fn schema_of(alloc: Global, kinds: &[u8], codes: &Kinds<'_>) -> Result<Schema, Fail> {
+// The file of the classes, with these kinds.
+fn classes_with(alloc: Global, kinds: &[u8]) -> Result<Vec<u8>, AllocError> {
     let mut classes = Vec::new(alloc);
     classes.extend_from_slice(CLASSES)?;
     classes.extend_from_slice(kinds)?;
     classes.extend_from_slice(PLAIN_RELATION)?;
+    Ok(classes)
+}
+
+// The file of the classes, with the four kinds under their usual codes.
+pub(crate) fn usual_classes(alloc: Global) -> Result<Vec<u8>, AllocError> {
+    classes_with(alloc, USUAL_KINDS)
+}
+
+// The schema of the classes and the words, with these kinds under these codes.
+fn schema_of(alloc: Global, kinds: &[u8], codes: &Kinds<'_>) -> Result<Schema, Fail> {
+    let classes = classes_with(alloc, kinds)?;
     match Schema::load(alloc, &classes, WORDS, codes) {
         Ok(schema) => Ok(schema),
         Err(SchemaFault::Memory(fault)) => Err(fault.into()),
@@ -166,12 +181,16 @@ fn schema_of(alloc: Global, kinds: &[u8], codes: &Kinds<'_>) -> Result<Schema, F
     }
 }
 
-fn schema(alloc: Global) -> Result<Schema, Fail> {
+pub(crate) fn schema(alloc: Global) -> Result<Schema, Fail> {
     schema_of(alloc, USUAL_KINDS, &Kinds::usual())
 }
 
 // The canonical file of a sheet, or the rule that it breaks.
-fn answer(alloc: Global, schema: &Schema, bytes: &[u8]) -> Result<Result<Vec<u8>, Refusal>, Fail> {
+pub(crate) fn answer(
+    alloc: Global,
+    schema: &Schema,
+    bytes: &[u8],
+) -> Result<Result<Vec<u8>, Refusal>, Fail> {
     match canon(alloc, schema, bytes) {
         Ok(file) => Ok(Ok(file)),
         Err(Fault::Line { rule, at }) => Ok(Err(Refusal::Line(rule, at))),
@@ -181,7 +200,7 @@ fn answer(alloc: Global, schema: &Schema, bytes: &[u8]) -> Result<Result<Vec<u8>
 }
 
 // The canonical file of a sheet that breaks no rule.
-fn file(alloc: Global, schema: &Schema, bytes: &[u8]) -> Result<Vec<u8>, Fail> {
+pub(crate) fn file(alloc: Global, schema: &Schema, bytes: &[u8]) -> Result<Vec<u8>, Fail> {
     match answer(alloc, schema, bytes)? {
         Ok(file) => Ok(file),
         Err(_) => Err("the sheet is refused".into()),
@@ -209,7 +228,7 @@ fn two_spellings_have_one_canonical_file(rt: HostRuntime) -> Result<(), Fail> {
 }
 
 // What `canon` gives of a sheet, as text: the canonical file with its lines ended by LF alone, or the refusal.
-fn told(alloc: Global, schema: &Schema, bytes: &[u8]) -> Result<Vec<u8>, Fail> {
+pub(crate) fn told(alloc: Global, schema: &Schema, bytes: &[u8]) -> Result<Vec<u8>, Fail> {
     match answer(alloc, schema, bytes)? {
         Ok(file) => Ok(without_returns(alloc, &file)?),
         Err(Refusal::Line(rule, at)) => refused_line(alloc, rule, b" line ", at),
@@ -249,8 +268,7 @@ fn are_answered_under<R: Abort + AllocGlobal>(
     cases: &str,
 ) -> Result<(), Fail> {
     for case in cases.split("--\n") {
-        let (_title, sheet) = case.split_once("\n").ok_or("a case without a title")?;
-        let (sheet, wanted) = sheet.split_once("->\n").ok_or("a case without an answer")?;
+        let (sheet, wanted) = parts_of(case)?;
         let given = told(rt.alloc(), schema, sheet.as_bytes())?;
         assert_eq!(rt; given.as_slice(), wanted.as_bytes());
     }
@@ -310,11 +328,11 @@ fn tells_how_many_bytes_went_out(rt: HostRuntime) -> Result<(), Fail> {
     Ok(())
 }
 
-// The sheet of the first of these cases.
-fn first_sheet(alloc: Global, schema: &Schema, cases: &str) -> Result<Accepted, Fail> {
-    let (_title, cases) = cases.split_once("\n").ok_or("a case without a title")?;
-    let (sheet, _answers) = cases.split_once("->\n").ok_or("a case without an answer")?;
-    match accept(alloc, schema, sheet.as_bytes()) {
+// A sheet that breaks no rule.
+fn accepted(alloc: Global, schema: &Schema, bytes: &[u8]) -> Result<Accepted, Fail>
+    ensures { IfOk result (Agrees schema.now) }
+{
+    match accept(alloc, schema, bytes) {
         Ok(accepted) => Ok(accepted),
         Err(_) => Err("the sheet is refused".into()),
     }
@@ -329,23 +347,40 @@ fn numbers_of<L: Layer>(alloc: Global, layer: &L) -> Result<Sequence<u32>, Fail>
     }
 }
 
-#[test]
-fn numbers_the_nodes_and_the_arcs_of_a_sound_plan(rt: HostRuntime) -> Result<(), Fail> {
-    let alloc = rt.alloc();
-    let accepted = first_sheet(alloc, &schema(alloc)?, ARC_CASES)?;
-    let sound = accepted.sound();
-    let nodes = numbers_of(alloc, &NodeLayer::of(alloc, sound)?)?;
-    let arcs = numbers_of(alloc, &ArcLayer::of(alloc, sound)?)?;
-    assert_eq!(rt; nodes.as_slice(), [1u32, 2].as_slice());
-    assert_eq!(rt; arcs.as_slice(), [2u32, 1].as_slice());
+// The numbers of two nodes and two arcs of a sound plan.
+fn are_numbered<R: Abort + AllocGlobal>(
+    rt: &R,
+    sound: &Sound,
+    nodes: [u32; 2],
+    arcs: [u32; 2],
+) -> Result<(), Fail> {
+    let node_numbers = numbers_of(rt.alloc(), &NodeLayer::of(rt.alloc(), sound)?)?;
+    let arc_numbers = numbers_of(rt.alloc(), &ArcLayer::of(rt.alloc(), sound)?)?;
+    assert_eq!(rt; node_numbers.as_slice(), nodes.as_slice());
+    assert_eq!(rt; arc_numbers.as_slice(), arcs.as_slice());
     Ok(())
 }
 
-// The sheet of the case with this number, from 0.
-fn sheet_at(cases: &str, number: usize) -> Result<&[u8], Fail> {
-    let case = cases.split("--\n").nth(number).ok_or("no such case")?;
-    let (_title, case) = case.split_once("\n").ok_or("a case without a title")?;
-    let (sheet, _answer) = case.split_once("->\n").ok_or("a case without an answer")?;
+#[test]
+fn numbers_the_nodes_and_the_arcs_of_a_sound_plan(rt: HostRuntime) -> Result<(), Fail> {
+    let alloc = rt.alloc();
+    let sheet = accepted(alloc, &schema(alloc)?, sheet_at(ARC_CASES, 0)?)?;
+    are_numbered(&rt, sheet.sound(), [1, 2], [2, 1])
+}
+
+// The sheet of a case, and what `canon` gives of it.
+fn parts_of(case: &str) -> Result<(&str, &str), Fail> {
+    let (_title, parts) = case.split_once("\n").ok_or("a case without a title")?;
+    Ok(parts.split_once("->\n").ok_or("a case without an answer")?)
+}
+
+// The parts of the case with this number, from 0.
+pub(crate) fn case_at(cases: &str, number: usize) -> Result<(&str, &str), Fail> {
+    parts_of(cases.split("--\n").nth(number).ok_or("no such case")?)
+}
+
+pub(crate) fn sheet_at(cases: &str, number: usize) -> Result<&[u8], Fail> {
+    let (sheet, _answer) = case_at(cases, number)?;
     Ok(sheet.as_bytes())
 }
 
@@ -369,14 +404,28 @@ fn carries(
     turned: &[bool],
 ) -> Result<bool, Fail> {
     let schema = schema(alloc)?;
-    let pairing = pairing_of(alloc, to, turned)?;
-    match (
-        accept(alloc, &schema, first),
-        accept(alloc, &schema, second),
-    ) {
-        (Ok(one), Ok(other)) => Ok(check_pairing(alloc, &schema, &one, &other, &pairing)?),
-        _ => Err("a sheet is refused".into()),
-    }
+    let first = accepted(alloc, &schema, first)?;
+    carries_onto(
+        alloc,
+        &schema,
+        &first,
+        second,
+        &pairing_of(alloc, to, turned)?,
+    )
+}
+
+// The same of an accepted sheet and a second sheet.
+fn carries_onto(
+    alloc: Global,
+    schema: &Schema,
+    first: &Accepted,
+    second: &[u8],
+    pairing: &Pairing,
+) -> Result<bool, Fail>
+    requires { Agrees schema.now first.now }
+{
+    let second = accepted(alloc, schema, second)?;
+    Ok(check_pairing(alloc, schema, first, &second, pairing)?)
 }
 
 // The pairing of the whole sheet with itself in reverse order, whose third record, an arc, is turned.
@@ -444,6 +493,19 @@ fn tells_where_canonical_files_differ(rt: HostRuntime) -> Result<(), Fail> {
     let without_records = sheet_at(NODE_CASES, 0)?;
     match compare(alloc, &schema(alloc)?, SHEET, without_records) {
         Ok(Verdict::Different { line }) => assert_eq!(rt; line, 2),
+        _ => return Err("the plans are different".into()),
+    }
+    Ok(())
+}
+
+#[test]
+fn tells_where_a_link_is_of_another_class(rt: HostRuntime) -> Result<(), Fail> {
+    let alloc = rt.alloc();
+    let first = sheet_at(SHEET_CASES, 0)?;
+    let (second, _answer) = case_at(SHEET_CASES, 1)?;
+    let second = second.replace(alloc, "REL;DRT_id", "REL;GCH_id")?;
+    match compare(alloc, &schema(alloc)?, first, second.as_bytes()) {
+        Ok(Verdict::Different { line }) => assert_eq!(rt; line, 60),
         _ => return Err("the plans are different".into()),
     }
     Ok(())

@@ -1,6 +1,7 @@
-use Rattle.std.proofs.Common.{◌≡◌, ◌<◌, ℕ, length, slice_index}
+use Rattle.std.proofs.Common.{◌≡◌, ◌<◌, ℕ, not, length, slice_index}
+use mathlib.Core.Bool.{beq}
 use Rattle.edi_rank.specs.Labelling.{turned_at}
-use Rattle.edi_compare.specs.Pairings.{one_of_two, namesake}
+use Rattle.edi_compare.specs.Namesakes.{namesake}
 use Rattle.edi_compare.proofs.comparing.paired.Given as goal
 
 -- the records so far have their namesakes
@@ -10,5 +11,5 @@ invariant-loop-place l = record {
   turned_long : length l.turned.items ≡ l.place;
   to : (k : ℕ) → k < l.place → slice_index l.to.items k ≡ namesake l.first.sound l.first.labels l.second.labels k;
   turned : (k : ℕ) → k < l.place → turned_at l.turned.items k
-      ≡ one_of_two (turned_at l.first.labels.turned k) (turned_at l.second.labels.turned (namesake l.first.sound l.first.labels l.second.labels k));
+      ≡ not (beq (turned_at l.first.labels.turned k) (turned_at l.second.labels.turned (namesake l.first.sound l.first.labels l.second.labels k)));
 }
