@@ -46,7 +46,7 @@ fn run_over(alloc: Global, run: Run, files: &[&[u8]; 4], faults: [u64; 4]) -> Re
     let unread = match fault {
         None => None,
         Some(RunFault::Read { input }) => Some(input),
-        Some(_) => return Err("a run fails otherwise".into()),
+        Some(fault) => return Err(fault.into()),
     };
     Ok(Ran {
         unread,
@@ -109,7 +109,8 @@ fn tells_how_much_of_a_canonical_file_went_out(rt: HostRuntime) -> Result<(), Fa
         let mut writer = ScriptOut::new(alloc, CANON.len(), 1, taken as u64 + 1)?;
         match run_bundle(alloc, &Kinds::usual(), &mut reader, &mut writer) {
             Err(RunFault::Write(written)) => assert_eq!(rt; written.count, taken as u64),
-            _ => return Err("the writer fails".into()),
+            Err(fault) => return Err(fault.into()),
+            Ok(()) => return Err("the writer fails".into()),
         }
         assert_eq!(rt; writer.out(), &CANON[..taken]);
     }

@@ -332,10 +332,7 @@ fn tells_how_many_bytes_went_out(rt: HostRuntime) -> Result<(), Fail> {
 fn accepted(alloc: Global, schema: &Schema, bytes: &[u8]) -> Result<Accepted, Fail>
     ensures { IfOk result (Agrees schema.now) }
 {
-    match accept(alloc, schema, bytes) {
-        Ok(accepted) => Ok(accepted),
-        Err(_) => Err("the sheet is refused".into()),
-    }
+    Ok(accept(alloc, schema, bytes)?)
 }
 
 // The numbers of members none of which tie.
@@ -445,13 +442,13 @@ fn pairs_a_sheet_with_its_reverse(rt: HostRuntime) -> Result<(), Fail> {
     let schema = schema(alloc)?;
     let first = sheet_at(SHEET_CASES, 0)?;
     let second = sheet_at(SHEET_CASES, 1)?;
-    match compare(alloc, &schema, first, second) {
-        Ok(Verdict::Same(pairing)) => {
+    match compare(alloc, &schema, first, second)? {
+        Verdict::Same(pairing) => {
             assert_eq!(rt; pairing.to.as_slice(), REVERSED.as_slice());
             assert_eq!(rt; pairing.turned.as_slice(), ARC_TURNED.as_slice());
             Ok(())
         }
-        _ => Err("the plans are the same".into()),
+        Verdict::Different { .. } => Err("the plans are the same".into()),
     }
 }
 
@@ -487,15 +484,24 @@ fn empty_pairings_carry_character_sets(rt: HostRuntime) -> Result<(), Fail> {
     Ok(())
 }
 
-#[test]
-fn tells_where_canonical_files_differ(rt: HostRuntime) -> Result<(), Fail> {
-    let alloc = rt.alloc();
-    let without_records = sheet_at(NODE_CASES, 0)?;
-    match compare(alloc, &schema(alloc)?, SHEET, without_records) {
-        Ok(Verdict::Different { line }) => assert_eq!(rt; line, 2),
-        _ => return Err("the plans are different".into()),
+// The canonical files of two sheets first differ at this line.
+fn differ_at<R: Abort + AllocGlobal>(
+    rt: &R,
+    first: &[u8],
+    second: &[u8],
+    at: u64,
+) -> Result<(), Fail> {
+    match compare(rt.alloc(), &schema(rt.alloc())?, first, second)? {
+        Verdict::Different { line } => assert_eq!(rt; line, at),
+        Verdict::Same(_) => return Err("the plans are different".into()),
     }
     Ok(())
+}
+
+#[test]
+fn tells_where_canonical_files_differ(rt: HostRuntime) -> Result<(), Fail> {
+    let without_records = sheet_at(NODE_CASES, 0)?;
+    differ_at(&rt, SHEET, without_records, 2)
 }
 
 #[test]
@@ -504,11 +510,7 @@ fn tells_where_a_link_is_of_another_class(rt: HostRuntime) -> Result<(), Fail> {
     let first = sheet_at(SHEET_CASES, 0)?;
     let (second, _answer) = case_at(SHEET_CASES, 1)?;
     let second = second.replace(alloc, "REL;DRT_id", "REL;GCH_id")?;
-    match compare(alloc, &schema(alloc)?, first, second.as_bytes()) {
-        Ok(Verdict::Different { line }) => assert_eq!(rt; line, 60),
-        _ => return Err("the plans are different".into()),
-    }
-    Ok(())
+    differ_at(&rt, first, second.as_bytes(), 60)
 }
 
 #[test]
@@ -517,11 +519,13 @@ fn names_the_refused_sheet(rt: HostRuntime) -> Result<(), Fail> {
     let schema = schema(alloc)?;
     match compare(alloc, &schema, b"", b"") {
         Err(CompareFault::First(Fault::Line { rule, at })) => assert_eq!(rt; (rule, at), (106, 1)),
-        _ => return Err("the first sheet is refused".into()),
+        Err(fault) => return Err(fault.into()),
+        Ok(_) => return Err("the first sheet is refused".into()),
     }
     match compare(alloc, &schema, SHEET, b"") {
         Err(CompareFault::Second(Fault::Line { rule, at })) => assert_eq!(rt; (rule, at), (106, 1)),
-        _ => return Err("the second sheet is refused".into()),
+        Err(fault) => return Err(fault.into()),
+        Ok(_) => return Err("the second sheet is refused".into()),
     }
     Ok(())
 }
