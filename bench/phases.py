@@ -57,4 +57,5 @@ def main():
         print(f"| {name} | {row[0]} | {row[1]} |", flush=True)
 
 
-main()
+if __name__ == "__main__":
+    main()

@@ -1,13 +1,13 @@
 -- What carries one plan onto another is told by its values at the places of the first.
-use Rattle.std.proofs.Common.{◌≡◌, ℕ, ◌<◌, Bool, List, [], ◌∷◌, map, length, Option, Some, option_map, refl, sym, ap, ◌∙◌, subst, IsPermutation}
+use Rattle.std.proofs.Common.{◌≡◌, ℕ, ◌<◌, Bool, List, [], ◌∷◌, length, Some, option_map, refl, sym, ap, ◌∙◌, subst, IsPermutation}
 use Rattle.std.specs.List.{AllByRecursion}
-use Rattle.edi_schema.specs.Classes.{Classes, partner_of}
+use Rattle.edi_schema.specs.Classes.{Classes}
 use Rattle.edi_plan.specs.Plans.{Drawing, IsPlace, record_at, first_of, others_of}
 use Rattle.edi_plan.specs.Whole.{IsWhole}
 use Rattle.edi_plan.specs.declared.record.PlanRecord.{PlanRecord}
 use Rattle.edi_plan.specs.declared.record.PlanEnd.{PlanEnd}
 use Rattle.edi_rank.specs.Laws.{IsPlanUnder}
-use Rattle.edi_rank.specs.Same.{OneToOne, has_turned_arc, directed, moved, CarriesRecord, Carries}
+use Rattle.edi_rank.specs.Same.{has_turned_arc, directed, moved, CarriesRecord, Carries}
 use Rattle.edi_rank.proofs.SameLaws.{differ, after, passes_alike, map_alike, all_others, from, from-to, carries_back, carries_on}
 
 moved_alike : (to on : ℕ → ℕ) (n : ℕ) → ((k : ℕ) → k < n → to k ≡ on k) → (x : PlanEnd) → x.target < n → moved to x ≡ moved on x

@@ -1,14 +1,13 @@
 -- Labels that make one plan number as many records of each kind.
-use Rattle.std.proofs.Common.{◌≡◌, ℕ, ◌+◌, ◌-◌, ◌<◌, ◌≤◌, ◌⊎◌, inl, inr, List, ◌++◌, length, length-append, refl, sym, ap, ◌∙◌, subst, arith}
+use Rattle.std.proofs.Common.{◌≡◌, ℕ, ◌+◌, ◌<◌, ◌≤◌, ◌⊎◌, inl, inr, ◌++◌, length, length-append, sym, ap, ◌∙◌, subst, arith}
 use Rattle.std.proofs.lemmas.Bool.{cases_lt}
-use Rattle.std.proofs.lemmas.Option.{slice_get_within}
 use Rattle.edi_record.specs.declared.record.Kind.{Kind}
 use Rattle.edi_record.specs.declared.record.Kind.TheVariants.{Pno, Par, Pfe, Fea, Lnk}
 use Rattle.edi_schema.specs.Classes.{Classes}
 use Rattle.edi_plan.specs.Plans.{Drawing, IsPlace, record_at, kind_rank}
 use Rattle.edi_plan.proofs.PlaceLemmas.{one_kind}
 use Rattle.edi_rank.specs.Arranged.{offset, old_places, arranged}
-use Rattle.edi_rank.specs.Labelling.{Labelling, AreLabels, order_of, number_of}
+use Rattle.edi_rank.specs.Labelling.{Labelling, AreLabels, order_of}
 use Rattle.edi_rank.proofs.Arranging.{From, came_from, same_length}
 use Rattle.edi_rank.proofs.ArrangedOrder.{below_rank, kind_from, number_within}
 
