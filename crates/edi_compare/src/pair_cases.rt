@@ -1,4 +1,4 @@
-//! A sheet with two equal links, to be paired with itself.
+//! Sheets to be paired and compared.
 
 /// Three nodes, an object, two equal links of the object with the first node, and one with all three.
 pub const EQUAL_LINKS: &str = "\
@@ -36,3 +36,15 @@ FTPCP23:EDAB01;SeT1;PNO;Noeud_1\n\
 FTPCP23:EDAB01;SeT1;PNO;Noeud_2\n\
 FTPCP23:EDAB01;SeT1;PNO;Noeud_3\n\
 EOMT 00:\n";
+
+/// An object with the size of its surface.
+pub const OBJECT_OF_A_SURFACE: &str = "\
+BOMT 01:X\n\
+CSET 03:IRV\n\
+RTYSA03:FEA\n\
+RIDSA07:Objet_1\n\
+SCPCP27:EDAB01;SeSD;OBJ;PARCELLE_id\n\
+ATPCP22:EDAB01;SeSD;ATT;SUP_id\n\
+ATVSA04:1.50\n\
+EOMT 00:\n\
+";

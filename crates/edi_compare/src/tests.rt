@@ -8,15 +8,13 @@ use crate::face_cases::FACE_CASES;
 use crate::link_cases::LINK_CASES;
 use crate::node_cases::NODE_CASES;
 use crate::object_cases::OBJECT_CASES;
-use crate::pair_cases::EQUAL_LINKS;
+use crate::pair_cases::{EQUAL_LINKS, OBJECT_OF_A_SURFACE};
 use crate::sheet_cases::SHEET_CASES;
 use crate::{
     Accepted, CompareFault, Fault, Pairing, Verdict, accept, canon, check_pairing, compare,
 };
 use edi_line::{ScriptOut, Sequence};
-use edi_rank::{ArcLayer, NodeLayer};
 use edi_schema::{Kinds, Schema, SchemaFault};
-use edi_topo::{Layer, Sound, TieFault, ranks};
 use edi_write::put_all;
 use std::alloc::{AllocError, Global};
 use std::process::Abort;
@@ -329,40 +327,10 @@ fn tells_how_many_bytes_went_out(rt: HostRuntime) -> Result<(), Fail> {
 }
 
 // A sheet that breaks no rule.
-fn accepted(alloc: Global, schema: &Schema, bytes: &[u8]) -> Result<Accepted, Fail>
+pub(crate) fn accepted(alloc: Global, schema: &Schema, bytes: &[u8]) -> Result<Accepted, Fail>
     ensures { IfOk result (Agrees schema.now) }
 {
     Ok(accept(alloc, schema, bytes)?)
-}
-
-// The numbers of members none of which tie.
-fn numbers_of<L: Layer>(alloc: Global, layer: &L) -> Result<Sequence<u32>, Fail> {
-    match ranks(alloc, layer) {
-        Ok(ranks) => Ok(ranks.into_numbers()),
-        Err(TieFault::Memory(fault)) => Err(fault.into()),
-        Err(TieFault::Tie(_)) => Err("two members tie".into()),
-    }
-}
-
-// The numbers of two nodes and two arcs of a sound plan.
-fn are_numbered<R: Abort + AllocGlobal>(
-    rt: &R,
-    sound: &Sound,
-    nodes: [u32; 2],
-    arcs: [u32; 2],
-) -> Result<(), Fail> {
-    let node_numbers = numbers_of(rt.alloc(), &NodeLayer::of(rt.alloc(), sound)?)?;
-    let arc_numbers = numbers_of(rt.alloc(), &ArcLayer::of(rt.alloc(), sound)?)?;
-    assert_eq!(rt; node_numbers.as_slice(), nodes.as_slice());
-    assert_eq!(rt; arc_numbers.as_slice(), arcs.as_slice());
-    Ok(())
-}
-
-#[test]
-fn numbers_the_nodes_and_the_arcs_of_a_sound_plan(rt: HostRuntime) -> Result<(), Fail> {
-    let alloc = rt.alloc();
-    let sheet = accepted(alloc, &schema(alloc)?, sheet_at(ARC_CASES, 0)?)?;
-    are_numbered(&rt, sheet.sound(), [1, 2], [2, 1])
 }
 
 // The sheet of a case, and what `canon` gives of it.
@@ -459,7 +427,50 @@ fn checks_the_pairing_of_a_sheet_with_its_reverse(rt: HostRuntime) -> Result<(),
     let second = sheet_at(SHEET_CASES, 1)?;
     assert!(rt; carries(alloc, first, second, &REVERSED, &ARC_TURNED)?);
     assert!(rt; !carries(alloc, first, second, &REVERSED, &NODE_AND_ARC_TURNED)?);
+    assert!(rt; !carries(alloc, first, second, &REVERSED, &[false; 13])?);
+    assert!(rt; !carries(alloc, first, second, &[], &[])?);
     Ok(())
+}
+
+// The pairing of two sheets that state the same plan.
+fn pairing_found(
+    alloc: Global,
+    schema: &Schema,
+    first: &[u8],
+    second: &[u8],
+) -> Result<Pairing, Fail> {
+    match compare(alloc, schema, first, second)? {
+        Verdict::Same(pairing) => Ok(pairing),
+        Verdict::Different { .. } => Err("the plans are the same".into()),
+    }
+}
+
+// A pairing is found, and carries.
+fn finds_what_carries(alloc: Global, first: &[u8], second: &[u8]) -> Result<bool, Fail> {
+    let schema = schema(alloc)?;
+    let pairing = pairing_found(alloc, &schema, first, second)?;
+    let first = accepted(alloc, &schema, first)?;
+    carries_onto(alloc, &schema, &first, second, &pairing)
+}
+
+#[test]
+fn finds_pairings_that_carry(rt: HostRuntime) -> Result<(), Fail> {
+    let alloc = rt.alloc();
+    let sheet = sheet_at(SHEET_CASES, 0)?;
+    assert!(rt; finds_what_carries(alloc, sheet, sheet_at(SHEET_CASES, 1)?)?);
+    let (sheet, canonical) = case_at(OBJECT_CASES, 6)?;
+    assert!(rt; finds_what_carries(alloc, sheet.as_bytes(), canonical.as_bytes())?);
+    let surface = OBJECT_OF_A_SURFACE.replace(alloc, "04:1.50", "03:1.5")?;
+    assert!(rt; finds_what_carries(alloc, OBJECT_OF_A_SURFACE.as_bytes(), surface.as_bytes())?);
+    Ok(())
+}
+
+// A text is not a number, whatever it spells.
+#[test]
+fn tells_where_texts_differ(rt: HostRuntime) -> Result<(), Fail> {
+    let name = OBJECT_OF_A_SURFACE.replace(rt.alloc(), "SUP_id", "NOM_id")?;
+    let other = name.replace(rt.alloc(), "04:1.50", "03:1.5")?;
+    differ_at(&rt, name.as_bytes(), other.as_bytes(), 8)
 }
 
 #[test]
