@@ -1,5 +1,5 @@
 -- Two plans in order of which one carries onto the other are equal.
-use Rattle.std.proofs.Common.{◌≡◌, ℕ, zero, suc, pred, ◌<◌, Bool, true, false, cond, List, [], ◌∷◌, map, reverse, length, get_or, filter_map, Option, Some, None, option_map, refl, sym, ap, ap₂, ◌∙◌, subst, arith, ◌⊎◌, inl, inr, IsPermutation, true≢false, Ordering, Less, Equal, Greater, is_gt, is_lt, eqb-true}
+use Rattle.std.proofs.Common.{◌≡◌, ◌≢◌, ℕ, zero, suc, pred, ◌<◌, Bool, true, false, cond, List, [], ◌∷◌, map, reverse, length, get_or, filter_map, Option, Some, None, option_map, refl, sym, ap, ap₂, ◌∙◌, subst, arith, ◌⊎◌, inl, inr, IsPermutation, true≢false, Ordering, Less, Equal, Greater, is_gt, is_lt, eqb-true}
 use Rattle.std.specs.List.{AllByRecursion}
 use Rattle.std.specs.Option.{option_cmp}
 use Rattle.std.proofs.lemmas.Bool.{cases_order}
@@ -53,6 +53,13 @@ not_link Par h = refl
 not_link Pfe h = refl
 not_link Fea h = refl
 not_link Lnk h = absurd (omega arith)
+
+plain_kind : (k : Kind) → k ≢ Lnk → is_link k ≡ false
+plain_kind Pno h = refl
+plain_kind Par h = refl
+plain_kind Pfe h = refl
+plain_kind Fea h = refl
+plain_kind Lnk h = absurd (h refl)
 
 -- a link has no points
 
@@ -290,6 +297,10 @@ module _ (s : Classes) (p q : Drawing) (up : IsInOrder p) (up' : IsInOrder q) (u
   -- each record but the links keeps its place
   pub fixed : (i : ℕ) → i < length p.list → is_link (kind_at i) ≡ false → to i ≡ i
   fixed i h plain = fixed_below (suc i) i (omega arith) h plain
+
+  -- and none is turned
+  pub links_move : (i : ℕ) → i < length p.list → (turned i ≡ false) × (kind_at i ≢ Lnk → to i ≡ i)
+  links_move i h = (none_turned i h, λ other. fixed i h (plain_kind (kind_at i) other))
 
   -- so the ends of a link stay as they are
 
