@@ -7,7 +7,7 @@ use Rattle.edi_plan.specs.Plans.{Drawing}
 use Rattle.edi_rank.specs.Arranged.{arranged}
 use Rattle.edi_rank.specs.Labelling.{Labelling}
 use Rattle.edi_compare.specs.Forms.{HasForm}
-use Rattle.edi_compare.specs.Namesakes.{CountAlike, PairsByNumber}
+use Rattle.edi_compare.specs.Namesakes.{HasNamesakes, PairsByNumber}
 use Rattle.edi_compare.specs.Pairings.{PairingCarries, IsFirstDifference}
 use Rattle.edi_compare.specs.PlanOfFile.{IsPlanOfFile, StateSame}
 use Rattle.edi_compare.specs.Verdicts.{IsVerdict}
@@ -15,7 +15,7 @@ use Rattle.edi_compare.specs.declared.canonical.Form.{Form}
 use Rattle.edi_compare.specs.declared.pairing.Pairing.{Pairing}
 use Rattle.edi_compare.specs.declared.pairing.Verdict.TheVariants.{Same, Different}
 use Rattle.edi_compare.proofs.Headline.{one_plan, equal_if_same, plan_under}
-use Rattle.edi_compare.proofs.Pairs.{count_alike, pairing_carries}
+use Rattle.edi_compare.proofs.Pairs.{has_namesakes, pairing_carries}
 use Rattle.edi_compare.proofs.Reading.{reading_is_one}
 
 not_equal : (c d : List ℕ) (line : ℕ) → IsFirstDifference c d line → c ≡ d → ⊥
@@ -51,8 +51,8 @@ module _ (s : Classes) (keeps : IsSchema s) (a b : List ℕ) (form other : Form)
         one_plan reading_is_one s keeps other.file.items (arranged s l p) (arranged s m q)
         (subst (λ x. IsPlanOfFile s x (arranged s l p)) one has.arranged_plan) has'.arranged_plan
 
-    pub counts : CountAlike p l m
-    counts = count_alike s p q l m has.labels has'.labels one_arranged
+    pub counts : HasNamesakes p l m
+    counts = has_namesakes s p q l m has.labels has'.labels one_arranged
 
     carries_paired : (pairing : Pairing) → PairsByNumber p l m pairing → PairingCarries s p q pairing
     carries_paired pairing by =

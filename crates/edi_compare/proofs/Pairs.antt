@@ -16,7 +16,7 @@ use Rattle.edi_rank.proofs.Arranging.{carries_arranged}
 use Rattle.edi_rank.proofs.Carried.{carries_between}
 use Rattle.edi_rank.proofs.Offsets.{one_offset, one_count}
 use Rattle.edi_rank.proofs.SameLaws.{differ}
-use Rattle.edi_compare.specs.Namesakes.{CountAlike, namesake, PairsByNumber}
+use Rattle.edi_compare.specs.Namesakes.{HasNamesakes, namesake, PairsByNumber}
 use Rattle.edi_compare.specs.Pairings.{PairingCarries}
 use Rattle.edi_compare.specs.declared.pairing.Pairing.{Pairing}
 
@@ -35,8 +35,8 @@ module _ (s : Classes) (p q : Drawing) (l m : Labelling) (labels : AreLabels s p
   ordered_there : (kind : Kind) (i : ℕ) → i < length (order_of m kind) → IsPlace q (slice_index (order_of m kind) i)
   ordered_there kind i h = (labels'.orders kind i (slice_index (order_of m kind) i) (slice_get-get_or (order_of m kind) i 0 h)).0
 
-  pub count_alike : CountAlike p l m
-  count_alike = record {
+  pub has_namesakes : HasNamesakes p l m
+  has_namesakes = record {
     numbered = labels.all_numbered;
     directed = labels.all_directed;
     from_one = labels.from_one;

@@ -6,8 +6,8 @@ use Rattle.edi_plan.specs.Plans.{Drawing, IsPlace, record_at}
 use Rattle.edi_rank.specs.Labelling.{Labelling, order_of, number_of, turned_at}
 use Rattle.edi_compare.specs.declared.pairing.Pairing.{Pairing}
 
--- the labels m of a second plan number as many records of each kind as the labels l of p do
-pub record CountAlike (p : Drawing) (l m : Labelling) : Type 0 where
+-- each record of p has a namesake by the labels m of a second plan: one of its kind with the number that the labels l give it
+pub record HasNamesakes (p : Drawing) (l m : Labelling) : Type 0 where
   pub numbered : length l.numbers ≡ length p.list
   pub directed : length l.turned ≡ length p.list
   pub from_one : (k : ℕ) → IsPlace p k → 1 ≤ number_of l k

@@ -13,6 +13,7 @@ use Rattle.edi_rank.specs.Same.{Same}
 abbrev pub IsSheetOf : List ℕ → Sheet → Type 0
 IsSheetOf b sheet = (zones : List Entry) × IsZonesOf b zones × StatesSheet zones sheet
 
+-- the plan that the records of a file state
 abbrev pub IsPlanOfFile : Classes → List ℕ → Drawing → Type 0
 IsPlanOfFile s b p = (sheet : Sheet) × IsSheetOf b sheet × IsPlanOf s sheet p
 

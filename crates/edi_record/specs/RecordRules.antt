@@ -145,7 +145,3 @@ pub record BreaksRecordRule (zones : List Entry) (rule place : ℕ) : Type 0 whe
   pub cut : groups_of zones ≡ before ++ group ∷ after
   pub place_is : place ≡ length before + 1
   pub breaks : Breaks (record_tests group) rule
-
--- the same as a type, for files of other records
-abbrev pub HasNoIdentifier : List Entry → Type 0
-HasNoIdentifier group = has_no_identifier group ≡ true

@@ -74,7 +74,7 @@ pub record ArePairFiles (rows : List Row) (files : PairFiles) : Type 0 where
 abbrev pub HasBadKinds : List Row → Type 0
 HasBadKinds rows = (k : KindCodes) → ¬ GiveKinds rows k
 
--- the subcommand is check, canon or compare
+-- the subcommand, if there is one, is check, canon or compare
 abbrev pub IsOwn : Option (Text × List Row) → Type 0
 IsOwn met = IfSome met (λ p. (p.0 ≡ codes "check") ⊎ ((p.0 ≡ codes "canon") ⊎ (p.0 ≡ codes "compare")))
 

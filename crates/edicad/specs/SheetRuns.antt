@@ -22,7 +22,7 @@ path_at files n = if n == 1 then files.scd.now else if n == 2 then files.dic.now
 abbrev pub HoldsTooMuch : Contents → SheetFiles → ℕ → Type 0
 HoldsTooMuch holds files n = (told : Option (List ℕ)) × holds (path_at files n) told × IsTooLong told
 
--- Why a run over the files has no answer: one of the three can't be read or is too long, the schema or the sheet is
+-- Why a run over the files has no answer: one of the three was not read or is too long, the schema or the sheet is
 -- refused, or so many bytes went out before the writer failed.
 abbrev pub FileFault : Contents → KindCodes → SheetFiles → (ℕ → Type 0) → RunFault → Type 0
 FileFault holds kinds files W e = MatchFault e
@@ -49,7 +49,7 @@ OfPair holds files P = (s d a b : Option (List ℕ)) × holds files.scd.now s ×
 abbrev pub pair_path_at : PairFiles → ℕ → List ℕ
 pair_path_at files n = if n == 1 then files.scd.now else if n == 2 then files.dic.now else if n == 3 then files.first.now else files.second.now
 
--- Why a run over the files of two sheets has no answer: one of the four can't be read or is too long, the schema is
+-- Why a run over the files of two sheets has no answer: one of the four was not read or is too long, the schema is
 -- refused, the first sheet is, or the second where the first is accepted.
 abbrev pub PairFileFault : Contents → KindCodes → PairFiles → RunFault → Type 0
 PairFileFault holds kinds files e = MatchFault e
