@@ -61,12 +61,14 @@ impl Plan {
         })
     }
 
+    /// How many records there are.
     pub fn len(&self) -> u32
         ensures { result ≡ length self.now.list }
     {
         self.list.as_slice().len() as u32
     }
 
+    /// The character set of the sheet, if it names one.
     pub fn cse(&self) -> Option<&[u8]>
         ensures { option_copied result ≡ self.now.cse }
     {
@@ -76,6 +78,7 @@ impl Plan {
         }
     }
 
+    /// The type of a record; places are counted from 0, in file order.
     pub fn kind(&self, place: u32) -> Kind
         requires { IsPlace self.now place }
         ensures { result ≡ (record_at self.now place).kind }
@@ -83,6 +86,7 @@ impl Plan {
         self.list.as_slice()[place as usize].kind
     }
 
+    /// The class of a record.
     pub fn scp(&self, place: u32) -> ClassRef
         requires { IsPlace self.now place }
         ensures { result ≡ (record_at self.now place).class }
@@ -90,6 +94,7 @@ impl Plan {
         self.list.as_slice()[place as usize].class
     }
 
+    /// The kind of link that the class of a record has: plain for all but links of the four kinds.
     pub fn role(&self, place: u32) -> Role
         requires { IsPlace self.now place }
         ensures { result ≡ (record_at self.now place).role }
@@ -97,6 +102,7 @@ impl Plan {
         self.list.as_slice()[place as usize].role
     }
 
+    /// The points of a node or an arc, in file order; their coordinates are whole millionths of the file's unit.
     pub fn points(&self, place: u32) -> &[Point]
         requires { IsPlace self.now place }
         ensures { result.now ≡ (record_at self.now place).points }
@@ -104,6 +110,7 @@ impl Plan {
         self.list.as_slice()[place as usize].points.as_slice()
     }
 
+    /// The attributes of a record, in file order.
     pub fn attributes(&self, place: u32) -> &[PlanAttribute]
         requires { IsPlace self.now place }
         ensures { result.now ≡ (record_at self.now place).attributes }
@@ -111,6 +118,7 @@ impl Plan {
         self.list.as_slice()[place as usize].attributes.as_slice()
     }
 
+    /// The extra zones of a record, in file order.
     pub fn extras(&self, place: u32) -> &[Extra]
         requires { IsPlace self.now place }
         ensures { result.now ≡ (record_at self.now place).extras }

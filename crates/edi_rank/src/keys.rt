@@ -42,6 +42,7 @@ pub struct ObjectKey<'a> {
     pub pieces: Sequence<LinkKey<'a>>,
 }
 
+/// Faces go by the number of the arc, then left before right.
 pub fn compare_faces(a: FaceKey, b: FaceKey) -> Ordering
     ensures { result ≡ face_key_cmp a b }
 {

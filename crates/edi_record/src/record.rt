@@ -11,10 +11,15 @@ use edi_line::{Num, Sequence, Text};
 /// The type of a record of a sheet.
 #[derive(Clone, Copy, Debug, PartialEq, Eq, PartialOrd, Ord, Hash)]
 pub enum Kind {
+    /// A node.
     Pno,
+    /// An arc.
     Par,
+    /// A face.
     Pfe,
+    /// An object.
     Fea,
+    /// A link.
     Lnk,
 }
 

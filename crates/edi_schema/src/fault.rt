@@ -9,7 +9,9 @@ use thiserror::Error;
 /// Which of a schema's two files.
 #[derive(Clone, Copy, Debug, PartialEq, Eq)]
 pub enum Source {
+    /// The file of the classes.
     Scd,
+    /// The dictionary.
     Dic,
 }
 

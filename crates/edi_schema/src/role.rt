@@ -6,10 +6,15 @@ ghost use Rattle.edi_schema.specs.Roles.{exchanged as exchanged_role};
 /// The kinds of link that a class may have.
 #[derive(Clone, Copy, Debug, PartialEq, Eq, PartialOrd, Ord, Hash)]
 pub enum Role {
+    /// To an arc's initial node.
     Initial,
+    /// To an arc's final node.
     Final,
+    /// To the face on the left of an arc.
     Left,
+    /// To the face on the right of an arc.
     Right,
+    /// None of the four.
     Plain,
 }
 

@@ -31,6 +31,7 @@ impl Ranks {
         Ranks { numbers }
     }
 
+    /// The number of a member, from 1; members are counted from 0.
     pub fn number(&self, member: u32) -> u32
         requires { member < length self.now }
         ensures { result ≡ slice_index self.now member }

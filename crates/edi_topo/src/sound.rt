@@ -71,6 +71,7 @@ impl Sound {
         }
     }
 
+    /// The plan, which breaks no rule 401 to 406.
     pub fn plan(&self) -> &Plan
         ensures plan { result.now ≡ self.now }
         ensures sound { IsUnbroken (BreaksTopologyRule self.now) }

@@ -9,6 +9,7 @@ use edi_line::ByteOut;
 use edi_write::put_all;
 use std::alloc::Global;
 
+/// The exit status of want of memory.
 pub const MEMORY_STATUS: u8 = 5;
 
 const WRITE_STATUS: u8 = 4;

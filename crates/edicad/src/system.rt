@@ -66,6 +66,7 @@ pub struct Errors<'a, R> {
 }
 
 impl<'a, R: Eprint> Errors<'a, R> {
+    /// The stream of errors, which has not failed.
     pub fn new(rt: &'a R) -> Errors<'a, R>
         ensures { ⟦<Errors<'a, R> as ByteOut>⟧.has_failed result ≡ false }
     {
