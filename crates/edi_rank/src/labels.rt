@@ -5,12 +5,12 @@ ghost use Rattle.edi_plan.specs.Plans.{IsPlace, record_at, others_of, is_object}
 ghost use Rattle.edi_rank.specs.Alike.{BreaksObjectRule};
 ghost use Rattle.edi_rank.specs.Laws.{TellsApart};
 ghost use Rattle.edi_rank.specs.EndOrder.{OthersInOrder};
-ghost use Rattle.edi_rank.specs.Pieces.{IsObjectRanking, object_count};
+ghost use Rattle.edi_rank.specs.Pieces.{IsObjectRanking};
 ghost use Rattle.edi_rank.specs.RankRefusal.{IsRankRefusal};
 ghost use Rattle.edi_topo.specs.NodeKeys.{IsNodeRanking};
-ghost use Rattle.edi_record.specs.declared.record.Kind.TheVariants.{Pno, Par, Pfe, Fea};
+ghost use Rattle.edi_record.specs.declared.record.Kind.TheVariants.{Fea};
 ghost use Rattle.edi_topo.specs.Arcs.{IsForwardRanking};
-ghost use Rattle.edi_rank.specs.Layers.{IsFaceRanking, IsLinkRanking, ranked};
+ghost use Rattle.edi_rank.specs.Layers.{IsFaceRanking, IsLinkRanking};
 ghost use Rattle.edi_rank.specs.Labelling.{NumbersEach};
 ghost use Rattle.edi_line.specs.Refusal.{IsUnbroken};
 

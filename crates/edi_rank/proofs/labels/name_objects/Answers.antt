@@ -1,11 +1,10 @@
-use Rattle.std.proofs.Common.{◌≡◌, ◌≢◌, ◌≤◌, ◌∙◌, ℕ, List, sym, subst, ap, length, get_or}
+use Rattle.std.proofs.Common.{◌≡◌, ◌≢◌, ◌≤◌, ◌∙◌, ℕ, List, sym, subst, ap, get_or}
 use Rattle.edi_record.specs.declared.record.Kind.TheVariants.{Fea}
 use Rattle.edi_plan.specs.Places.{member_of}
 use Rattle.edi_plan.specs.Plans.{Drawing, IsPlace, record_at, others_of}
 use Rattle.edi_plan.specs.Whole.{IsWhole}
 use Rattle.edi_plan.specs.declared.record.PlanEnd.{PlanEnd}
 use Rattle.edi_rank.specs.EndOrder.{OthersInOrder, positions_at}
-use Rattle.edi_rank.specs.Laws.{TellsApart}
 use Rattle.edi_rank.specs.Pieces.{ObjectSource, IsObjectRanking, object_count}
 use Rattle.edi_rank.proofs.KeysKept.{all_weaker}
 use Rattle.edi_rank.proofs.OthersSorted.{Renumbered, in_order_still, no_object, rest_hold}
