@@ -1,5 +1,5 @@
 -- What carries one plan onto another keeps the keys, where it keeps the numbers of the layers below.
-use Rattle.std.proofs.Common.{◌≡◌, ℕ, suc, ◌<◌, ◌⊎◌, inl, inr, Bool, true, false, true≢false, not, ◌&&◌, List, reverse, length, refl, sym, ap, ap₂, ◌∙◌, subst, arith}
+use Rattle.std.proofs.Common.{◌≡◌, ℕ, suc, ◌<◌, ◌⊎◌, inl, inr, Bool, true, false, true≢false, not, ◌&&◌, List, [], map, reverse, length, refl, sym, ap, ap₂, ◌∙◌, subst, arith}
 use Rattle.std.specs.List.{AllByRecursion}
 use Rattle.std.proofs.Math.Bool.{not-not}
 use Rattle.edi_record.specs.declared.record.Kind.{Kind}
@@ -9,8 +9,10 @@ use Rattle.edi_schema.specs.Classes.{Classes}
 use Rattle.edi_schema.specs.Roles.{is_plain}
 use Rattle.edi_schema.specs.declared.role.Role.{Role}
 use Rattle.edi_plan.specs.Joined.{IsJoined}
+use Rattle.edi_plan.specs.Places.{places_of}
 use Rattle.edi_plan.specs.Plans.{Drawing, IsPlace, record_at, kind_rank, is_arc, is_object, first_of}
 use Rattle.edi_plan.specs.Whole.{IsWhole}
+use Rattle.edi_plan.proofs.PlaceLemmas.{place_there, place_of_kind}
 use Rattle.edi_plan.specs.declared.record.PlanRecord.{PlanRecord}
 use Rattle.edi_plan.specs.declared.record.PlanEnd.{PlanEnd}
 use Rattle.edi_topo.specs.Directions.{forward}
@@ -27,9 +29,10 @@ use Rattle.edi_rank.proofs.FacesApart.{exchanged_back}
 use Rattle.edi_rank.proofs.Kept.{role_turned, plain_turned, plain_stays, role_carried}
 use Rattle.edi_rank.proofs.KeysKept.{Kept, kept_from, all_weaker, face_key_kept, object_key_kept}
 use Rattle.edi_rank.proofs.ObjectsKept.{class_kept, piece_class}
-use Rattle.edi_rank.proofs.SameLaws.{differ, passes_alike, any_differ, tested_before}
+use Rattle.edi_rank.proofs.SameLaws.{carries_itself, differ, map_alike, passes_alike, any_differ, tested_before}
 use Rattle.edi_rank.proofs.Sided.{arc_is}
 use Rattle.edi_rank.proofs.TurnedRecords.{record_turned, turned_long, reverse_forward}
+use Rattle.edi_rank.proofs.Unique.{all_places}
 
 -- arcs
 
@@ -143,3 +146,10 @@ object_carried s p q whole joined to turned c number number' nodes arcs faces m 
     below t l Pfe e less = faces t l e
     below t l Fea e less = absurd (omega (arith, less))
     below t l Lnk e less = absurd (omega (arith, less))
+
+-- the keys of the objects are one where the numbers of the records are one
+pub object_keys_alike : (p : Drawing) → IsWhole p → IsJoined p → (number number' : ℕ → ℕ) → ((k : ℕ) → IsPlace p k → number' k ≡ number k) → map (object_key p number') (places_of Fea p) ≡ map (object_key p number) (places_of Fea p)
+object_keys_alike p whole joined number number' same =
+    map_alike (λ k. IsPlace p k × ((record_at p k).kind ≡ Fea)) (object_key p number') (object_key p number)
+    (λ k h. object_carried [] p p whole joined (λ i. i) (λ _. false) (carries_itself [] p) number number' (λ i l _. same i l) (λ i l _. same i l) (λ i l _. same i l) k h.0 h.1)
+    (places_of Fea p) (all_places (λ k. IsPlace p k × ((record_at p k).kind ≡ Fea)) (places_of Fea p) 0 (λ m h. (place_there Fea p m h, place_of_kind Fea p m h)))

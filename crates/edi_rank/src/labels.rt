@@ -5,12 +5,12 @@ ghost use Rattle.edi_plan.specs.Plans.{IsPlace, record_at, others_of, is_object}
 ghost use Rattle.edi_rank.specs.Alike.{BreaksObjectRule};
 ghost use Rattle.edi_rank.specs.Laws.{TellsApart};
 ghost use Rattle.edi_rank.specs.EndOrder.{OthersInOrder};
-ghost use Rattle.edi_rank.specs.Pieces.{IsObjectRanking, object_count};
+ghost use Rattle.edi_rank.specs.Pieces.{IsObjectRanking};
 ghost use Rattle.edi_rank.specs.RankRefusal.{IsRankRefusal};
 ghost use Rattle.edi_topo.specs.NodeKeys.{IsNodeRanking};
-ghost use Rattle.edi_record.specs.declared.record.Kind.TheVariants.{Pno, Par, Pfe, Fea};
+ghost use Rattle.edi_record.specs.declared.record.Kind.TheVariants.{Fea};
 ghost use Rattle.edi_topo.specs.Arcs.{IsForwardRanking};
-ghost use Rattle.edi_rank.specs.Layers.{IsFaceRanking, IsLinkRanking, ranked};
+ghost use Rattle.edi_rank.specs.Layers.{IsFaceRanking, IsLinkRanking};
 ghost use Rattle.edi_rank.specs.Labelling.{NumbersEach};
 ghost use Rattle.edi_line.specs.Refusal.{IsUnbroken};
 
@@ -19,7 +19,7 @@ use crate::face_layer::FaceLayer;
 use crate::fault::RankFault;
 use crate::forward::turned_arcs;
 use crate::link_layer::LinkLayer;
-use crate::numbering::{number_kind, places_by_number};
+use crate::numbering::{lower_numbers, number_kind, places_by_number};
 use crate::object_layer::ObjectLayer;
 use edi_line::Sequence;
 use edi_plan::Plan;
@@ -66,7 +66,7 @@ impl Labels {
         let plan = sound.plan();
         let turned = turned_arcs(alloc, plan)?;
         let lower = lower_ranks(alloc, sound)?;
-        let unnamed = lower_numbers(alloc, plan, &lower)?;
+        let unnamed = lower_numbers(alloc, plan, lower.nodes, lower.arcs, &lower.faces)?;
         let named = name_objects(alloc, sound, unnamed)?;
         let links = link_ranks(alloc, schema, plan, &turned, &named.numbers, &named.others)?;
         let numbers = number_kind(plan, Kind::Lnk, &links, named.numbers);
@@ -149,25 +149,16 @@ fn face_ranks(alloc: Global, sound: &Sound, arcs: &Ranks) -> Result<Ranks, Alloc
     }
 }
 
-/// The numbers of the objects, in file order, where the nodes, arcs and faces have these numbers, by place, and objects 0.
-fn object_ranks(
-    alloc: Global,
-    sound: &Sound,
-    numbers: &[u32],
-    orders: &[Sequence<usize>],
-) -> Result<Ranks, RankFault>
-    requires numbers { length numbers.now ≡ length sound.now.list }
-    requires objects { (k : ℕ) → IsPlace sound.now k → is_object (record_at sound.now k).kind ≡ true → slice_index_or numbers.now k 0 ≡ 0 }
-    requires apart { TellsApart sound.now (slice_index numbers.now) }
-    requires ordered { length orders.now ≡ length sound.now.list }
-    requires orders { (k : ℕ) → IsPlace sound.now k → object_count sound.now (others_of (record_at sound.now k)) ≤ 1 → OthersInOrder sound.now (slice_index numbers.now) orders.now k }
-    ensures ranks { IfOk result (IsObjectRanking (record { plan = sound.now; numbers = numbers.now })) }
+/// The numbers of the objects, in file order, by their keys.
+fn object_ranks(alloc: Global, sound: &Sound, layer: &ObjectLayer<'_>) -> Result<Ranks, RankFault>
+    requires plan { layer.now.plan ≡ sound.now }
+    requires apart { TellsApart sound.now (slice_index layer.now.numbers) }
+    ensures ranks { IfOk result (IsObjectRanking layer.now) }
     ensures distinct { OnOk result (IsUnbroken (BreaksObjectRule sound.now)) }
     ensures least { IfErr result (IsRankRefusal (BreaksObjectRule sound.now)) }
 {
     let _plan = sound.plan();
-    let layer = ObjectLayer::of(alloc, sound, numbers, orders)?;
-    match ranks(alloc, &layer) {
+    match ranks(alloc, layer) {
         Ok(ranks) => Ok(ranks),
         Err(TieFault::Memory(error)) => Err(RankFault::Memory(error)),
         Err(TieFault::Tie(member)) => Err(RankFault::Broken {
@@ -202,7 +193,9 @@ fn name_objects(alloc: Global, sound: &Sound, numbers: Vec<u32>) -> Result<Named
 {
     let plan = sound.plan();
     let lower = lower_orders(alloc, plan, &numbers)?;
-    let objects = object_ranks(alloc, sound, &numbers, &lower)?;
+    let layer = ObjectLayer::numbered(alloc, sound, numbers, lower)?;
+    let objects = object_ranks(alloc, sound, &layer)?;
+    let (numbers, lower) = layer.into_parts();
     let numbers = number_kind(plan, Kind::Fea, &objects, numbers);
     let others = all_orders(alloc, plan, &numbers, lower)?;
     Ok(Named {
@@ -253,20 +246,6 @@ fn lower_ranks<'a>(alloc: Global, sound: &'a Sound) -> Result<LowerRanks<'a>, Al
     let arcs = sound.arc_ranks();
     let faces = face_ranks(alloc, sound, arcs)?;
     Ok(LowerRanks { nodes, arcs, faces })
-}
-
-/// The numbers of the nodes, the arcs and the faces by place, and 0 at the places of other records.
-fn lower_numbers(alloc: Global, plan: &Plan, lower: &LowerRanks<'_>) -> Result<Vec<u32>, AllocError>
-    requires nodes { length lower.now.nodes.now ≡ length (places_of Pno plan.now) }
-    requires arcs { length lower.now.arcs.now ≡ length (places_of Par plan.now) }
-    requires faces { length lower.now.faces ≡ length (places_of Pfe plan.now) }
-    ensures length { IfOk result (λ numbers. length numbers.items ≡ length plan.now.list) }
-    ensures ranked { IfOk result (λ numbers. (k : ℕ) → IsPlace plan.now k → slice_index numbers.items k ≡ ranked plan.now lower.now.nodes.now lower.now.arcs.now lower.now.faces k) }
-{
-    let unnumbered = vec![in alloc; 0; plan.len() as usize]?;
-    let by_node = number_kind(plan, Kind::Pno, lower.nodes, unnumbered);
-    let by_arc = number_kind(plan, Kind::Par, lower.arcs, by_node);
-    Ok(number_kind(plan, Kind::Pfe, &lower.faces, by_arc))
 }
 
 /// The places of the records of a kind, by number.

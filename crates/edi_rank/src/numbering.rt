@@ -1,9 +1,11 @@
 //! Numbers by place, and places by number.
 
 ghost use Rattle.std.specs.Prelude.{◌≡◌, ◌≢◌, ◌<◌, ◌≤◌, ◌-◌, ℕ, length, slice_index, IfOk};
+ghost use Rattle.edi_record.specs.declared.record.Kind.TheVariants.{Pno, Par, Pfe};
 ghost use Rattle.edi_plan.specs.Places.{places_of, member_of};
 ghost use Rattle.edi_plan.specs.Plans.{IsPlace, record_at, same_kind};
 ghost use Rattle.edi_rank.specs.Labelling.{NumbersEach};
+ghost use Rattle.edi_rank.specs.Layers.{ranked};
 
 use edi_plan::Plan;
 use edi_record::Kind;
@@ -33,6 +35,26 @@ pub(crate) fn number_kind(plan: &Plan, kind: Kind, ranks: &Ranks, mut numbers: V
         }
     }
     numbers
+}
+
+/// The numbers of the nodes, the arcs and the faces by place, and 0 at the places of other records.
+pub(crate) fn lower_numbers(
+    alloc: Global,
+    plan: &Plan,
+    nodes: &Ranks,
+    arcs: &Ranks,
+    faces: &Ranks,
+) -> Result<Vec<u32>, AllocError>
+    requires nodes { length nodes.now ≡ length (places_of Pno plan.now) }
+    requires arcs { length arcs.now ≡ length (places_of Par plan.now) }
+    requires faces { length faces.now ≡ length (places_of Pfe plan.now) }
+    ensures length { IfOk result (λ numbers. length numbers.items ≡ length plan.now.list) }
+    ensures ranked { IfOk result (λ numbers. (k : ℕ) → IsPlace plan.now k → slice_index numbers.items k ≡ ranked plan.now nodes.now arcs.now faces.now k) }
+{
+    let unnumbered = vec![in alloc; 0; plan.len() as usize]?;
+    let by_node = number_kind(plan, Kind::Pno, nodes, unnumbered);
+    let by_arc = number_kind(plan, Kind::Par, arcs, by_node);
+    Ok(number_kind(plan, Kind::Pfe, faces, by_arc))
 }
 
 /// The places by the numbers of what stands there.

@@ -2,20 +2,23 @@
 
 ghost use Rattle.std.specs.Prelude.{◌≡◌, ◌≢◌, ◌<◌, ◌≤◌, ℕ, [], true, length, map, slice_index, slice_index_or, All, IfOk, MatchOption, ⊤, ◌==◌};
 ghost use Rattle.std.specs.List.{AllByRecursion, list_any};
-ghost use Rattle.edi_record.specs.declared.record.Kind.TheVariants.{Fea};
+ghost use Rattle.edi_record.specs.declared.record.Kind.TheVariants.{Pno, Par, Pfe, Fea};
 ghost use Rattle.edi_plan.specs.Places.{places_of};
 ghost use Rattle.edi_plan.specs.Plans.{IsPlace, record_at, others_of, is_object as is_object_kind};
 ghost use Rattle.edi_schema.specs.Sorted.{sort_by};
 ghost use Rattle.edi_rank.specs.EndOrder.{OthersInOrder};
 ghost use Rattle.edi_rank.specs.Keys.{is_piece, link_key, link_key_cmp};
+ghost use Rattle.edi_rank.specs.Layers.{object_keys};
 ghost use Rattle.edi_rank.specs.Pieces.{is_owner, object_count, object_key_at, piece_places};
 
+use crate::end_orders::lower_orders;
 use crate::keys::{LinkKey, ObjectKey};
 use crate::link_key::link_key_at;
+use crate::numbering::lower_numbers;
 use edi_line::{Lent, LentEach, Sequence};
 use edi_plan::{Plan, PlanEnd, sorted_attributes};
 use edi_record::Kind;
-use edi_topo::{Layer, Sound};
+use edi_topo::{Layer, Ranks, Sound};
 use std::alloc::{AllocError, Global};
 use std::marker::Model;
 
@@ -23,8 +26,8 @@ use std::marker::Model;
 #[derive(Drop)]
 pub struct ObjectLayer<'a> {
     plan: &'a Plan,
-    numbers: &'a [u32],
-    orders: &'a [Sequence<usize>],
+    numbers: Vec<u32>,
+    orders: Vec<Sequence<usize>>,
     places: Vec<u32>,
     links: Vec<Vec<u32>>,
 }
@@ -39,29 +42,49 @@ impl<'a> Model for ObjectLayer<'a> {
 
     ghost Value = { ObjectSource };
 
-    ghost view = { λ l. record { plan = l.plan.now; numbers = l.numbers.now } };
+    ghost view = { λ l. record { plan = l.plan.now; numbers = l.numbers.items } };
 
-    ghost invariant = { λ l. (l.places.items ≡ places_of Fea l.plan.now) × (length l.numbers.now ≡ length l.plan.now.list) × (length l.links.items ≡ length l.plan.now.list)
-        × ((k : ℕ) → IsPlace l.plan.now k → is_object (record_at l.plan.now k).kind ≡ true → slice_index_or l.numbers.now k 0 ≡ 0)
+    ghost invariant = { λ l. (l.places.items ≡ places_of Fea l.plan.now) × (length l.numbers.items ≡ length l.plan.now.list) × (length l.links.items ≡ length l.plan.now.list)
+        × ((k : ℕ) → IsPlace l.plan.now k → is_object (record_at l.plan.now k).kind ≡ true → slice_index_or l.numbers.items k 0 ≡ 0)
         × ((k : ℕ) → IsPlace l.plan.now k → is_object (record_at l.plan.now k).kind ≡ true → slice_index_or (map (λ v. v.items) l.links.items) k [] ≡ piece_places l.plan.now k)
-        × (length l.orders.now ≡ length l.plan.now.list)
-        × ((k : ℕ) → IsPlace l.plan.now k → object_count l.plan.now (others_of (record_at l.plan.now k)) ≤ 1 → OthersInOrder l.plan.now (slice_index l.numbers.now) l.orders.now k) };
+        × (length l.orders.items ≡ length l.plan.now.list)
+        × ((k : ℕ) → IsPlace l.plan.now k → object_count l.plan.now (others_of (record_at l.plan.now k)) ≤ 1 → OthersInOrder l.plan.now (slice_index l.numbers.items) l.orders.items k) };
 }
 
 impl<'a> ObjectLayer<'a> {
-    /// The objects of a plan, where its nodes, arcs and faces have these numbers, by place, and its objects have 0,
-    /// with the positions of the other ends of each record in their order, where at most one is an object.
+    /// The objects of a plan, where its nodes, arcs and faces have these numbers.
     pub fn of(
         alloc: Global,
         sound: &'a Sound,
-        numbers: &'a [u32],
-        orders: &'a [Sequence<usize>],
+        nodes: &Ranks,
+        arcs: &Ranks,
+        faces: &Ranks,
     ) -> Result<ObjectLayer<'a>, AllocError>
-        requires numbers { length numbers.now ≡ length sound.now.list }
-        requires objects { (k : ℕ) → IsPlace sound.now k → is_object_kind (record_at sound.now k).kind ≡ true → slice_index_or numbers.now k 0 ≡ 0 }
-        requires ordered { length orders.now ≡ length sound.now.list }
-        requires orders { (k : ℕ) → IsPlace sound.now k → object_count sound.now (others_of (record_at sound.now k)) ≤ 1 → OthersInOrder sound.now (slice_index numbers.now) orders.now k }
-        ensures { IfOk result (λ layer. layer ≡ record { plan = sound.now; numbers = numbers.now }) }
+        requires nodes { length nodes.now ≡ length (places_of Pno sound.now) }
+        requires arcs { length arcs.now ≡ length (places_of Par sound.now) }
+        requires faces { length faces.now ≡ length (places_of Pfe sound.now) }
+        ensures plan { IfOk result (λ layer. layer.plan ≡ sound.now) }
+        ensures keys { IfOk result (λ layer. map (object_key_at layer) (places_of Fea sound.now) ≡ object_keys sound.now nodes.now arcs.now faces.now) }
+    {
+        let plan = sound.plan();
+        let numbers = lower_numbers(alloc, plan, nodes, arcs, faces)?;
+        let orders = lower_orders(alloc, plan, &numbers)?;
+        ObjectLayer::numbered(alloc, sound, numbers, orders)
+    }
+
+    /// The objects of a plan, where its nodes, arcs and faces have these numbers, by place, and its objects have 0,
+    /// with the positions of the other ends of each record in their order, where at most one is an object.
+    pub(crate) fn numbered(
+        alloc: Global,
+        sound: &'a Sound,
+        numbers: Vec<u32>,
+        orders: Vec<Sequence<usize>>,
+    ) -> Result<ObjectLayer<'a>, AllocError>
+        requires numbers { length numbers.items ≡ length sound.now.list }
+        requires objects { (k : ℕ) → IsPlace sound.now k → is_object_kind (record_at sound.now k).kind ≡ true → slice_index_or numbers.items k 0 ≡ 0 }
+        requires ordered { length orders.items ≡ length sound.now.list }
+        requires orders { (k : ℕ) → IsPlace sound.now k → object_count sound.now (others_of (record_at sound.now k)) ≤ 1 → OthersInOrder sound.now (slice_index numbers.items) orders.items k }
+        ensures { IfOk result (λ layer. layer ≡ record { plan = sound.now; numbers = numbers.items }) }
     {
         let plan = sound.plan();
         let places = plan.places(alloc, Kind::Fea)?;
@@ -73,6 +96,15 @@ impl<'a> ObjectLayer<'a> {
             places,
             links,
         })
+    }
+
+    /// The numbers by place, and the positions of the other ends of each record in their order.
+    pub(crate) fn into_parts(self) -> (Vec<u32>, Vec<Sequence<usize>>)
+        ensures numbers { result.0.items ≡ self.entry.numbers }
+        ensures ordered { length result.1.items ≡ length self.entry.plan.list }
+        ensures orders { (k : ℕ) → IsPlace self.entry.plan k → object_count self.entry.plan (others_of (record_at self.entry.plan k)) ≤ 1 → OthersInOrder self.entry.plan (slice_index self.entry.numbers) result.1.items k }
+    {
+        (self.numbers, self.orders)
     }
 
     /// The place of an object.
@@ -101,7 +133,7 @@ impl<'a> Layer for ObjectLayer<'a> {
         let attributes = sorted_attributes(alloc, self.plan.attributes(place))?;
         let links: &[Vec<u32>] = &self.links;
         let own: &[u32] = &links[place as usize];
-        let pieces = sorted_pieces(alloc, self.plan, self.numbers, self.orders, own)?;
+        let pieces = sorted_pieces(alloc, self.plan, &self.numbers, &self.orders, own)?;
         Ok(ObjectKey {
             class: self.plan.scp(place),
             attributes: LentEach::from_vec(attributes),
