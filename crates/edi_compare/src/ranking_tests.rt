@@ -1,10 +1,12 @@
-//! Numbers of known members, and of the nodes, arcs and faces of the whole sheet.
-ghost use Rattle.std.specs.Prelude.{ℕ, length, slice_index};
+//! Numbers of known members, and of the members of each layer of the whole sheet.
+ghost use Rattle.std.specs.Prelude.{◌≡◌, ℕ, length, slice_index, IfOk};
+ghost use Rattle.edi_record.specs.declared.record.Kind.TheVariants.{Pfe};
+ghost use Rattle.edi_plan.specs.Places.{places_of};
 
 use crate::sheet_cases::SHEET_CASES;
 use crate::tests::{accepted, schema, sheet_at};
 use edi_line::Sequence;
-use edi_rank::{ArcLayer, FaceLayer, Layer, NodeLayer, TieFault, ranks};
+use edi_rank::{ArcLayer, FaceLayer, Layer, NodeLayer, ObjectLayer, Ranks, TieFault, ranks};
 use edi_topo::Sound;
 use std::alloc::{AllocError, Global};
 use std::process::Abort;
@@ -60,20 +62,38 @@ fn are_numbered<R: Abort + AllocGlobal>(
     nodes: &[u32],
     arcs: &[u32],
     faces: &[u32],
+    objects: &[u32],
 ) -> Result<(), Fail> {
     let alloc = rt.alloc();
     let node_numbers = numbers_of(alloc, &NodeLayer::of(alloc, sound)?)?;
     assert_eq!(rt; node_numbers.as_slice(), nodes);
     let arc_numbers = numbers_of(alloc, &ArcLayer::of(alloc, sound)?)?;
     assert_eq!(rt; arc_numbers.as_slice(), arcs);
-    let face_numbers = numbers_of(alloc, &FaceLayer::of(alloc, sound, sound.arc_ranks())?)?;
-    assert_eq!(rt; face_numbers.as_slice(), faces);
+    let face_ranks = ranks_of_faces(alloc, sound)?;
+    let object_numbers = numbers_of_objects(alloc, sound, &face_ranks)?;
+    assert_eq!(rt; face_ranks.into_numbers().as_slice(), faces);
+    assert_eq!(rt; object_numbers.as_slice(), objects);
     Ok(())
+}
+
+// The numbers of the faces of a sound plan.
+fn ranks_of_faces(alloc: Global, sound: &Sound) -> Result<Ranks, Fail>
+    ensures { IfOk result (λ ranks. length ranks ≡ length (places_of Pfe sound.now)) }
+{
+    Ok(ranks(alloc, &FaceLayer::of(alloc, sound, sound.arc_ranks())?)?)
+}
+
+// The numbers of the objects of a sound plan, where its faces have these numbers.
+fn numbers_of_objects(alloc: Global, sound: &Sound, faces: &Ranks) -> Result<Sequence<u32>, Fail>
+    requires { length faces.now ≡ length (places_of Pfe sound.now) }
+{
+    let layer = ObjectLayer::of(alloc, sound, sound.node_ranks(), sound.arc_ranks(), faces)?;
+    numbers_of(alloc, &layer)
 }
 
 #[test]
 fn numbers_the_members_of_the_whole_sheet(rt: HostRuntime) -> Result<(), Fail> {
     let alloc = rt.alloc();
     let sheet = accepted(alloc, &schema(alloc)?, sheet_at(SHEET_CASES, 0)?)?;
-    are_numbered(&rt, sheet.sound(), &[1, 2], &[2, 1], &[1])
+    are_numbered(&rt, sheet.sound(), &[1, 2], &[2, 1], &[1], &[1])
 }
