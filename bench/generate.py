@@ -163,4 +163,5 @@ def main():
         parcels(count, out, kind == "objects")
 
 
-main()
+if __name__ == "__main__":
+    main()

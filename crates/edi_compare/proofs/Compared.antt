@@ -1,7 +1,8 @@
 -- Two sheets with one canonical file are carried one onto the other, and two with different files aren't.
 use Rattle.std.proofs.Common.{◌≡◌, ℕ, List, sym, ap, ◌∙◌, subst}
 use Rattle.std.specs.List.{slice_get}
-use Rattle.edi_line.specs.Lines.{lines_of}
+use Rattle.edi_line.specs.inner.Lines.{lines_of}
+use Rattle.edi_line.proofs.Cut.{lines_unique}
 use Rattle.edi_schema.specs.Classes.{Classes, IsSchema}
 use Rattle.edi_plan.specs.Plans.{Drawing}
 use Rattle.edi_rank.specs.Arranged.{arranged}
@@ -19,7 +20,7 @@ use Rattle.edi_compare.proofs.Pairs.{has_namesakes, pairing_carries}
 use Rattle.edi_compare.proofs.Reading.{reading_is_one}
 
 not_equal : (c d : List ℕ) (line : ℕ) → IsFirstDifference c d line → c ≡ d → ⊥
-not_equal c d line first e = first.differ (ap (λ lines. slice_get lines first.place) (first.is_lines ∙ (ap lines_of e ∙ sym first.is_others)))
+not_equal c d line first e = first.differ (ap (λ lines. slice_get lines first.place) (lines_unique c first.lines first.is_lines ∙ (ap lines_of e ∙ sym (lines_unique d first.others first.is_others))))
 
 module _ (s : Classes) (keeps : IsSchema s) (a b : List ℕ) (form other : Form) (has : HasForm s a form) (has' : HasForm s b other) where
   abbrev p : Drawing

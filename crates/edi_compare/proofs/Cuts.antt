@@ -3,7 +3,7 @@ use Rattle.std.proofs.Common.{◌≡◌, ℕ, ◌+◌, true, false, List, ◌∷
 use Rattle.std.specs.List.{concat}
 use Rattle.std.proofs.lemmas.List.{drop-drop, append-nil}
 use Rattle.std.proofs.Math.Seq.{take-add}
-use Rattle.edi_line.specs.Lines.{lines_of}
+use Rattle.edi_line.specs.inner.Lines.{lines_of}
 use Rattle.edi_compare.specs.Bundle.{is_last_line, first_file, later_files}
 
 -- where the next line ends it

@@ -4,7 +4,8 @@ use Rattle.std.specs.List.{onto_first, slice_get}
 use Rattle.std.proofs.lemmas.Bool.{ne_eqb, cases_eq, cases_lt}
 use Rattle.std.proofs.lemmas.List.{drop_all}
 use Rattle.std.proofs.Math.Seq.{drop-cons}
-use Rattle.edi_line.specs.Lines.{lines_of}
+use Rattle.edi_line.specs.inner.Lines.{lines_of}
+use Rattle.edi_line.proofs.Cut.{lines_exist}
 use Rattle.edi_compare.specs.Pairings.{IsFirstDifference}
 
 -- the number of the first line in which they differ, where the first of their lines has this number
@@ -136,8 +137,8 @@ first_difference xs ys n e =
       lines = lines_of xs;
       others = lines_of ys;
       place = f.place;
-      is_lines = refl;
-      is_others = refl;
+      is_lines = lines_exist xs;
+      is_others = lines_exist ys;
       counts = omega (arith, f.counts);
       differ = λ same. f.differ.differ (line_read (lines_of xs) (lines_of ys) f.place same);
       before = f.differ.before;

@@ -3,7 +3,6 @@ use Rattle.std.proofs.Common.{◌≡◌, ◌∙◌, sym, subst, ap, refl, ℕ, �
 use Rattle.std.specs.List.{AllByRecursion, list_all}
 use Rattle.std.proofs.lemmas.List.{length-map}
 use Rattle.edi_line.specs.Refusal.{IsUnbroken}
-use Rattle.edi_line.specs.Zones.{zones_of}
 use Rattle.edi_record.specs.Layout.{HasPrintableLetters, KeepsRules, settled_end, settled_record}
 use Rattle.edi_record.specs.Layout as records
 use Rattle.edi_record.specs.Shapes.{is_in_shape, may_have_points, may_have_ends}
@@ -12,7 +11,7 @@ use Rattle.edi_record.specs.declared.record.Record.{Record}
 use Rattle.edi_record.specs.declared.sheet.Sheet.{Sheet}
 use Rattle.edi_record.proofs.Printable.{sheet_printable}
 use Rattle.edi_record.proofs.ReadRecords.{sheet_read}
-use Rattle.edi_record.proofs.SheetStated.{sheet_again}
+use Rattle.edi_record.proofs.SheetStated.{sheet_stated}
 use Rattle.edi_record.proofs.Sound.{sheet_sound}
 use Rattle.edi_schema.specs.Classes.{Classes, IsSchema}
 use Rattle.edi_plan.specs.Joined.{IsJoined}
@@ -34,8 +33,9 @@ use Rattle.edi_write.proofs.KindNames.{kinds_printable}
 use Rattle.edi_write.proofs.WrittenPrinted.{letters_printable, written_printable, attribute_classes}
 use Rattle.edi_write.proofs.WrittenRecords.{written_layout, written_plan, written_count}
 use Rattle.edi_write.proofs.WrittenReferences.{written_references}
-use Rattle.edi_compare.specs.Canonical.{IsCanonical, IsLayoutOf, IsFormOf}
-use Rattle.edi_compare.specs.Files.{IsBytes}
+use Rattle.edi_compare.specs.Canonical.{IsCanonical, IsLayoutOf}
+use Rattle.edi_compare.specs.Headline.{IsFormOf}
+use Rattle.edi_line.specs.Bytes.{IsBytes}
 use Rattle.edi_compare.specs.Forms.{HasForm}
 use Rattle.edi_compare.specs.PlanOfFile.{IsSheetOf, IsPlanOfFile, StateSame}
 use Rattle.edi_compare.specs.Rules.{ReferencesHold, IsAccepted}
@@ -78,15 +78,16 @@ module _ (s : Classes) (q : Drawing) (keeps : IsSchema s) (under : IsPlanUnder s
 
   states_sheet : IsSheetOf file sheet
   states_sheet =
-      let again = sheet_again (letters s) q.cse written (sheet_printable (letters s) q.cse written (letters_printable s keeps) can.set can.records can.lines) can.records in
-      (zones_of file, sound.zones, record { cse = sym again.0; records = again.1 })
+      let printable = sheet_printable (letters s) q.cse written (letters_printable s keeps) can.set can.records can.lines in
+      let again = sheet_stated (letters s) q.cse written sound.are_zones.readings sound.zones printable can.records sound.are_zones.say sound.are_zones.zones_in in
+      (sound.zones, sound.are_zones, record { cse = sym again.0; records = again.1 })
 
   states_plan : IsPlanOfFile s file q
   states_plan = (sheet, states_sheet, written_plan s q sheet keeps under.whole under.agrees refl refl)
 
   holds_references : IsJoined q → HasAttributeClasses s q → ReferencesHold s file
   holds_references joined types =
-      references_held s file (records_held s file sound.lines (zones_of file) sound.zones sound.records) sheet states_sheet
+      references_held s file (records_held s file sound.lines sound.zones sound.are_zones sound.records) sheet states_sheet
       (written_references s q keeps under.whole under.agrees joined types)
 
   accepts : IsJoined q → HasAttributeClasses s q → IsUnbroken (BreaksTopologyRule q) → IsUnbroken (BreaksObjectRule q) → IsAccepted s file

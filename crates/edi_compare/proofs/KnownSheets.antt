@@ -2,21 +2,24 @@
 use Rattle.std.proofs.Common.{◌≡◌, ◌≢◌, ◌∙◌, sym, subst, ap, refl, ℕ, zero, suc, ◌+◌, ◌-◌, ◌<◌, ◌≤◌, ◌⊎◌, inl, inr, Bool, true, false, List, [], ◌∷◌, ◌++◌, length, map, Some, None, codes, arith, lit≤, Any, true≢false}
 use Rattle.std.specs.List.{AllByRecursion, AllZip}
 use Rattle.std.specs.Prelude.{slice_get, ◌==◌}
+use Rattle.edi_record.proofs.RulesSaid.{record_rule_read}
 use Rattle.edi_line.specs.Entry.{Entry}
-use Rattle.edi_line.specs.LineRules.{IsZonesOf, BreaksLineRule}
+use Rattle.edi_line.specs.LineRules.{BreaksLineRule, IsZonesOf}
 use Rattle.edi_line.specs.Refusal.{IsUnbroken, IsLeastBroken, first_broken}
-use Rattle.edi_line.specs.Spelling.{reading_of, has_head}
-use Rattle.edi_line.specs.Zones.{zones_of, groups_of}
+use Rattle.edi_line.specs.inner.Spelling.{reading_of, has_head}
+use Rattle.edi_line.specs.Zones.{groups_of}
+use Rattle.edi_line.specs.inner.Zones.{zones_of}
 use Rattle.edi_line.proofs.FirstBroken.{none_broken}
 use Rattle.edi_line.proofs.KnownFiles.{refused_as, unbroken_as, zones_as}
 use Rattle.edi_record.specs.Records.{States}
-use Rattle.edi_record.specs.RecordRules.{BreaksRecordRule, record_tests}
+use Rattle.edi_record.specs.inner.RecordRules.{record_tests, FailsTest}
+use Rattle.edi_record.specs.RecordRules.{BreaksRecordRule}
 use Rattle.edi_record.specs.Rows.{the_node, node_group}
 use Rattle.edi_record.specs.declared.record.Kind.{Kind}
 use Rattle.edi_record.specs.declared.record.Kind.TheVariants.{Pno, Par, Pfe, Fea, Lnk}
 use Rattle.edi_record.specs.declared.record.Record.{Record}
 use Rattle.edi_record.specs.declared.sheet.Sheet.{Sheet}
-use Rattle.edi_record.proofs.RowsHold.{node_zones, node_stated, node_unbroken}
+use Rattle.edi_record.proofs.RowsHold.{node_zones, node_said, node_unbroken}
 use Rattle.edi_schema.specs.Classes.{Classes, IsSchema}
 use Rattle.edi_schema.specs.declared.role.Role.{Role}
 use Rattle.edi_schema.specs.declared.role.Role.TheVariants.{Initial, Final, Left, Right, Plain}
@@ -36,12 +39,13 @@ use Rattle.edi_rank.proofs.OthersSorted.{few_in_order}
 use Rattle.edi_write.specs.Layout.{layout}
 use Rattle.std.specs.Fmt.{digits}
 use Rattle.std.proofs.lemmas.Bool.{ltb-true}
-use Rattle.edi_line.specs.Number.{fraction_digits, size_text, whole_number, fraction_number, number}
+use Rattle.edi_line.specs.Number.{fraction_digits, size_text}
+use Rattle.edi_line.specs.inner.Number.{whole_number, fraction_number, number}
 use Rattle.edi_line.specs.Printing.{printed_zone, broken_into, content_text, line_text, next_zone}
 use Rattle.edi_record.specs.Texts.{pointer_text, point_text}
 use Rattle.edi_plan.proofs.Built.{both_true}
-use Rattle.edi_compare.specs.Canonical.{IsFormOf}
-use Rattle.edi_compare.specs.Files.{IsBytes}
+use Rattle.edi_compare.specs.Headline.{IsFormOf}
+use Rattle.edi_line.specs.Bytes.{IsBytes}
 use Rattle.edi_compare.specs.Known.{node_classes, node_sheet, node_plan, node_file, empty_sheet, empty_file}
 use Rattle.edi_compare.specs.PlanOfFile.{IsSheetOf, IsPlanOfFile, StateSame}
 use Rattle.edi_compare.specs.Rules.{IsAccepted}
@@ -150,8 +154,11 @@ sheet_set = refl
 
 -- no group breaks a rule of records
 records_unbroken : (zones : List Entry) (group : List Entry) → groups_of zones ≡ group ∷ [] → first_broken (record_tests group) ≡ None → IsUnbroken (BreaksRecordRule zones)
-records_unbroken zones group one none rule at h = go h.before (sym one ∙ h.cut)
+records_unbroken zones group one none rule at broken = go h.before (sym one ∙ h.cut)
   where
+    h : FailsTest zones rule at
+    h = record_rule_read zones rule at broken
+
     go : (before : List (List Entry)) → group ∷ [] ≡ before ++ h.group ∷ h.after → ⊥
     go [] e = let same : group ≡ h.group = cc in none_broken (record_tests group) none rule (subst (λ g. Rattle.edi_line.specs.Refusal.Breaks (record_tests g) rule) (sym same) h.breaks)
     go (g ∷ []) e = cc
@@ -161,7 +168,7 @@ abbrev the_sheet : Sheet
 the_sheet = record { cse = Some (codes "IRV"); list = the_node ∷ []; few = lit≤ tt; in_shape = refl }
 
 states_sheet : IsSheetOf node_sheet the_sheet
-states_sheet = (zones_of node_sheet, sheet_zones, record { cse = sheet_set; records = subst (λ gs. AllZip States gs (the_node ∷ [])) (sym node_zones) (node_stated, tt) })
+states_sheet = (zones_of node_sheet, sheet_zones, record { cse = sheet_set; records = subst (λ gs. AllZip States gs (the_node ∷ [])) (sym node_zones) (node_said, tt) })
 
 states_node : IsPlanOfFile node_classes node_sheet node_plan
 states_node = (the_sheet, states_sheet, record { set = refl; each = (record { kind = refl; class = refl; role = refl; points = refl; attributes = tt; extras = refl; ends = tt }, tt) })

@@ -1,12 +1,17 @@
 -- The rules of a sheet, phase by phase: the least of the first broken phase is the least of all.
 use Rattle.std.proofs.Common.{◌≡◌, ◌∙◌, sym, subst, ℕ, ◌<◌, ◌≤◌, ◌⊎◌, inl, inr, List, [], ◌∷◌, ◌++◌, map, Err, arith}
 use Rattle.edi_line.specs.Entry.{Entry}
-use Rattle.edi_line.specs.LineRules.{IsZonesOf, BreaksLineRule, line_tests}
+use Rattle.edi_line.specs.LineRules.{BreaksIn, BreaksLineRule, line_tests, IsZonesOf}
 use Rattle.edi_line.specs.Refusal.{IsUnbroken, IsLeastBroken, Breaks as BreaksTest}
-use Rattle.edi_line.specs.Spelling.{Reading, reading_of}
-use Rattle.edi_line.specs.Lines.{contents_of}
+use Rattle.edi_line.specs.Spelling.{Reading}
+use Rattle.edi_line.specs.inner.Spelling.{reading_of}
+use Rattle.edi_line.specs.inner.Lines.{contents_of}
 use Rattle.edi_line.proofs.Heads.{reading_rule_below}
-use Rattle.edi_record.specs.RecordRules.{BreaksRecordRule, record_tests}
+use Rattle.edi_line.specs.inner.Zones.{readings_of}
+use Rattle.edi_line.proofs.Readings.{rule_read}
+use Rattle.edi_line.proofs.ZonesSaid.{zones_of_one}
+use Rattle.edi_record.specs.RecordRules.{BreaksGroupRule, BreaksRecordRule}
+use Rattle.edi_record.specs.RecordRules.BreaksGroupRule.{lacks_kind, lacks_identifier, lacks_class as lacks_record_class, bad_attribute, wrong_count, bad_point, bad_end, unknown_pointer}
 use Rattle.edi_record.specs.declared.record.Record.{Record}
 use Rattle.edi_record.specs.declared.sheet.Sheet.{Sheet}
 use Rattle.edi_schema.specs.Classes.{Classes}
@@ -46,19 +51,21 @@ here_below content before line rule is (inl h) = reading_rule_below content rule
 here_below content before line rule is (inr h) = placed_below before line rule h
 
 line_rule_below : (b : List ℕ) (rule place : ℕ) → BreaksLineRule b rule place → rule < 200
-line_rule_below b rule place (inl h) = let c = mapped reading_of (contents_of b) h.before h.line h.after h.cut in here_below c.0 h.before h.line rule c.1 h.breaks
-line_rule_below b rule place (inr h) = omega (arith, h.rule_is)
+line_rule_below b rule place broken = go (rule_read b rule place broken)
+  where
+    go : BreaksIn (readings_of b) rule place → rule < 200
+    go (inl h) = let c = mapped reading_of (contents_of b) h.before h.line h.after h.cut in here_below c.0 h.before h.line rule c.1 h.breaks
+    go (inr h) = omega (arith, h.rule_is)
 
-group_above : (group : List Entry) (rule : ℕ) → BreaksTest (record_tests group) rule → 200 ≤ rule
-group_above group rule (inl h) = omega (arith, h.0)
-group_above group rule (inr (inl h)) = omega (arith, h.0)
-group_above group rule (inr (inr (inl h))) = omega (arith, h.0)
-group_above group rule (inr (inr (inr (inl h)))) = omega (arith, h.0)
-group_above group rule (inr (inr (inr (inr (inl h))))) = omega (arith, h.0)
-group_above group rule (inr (inr (inr (inr (inr (inl h)))))) = omega (arith, h.0)
-group_above group rule (inr (inr (inr (inr (inr (inr (inl h))))))) = omega (arith, h.0)
-group_above group rule (inr (inr (inr (inr (inr (inr (inr (inl h)))))))) = omega (arith, h.0)
-group_above group rule (inr (inr (inr (inr (inr (inr (inr (inr h)))))))) = absurd h
+group_above : (group : List Entry) (rule : ℕ) → BreaksGroupRule group rule → 200 ≤ rule
+group_above group rule (lacks_kind e h) = omega (arith, e)
+group_above group rule (lacks_identifier e h) = omega (arith, e)
+group_above group rule (lacks_record_class e h) = omega (arith, e)
+group_above group rule (bad_attribute e h) = omega (arith, e)
+group_above group rule (wrong_count e h) = omega (arith, e)
+group_above group rule (bad_point e h) = omega (arith, e)
+group_above group rule (bad_end e k h) = omega (arith, e)
+group_above group rule (unknown_pointer e h) = omega (arith, e)
 
 reference_above : (s : Classes) (list : List Record) (rule place : ℕ) → BreaksReferenceRule s list rule place → 200 ≤ rule
 reference_above s list rule place (repeats_name e h) = omega (arith, e)
@@ -107,7 +114,7 @@ module _ (s : Classes) (b : List ℕ) where
       after_records : BreaksRecordRule zones rule at → ((r p : ℕ) → BreaksRecordRule zones r p → (at < p) ⊎ ((at ≡ p) × (rule ≤ r)))
           → (r p : ℕ) → Breaks s b r p → (at < p) ⊎ ((at ≡ p) × (rule ≤ r))
       after_records is least r p (of_lines g) = absurd (lines r p g)
-      after_records is least r p (of_records others held z g) = least r p (subst (λ zs. BreaksRecordRule zs r p) (z.is ∙ sym are.is) g)
+      after_records is least r p (of_records others held z g) = least r p (subst (λ zs. BreaksRecordRule zs r p) (zones_of_one b others zones z are) g)
       after_records is least r p (of_references sheet held z g) = absurd (held.1 zones are rule at is)
       after_records is least r p (of_topology plan held z g) = absurd (held.0.1 zones are rule at is)
       after_records is least r p (of_objects plan held z g) = absurd (held.0.0.1 zones are rule at is)
@@ -154,7 +161,7 @@ module _ (s : Classes) (b : List ℕ) where
   -- ---- the phases hold
 
   pub records_held : LinesHold s b → (zones : List Entry) → IsZonesOf b zones → IsUnbroken (BreaksRecordRule zones) → RecordsHold s b
-  records_held lines zones are none = (lines, λ others z. subst (λ zs. IsUnbroken (BreaksRecordRule zs)) (are.is ∙ sym z.is) none)
+  records_held lines zones are none = (lines, λ others z. subst (λ zs. IsUnbroken (BreaksRecordRule zs)) (zones_of_one b zones others are z) none)
 
   pub references_held : RecordsHold s b → (sheet : Sheet) → IsSheetOf b sheet → IsUnbroken (BreaksReferenceRule s sheet.list) → ReferencesHold s b
   references_held records sheet states none = (records, λ other z. subst (λ list. IsUnbroken (BreaksReferenceRule s list)) (one_list b sheet other states z) none)

@@ -2,7 +2,7 @@
 use Rattle.std.proofs.Common.{◌≡◌, sym, subst, ℕ, List, Result, Ok, Err}
 use Rattle.std.specs.Result.{IsErrAnd, IfErr}
 use Rattle.edi_line.specs.Entry.{Entry}
-use Rattle.edi_line.specs.LineRules.{IsZonesOf, BreaksLineRule}
+use Rattle.edi_line.specs.LineRules.{BreaksLineRule, IsZonesOf}
 use Rattle.edi_line.specs.Refusal.{IsLineRefusal}
 use Rattle.edi_line.specs.declared.fault.LineFault.{LineFault}
 use Rattle.edi_line.specs.declared.fault.LineFault.TheVariants as line

@@ -5,11 +5,11 @@ use Rattle.std.specs.declared.cmp.Ordering.{Ordering}
 use Rattle.edi_record.specs.Orders.{text_cmp}
 use Rattle.edi_record.specs.declared.record.Kind.TheVariants.{Par}
 use Rattle.edi_schema.specs.Classes.{Classes, partner_of}
-use Rattle.edi_plan.specs.Agreeing.{Agrees}
 use Rattle.edi_plan.specs.Plans.{Drawing, IsPlace, record_at}
 use Rattle.edi_plan.specs.declared.record.PlanEnd.{PlanEnd}
 use Rattle.edi_rank.specs.Labelling.{turned_at}
 use Rattle.edi_rank.specs.Same.{class_after, directed, CarriesRecord}
+use Rattle.edi_compare.specs.Pairings.{HasClasses}
 use Rattle.edi_compare.specs.declared.moved_ends.MovedEnd.{MovedEnd}
 
 -- two plans of one schema, the places that the records of the first go to, and which of them are turned
@@ -22,7 +22,7 @@ pub record Matching : Type 0 where
 
 -- each record has a place in the other plan to go to
 pub record IsFitting (m : Matching) : Type 0 where
-  pub agrees : Agrees m.classes m.plan
+  pub classed : HasClasses m.classes m.plan
   pub all_paired : length m.to ≡ length m.plan.list
   pub all_directed : length m.turned ≡ length m.plan.list
   pub within : (i : ℕ) → IsPlace m.plan i → slice_index m.to i < length m.other.list

@@ -1,8 +1,7 @@
 -- All rules of a sheet, for the whole file, each at a place.
 use Rattle.std.specs.Prelude.{ℕ, List}
 use Rattle.edi_line.specs.Entry.{Entry}
-use Rattle.edi_line.specs.LineRules.{IsZonesOf}
-use Rattle.edi_line.specs.LineRules.{BreaksLineRule}
+use Rattle.edi_line.specs.LineRules.{IsZonesOf, BreaksLineRule}
 use Rattle.edi_line.specs.Refusal.{IsUnbroken}
 use Rattle.edi_record.specs.RecordRules.{BreaksRecordRule}
 use Rattle.edi_record.specs.declared.sheet.Sheet.{Sheet}

@@ -1,7 +1,7 @@
 //! Three files one after the other.
 ghost use Rattle.std.specs.Prelude.{◌≡◌, ◌≤◌, ◌<◌, ◌∷◌, ◌==◌, length, take, drop, position};
 ghost use Rattle.std.specs.List.{concat};
-ghost use Rattle.edi_line.specs.Lines.{lines_of};
+ghost use Rattle.edi_line.specs.inner.Lines.{lines_of};
 ghost use Rattle.edi_compare.specs.Bundle.{AreParts, first_file, later_files};
 
 /// The files of a bundle, each empty where the bundle ends before it.

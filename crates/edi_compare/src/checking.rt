@@ -2,11 +2,10 @@
 
 ghost use Rattle.std.specs.Prelude.{◌≡◌, ◌↔◌, ◌<◌, ℕ, IsTrue, IfOk, length, slice_index, true};
 ghost use Rattle.edi_record.specs.declared.record.Kind.TheVariants.{Par};
-ghost use Rattle.edi_plan.specs.Agreeing.{Agrees};
 ghost use Rattle.edi_plan.specs.Plans.{IsPlace, record_at};
 ghost use Rattle.edi_rank.specs.Labelling.{turned_at};
 ghost use Rattle.edi_compare.specs.Checking.{HasSameBody, IsCarried, IsFitting};
-ghost use Rattle.edi_compare.specs.Pairings.{PairingCarries};
+ghost use Rattle.edi_compare.specs.Pairings.{HasClasses, PairingCarries};
 
 use crate::accepted::Accepted;
 use crate::contents::{same_attributes, same_extras, same_points, same_texts};
@@ -32,7 +31,7 @@ pub fn check_pairing(
     second: &Accepted,
     pairing: &Pairing,
 ) -> Result<bool, AllocError>
-    requires { Agrees schema.now first.now }
+    requires { HasClasses schema.now first.now }
     ensures { IfOk result (λ answer. IsTrue answer ↔ PairingCarries schema.now first.now second.now pairing.now) }
 {
     let plan = first.sound().plan();

@@ -5,7 +5,8 @@ use Rattle.std.proofs.lemmas.Bool.{ne_eqb, eqb-true, eqb-false, cases_eq}
 use Rattle.std.proofs.lemmas.List.{append-nil, append_assoc, take_all, drop_all, length-take-le, get_or-take, take_more, take-append-drop}
 use Rattle.std.proofs.lemmas.List.Elements.{recursion_from_All, All-from_get_or}
 use Rattle.std.proofs.lemmas.List.Sums.{fails_before_first, passes_at_first}
-use Rattle.edi_line.specs.Lines.{HasNoFeed, IsEnded, AreLines, IsLinesOf, lines_of}
+use Rattle.edi_line.specs.Lines.{HasNoFeed, IsEnded, AreLines, IsLinesOf}
+use Rattle.edi_line.specs.inner.Lines.{lines_of}
 use Rattle.edi_line.proofs.Numbers.{position_at_Some, position_at_None}
 
 -- a line ends at the first feed

@@ -2,9 +2,10 @@
 use Rattle.std.proofs.Common.{◌≡◌, ℕ, ◌+◌, ◌≤◌, ◌<◌, true, false, Bool, cond, eqb, List, [], ◌∷◌, ◌++◌, length, map, refl, sym, ap, ◌∙◌, subst, inl, inr, arith}
 use Rattle.std.specs.List.{AllByRecursion, concat, onto_first}
 use Rattle.std.proofs.lemmas.List.{append-nil, append_assoc, map-append, length-map}
-use Rattle.edi_line.specs.Lines.{HasNoFeed, IsEnded, AreLines, lines_of, content_of}
-use Rattle.edi_line.specs.Spelling.{reading_of}
-use Rattle.edi_line.specs.Zones.{readings_of}
+use Rattle.edi_line.specs.Lines.{HasNoFeed, IsEnded, AreLines, content_of}
+use Rattle.edi_line.specs.inner.Lines.{lines_of}
+use Rattle.edi_line.specs.inner.Spelling.{reading_of}
+use Rattle.edi_line.specs.inner.Zones.{readings_of}
 use Rattle.edi_line.specs.Feeding.{EndedPart}
 use Rattle.edi_line.proofs.Cut.{one_line, line_first, lines_exist}
 
@@ -35,12 +36,25 @@ all_append : (xs ys : List (List ℕ)) → AllByRecursion IsEnded xs → AllByRe
 all_append [] ys h k = k
 all_append (x ∷ xs) ys h k = (h.0, all_append xs ys h.1 k)
 
+-- the lines of what has ended are its lines
+pub all_ended : {bytes ended pending : List ℕ} → EndedPart bytes ended pending → AllEnded ended
+all_ended {ended = ended} cut =
+    let lines : lines_of (concat cut.lines ++ []) ≡ cut.lines ++ [] = lines_append cut.lines [] cut.each_ended in
+    let same : cut.lines ≡ lines_of ended = sym (append-nil cut.lines) ∙ sym lines ∙ ap lines_of (append-nil (concat cut.lines) ∙ cut.are_lines) in
+    subst (AllByRecursion IsEnded) same cut.each_ended
+
+concat_append : (xs ys : List (List ℕ)) → concat (xs ++ ys) ≡ concat xs ++ concat ys
+concat_append [] ys = refl
+concat_append (x ∷ xs) ys = ap (λ t. x ++ t) (concat_append xs ys) ∙ sym (append_assoc x (concat xs) (concat ys))
+
 -- a piece more
 pub cut_on : (bytes ended pending piece more rest : List ℕ) → EndedPart bytes ended pending → EndedPart (pending ++ piece) more rest → EndedPart (bytes ++ piece) (ended ++ more) rest
 cut_on bytes ended pending piece more rest old new = record {
   joined = ap (λ b. b ++ piece) old.joined ∙ append_assoc ended pending piece ∙ ap (λ b. ended ++ b) new.joined ∙ sym (append_assoc ended more rest);
   no_feed = new.no_feed;
-  all_ended = subst (AllByRecursion IsEnded) (sym (ended_append ended more old.all_ended)) (all_append (lines_of ended) (lines_of more) old.all_ended new.all_ended);
+  lines = old.lines ++ new.lines;
+  are_lines = concat_append old.lines new.lines ∙ ap (λ b. b ++ concat new.lines) old.are_lines ∙ ap (λ b. ended ++ b) new.are_lines;
+  each_ended = all_append old.lines new.lines old.each_ended new.each_ended;
 }
 
 -- a line more, in front
@@ -48,12 +62,14 @@ pub cut_before : (line after ended rest : List ℕ) → IsEnded line → EndedPa
 cut_before line after ended rest e cut = record {
   joined = ap (λ b. line ++ b) cut.joined ∙ sym (append_assoc line ended rest);
   no_feed = cut.no_feed;
-  all_ended = subst (AllByRecursion IsEnded) (sym (line_first line ended e)) (let h : AllByRecursion IsEnded (line ∷ lines_of ended) = (e, cut.all_ended) in h);
+  lines = line ∷ cut.lines;
+  are_lines = ap (λ b. line ++ b) cut.are_lines;
+  each_ended = (e, cut.each_ended);
 }
 
 -- where no line has ended
 pub cut_none : (bytes : List ℕ) → HasNoFeed bytes → EndedPart bytes [] bytes
-cut_none bytes none = record { joined = refl; no_feed = none; all_ended = tt }
+cut_none bytes none = record { joined = refl; no_feed = none; lines = []; are_lines = refl; each_ended = tt }
 
 -- all bytes have such a place
 pub record IsCut (bytes : List ℕ) : Type 0 where
@@ -67,7 +83,7 @@ one_more line after e c = record { ended = line ++ c.ended; rest = c.rest; cut =
 cut_lines : (lines : List (List ℕ)) → AreLines lines → IsCut (concat lines)
 cut_lines [] each = record { ended = []; rest = []; cut = cut_none [] tt }
 cut_lines (line ∷ []) (inl e) = one_more line [] e (record { ended = []; rest = []; cut = cut_none [] tt })
-cut_lines (line ∷ []) (inr u) = record { ended = []; rest = line; cut = record { joined = append-nil line; no_feed = u.no_feed; all_ended = tt } }
+cut_lines (line ∷ []) (inr u) = record { ended = []; rest = line; cut = record { joined = append-nil line; no_feed = u.no_feed; lines = []; are_lines = refl; each_ended = tt } }
 cut_lines (line ∷ next ∷ lines) each = one_more line (concat (next ∷ lines)) each.0 (cut_lines (next ∷ lines) each.1)
 
 pub cut_exists : (bytes : List ℕ) → IsCut bytes

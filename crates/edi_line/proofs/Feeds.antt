@@ -1,18 +1,22 @@
 -- What a reader that comes over lines in pieces says of all of them.
 use Rattle.std.proofs.Common.{◌≡◌, ℕ, ◌+◌, ◌<◌, ◌≤◌, ◌⊎◌, Some, None, List, [], ◌∷◌, ◌++◌, length, refl, sym, ap, ◌∙◌, subst, inl, inr, ⊎_elim, arith, length-append, Option, Result, Ok, Err, OnOk, IfErr, IsErr}
 use Rattle.std.proofs.lemmas.List.{append-nil, append_assoc}
-use Rattle.edi_line.specs.Spelling.{Reading, reading_of}
+use Rattle.edi_line.specs.Spelling.{Reading}
+use Rattle.edi_line.specs.inner.Spelling.{reading_of}
 use Rattle.edi_line.specs.Lines.{HasNoFeed, IsEnded, content_of}
-use Rattle.edi_line.specs.Zones.{readings_of}
+use Rattle.edi_line.specs.inner.Zones.{readings_of, parts_after}
 use Rattle.edi_line.specs.LineRules.{BreaksAt, LacksEnd, BreaksIn, BreaksLineRule}
 use Rattle.edi_line.specs.Refusal.{IsLeastBroken, IfBroken}
-use Rattle.edi_line.specs.Held.{rule_of, zoned, Takes, Refuses, Stands}
-use Rattle.edi_line.specs.Feeding.{Refused, FeedState, HoldsAll, HoldsFault, StandsBy, StandsFor, fault_seen, TakesAll, TakesFront, RefusesOne, RefusesIn}
+use Rattle.edi_line.specs.inner.Held.{no_zones, zoned_after, rule_of, zoned, Takes, Refuses, Stands}
+use Rattle.edi_line.specs.Feeding.{HoldsZones, EndedPart, seen_in, Refused, FeedState, HoldsAll, HoldsFault, StandsBy, StandsFor, fault_seen}
+use Rattle.edi_line.specs.inner.Feeding.{TakesAll, TakesFront, RefusesOne, RefusesIn}
 use Rattle.edi_line.specs.declared.fault.LineFault.{LineFault}
 use Rattle.edi_line.specs.declared.fault.LineFault.TheVariants as fault
 use Rattle.edi_line.specs.declared.reading.Reader.{Reader}
+use Rattle.edi_line.proofs.HeldZones.{zones_held, held_zones}
+use Rattle.edi_line.proofs.Readings.{readings_exist, readings_are, least_said}
 use Rattle.edi_line.proofs.Rules.{stands_more, refused_here}
-use Rattle.edi_line.proofs.Ends.{readings_append, readings_first, readings_last, readings_few, cut_on, cut_before, cut_none, cut_exists}
+use Rattle.edi_line.proofs.Ends.{all_ended, readings_append, readings_first, readings_last, readings_few, cut_on, cut_before, cut_none, cut_exists}
 
 -- ---- answers
 
@@ -154,7 +158,11 @@ refuses_last old line rule place none some h = record { before = []; line = read
 -- ---- what the feed stands for
 
 pub holds_room : (bytes : List ℕ) (f : FeedState) → HoldsAll bytes f → f.line ≤ length bytes
-holds_room bytes f h = omega (arith, h.line, readings_few h.ended, ap length h.cut.joined, length-append h.ended f.pending)
+holds_room bytes f h = omega (arith, h.line, ap length (readings_are h.ended h.readings h.say), readings_few h.ended, ap length h.cut.joined, length-append h.ended f.pending)
+
+-- the first fault of the lines that have ended, as reading finds them
+first_read : (bytes : List ℕ) (rule place : ℕ) (h : HoldsFault bytes rule place) → IsLeastBroken (BreaksAt (readings_of h.ended)) rule place
+first_read bytes rule place h = subst (λ ls. IsLeastBroken (BreaksAt ls) rule place) (readings_are h.ended h.readings h.say) h.first
 
 pub fault_still : (bytes piece : List ℕ) (rule place : ℕ) → HoldsFault bytes rule place → HoldsFault (bytes ++ piece) rule place
 fault_still bytes piece rule place h =
@@ -163,12 +171,16 @@ fault_still bytes piece rule place h =
       ended = h.ended ++ c.ended;
       pending = c.rest;
       cut = cut_on bytes h.ended h.pending piece c.ended c.rest h.cut c.cut;
-      first = subst (λ ls. IsLeastBroken (BreaksAt ls) rule place) (sym (readings_append h.ended c.ended h.cut.all_ended)) (least_still (readings_of h.ended) (readings_of c.ended) rule place h.first);
+      readings = readings_of (h.ended ++ c.ended);
+      say = readings_exist (h.ended ++ c.ended);
+      first = subst (λ ls. IsLeastBroken (BreaksAt ls) rule place) (sym (readings_append h.ended c.ended (all_ended h.cut))) (least_still (readings_of h.ended) (readings_of c.ended) rule place (first_read bytes rule place h));
     }
 
 pub fault_of_all : (bytes : List ℕ) (rule place : ℕ) → HoldsFault bytes rule place → IsLeastBroken (BreaksLineRule bytes) rule place
 fault_of_all bytes rule place h =
-    subst (λ ls. IsLeastBroken (BreaksIn ls) rule place) (sym (ap readings_of h.cut.joined ∙ readings_append h.ended h.pending h.cut.all_ended)) (least_of_all (readings_of h.ended) (readings_of h.pending) rule place h.first)
+    least_said bytes rule place
+    (subst (λ ls. IsLeastBroken (BreaksIn ls) rule place) (sym (ap readings_of h.cut.joined ∙ readings_append h.ended h.pending (all_ended h.cut)))
+    (least_of_all (readings_of h.ended) (readings_of h.pending) rule place (first_read bytes rule place h)))
 
 pub refused_of_all : (bytes : List ℕ) (f : FeedState) (e : LineFault) → StandsBy bytes f (Some (fault_seen e)) → IfBroken (IsLeastBroken (BreaksLineRule bytes)) e
 refused_of_all bytes f (fault.Memory e) h = tt
@@ -189,25 +201,42 @@ stands_by bytes f none h = subst (StandsBy bytes f) (sym none) h
 abbrev pub IsOf : FeedState → Reader → Type 0
 IsOf f r = (f.line ≡ r.line) × (f.order ≡ r.order) × (f.zones ≡ zoned r)
 
-pub held_stands : (bytes : List ℕ) (f : FeedState) (r : Reader) → IsOf f r → (h : HoldsAll bytes f) → Stands (readings_of h.ended) r
-held_stands bytes f r is h = record {
-  counted = sym is.0 ∙ h.line;
-  order = sym is.1 ∙ h.order;
-  zones = sym is.2 ∙ h.zones;
-  sound = h.clean;
+-- a feed of no bytes
+pub new_holds : (f : FeedState) (r : Reader) → IsOf f r → f.pending ≡ [] → Stands [] r → HoldsAll [] f
+new_holds f r is none s = record {
+  ended = [];
+  cut = subst (EndedPart [] []) (sym none) (cut_none [] tt);
+  readings = [];
+  say = readings_exist [];
+  clean = s.sound;
+  line = is.0 ∙ s.counted;
+  order = is.1 ∙ s.order;
+  zones = subst (HoldsZones []) (sym (is.2 ∙ s.zones)) (held_zones []);
 }
+
+pub held_stands : (bytes : List ℕ) (f : FeedState) (r : Reader) → IsOf f r → (h : HoldsAll bytes f) → Stands (readings_of h.ended) r
+held_stands bytes f r is h =
+    let same = readings_are h.ended h.readings h.say in
+    record {
+      counted = sym is.0 ∙ h.line ∙ ap length same;
+      order = sym is.1 ∙ h.order ∙ ap seen_in same;
+      zones = sym is.2 ∙ zones_held h.readings f.zones h.zones ∙ ap (λ lines. zoned_after no_zones (parts_after 0 lines)) same;
+      sound = λ rule place b. h.clean rule place (subst (λ lines. BreaksAt lines rule place) (sym same) b);
+    }
 
 pub piece_taken : (bytes piece : List ℕ) (f g : FeedState) (old new : Reader) → IsOf f old → IsOf g new → HoldsAll bytes f → TakesFront old (f.pending ++ piece) g.pending new → HoldsAll (bytes ++ piece) g
 piece_taken bytes piece f g old new from to h t =
-    let lines : readings_of (h.ended ++ t.ended) ≡ readings_of h.ended ++ readings_of t.ended = readings_append h.ended t.ended h.cut.all_ended in
+    let lines : readings_of (h.ended ++ t.ended) ≡ readings_of h.ended ++ readings_of t.ended = readings_append h.ended t.ended (all_ended h.cut) in
     let s = subst (λ ls. Stands ls new) (sym lines) (stands_all (readings_of h.ended) old new (readings_of t.ended) (held_stands bytes f old from h) t.takes) in
     record {
       ended = h.ended ++ t.ended;
       cut = cut_on bytes h.ended f.pending piece t.ended g.pending h.cut t.cut;
+      readings = readings_of (h.ended ++ t.ended);
+      say = readings_exist (h.ended ++ t.ended);
       clean = s.sound;
       line = to.0 ∙ s.counted;
       order = to.1 ∙ s.order;
-      zones = to.2 ∙ s.zones;
+      zones = subst (HoldsZones (readings_of (h.ended ++ t.ended))) (sym (to.2 ∙ s.zones)) (held_zones (readings_of (h.ended ++ t.ended)));
     }
 
 pub piece_refused : (bytes piece : List ℕ) (f : FeedState) (old : Reader) (rule place : ℕ) → IsOf f old → HoldsAll bytes f → RefusesIn old (f.pending ++ piece) rule place → HoldsFault (bytes ++ piece) rule place
@@ -215,14 +244,16 @@ piece_refused bytes piece f old rule place from h t = record {
   ended = h.ended ++ t.ended;
   pending = t.rest;
   cut = cut_on bytes h.ended f.pending piece t.ended t.rest h.cut t.cut;
-  first = subst (λ ls. IsLeastBroken (BreaksAt ls) rule place) (sym (readings_append h.ended t.ended h.cut.all_ended))
+  readings = readings_of (h.ended ++ t.ended);
+  say = readings_exist (h.ended ++ t.ended);
+  first = subst (λ ls. IsLeastBroken (BreaksAt ls) rule place) (sym (readings_append h.ended t.ended (all_ended h.cut)))
       (refused_all (readings_of h.ended) old (readings_of t.ended) rule place (held_stands bytes f old from h) t.one);
 }
 
 -- ---- the end
 
 all_readings : (bytes : List ℕ) (f : FeedState) (h : HoldsAll bytes f) → readings_of h.ended ++ readings_of f.pending ≡ readings_of bytes
-all_readings bytes f h = sym (ap readings_of h.cut.joined ∙ readings_append h.ended f.pending h.cut.all_ended)
+all_readings bytes f h = sym (ap readings_of h.cut.joined ∙ readings_append h.ended f.pending (all_ended h.cut))
 
 end_stands : (bytes : List ℕ) (f : FeedState) (old new : Reader) → IsOf f old → HoldsAll bytes f → TakesAll old (readings_of f.pending) new → Stands (readings_of bytes) new
 end_stands bytes f old new is h t = subst (λ ls. Stands ls new) (all_readings bytes f h) (stands_all (readings_of h.ended) old new (readings_of f.pending) (held_stands bytes f old is h) t)
@@ -231,7 +262,7 @@ pub end_least : (bytes : List ℕ) (f : FeedState) (old : Reader) (rule place : 
 end_least bytes f old rule place is h one =
     let lines = readings_of h.ended ++ readings_of f.pending in
     let first = refused_all (readings_of h.ended) old (readings_of f.pending) rule place (held_stands bytes f old is h) one in
-    subst (λ ls. IsLeastBroken (BreaksIn ls) rule place) (append-nil lines ∙ all_readings bytes f h) (least_of_all lines [] rule place first)
+    least_said bytes rule place (subst (λ ls. IsLeastBroken (BreaksIn ls) rule place) (append-nil lines ∙ all_readings bytes f h) (least_of_all lines [] rule place first))
 
 -- the same, where the last bytes and the feed are given by others that they are
 pub end_by : (bytes last : List ℕ) (f g : FeedState) (old new : Reader) → IsOf f old → f ≡ g → f.refused ≡ None → last ≡ f.pending → TakesAll old (readings_of last) new → StandsFor bytes g → Stands (readings_of bytes) new

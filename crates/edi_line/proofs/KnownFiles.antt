@@ -3,11 +3,14 @@ use Rattle.std.proofs.Common.{◌≡◌, ℕ, ◌+◌, Bool, true, false, Option
 use Rattle.std.proofs.lemmas.List.{append-nil, append_assoc, length_push}
 use Rattle.edi_line.specs.Entry.{Entry}
 use Rattle.edi_line.specs.Spelling.{Reading}
-use Rattle.edi_line.specs.Zones.{readings_of, zones_of}
+use Rattle.edi_line.specs.inner.Zones.{readings_of, zones_of}
 use Rattle.edi_line.specs.LineRules.{BreaksIn, BreaksLineRule, IsZonesOf}
 use Rattle.edi_line.specs.Refusal.{IsLeastBroken, IsUnbroken}
-use Rattle.edi_line.specs.Held.{seen_in, rule_of, noted}
+use Rattle.edi_line.specs.inner.Held.{rule_of, noted}
+use Rattle.edi_line.specs.Feeding.{seen_in}
 use Rattle.edi_line.specs.declared.order.Order.{Order}
+use Rattle.edi_line.proofs.Readings.{least_said, unbroken_said}
+use Rattle.edi_line.proofs.ZonesSaid.{zones_said}
 use Rattle.edi_line.proofs.Rules.{IsFaultless, no_cut_of_none, noted_seen, sound_more, refused_here, refused_at_end, sound_at_end}
 
 -- a rule and its place
@@ -60,7 +63,7 @@ none_before rule place b = no_cut_of_none b.before b.line b.after b.cut
 
 -- the fault that going through the lines finds is the refusal of the file
 pub refused_as : (bytes : List ℕ) (rule place : ℕ) → first_fault (seen_in []) 1 (readings_of bytes) ≡ Some (At rule place) → IsLeastBroken (BreaksLineRule bytes) rule place
-refused_as bytes rule place e = refused_from [] (readings_of bytes) rule place none_before e
+refused_as bytes rule place e = least_said bytes rule place (refused_from [] (readings_of bytes) rule place none_before e)
 
 sound_from : (done lines : List Reading) → IsFaultless done → first_fault (seen_in done) (length done + 1) lines ≡ None → IsUnbroken (BreaksIn (done ++ lines))
 sound_from done [] sound e = subst (λ l. IsUnbroken (BreaksIn l)) (sym (append-nil done)) (along (seen_in done).eom refl e)
@@ -84,7 +87,7 @@ sound_from done (line ∷ lines) sound e =
 
 -- a file in which going through the lines finds no fault
 pub unbroken_as : (bytes : List ℕ) → first_fault (seen_in []) 1 (readings_of bytes) ≡ None → IsUnbroken (BreaksLineRule bytes)
-unbroken_as bytes e = sound_from [] (readings_of bytes) none_before e
+unbroken_as bytes e = unbroken_said bytes (sound_from [] (readings_of bytes) none_before e)
 
 pub zones_as : (bytes : List ℕ) (zones : List Entry) → first_fault (seen_in []) 1 (readings_of bytes) ≡ None → zones ≡ zones_of bytes → IsZonesOf bytes zones
-zones_as bytes zones e is = record { readable = λ rule place own broken. unbroken_as bytes e rule place (inl broken); is = is }
+zones_as bytes zones e is = zones_said bytes zones (record { readable = λ rule place own broken. sound_from [] (readings_of bytes) none_before e rule place (inl broken); is = is })

@@ -12,7 +12,12 @@ pub mod Shape
 pub mod DeviceLemmas
 pub mod Heads
 pub mod NumberRead
+pub mod Made
+pub mod Readings
+pub mod ZonesSaid
 pub mod Said
 pub mod Printed
 pub mod PrintedRules
 pub mod KnownFiles
+pub mod FirstByte
+pub mod HeldZones

@@ -2,16 +2,20 @@
 use Rattle.std.proofs.Common.{◌≡◌, ℕ, ◌+◌, true, false, Some, Result, Ok, Err, List, [], ◌∷◌, ◌++◌, length, take, drop, map, sym, ap, ◌∙◌, subst, arith, IfOk, IfErr, OnOk, Vec, Global}
 use Rattle.std.proofs.lemmas.List.{append-nil, append_assoc, length_push, take-append-drop, length-take-le, length-drop, take_at, drop_at}
 use Rattle.edi_line.specs.Entry.{entries}
-use Rattle.edi_line.specs.Lines.{lines_of, content_of}
-use Rattle.edi_line.specs.Spelling.{Reading, reading_of}
-use Rattle.edi_line.specs.Zones.{readings_of, parts_after}
-use Rattle.edi_line.specs.LineRules.{BreaksIn, IsZonesOf}
+use Rattle.edi_line.specs.Lines.{content_of}
+use Rattle.edi_line.specs.inner.Lines.{lines_of}
+use Rattle.edi_line.specs.Spelling.{Reading}
+use Rattle.edi_line.specs.inner.Spelling.{reading_of}
+use Rattle.edi_line.specs.inner.Zones.{readings_of, parts_after}
+use Rattle.edi_line.specs.LineRules.{BreaksIn, BreaksLineRule, IsZonesOf}
 use Rattle.edi_line.specs.Refusal.{IsLeastBroken, IsUnbroken, IfBroken}
-use Rattle.edi_line.specs.Held.{rule_of, closed, zoned, Takes, Stands}
+use Rattle.edi_line.specs.inner.Held.{rule_of, closed, zoned, Takes, Stands}
 use Rattle.edi_line.specs.declared.fault.LineFault.{LineFault}
 use Rattle.edi_line.specs.declared.fault.LineFault.TheVariants as fault
 use Rattle.edi_line.specs.declared.reading.Reader.{Reader}
 use Rattle.edi_line.specs.declared.zone.Zone.{Zone}
+use Rattle.edi_line.proofs.Readings.{least_said, unbroken_said}
+use Rattle.edi_line.proofs.ZonesSaid.{zones_said}
 use Rattle.edi_line.proofs.Rules.{stands_more, refused_here, refused_at_end, sound_at_end, closed_zones}
 
 -- the lines up to the next one, that one, and those behind it
@@ -64,18 +68,18 @@ pub readings_step : (bytes line after : List ℕ) → lines_of bytes ≡ line �
 readings_step bytes line after e = ap (λ lines. map reading_of (map content_of lines)) e
 
 -- a fault that is of a line
-pub fault_refused : (lines : List Reading) (old : Reader) (line : Reading) (after : List Reading) (f : LineFault) → IsAt lines old (line ∷ after)
-    → IfBroken (λ rule at. (at ≡ old.line + 1) × (rule_of old.order line ≡ Some rule)) f → IfBroken (IsLeastBroken (BreaksIn lines)) f
-fault_refused lines old line after (fault.Memory e) at h = tt
-fault_refused lines old line after (fault.Broken rule place) at h = refused lines old line after rule place at h.0 h.1
+pub fault_refused : (bytes : List ℕ) (old : Reader) (line : Reading) (after : List Reading) (f : LineFault) → IsAt (readings_of bytes) old (line ∷ after)
+    → IfBroken (λ rule at. (at ≡ old.line + 1) × (rule_of old.order line ≡ Some rule)) f → IfBroken (IsLeastBroken (BreaksLineRule bytes)) f
+fault_refused bytes old line after (fault.Memory e) at h = tt
+fault_refused bytes old line after (fault.Broken rule place) at h = least_said bytes rule place (refused (readings_of bytes) old line after rule place at h.0 h.1)
 
 abbrev EndFault : Reader → ℕ → ℕ → Type 0
 EndFault r rule at = (rule ≡ 106) × (at ≡ r.line + 1) × (r.order.eom ≡ false)
 
-fault_at_end : (lines : List Reading) (r : Reader) (f : LineFault) → Stands lines r → IfBroken (EndFault r) f → IfBroken (IsLeastBroken (BreaksIn lines)) f
-fault_at_end lines r (fault.Memory e) s h = tt
-fault_at_end lines r (fault.Broken rule place) s h =
-    refused_at_end lines rule place s.sound (ap (λ o. o.eom) (sym s.order) ∙ h.2) h.0 (omega (arith, h.1, s.counted))
+fault_at_end : (bytes : List ℕ) (r : Reader) (f : LineFault) → Stands (readings_of bytes) r → IfBroken (EndFault r) f → IfBroken (IsLeastBroken (BreaksLineRule bytes)) f
+fault_at_end bytes r (fault.Memory e) s h = tt
+fault_at_end bytes r (fault.Broken rule place) s h =
+    least_said bytes rule place (refused_at_end (readings_of bytes) rule place s.sound (ap (λ o. o.eom) (sym s.order) ∙ h.2) h.0 (omega (arith, h.1, s.counted)))
 
 abbrev Zones : Type 0
 Zones = Result (Vec Zone Global) LineFault
@@ -83,20 +87,20 @@ Zones = Result (Vec Zone Global) LineFault
 abbrev EndsWell : Reader → Zones → Type 0
 EndsWell r result = IfOk result (λ zones. (entries zones.items ≡ closed (zoned r)) × (r.order.eom ≡ true))
 
-pub end_refused : (lines : List Reading) (r : Reader) (result : Zones) → Stands lines r
-    → IfErr result (IfBroken (EndFault r)) → IfErr result (IfBroken (IsLeastBroken (BreaksIn lines)))
-end_refused lines r (Ok zones) s h = tt
-end_refused lines r (Err f) s h = fault_at_end lines r f s h
+pub end_refused : (bytes : List ℕ) (r : Reader) (result : Zones) → Stands (readings_of bytes) r
+    → IfErr result (IfBroken (EndFault r)) → IfErr result (IfBroken (IsLeastBroken (BreaksLineRule bytes)))
+end_refused bytes r (Ok zones) s h = tt
+end_refused bytes r (Err f) s h = fault_at_end bytes r f s h
 
-pub end_sound : (lines : List Reading) (r : Reader) (result : Zones) → Stands lines r
-    → EndsWell r result → OnOk result (IsUnbroken (BreaksIn lines))
-end_sound lines r (Ok zones) s h = sound_at_end lines s.sound (ap (λ o. o.eom) (sym s.order) ∙ h.1)
-end_sound lines r (Err f) s h = tt
+pub end_sound : (bytes : List ℕ) (r : Reader) (result : Zones) → Stands (readings_of bytes) r
+    → EndsWell r result → OnOk result (IsUnbroken (BreaksLineRule bytes))
+end_sound bytes r (Ok zones) s h = unbroken_said bytes (sound_at_end (readings_of bytes) s.sound (ap (λ o. o.eom) (sym s.order) ∙ h.1))
+end_sound bytes r (Err f) s h = tt
 
 pub end_zones : (bytes : List ℕ) (r : Reader) (result : Zones) → Stands (readings_of bytes) r
     → EndsWell r result → IfOk result (λ zones. IsZonesOf bytes (entries zones.items))
-end_zones bytes r (Ok zones) s h = record {
+end_zones bytes r (Ok zones) s h = zones_said bytes (entries zones.items) (record {
   readable = λ rule place own broken. s.sound rule place broken;
   is = h.0 ∙ ap closed s.zones ∙ closed_zones (parts_after 0 (readings_of bytes));
-}
+})
 end_zones bytes r (Err f) s h = tt

@@ -5,14 +5,18 @@ use Rattle.std.proofs.lemmas.Bool.{both_ways, ne_eqb}
 use Rattle.std.proofs.lemmas.List.{append_assoc, append-nil}
 use Rattle.edi_line.specs.Entry.{Entry}
 use Rattle.edi_line.specs.Spelling.{Reading}
-use Rattle.edi_line.specs.Zones.{kind_of, readings_of, is_inner, IsGroup, IsFileOf}
-use Rattle.edi_line.specs.LineRules.{is_zone, BreaksIn, BreaksLineRule}
+use Rattle.edi_line.specs.Zones.{IsGroup, IsFileOf}
+use Rattle.edi_line.specs.inner.Zones.{readings_of}
+use Rattle.edi_line.specs.LineKinds.{kind_of, is_inner, is_zone}
+use Rattle.edi_line.specs.LineRules.{BreaksIn, BreaksLineRule}
 use Rattle.edi_line.specs.Refusal.{IsUnbroken}
 use Rattle.edi_line.specs.Printing.{with_value, lines_of_zone, printed, IsPrintable}
-use Rattle.edi_line.specs.Held.{seen_in, rule_of, rule_of_kind, noted, noted_kind}
+use Rattle.edi_line.specs.inner.Held.{rule_of, rule_of_kind, noted, noted_kind}
+use Rattle.edi_line.specs.Feeding.{seen_in}
 use Rattle.edi_line.specs.declared.order.ZoneKind.{ZoneKind}
 use Rattle.edi_line.specs.declared.order.ZoneKind.TheVariants.{Bom, Cse, Rty, Eom, Next, Remark, Other}
 use Rattle.edi_line.specs.declared.order.Order.{Order}
+use Rattle.edi_line.proofs.Readings.{rule_read}
 use Rattle.edi_line.proofs.Rules.{noted_seen, no_rule_broken, no_cut_of_none}
 use Rattle.edi_line.proofs.Printed.{said, zone_readings, lines_broken}
 
@@ -176,7 +180,7 @@ all_seen done [] last run = sym run ∙ ap seen_in (sym (append-nil done))
 all_seen done (x ∷ xs) last run = all_seen (done ++ x ∷ []) xs last (subst (λ o. Runs o xs last) (noted_seen done x) run.1) ∙ ap seen_in (append_assoc done (x ∷ []) xs)
 
 pub printed_unbroken : (zones : List Entry) (charset : Option Entry) (groups : List (List Entry)) → IsFileOf zones charset groups → AllByRecursion IsPrintable zones → length groups ≤ 9999999 → IsUnbroken (BreaksLineRule (printed zones))
-printed_unbroken zones charset groups f p few rule place broken = along broken
+printed_unbroken zones charset groups f p few rule place broken = along (rule_read (printed zones) rule place broken)
   where
     along : BreaksIn (readings_of (printed zones)) rule place → ⊥
     along (inl b) =

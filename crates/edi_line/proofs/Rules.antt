@@ -6,11 +6,13 @@ use Rattle.std.proofs.lemmas.List.{append-nil, append_assoc, length_push}
 use Rattle.std.proofs.lemmas.List.Sums.{sum_by_push}
 use Rattle.edi_line.specs.Entry.{Entry}
 use Rattle.edi_line.specs.Spelling.{Spelling, Reading}
-use Rattle.edi_line.specs.Zones.{kind_of, Part, part_of, parts_after, continuation, with_more, whole_zones}
-use Rattle.edi_line.specs.Zones.Part.{Blank, Continues, IsRemark, Begins}
-use Rattle.edi_line.specs.LineRules.{is_bom, is_cse, is_rty, is_eom, is_zone, starts, bears, some_bears, line_tests, BreaksHere, BreaksAt, LacksEnd, BreaksIn}
+use Rattle.edi_line.specs.inner.Zones.{Part, part_of, parts_after, continuation, with_more, whole_zones}
+use Rattle.edi_line.specs.LineKinds.{kind_of, is_bom, is_cse, is_rty, is_eom, is_zone, starts, bears, some_bears}
+use Rattle.edi_line.specs.inner.Zones.Part.{Blank, Continues, IsRemark, Begins}
+use Rattle.edi_line.specs.LineRules.{line_tests, BreaksHere, BreaksAt, LacksEnd, BreaksIn}
 use Rattle.edi_line.specs.Refusal.{IsLeastBroken, IsUnbroken}
-use Rattle.edi_line.specs.Held.{seen_in, kind_tests, rule_of, noted, Zoned, no_zones, closed, step, zoned_after, zoned, Takes, Stands}
+use Rattle.edi_line.specs.inner.Held.{kind_tests, rule_of, noted, no_zones, closed, step, zoned_after, zoned, Takes, Stands}
+use Rattle.edi_line.specs.Feeding.{seen_in, Zoned}
 use Rattle.edi_line.specs.declared.order.ZoneKind.{ZoneKind}
 use Rattle.edi_line.specs.declared.order.Order.{Order}
 use Rattle.edi_line.specs.declared.reading.Reader.{Reader}

@@ -1,64 +1,13 @@
--- The zones of lines in words of the lines, and their groups.
-use Rattle.std.proofs.Common.{◌≡◌, ℕ, suc, Bool, true, false, ◌||◌, cond, Option, Some, None, List, [], ◌∷◌, ◌++◌, length, count_by, slice_get, filter, option_to_list, IfSome, bytes_eq, codes, refl, sym, ap, ◌∙◌, inl, inr, arith}
+-- The codes of kinds of lines, and the groups of the zones of a file.
+use Rattle.std.proofs.Common.{◌≡◌, ℕ, Bool, true, false, ◌||◌, cond, Option, Some, None, List, [], ◌∷◌, ◌++◌, filter, option_to_list, IfSome, bytes_eq, codes, refl, sym, ap, ◌∙◌}
 use Rattle.std.specs.List.{flat_map, AllByRecursion}
 use Rattle.std.proofs.lemmas.List.{append_assoc}
-use Rattle.std.proofs.lemmas.List.Sums.{sum_by-cons}
 use Rattle.std.proofs.lemmas.Slice.Eq.{bytes_eq-Decides}
 use Rattle.edi_line.specs.Entry.{Entry, has_code, first}
-use Rattle.edi_line.specs.Zones.{kind_of, Part, continuation, with_more, whole_zones, begins, IsBlankOrNext, own_value, GoesOn, IsZonesIn, IsGroup, IsFileOf, begins_group, ends_group, is_inner, before_end, groups_of, charset_of}
-use Rattle.edi_line.specs.Zones.Part.{Blank, Continues, IsRemark, Begins}
+use Rattle.edi_line.specs.Zones.{IsGroup, IsFileOf, begins_group, ends_group, before_end, groups_of, charset_of}
+use Rattle.edi_line.specs.LineKinds.{kind_of, is_inner}
 use Rattle.edi_line.specs.declared.order.ZoneKind.{ZoneKind}
 use Rattle.edi_line.specs.declared.order.ZoneKind.TheVariants.{Bom, Cse, Rty, Eom, Next, Remark, Other}
-
-stops_at : (part : Part) (parts : List Part) → ¬ (IsBlankOrNext part) → GoesOn (part ∷ parts) []
-stops_at part parts stop = record { stretch = []; rest = part ∷ parts; cut = refl; each = tt; stops = stop; is = refl }
-
-one_more : (part : Part) (parts : List Part) (more : List ℕ) → IsBlankOrNext part → GoesOn parts more → GoesOn (part ∷ parts) (own_value part ++ more)
-one_more part parts more p g = record {
-  stretch = part ∷ g.stretch;
-  rest = g.rest;
-  cut = ap (λ ps. part ∷ ps) g.cut;
-  each = (p, g.each);
-  stops = g.stops;
-  is = ap (λ m. own_value part ++ m) g.is;
-}
-
-remark_stops : ¬ (IsBlankOrNext IsRemark)
-remark_stops (inl e) = cc
-remark_stops (inr p) = let e = p.1 in cc
-
-zone_stops : (zone : Entry) → ¬ (IsBlankOrNext (Begins zone))
-zone_stops zone (inl e) = cc
-zone_stops zone (inr p) = let e = p.1 in cc
-
-goes_on : (parts : List Part) → GoesOn parts (continuation parts)
-goes_on [] = record { stretch = []; rest = []; cut = refl; each = tt; stops = tt; is = refl }
-goes_on (Blank ∷ parts) = one_more Blank parts (continuation parts) (inl refl) (goes_on parts)
-goes_on (Continues value ∷ parts) = one_more (Continues value) parts (continuation parts) (inr (value, refl)) (goes_on parts)
-goes_on (IsRemark ∷ parts) = stops_at IsRemark parts remark_stops
-goes_on (Begins zone ∷ parts) = stops_at (Begins zone) parts (zone_stops zone)
-
-counted : (parts : List Part) → length (whole_zones parts) ≡ count_by begins parts
-counted [] = refl
-counted (Blank ∷ parts) = counted parts
-counted (Continues value ∷ parts) = counted parts
-counted (IsRemark ∷ parts) = counted parts
-counted (Begins zone ∷ parts) = omega (arith, counted parts, sum_by-cons (λ x. cond (begins x) 1 0) (Begins zone) parts)
-
-at_place : (front : List Part) (zone : Entry) (behind : List Part) → slice_get (whole_zones (front ++ Begins zone ∷ behind)) (count_by begins front) ≡ Some (with_more (continuation behind) zone)
-at_place [] zone behind = refl
-at_place (Blank ∷ front) zone behind = at_place front zone behind
-at_place (Continues value ∷ front) zone behind = at_place front zone behind
-at_place (IsRemark ∷ front) zone behind = at_place front zone behind
-at_place (Begins z ∷ front) zone behind =
-    let one : count_by begins (Begins z ∷ front) ≡ suc (count_by begins front) = omega (arith, sum_by-cons (λ x. cond (begins x) 1 0) (Begins z) front) in
-    ap (slice_get (whole_zones (Begins z ∷ (front ++ Begins zone ∷ behind)))) one ∙ at_place front zone behind
-
-pub zones_said : (parts : List Part) → IsZonesIn parts (whole_zones parts)
-zones_said parts = record {
-  count = counted parts;
-  each = λ front zone behind cut. (continuation behind, goes_on behind, ap (λ ps. slice_get (whole_zones ps) (count_by begins front)) cut ∙ at_place front zone behind);
-}
 
 -- ---- the code of a kind
 

@@ -5,9 +5,12 @@ use Rattle.std.proofs.lemmas.Bool.{and_from, or_left}
 use Rattle.std.proofs.lemmas.List.{append_assoc, append-nil}
 use Rattle.edi_line.specs.Entry.{Entry, entries}
 use Rattle.edi_line.specs.Spelling.{Spelling, Reading}
-use Rattle.edi_line.specs.Zones.{kind_of, part_by, parts_after, continuation, with_more, entry_of, whole_zones, is_inner, IsGroup, HasShape, begins_group, groups_of}
-use Rattle.edi_line.specs.LineRules.{is_zone, is_rty, BreaksAt}
-use Rattle.edi_line.specs.Held.{seen_in, kind_tests, rule_of, rule_of_kind, noted, noted_kind, closed, zoned, Stands}
+use Rattle.edi_line.specs.Zones.{IsGroup, HasShape, begins_group, groups_of}
+use Rattle.edi_line.specs.inner.Zones.{part_by, parts_after, continuation, with_more, entry_of, whole_zones}
+use Rattle.edi_line.specs.LineKinds.{kind_of, is_inner, is_zone, is_rty}
+use Rattle.edi_line.specs.LineRules.{BreaksAt}
+use Rattle.edi_line.specs.inner.Held.{kind_tests, rule_of, rule_of_kind, noted, noted_kind, closed, zoned, Stands}
+use Rattle.edi_line.specs.Feeding.{seen_in}
 use Rattle.edi_line.specs.declared.order.ZoneKind.{ZoneKind}
 use Rattle.edi_line.specs.declared.order.ZoneKind.TheVariants.{Bom, Cse, Rty, Eom, Next, Remark, Other}
 use Rattle.edi_line.specs.declared.order.Order.{Order}

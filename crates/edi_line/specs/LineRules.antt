@@ -1,57 +1,11 @@
 -- The rules of lines.
-use Rattle.std.specs.Prelude.{◌≡◌, ℕ, ◌+◌, ◌≤◌, ◌⊎◌, Bool, true, false, ◌&&◌, ◌||◌, not, ◌==◌, List, [], ◌∷◌, ◌++◌, length, Some, None, Ok, Err, count_by}
-use Rattle.std.specs.List.{list_any}
-use Rattle.edi_line.specs.Spelling.{Reading}
+use Rattle.std.specs.Prelude.{◌≡◌, ℕ, ◌+◌, ◌≤◌, ◌⊎◌, false, ◌&&◌, ◌||◌, not, ◌==◌, List, [], ◌∷◌, ◌++◌, length, Err, count_by}
+use Rattle.edi_line.specs.Bytes.{most_records}
 use Rattle.edi_line.specs.Entry.{Entry}
-use Rattle.edi_line.specs.Zones.{readings_of, kind_of, zones_of}
+use Rattle.edi_line.specs.LineKinds.{is_bom, is_cse, is_rty, is_eom, is_other, is_next, is_zone, starts, bears, some_bears}
 use Rattle.edi_line.specs.Refusal.{Test, test, Breaks}
-use Rattle.edi_line.specs.declared.order.ZoneKind.{ZoneKind}
-use Rattle.edi_line.specs.declared.order.ZoneKind.TheVariants.{Bom, Cse, Rty, Eom, Other, Next, Remark}
-
-abbrev pub is_bom : ZoneKind → Bool
-is_bom Bom = true
-is_bom _ = false
-
-abbrev pub is_cse : ZoneKind → Bool
-is_cse Cse = true
-is_cse _ = false
-
-abbrev pub is_rty : ZoneKind → Bool
-is_rty Rty = true
-is_rty _ = false
-
-abbrev pub is_eom : ZoneKind → Bool
-is_eom Eom = true
-is_eom _ = false
-
-abbrev pub is_other : ZoneKind → Bool
-is_other Other = true
-is_other _ = false
-
-abbrev pub is_next : ZoneKind → Bool
-is_next Next = true
-is_next _ = false
-
-abbrev pub is_remark : ZoneKind → Bool
-is_remark Remark = true
-is_remark _ = false
-
--- NEX lines and remarks are no zones
-abbrev pub is_zone : ZoneKind → Bool
-is_zone kind = not (is_next kind || is_remark kind)
-
-abbrev pub starts : ZoneKind → Bool
-starts kind = is_zone kind || is_remark kind
-
--- the line has a code whose kind passes the test
-abbrev pub bears : (ZoneKind → Bool) → Reading → Bool
-bears test (Ok (Some s)) = test (kind_of s.code)
-bears test (Ok None) = false
-bears test (Err rule) = false
-
--- some of the lines does
-abbrev pub some_bears : (ZoneKind → Bool) → List Reading → Bool
-some_bears test lines = list_any (bears test) lines
+use Rattle.edi_line.specs.Spelling.{Reading, AreReadings}
+use Rattle.edi_line.specs.Zones.{IsZonesIn}
 
 -- the rules that a line may break by its place behind these lines
 abbrev pub line_tests : List Reading → Reading → List Test
@@ -67,7 +21,7 @@ line_tests before line =
     -- a zone other than BOM, CSE, EOM, RTY with no RTY before it
     ∷ test 109 (bears is_other line && not (some_bears is_rty before))
     -- the RTY of record 10,000,000
-    ∷ test 110 (bears is_rty line && (count_by (bears is_rty) before == 9999999))
+    ∷ test 110 (bears is_rty line && (count_by (bears is_rty) before == most_records))
     ∷ []
 
 -- A line breaks a rule of its own (101, 102, 103), or one of its place.
@@ -93,10 +47,14 @@ abbrev pub BreaksIn : List Reading → ℕ → ℕ → Type 0
 BreaksIn lines rule place = BreaksAt lines rule place ⊎ LacksEnd lines rule place
 
 -- the file breaks a rule of lines at a place
-abbrev pub BreaksLineRule : List ℕ → ℕ → ℕ → Type 0
-BreaksLineRule bytes = BreaksIn (readings_of bytes)
+pub record BreaksLineRule (bytes : List ℕ) (rule place : ℕ) : Type 0 where
+  pub readings : List Reading
+  pub say : AreReadings bytes readings
+  pub breaks : BreaksIn readings rule place
 
 -- no line breaks 101 to 104, and these are the zones of the lines
 pub record IsZonesOf (bytes : List ℕ) (zones : List Entry) : Type 0 where
-  pub readable : (rule place : ℕ) → rule ≤ 104 → ¬ (BreaksAt (readings_of bytes) rule place)
-  pub is : zones ≡ zones_of bytes
+  pub readings : List Reading
+  pub say : AreReadings bytes readings
+  pub readable : (rule place : ℕ) → rule ≤ 104 → ¬ (BreaksAt readings rule place)
+  pub zones_in : IsZonesIn readings zones

@@ -1,23 +1,20 @@
 -- The lines of a list of bytes, and their contents.
 --
 -- The definitions and laws of this crate hold of all lists of numbers, so of all lists of bytes. A definition
--- that says that there is a file names `IsBytes`.
-use Rattle.std.specs.Prelude.{All, ◌≡◌, ◌≢◌, ℕ, ◌-◌, ◌<◌, ◌⊎◌, ◌&&◌, nat_lt, List, [], ◌∷◌, ◌++◌, length, take, slice_index, ◌==◌, if◌then◌else◌, map}
-use Rattle.std.specs.List.{AllByRecursion, concat, onto_first}
-
--- every element is a byte
-abbrev pub IsBytes : List ℕ → Type 0
-IsBytes bytes = All (λ c. c < 256) bytes
+-- that says that there is a file names `IsBytes` of `Bytes`.
+use Rattle.std.specs.Prelude.{◌≡◌, ◌≢◌, ℕ, ◌-◌, ◌<◌, ◌⊎◌, ◌&&◌, nat_lt, List, [], ◌∷◌, ◌++◌, length, take, slice_index, ◌==◌, if◌then◌else◌}
+use Rattle.std.specs.List.{AllByRecursion, concat}
+use Rattle.edi_line.specs.Bytes.{line_feed, carriage_return}
 
 -- no line feed among them
 abbrev pub HasNoFeed : List ℕ → Type 0
-HasNoFeed bytes = AllByRecursion (λ c. c ≢ 10) bytes
+HasNoFeed bytes = AllByRecursion (λ c. c ≢ line_feed) bytes
 
 -- a line that ends in a line feed and holds no other
 pub record IsEnded (line : List ℕ) : Type 0 where
   pub bytes : List ℕ
   pub no_feed : HasNoFeed bytes
-  pub ended : line ≡ bytes ++ 10 ∷ []
+  pub ended : line ≡ bytes ++ line_feed ∷ []
 
 -- a line that isn't ended
 pub record IsUnended (line : List ℕ) : Type 0 where
@@ -35,11 +32,6 @@ pub record IsLinesOf (bytes : List ℕ) (lines : List (List ℕ)) : Type 0 where
   pub joined : concat lines ≡ bytes
   pub each : AreLines lines
 
--- the only list of lines that there is for these bytes
-abbrev pub lines_of : List ℕ → List (List ℕ)
-lines_of [] = []
-lines_of (c ∷ cs) = if c == 10 then ((c ∷ []) ∷ lines_of cs) else onto_first c (lines_of cs)
-
 -- without one such byte at the end
 abbrev pub without_last : ℕ → List ℕ → List ℕ
 without_last c bytes =
@@ -47,8 +39,4 @@ without_last c bytes =
 
 -- a line without its line feed, and then without one carriage return
 abbrev pub content_of : List ℕ → List ℕ
-content_of line = without_last 13 (without_last 10 line)
-
--- the contents of all lines
-abbrev pub contents_of : List ℕ → List (List ℕ)
-contents_of bytes = map content_of (lines_of bytes)
+content_of line = without_last carriage_return (without_last line_feed line)

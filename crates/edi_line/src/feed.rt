@@ -1,14 +1,18 @@
 //! A file that comes in pieces.
 
 ghost use Rattle.std.specs.Prelude.{◌≡◌, ℕ, List, Option, Some, None, ◌+◌, ◌-◌, ◌^◌, ◌<◌, ◌≤◌, ◌++◌, [], length, option_map, IfOk, IfErr, OnOk, IsErr};
+ghost use Rattle.edi_line.specs.Bytes.{most_records};
 ghost use Rattle.edi_line.specs.Entry.{entries};
-ghost use Rattle.edi_line.specs.Feeding.{Refused, FeedState, HoldsFault, StandsFor, fault_seen, joined, refusal_seen, TakesAll, TakesFront, RefusesOne, RefusesIn};
-ghost use Rattle.edi_line.specs.Held.{Takes, Refuses, Stands, zoned};
+ghost use Rattle.edi_line.specs.Feeding.{Refused, FeedState, HoldsFault, StandsFor, fault_seen, joined};
+ghost use Rattle.edi_line.specs.inner.Feeding.{refusal_seen, TakesAll, TakesFront, RefusesOne, RefusesIn};
+ghost use Rattle.edi_line.specs.inner.Held.{Takes, Refuses, Stands, zoned};
 ghost use Rattle.edi_line.specs.Lines.{HasNoFeed, content_of};
 ghost use Rattle.edi_line.specs.LineRules.{BreaksLineRule, IsZonesOf};
 ghost use Rattle.edi_line.specs.Refusal.{IsUnbroken, IsLineRefusal, IfBroken};
-ghost use Rattle.edi_line.specs.Spelling.{Reading, reading_of};
-ghost use Rattle.edi_line.specs.Zones.{HasShape, groups_of, readings_of};
+ghost use Rattle.edi_line.specs.Spelling.{Reading};
+ghost use Rattle.edi_line.specs.inner.Spelling.{reading_of};
+ghost use Rattle.edi_line.specs.Zones.{HasShape, groups_of};
+ghost use Rattle.edi_line.specs.inner.Zones.{readings_of};
 
 use crate::fault::LineFault;
 use crate::lines;
@@ -59,8 +63,9 @@ pub struct Feed {
 
 impl Model for Feed {
     ghost use Rattle.std.specs.Prelude.{option_map};
-    ghost use Rattle.edi_line.specs.Feeding.{FeedState, refusal_seen};
-    ghost use Rattle.edi_line.specs.Held.{zoned};
+    ghost use Rattle.edi_line.specs.Feeding.{FeedState};
+    ghost use Rattle.edi_line.specs.inner.Feeding.{refusal_seen};
+    ghost use Rattle.edi_line.specs.inner.Held.{zoned};
 
     ghost Value = { FeedState };
 
@@ -121,7 +126,7 @@ impl Feed {
         requires { self.refused ≡ None → (b : List ℕ) × StandsFor b self × (length b < 2 ^ 64 - 1) }
         ensures zones { (b : List ℕ) → StandsFor b self → IfOk result (λ zones. IsZonesOf b (entries zones.items)) }
         ensures shape { (b : List ℕ) → StandsFor b self → IfOk result (λ zones. HasShape (entries zones.items)) }
-        ensures few { (b : List ℕ) → StandsFor b self → IfOk result (λ zones. length (groups_of (entries zones.items)) ≤ 9999999) }
+        ensures few { (b : List ℕ) → StandsFor b self → IfOk result (λ zones. length (groups_of (entries zones.items)) ≤ most_records) }
         ensures sound { (b : List ℕ) → StandsFor b self → OnOk result (IsUnbroken (BreaksLineRule b)) }
         ensures least { (b : List ℕ) → StandsFor b self → IfErr result (IsLineRefusal (BreaksLineRule b)) }
         ensures says { (r : Refused) → self.refused ≡ Some r → IfErr result (λ e. fault_seen e ≡ r) }
@@ -150,7 +155,7 @@ pub fn zones_of_pieces(alloc: Global, pieces: &[&[u8]]) -> Result<Vec<Zone<'stat
     requires { length (joined pieces.now) < 2 ^ 64 - 1 }
     ensures zones { IfOk result (λ zones. IsZonesOf (joined pieces.now) (entries zones.items)) }
     ensures shape { IfOk result (λ zones. HasShape (entries zones.items)) }
-    ensures few { IfOk result (λ zones. length (groups_of (entries zones.items)) ≤ 9999999) }
+    ensures few { IfOk result (λ zones. length (groups_of (entries zones.items)) ≤ most_records) }
     ensures sound { OnOk result (IsUnbroken (BreaksLineRule (joined pieces.now))) }
     ensures least { IfErr result (IsLineRefusal (BreaksLineRule (joined pieces.now))) }
 {

@@ -1,13 +1,13 @@
 //! What the definitions say of known files.
 
-ghost use Rattle.std.specs.Prelude.{◌≡◌, ℕ, ℤ, pos, negsuc, List, [], ◌∷◌, ◌++◌, codes};
+ghost use Rattle.std.specs.Prelude.{◌≡◌, ℕ, ℤ, pos, negsuc, List, [], ◌∷◌, ◌++◌, codes, map};
 ghost use Rattle.edi_line.specs.Number.{IsNumberText, plain_text, signed_text};
-ghost use Rattle.edi_line.specs.Lines.{IsLinesOf, contents_of};
+ghost use Rattle.edi_line.specs.Lines.{IsLinesOf, content_of};
 ghost use Rattle.edi_line.specs.LineRules.{BreaksLineRule, IsZonesOf};
 ghost use Rattle.edi_line.specs.Refusal.{IsLeastBroken, IsUnbroken};
 ghost use Rattle.edi_line.specs.Entry.{Entry};
 ghost use Rattle.edi_line.specs.Zones.{HasShape};
-ghost use Rattle.edi_line.specs.Printing.{zone_text, at_line};
+ghost use Rattle.edi_line.specs.Printing.{zone_headed, at_line};
 
 /// Known texts are the numbers that they should be, or none, and are written so.
 pub fn known_numbers_are_read()
@@ -31,17 +31,17 @@ pub fn known_numbers_are_read()
 /// Known files have the lines and zones that they should, or break the rule that they should.
 pub fn known_lines_are_read()
     ensures lines { IsLinesOf (codes "ab\r\n\nc") (codes "ab\r\n" ∷ codes "\n" ∷ codes "c" ∷ []) }
-    ensures contents { contents_of (codes "ab\r\n\nc") ≡ codes "ab" ∷ [] ∷ codes "c" ∷ [] }
+    ensures contents { map content_of (codes "ab\r\n" ∷ codes "\n" ∷ codes "c" ∷ []) ≡ codes "ab" ∷ [] ∷ codes "c" ∷ [] }
     ensures joined { IsZonesOf (codes "BOMT 01:X\nRTYSA03:PNO\nATVSA02:ab\n  \nNEXT 01:c \nEOMT 00:\n")
-        (at_line 1 (zone_text (codes "BOM") 84 32 (codes "X"))
-        ∷ at_line 2 (zone_text (codes "RTY") 83 65 (codes "PNO"))
-        ∷ at_line 3 (zone_text (codes "ATV") 83 65 (codes "abc"))
-        ∷ at_line 6 (zone_text (codes "EOM") 84 32 []) ∷ []) }
+        (at_line 1 (zone_headed (codes "BOMT ") (codes "X"))
+        ∷ at_line 2 (zone_headed (codes "RTYSA") (codes "PNO"))
+        ∷ at_line 3 (zone_headed (codes "ATVSA") (codes "abc"))
+        ∷ at_line 6 (zone_headed (codes "EOMT ") []) ∷ []) }
     ensures remark { IsZonesOf (codes "BOMT 01:X\nREMT 02:hi\nNEXT 01:Y\nEOMT 00:\n")
-        (at_line 1 (zone_text (codes "BOM") 84 32 (codes "X")) ∷ at_line 4 (zone_text (codes "EOM") 84 32 []) ∷ []) }
+        (at_line 1 (zone_headed (codes "BOMT ") (codes "X")) ∷ at_line 4 (zone_headed (codes "EOMT ") []) ∷ []) }
     ensures faulty { (zones : List Entry) → ¬ (IsZonesOf (codes "x\n") zones) }
-    ensures hand_made { HasShape (zone_text (codes "BOM") 84 32 [] ∷ zone_text (codes "RTY") 83 65 (codes "PNO")
-        ∷ zone_text (codes "NEX") 84 32 (codes "q") ∷ zone_text (codes "EOM") 84 32 [] ∷ []) }
+    ensures hand_made { HasShape (zone_headed (codes "BOMT ") [] ∷ zone_headed (codes "RTYSA") (codes "PNO")
+        ∷ zone_headed (codes "NEXT ") (codes "q") ∷ zone_headed (codes "EOMT ") [] ∷ []) }
     ensures sound { IsUnbroken (BreaksLineRule (codes "BOMT 01:X\nCSET 03:IRV\nRTYSA03:PNO\nRIDSA01:a\nEOMT 00:\n")) }
     ensures no_head { IsLeastBroken (BreaksLineRule (codes "BOMT 01:X\nx\nEOMT 00:\n")) 101 2 }
     ensures cut_short { IsLeastBroken (BreaksLineRule (codes "BOMT 01:X\nRTYSA04:PNO\nEOMT 00:\n")) 102 2 }

@@ -1,7 +1,10 @@
 //! The lines of a file.
 
 ghost use Rattle.std.specs.Prelude.{◌≡◌, ℕ, List, ◌+◌, ◌<◌, ◌≤◌, [], ◌∷◌, ◌++◌, length, ◌==◌, take, drop, position, IfSome, IsNone};
-ghost use Rattle.edi_line.specs.Lines.{HasNoFeed, IsEnded, IsLinesOf, lines_of, without_last, content_of};
+ghost use Rattle.edi_line.specs.Lines.{HasNoFeed, IsEnded, IsLinesOf, without_last, content_of};
+ghost use Rattle.edi_line.specs.inner.Lines.{lines_of};
+
+use memchr::memchr;
 
 /// The first line, with its line feed if it has one, and the bytes behind it.
 pub(crate) fn first_line(bytes: &[u8]) -> (&[u8], &[u8])
@@ -38,7 +41,7 @@ fn first_end(bytes: &[u8]) -> usize
 fn feed_in(bytes: &[u8]) -> Option<usize>
     ensures { result ≡ position (λ c. c == 10) bytes.now }
 {
-    bytes.iter().position(|c| *c == b'\n')
+    memchr(b'\n', bytes)
 }
 
 /// A line without its line feed, and then without one carriage return.
@@ -59,6 +62,6 @@ fn without(last: u8, bytes: &[u8]) -> &[u8]
 
 /// A file has just one list of lines.
 pub fn lines_are_unique()
-    ensures lines { (bytes : List ℕ) → IsLinesOf bytes (lines_of bytes) }
-    ensures unique { (bytes : List ℕ) (lines : List (List ℕ)) → IsLinesOf bytes lines → lines ≡ lines_of bytes }
+    ensures lines { (bytes : List ℕ) → (lines : List (List ℕ)) × IsLinesOf bytes lines }
+    ensures unique { (bytes : List ℕ) (lines others : List (List ℕ)) → IsLinesOf bytes lines → IsLinesOf bytes others → lines ≡ others }
 {}

@@ -2,8 +2,10 @@
 
 ghost use Rattle.std.specs.Prelude.{◌≡◌, ℕ, List, ◌+◌, ◌*◌, ◌/◌, ◌%◌, ◌^◌, ◌<◌, ◌≤◌, ◌↔◌, [], ◌∷◌, ◌++◌, length, IsTrue, IfOk, OnOk, OnErr, MatchOption, Some, All, ℤ, pos, ◌==◌, position};
 ghost use Rattle.std.specs.Str.Parse.{AllDigits, digits_value};
-ghost use Rattle.edi_line.specs.Number.{IsNumberText, number, IsWhole, IsFraction, signed_by, size_of, MOST, signed_text, plain_text, size_text, point_text, fraction_digits, sign_of, body_of, whole_of, fraction_of};
+ghost use Rattle.edi_line.specs.Number.{IsNumberText, IsWhole, IsFraction, signed_by, size_of, MOST, signed_text, plain_text, size_text, point_text, fraction_digits};
+ghost use Rattle.edi_line.specs.inner.Number.{number, sign_of, body_of, whole_of, fraction_of};
 
+use itoa::Buffer;
 use std::alloc::{AllocError, Global};
 use std::marker::Model;
 
@@ -29,13 +31,6 @@ impl Num {
     /// point with digits after it, at least one digit in all. Leading zeros of the whole part and
     /// trailing zeros of the fraction don't count towards the nine and six digits. `-0` is 0.
     pub fn read(text: &[u8]) -> Option<Num>
-        ensures says { MatchOption result ((m : ℤ) → ¬ (IsNumberText text.now m)) (λ n. IsNumberText text.now n) }
-        ensures value { result ≡ number text.now }
-    {
-        Num::spelled(text)
-    }
-
-    fn spelled(text: &[u8]) -> Option<Num>
         ensures { MatchOption result ((m : ℤ) → ¬ (IsNumberText text.now m)) (λ n. IsNumberText text.now n) }
     {
         let (sign, digits) = split_sign(text);
@@ -67,11 +62,18 @@ impl Num {
         ensures { IfOk result (λ text. text.items ≡ plain_text self) }
     {
         let mut text = Vec::new(alloc);
+        self.push_plain(&mut text)?;
+        Ok(text)
+    }
+
+    /// Appends the plain spelling.
+    pub fn push_plain(self, text: &mut Vec<u8>) -> Result<(), AllocError>
+        ensures { OnOk result (text.new.items ≡ text.old.items ++ plain_text self) }
+    {
         if self.millionths < 0 {
             text.push(b'-')?;
         }
-        push_size(alloc, &mut text, self.millionths.unsigned_abs())?;
-        Ok(text)
+        push_size(text, self.millionths.unsigned_abs())
     }
 
     /// The plain spelling with a `+` where there is no `-`; zero is `+0`.
@@ -79,9 +81,16 @@ impl Num {
         ensures { IfOk result (λ text. text.items ≡ signed_text self) }
     {
         let mut text = Vec::new(alloc);
-        text.push(if self.millionths < 0 { b'-' } else { b'+' })?;
-        push_size(alloc, &mut text, self.millionths.unsigned_abs())?;
+        self.push_signed(&mut text)?;
         Ok(text)
+    }
+
+    /// Appends the signed spelling.
+    pub fn push_signed(self, text: &mut Vec<u8>) -> Result<(), AllocError>
+        ensures { OnOk result (text.new.items ≡ text.old.items ++ signed_text self) }
+    {
+        text.push(if self.millionths < 0 { b'-' } else { b'+' })?;
+        push_size(text, self.millionths.unsigned_abs())
     }
 
     /// The whole count of millionths.
@@ -172,11 +181,11 @@ fn fraction_value(digits: &[u8]) -> Option<u64>
 
 /// Whole units, and the fraction if there is one.
 #[tactic(auto, unfolding(crate::specs::Number::size_text))]
-fn push_size(alloc: Global, text: &mut Vec<u8>, size: u64) -> Result<(), AllocError>
+fn push_size(text: &mut Vec<u8>, size: u64) -> Result<(), AllocError>
     ensures { OnOk result (text.new.items ≡ text.old.items ++ size_text size) }
 {
-    let units = (size / 1_000_000).to_string(alloc)?;
-    text.extend_from_slice(units.as_bytes())?;
+    let mut units = Buffer::new();
+    text.extend_from_slice(units.format(size / 1_000_000).as_bytes())?;
     push_point_text(text, size % 1_000_000)
 }
 
@@ -214,9 +223,8 @@ pub fn spellings_are_read()
     ensures plain { (m : ℤ) → size_of m ≤ MOST → IsNumberText (plain_text m) m }
 {}
 
-/// A text is one number at most, which is in range and is the one that reading finds.
+/// A text is one number at most, which is in range.
 pub fn numbers_are_unique()
-    ensures found { (t : List ℕ) (m : ℤ) → number t ≡ Some m ↔ IsNumberText t m }
     ensures unique { (t : List ℕ) (m n : ℤ) → IsNumberText t m → IsNumberText t n → m ≡ n }
     ensures range { (t : List ℕ) (m : ℤ) → IsNumberText t m → size_of m ≤ MOST }
 {}

@@ -1,15 +1,19 @@
 //! The zones of a file.
 
 ghost use Rattle.std.specs.Prelude.{Option, Some, None, true, false, ◌≡◌, ℕ, List, ◌+◌, ◌^◌, ◌<◌, ◌≤◌, [], ◌∷◌, ◌++◌, length, map, OnOk, IfOk, IfErr, option_map};
+ghost use Rattle.edi_line.specs.Bytes.{most_records};
 ghost use Rattle.edi_line.specs.Entry.{Entry, entry, entries};
-ghost use Rattle.edi_line.specs.Zones.{kind_of as kind_in, zones_of, HasShape, IsFileOf, with_more, part_by, Part, whole_zones, IsZonesIn, groups_of, charset_of};
+ghost use Rattle.edi_line.specs.Zones.{HasShape, IsFileOf, IsZonesIn, groups_of, charset_of};
+ghost use Rattle.edi_line.specs.inner.Zones.{with_more, part_by};
+ghost use Rattle.edi_line.specs.LineKinds.{kind_of as kind_in};
 ghost use Rattle.edi_line.specs.LineRules.{BreaksLineRule, IsZonesOf};
 ghost use Rattle.edi_line.specs.Refusal.{IsUnbroken, IsLineRefusal, IfBroken};
 ghost use Rattle.std.specs.List.{AllByRecursion};
 ghost use Rattle.std.specs.Cow.{cow_slice_items};
 ghost use Rattle.edi_line.specs.Printing.{IsPrintable, printed, numbered};
-ghost use Rattle.edi_line.specs.Held.{rule_of_kind, noted_kind, opened, Steps, Takes, Refuses, Stands, zoned, step, closed};
-ghost use Rattle.edi_line.specs.Spelling.{reading_of, spelling_shown};
+ghost use Rattle.edi_line.specs.inner.Held.{rule_of_kind, noted_kind, opened, Steps, Takes, Refuses, Stands, zoned, step, closed};
+ghost use Rattle.edi_line.specs.Spelling.{Reading, AreReadings};
+ghost use Rattle.edi_line.specs.inner.Spelling.{reading_of, spelling_shown};
 
 use crate::fault::LineFault;
 use crate::lines;
@@ -205,7 +209,7 @@ impl<'a> Reader<'a> {
 pub fn zones<'a>(alloc: Global, bytes: &'a [u8]) -> Result<Vec<Zone<'a>>, LineFault>
     ensures zones { IfOk result (λ zones. IsZonesOf bytes.now (entries zones.items)) }
     ensures shape { IfOk result (λ zones. HasShape (entries zones.items)) }
-    ensures few { IfOk result (λ zones. length (groups_of (entries zones.items)) ≤ 9999999) }
+    ensures few { IfOk result (λ zones. length (groups_of (entries zones.items)) ≤ most_records) }
     ensures sound { OnOk result (IsUnbroken (BreaksLineRule bytes.now)) }
     ensures least { IfErr result (IsLineRefusal (BreaksLineRule bytes.now)) }
 {
@@ -221,13 +225,13 @@ pub fn zones<'a>(alloc: Global, bytes: &'a [u8]) -> Result<Vec<Zone<'a>>, LineFa
 
 /// Printed zones are read as they were, each at its line, and break no rule where they have the shape of a file.
 pub fn printed_zones_are_read_again()
-    ensures zones { (zs : List Entry) → AllByRecursion IsPrintable zs → zones_of (printed zs) ≡ numbered 1 zs }
+    ensures zones { (zs : List Entry) (readings : List Reading) → AllByRecursion IsPrintable zs → AreReadings (printed zs) readings → IsZonesIn readings (numbered 1 zs) }
     ensures unbroken { (zs : List Entry) (charset : Option Entry) (groups : List (List Entry)) → IsFileOf zs charset groups
-        → AllByRecursion IsPrintable zs → length groups ≤ 9999999 → IsUnbroken (BreaksLineRule (printed zs)) }
+        → AllByRecursion IsPrintable zs → length groups ≤ most_records → IsUnbroken (BreaksLineRule (printed zs)) }
 {}
 
-/// The zones of a file in words of its lines, and of its groups.
-pub fn zones_are_those_of_the_lines()
-    ensures zones { (parts : List Part) → IsZonesIn parts (whole_zones parts) }
+/// A file has one list of zones at most, and these one character set and one list of groups.
+pub fn zones_are_unique()
+    ensures zones { (bytes : List ℕ) (zones others : List Entry) → IsZonesOf bytes zones → IsZonesOf bytes others → zones ≡ others }
     ensures groups { (zones : List Entry) (charset : Option Entry) (groups : List (List Entry)) → IsFileOf zones charset groups → (charset_of zones ≡ charset) × (groups_of zones ≡ groups) }
 {}

@@ -2,7 +2,7 @@
 
 ghost use Rattle.std.specs.Prelude.{◌≡◌, ◌++◌, OnOk};
 ghost use Rattle.edi_line.specs.Entry.{entry};
-ghost use Rattle.edi_line.specs.Zones.{with_more};
+ghost use Rattle.edi_line.specs.inner.Zones.{with_more};
 
 use std::alloc::{AllocError, Global};
 use std::borrow::CowSlice;

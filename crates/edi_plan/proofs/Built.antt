@@ -6,7 +6,11 @@ use Rattle.std.proofs.lemmas.Bool.{ltb-true}
 use Rattle.std.proofs.lemmas.Option.{same_Some, none-some, get_or_from_slice_get}
 use Rattle.std.proofs.lemmas.List.Sums.{sum_by-cons}
 use native.Mathlib.Decide.{dec_le}
-use Rattle.edi_record.specs.Records.{value_of}
+use Rattle.edi_record.specs.Records.{IsValueOf}
+use Rattle.edi_record.specs.inner.Records.{value_of}
+use Rattle.edi_record.specs.declared.record.Value.{Value}
+use Rattle.edi_record.specs.declared.record.Value.TheVariants.{Number, Bytes}
+use Rattle.edi_record.proofs.StatesSaid.{value_one, value_read}
 use Rattle.edi_record.specs.declared.record.Attribute.{Attribute}
 use Rattle.edi_plan.specs.Agreeing.{AttributeAgrees, RecordAgrees, Agrees}
 use Rattle.edi_plan.specs.ReferenceRules.BreaksReferenceRule.{names_nothing, joins_wrong}
@@ -121,13 +125,37 @@ role_at_place s name k role h g =
 pub number_at_place : (s : Classes) (name : Name) (k : ℕ) → place_of s name ≡ Some k → unwrap_or (is_number_named s name) false ≡ is_number_of s k
 number_at_place s name k h = ap (λ o. unwrap_or (option_map (λ (c : Class). c.is_number) o) false) (named_at s name k h).1
 
+-- ---- values
+
+value_under : (P Q : Type 0) → (P → Q) → (Q → P) → (text : List ℕ) (v : Value) → IsValueOf P text v → IsValueOf Q text v
+value_under P Q to from text (Number m) h = (to h.0, h.1)
+value_under P Q to from text (Bytes b) h = (h.0, λ q. h.1 (from q))
+
+unwrapped : (o : Option Bool) → unwrap_or o false ≡ true → o ≡ Some true
+unwrapped (Some b) e = ap (λ x. Some x) e
+unwrapped None e = absurd cc
+
+-- the value of an attribute, where a test says whether its class has numbers
+pub value_stated : (s : Classes) (name : Name) (may : Bool) (text : List ℕ) (v : Value) → may ≡ unwrap_or (is_number_named s name) false → IsValueOf (may ≡ true) text v → IsValueOf (is_number_named s name ≡ Some true) text v
+value_stated s name may text v same h =
+    value_under (may ≡ true) (is_number_named s name ≡ Some true) (λ e. unwrapped (is_number_named s name) (sym same ∙ e)) (λ e. same ∙ ap (λ o. unwrap_or o false) e) text v h
+
+-- the same, as reading finds it
+pub value_found : (s : Classes) (name : Name) (text : List ℕ) (v : Value) → IsValueOf (is_number_named s name ≡ Some true) text v → v ≡ value_of (unwrap_or (is_number_named s name) false) text
+value_found s name text v h =
+    let may = unwrap_or (is_number_named s name) false in
+    value_read may text v
+    (value_under (is_number_named s name ≡ Some true) (may ≡ true) (λ e. ap (λ o. unwrap_or o false) e) (λ e. unwrapped (is_number_named s name) e) text v h)
+
 -- the plan agrees with the schema
 
 attribute_agrees : (s : Classes) (a : Attribute) (p : PlanAttribute) → StatesPlanAttribute s a p → AttributeAgrees s p
 attribute_agrees s a p st = record {
   known = (named_at s a.atp p.atp st.class).0;
   text = a.atv;
-  value = st.value ∙ ap (λ may. value_of may a.atv) (number_at_place s a.atp p.atp st.class);
+  value =
+      let same = number_at_place s a.atp p.atp st.class in
+      value_under (is_number_named s a.atp ≡ Some true) (is_number_of s p.atp ≡ true) (λ e. sym same ∙ ap (λ o. unwrap_or o false) e) (λ e. unwrapped (is_number_named s a.atp) (same ∙ e)) a.atv p.value st.value;
 }
 
 record_agrees : (s : Classes) (list : List Record) (r : Record) (p : PlanRecord) → StatesPlanRecord s list r p → RecordAgrees s p
@@ -146,7 +174,7 @@ one_attribute : (s : Classes) (a : Attribute) (p q : PlanAttribute) → StatesPl
 one_attribute s a p q h g =
     let c = same_Some p.atp q.atp (sym h.class ∙ g.class) in
     let t = h.set ∙ sym g.set in
-    let v = h.value ∙ sym g.value in
+    let v = value_one (is_number_named s a.atp ≡ Some true) a.atv p.value q.value h.value g.value in
     λ i. record { atp = c i; tex = t i; value = v i }
 
 one_end : (list : List Record) (e : End) (p q : PlanEnd) → StatesPlanEnd list e p → StatesPlanEnd list e q → p ≡ q

@@ -22,7 +22,7 @@ use Rattle.edi_plan.specs.Resolving.{LacksClass, is_elsewhere, leaves, first_sub
 use Rattle.edi_plan.specs.Resolving as resolving
 use Rattle.edi_plan.specs.SideTable.{side_at, side_after, link_join, is_taken, IsNoted}
 use Rattle.edi_plan.specs.Targets.{IsTargetIfAny}
-use Rattle.edi_plan.specs.declared.sides.ArcSides.{ArcSides}
+use Rattle.edi_schema.specs.declared.by_role.ByRole.{ByRole}
 use Rattle.edi_plan.specs.declared.sides.Join.{Join}
 use Rattle.edi_plan.specs.declared.targets.Target.{Target}
 use Rattle.edi_plan.proofs.RuleLemmas.{none_is, any_here, any_later, any_true, true_any, zip_any, any_zip, lacks_true, true_lacks, elsewhere_true, true_elsewhere, nowhere, nowhere_true, names_join, join_names, link_has_role, role_is, any_two}
@@ -66,7 +66,7 @@ one_role : (a b : Role) → role_rank a ≡ role_rank b → a ≡ b
 one_role a b h = rank_back a ∙ (ap of_rank h ∙ sym (rank_back b))
 
 module _ (s : Classes) (list : List Record) (place : ℕ) (r : Record) (here : slice_get list place ≡ Some r) (own : List (Option Target)) (aimed : AllZip (IsTargetIfAny list) r.ends own)
-    (table : List ArcSides) (before : IsDone s list place table) where
+    (table : List (ByRole (Option ℕ))) (before : IsDone s list place table) where
   abbrev role : Role
   role = role_of_link s r
 
@@ -353,7 +353,7 @@ module _ (s : Classes) (list : List Record) (place : ℕ) (r : Record) (here : s
               true≢false (sym yes ∙ t))
               (side_at table a o) (before.noted a o h)
 
-  pub step_done : (new : List ArcSides) → first_broken (reference_tests s (first_subset list) own table r) ≡ None → ¬ (RepeatsAt list place) → IsNoted table role (link_join role own) new → IsDone s list (place + 1) new
+  pub step_done : (new : List (ByRole (Option ℕ))) → first_broken (reference_tests s (first_subset list) own table r) ≡ None → ¬ (RepeatsAt list place) → IsNoted table role (link_join role own) new → IsDone s list (place + 1) new
   step_done new none fresh noted = subst (λ k. IsDone s list k new) (sym (Rattle.std.proofs.Common.add-one place)) (record {
     long = noted.long ∙ before.long;
     unbroken = λ k rule less. unbroken k rule (cases_lt k place) less;
@@ -380,7 +380,7 @@ low s list rule at (names_nothing e d) = (omega (arith, e), d.1.0)
 low s list rule at (joins_wrong e d) = (omega (arith, e), d.1.0)
 low s list rule at (repeats_side e d) = (omega (arith, e), d.7.0)
 
-pub refused_at : (s : Classes) (list : List Record) (place : ℕ) (table : List ArcSides) → IsDone s list place table → (rule : ℕ)
+pub refused_at : (s : Classes) (list : List Record) (place : ℕ) (table : List (ByRole (Option ℕ))) → IsDone s list place table → (rule : ℕ)
     → BreaksReferenceRule s list rule (suc place) × ((q : ℕ) → BreaksReferenceRule s list q (suc place) → rule ≤ q) → IsLeastBroken (BreaksReferenceRule s list) rule (place + 1)
 refused_at s list place table before rule found = subst (IsLeastBroken (BreaksReferenceRule s list) rule) (sym (Rattle.std.proofs.Common.add-one place)) (record { is = found.0; least = least })
   where

@@ -1,5 +1,5 @@
 -- Names that records lend, and the first record of a name.
-use Rattle.std.proofs.Common.{◌≡◌, ℕ, zero, suc, ◌+◌, ◌<◌, ◌≤◌, ◌⊎◌, inl, inr, Bool, true, false, cond, not, ◌&&◌, nat_lt, List, [], ◌∷◌, length, Option, Some, None, is_some, option_copied, Bor, MatchOption, slice_get, refl, sym, ap, ◌∙◌, subst, arith}
+use Rattle.std.proofs.Common.{◌≡◌, ◌≢◌, ℕ, zero, suc, ◌+◌, ◌<◌, ◌≤◌, ◌⊎◌, inl, inr, Bool, true, false, cond, not, ◌&&◌, nat_lt, List, [], ◌∷◌, length, Option, Some, None, is_some, unwrap_or, if◌then◌else◌, MatchOption, slice_get, refl, sym, ap, ◌∙◌, subst, arith}
 use Rattle.std.specs.List.{position_or_len}
 use Rattle.std.specs.Option.{option_or}
 use Rattle.std.specs.Map.{lookup}
@@ -14,7 +14,7 @@ use Rattle.edi_record.specs.declared.record.Record.{Record}
 use Rattle.edi_record.specs.contracts.record.KindPartialEq.TheImpl.{ghosts as kinds}
 use Rattle.edi_schema.proofs.Names.{same_name, name_itself}
 use Rattle.edi_schema.specs.Classes.{is_name}
-use Rattle.edi_plan.specs.Names.{named, RepeatsAt, IsFirstRepeat, IsFirstRepeatIfAny}
+use Rattle.edi_plan.specs.Names.{named, place_in, IsPut, RepeatsAt, IsFirstRepeat, IsFirstRepeatIfAny}
 use Rattle.edi_plan.specs.PlanOf.{own_name, place_named}
 use Rattle.edi_plan.specs.declared.names.RecordName.{RecordName}
 use Rattle.edi_plan.specs.contracts.names.RecordNamePartialEq.TheImpl.{ghosts as names}
@@ -169,6 +169,15 @@ module _ (list : List Record) (n : ℕ) (r : Record) (here : slice_get list n �
   repeat_none None None first some h = none_more h (fresh first)
   repeat_none None (Some m) first some h = (omega (arith, h.0), h.1)
 
+-- a name has another place than a new one exactly if an earlier record has the name
+pub was_there : (list : List Record) (n : ℕ) (name : Name) (found : Option ℕ) → FirstTo list n name found → unwrap_or found n ≢ n → is_some found ≡ true
+was_there list n name None h other = absurd (other refl)
+was_there list n name (Some k) h other = refl
+
+pub was_new : (list : List Record) (n : ℕ) (name : Name) (found : Option ℕ) → FirstTo list n name found → unwrap_or found n ≡ n → is_some found ≡ false
+was_new list n name None h same = refl
+was_new list n name (Some k) h same = absurd (omega (arith, h.0, same))
+
 pub repeat_all : (list : List Record) (n : ℕ) (found : Option ℕ) → length list ≤ n → RepeatTo list n found → IsFirstRepeatIfAny list found
 repeat_all list n None past h = λ j d. let l = slice_get_within list j d.2 d.5 in h j (omega (arith, l)) d
 repeat_all list n (Some k) past h = h.1
@@ -177,48 +186,54 @@ pub first_all : (list : List Record) (n : ℕ) (name : Name) (found : Option ℕ
 first_all list n name None past h = λ j q less at is. h j q (omega arith) at is
 first_all list n name (Some k) past h = (slice_get_within list k h.1.there h.1.here, h.1)
 
--- ---- the index of names, one record on
+-- ---- the table of names, one record on
 
-same_lookup : (q t : RecordName) → named q ≡ named t → (es : List (RecordName × ℕ)) → lookup (names.eq q) es ≡ lookup (names.eq t) es
-same_lookup q t e es =
-    let same = λ (b : RecordName). name_apart q b ∙ (ap (λ m. is_name m (named b)) e ∙ sym (name_apart t b)) in
-    λ i. lookup (λ (b : RecordName). same b i) es
+pub by_eq : (q : RecordName) (table : List (RecordName × ℕ)) → lookup (names.eq q) table ≡ place_in table q
+by_eq q table i = lookup (λ (t : RecordName). name_apart q t i) table
 
-module _ (list : List Record) (n : ℕ) (r : Record) (here : slice_get list n ≡ Some r) (name : RecordName) (e : named name ≡ own_name r) (es : List (RecordName × ℕ))
-    (first : (q : RecordName) → FirstTo list n (named q) (lookup (names.eq q) es)) where
-  pub first_own : FirstTo list n (own_name r) (lookup (names.eq name) es)
-  first_own = subst (λ m. FirstTo list n m (lookup (names.eq name) es)) e (first name)
+same_place : (q t : RecordName) → named q ≡ named t → (table : List (RecordName × ℕ)) → place_in table q ≡ place_in table t
+same_place q t e table i = lookup (λ (b : RecordName). is_name (e i) (named b)) table
 
-  pub first_kept : is_some (lookup (names.eq name) es) ≡ true → (q : RecordName) → FirstTo list (n + 1) (named q) (lookup (names.eq q) es)
-  first_kept some q =
-      kept_first list n r here (named q) (lookup (names.eq q) es) (first q)
-      (λ is none. let no_none : true ≡ false = sym some ∙ ap is_some (same_lookup name q (e ∙ is) es ∙ none) in cc)
+module _ (old new : List (RecordName × ℕ)) (name : RecordName) (place : ℕ) where
+  or_none : (o : Option ℕ) → o ≡ option_or o None
+  or_none None = refl
+  or_none (Some k) = refl
 
-  pub first_put : is_some (lookup (names.eq name) es) ≡ false → (fs : List (RecordName × ℕ)) → ((q : RecordName) → lookup (names.eq q) fs ≡ cond (names.eq name q) (Some n) (lookup (names.eq q) es))
-      → (q : RecordName) → FirstTo list (n + 1) (named q) (lookup (names.eq q) fs)
-  first_put none fs put q = subst (FirstTo list (n + 1) (named q)) (sym (put q)) (go (names.eq name q) refl)
+  or_some : (o : Option ℕ) → Some (unwrap_or o place) ≡ option_or o (Some place)
+  or_some None = refl
+  or_some (Some k) = refl
+
+  -- writing the place that a name has, or else this one, puts this one
+  pub put_or : (first : ℕ) → first ≡ unwrap_or (lookup (names.eq name) old) place → ((q : RecordName) → lookup (names.eq q) new ≡ cond (names.eq name q) (Some first) (lookup (names.eq q) old)) → IsPut old name place new
+  put_or first is updates other =
+      sym (by_eq other new) ∙ (updates other ∙ (ap (λ b. cond b (Some first) (lookup (names.eq other) old)) (name_apart name other)
+      ∙ (ap (cond (is_name (named name) (named other)) (Some first)) (by_eq other old) ∙ go (is_name (named name) (named other)) refl)))
     where
-      go : (b : Bool) → names.eq name q ≡ b → FirstTo list (n + 1) (named q) (cond b (Some n) (lookup (names.eq q) es))
+      go : (b : Bool) → is_name (named name) (named other) ≡ b → cond b (Some first) (place_in old other) ≡ option_or (place_in old other) (if b then Some place else None)
+      go false t = or_none (place_in old other)
       go true t =
-          let same : named name ≡ named q = same_name (named name) (named q) (sym (name_apart name q) ∙ t) in
-          let missing : lookup (names.eq q) es ≡ None = missing_of (lookup (names.eq q) es) (ap is_some (same_lookup q name (sym same) es) ∙ none) in
-          put_first list n r here (named q) (sym e ∙ same) (subst (FirstTo list n (named q)) missing (first q))
-        where
-          missing_of : (o : Option ℕ) → is_some o ≡ false → o ≡ None
-          missing_of None h = refl
-          missing_of (Some k) h = cc
-      go false t =
-          kept_first list n r here (named q) (lookup (names.eq q) es) (first q)
-          (λ is missing. let same : true ≡ false = sym (subst (λ m. is_name (named name) m ≡ true) (e ∙ is) (name_itself (named name))) ∙ (sym (name_apart name q) ∙ t) in cc)
+          let alike : lookup (names.eq name) old ≡ place_in old other = by_eq name old ∙ same_place name other (same_name (named name) (named other) t) old in
+          ap Some (is ∙ ap (λ o. unwrap_or o place) alike) ∙ or_some (place_in old other)
 
-pub is_some_copied : (o : Option (Bor ℕ)) → is_some (option_copied o) ≡ is_some o
-is_some_copied None = refl
-is_some_copied (Some x) = refl
+module _ (list : List Record) (n : ℕ) (r : Record) (here : slice_get list n ≡ Some r) (name : RecordName) (e : named name ≡ own_name r) (old new : List (RecordName × ℕ))
+    (put : IsPut old name n new) (first : (q : RecordName) → FirstTo list n (named q) (place_in old q)) where
+  pub first_own : FirstTo list n (own_name r) (place_in old name)
+  first_own = subst (λ m. FirstTo list n m (place_in old name)) e (first name)
 
-pub names_of : (list : List Record) (n : ℕ) → length list ≤ n → (es : List (RecordName × ℕ)) → ((q : RecordName) → FirstTo list n (named q) (lookup (names.eq q) es))
-    → (name : RecordName) → lookup (λ t. is_name (named name) (named t)) es ≡ place_named list (named name)
-names_of list n past es first name =
-    (λ i. lookup (λ (t : RecordName). sym (name_apart name t) i) es) ∙ named_from list (named name) (lookup (names.eq name) es) (first_all list n (named name) (lookup (names.eq name) es) past (first name))
+  pub first_put : (q : RecordName) → FirstTo list (n + 1) (named q) (place_in new q)
+  first_put q = subst (FirstTo list (n + 1) (named q)) (sym (put q)) (go (is_name (named name) (named q)) refl (place_in old q) (first q))
+    where
+      go : (b : Bool) → is_name (named name) (named q) ≡ b → (found : Option ℕ) → FirstTo list n (named q) found → FirstTo list (n + 1) (named q) (option_or found (if b then Some n else None))
+      go b t (Some k) h = kept_first list n r here (named q) (Some k) h (λ is none. cc)
+      go true t None h = put_first list n r here (named q) (sym e ∙ same_name (named name) (named q) t) h
+      go false t None h = kept_first list n r here (named q) None h (λ is none. let no : true ≡ false = sym (subst (λ m. is_name (named name) m ≡ true) (e ∙ is) (name_itself (named name))) ∙ t in cc)
+
+pub names_of : (list : List Record) (n : ℕ) → length list ≤ n → (table : List (RecordName × ℕ)) → ((q : RecordName) → FirstTo list n (named q) (place_in table q))
+    → (name : RecordName) → place_in table name ≡ place_named list (named name)
+names_of list n past table first name = named_from list (named name) (place_in table name) (first_all list n (named name) (place_in table name) past (first name))
+
+pub no_names : (list : List Record) (q : RecordName) → FirstTo list 0 (named q) None
+no_names list q = λ j r less. absurd (omega arith)
 
 pub found_at : (list : List Record) (es : List (RecordName × ℕ)) → ((name : RecordName) → lookup (λ t. is_name (named name) (named t)) es ≡ place_named list (named name))
     → (name : RecordName) (target : Name) → named name ≡ target → (o : Option ℕ) → o ≡ lookup (names.eq name) es → place_named list target ≡ o

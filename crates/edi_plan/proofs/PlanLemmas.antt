@@ -21,7 +21,7 @@ use Rattle.edi_plan.specs.ReferenceRules.BreaksReferenceRule.{repeats_name, lack
 use Rattle.edi_plan.specs.Sides.{Side, IsSideIfAny, targets}
 use Rattle.edi_plan.specs.SideTable.{AreSides, side_at}
 use Rattle.edi_plan.specs.declared.record.PlanEnd.{PlanEnd}
-use Rattle.edi_plan.specs.declared.sides.ArcSides.{ArcSides}
+use Rattle.edi_schema.specs.declared.by_role.ByRole.{ByRole}
 use Rattle.edi_plan.proofs.Built.{zip_at, zip_back, zip_length}
 
 same_some : {X : Type 0} {a b : X} → Some a ≡ Some b → a ≡ b
@@ -36,13 +36,13 @@ within s list rule at (names_nothing e d) = let l = slice_get_within list (at - 
 within s list rule at (joins_wrong e d) = let l = slice_get_within list (at - 1) d.0 d.1.1 in (d.1.0, omega (arith, d.1.0, l))
 within s list rule at (repeats_side e d) = let l = slice_get_within list (at - 1) d.3 d.7.1 in (d.7.0, omega (arith, d.7.0, l))
 
-pub all_unbroken : (s : Classes) (list : List Record) (table : List ArcSides) → IsDone s list (length list) table → IsUnbroken (BreaksReferenceRule s list)
+pub all_unbroken : (s : Classes) (list : List Record) (table : List (ByRole (Option ℕ))) → IsDone s list (length list) table → IsUnbroken (BreaksReferenceRule s list)
 all_unbroken s list table done rule at h =
     let l = within s list rule at h in
     let e : at ≡ suc (at - 1) = omega (arith, l.0) in
     done.unbroken (at - 1) rule (omega (arith, l.0, l.1)) (subst (BreaksReferenceRule s list rule) e h)
 
-module _ (s : Classes) (sheet : Sheet) (p : Drawing) (is : IsPlanOf s sheet p) (table : List ArcSides) (done : IsDone s sheet.list (length sheet.list) table) where
+module _ (s : Classes) (sheet : Sheet) (p : Drawing) (is : IsPlanOf s sheet p) (table : List (ByRole (Option ℕ))) (done : IsDone s sheet.list (length sheet.list) table) where
   long : length sheet.list ≡ length p.list
   long = zip_length (StatesPlanRecord s sheet.list) sheet.list p.list is.each
 

@@ -14,7 +14,7 @@ use Rattle.edi_plan.specs.SideTable.{HaveEntries}
 use Rattle.edi_plan.specs.Targets.{IsTargetIfAny, AreTargets}
 use Rattle.edi_plan.specs.declared.record.PlanEnd.{PlanEnd}
 use Rattle.edi_plan.specs.declared.record.PlanRecord.{PlanRecord}
-use Rattle.edi_plan.specs.declared.sides.ArcSides.{ArcSides}
+use Rattle.edi_schema.specs.declared.by_role.ByRole.{ByRole}
 use Rattle.edi_plan.specs.declared.targets.Target.{Target}
 
 -- lists side by side, in two parts
@@ -49,7 +49,7 @@ module _ (list : List Record) (items rest : List Record) (r : Record) (next : it
   pub enough_targets : length r.ends ≤ length targets
   enough_targets = zip_long (IsTargetIfAny list) r.ends (flat_map (λ q. q.ends) rest) targets ends_left
 
-pub entries_there : (list : List Record) (table : List ArcSides) (es : List End) (ts : List (Option Target)) → length table ≡ length list → AllZip (IsTargetIfAny list) es ts → HaveEntries table ts
+pub entries_there : (list : List Record) (table : List (ByRole (Option ℕ))) (es : List End) (ts : List (Option Target)) → length table ≡ length list → AllZip (IsTargetIfAny list) es ts → HaveEntries table ts
 entries_there list table [] [] long all = tt
 entries_there list table [] (t ∷ ts) long all = absurd all
 entries_there list table (e ∷ es) [] long all = absurd all

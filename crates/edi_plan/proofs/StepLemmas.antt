@@ -19,7 +19,7 @@ use Rattle.edi_plan.specs.Plans.{is_link}
 use Rattle.edi_plan.specs.Resolving.{AreGiven, IsUnresolved, Resolves, lacks_class, leaves, reference_tests, role_of_link}
 use Rattle.edi_plan.specs.SideTable.{link_tests}
 use Rattle.edi_plan.specs.declared.references.Subset.{Subset}
-use Rattle.edi_plan.specs.declared.sides.ArcSides.{ArcSides}
+use Rattle.edi_schema.specs.declared.by_role.ByRole.{ByRole}
 use Rattle.edi_plan.specs.declared.fault.Unresolved.{Unresolved}
 use Rattle.edi_plan.specs.declared.fault.Unresolved.TheVariants.{Memory, Broken}
 use Rattle.edi_plan.specs.declared.record.PlanAttribute.{PlanAttribute}
@@ -35,7 +35,7 @@ pub unresolved_map : (P Q : ℕ → Type 0) → ((rule : ℕ) → P rule → Q r
 unresolved_map P Q f (Memory e) h = tt
 unresolved_map P Q f (Broken rule) h = f rule h
 
-module _ (s : Classes) (subset : Option Subset) (targets : List (Option Target)) (table : List ArcSides) (r : Record) where
+module _ (s : Classes) (subset : Option Subset) (targets : List (Option Target)) (table : List (ByRole (Option ℕ))) (r : Record) where
   abbrev rest : Option ℕ
   rest = first_broken (link_tests table (role_of_link s r) targets)
 

@@ -68,9 +68,9 @@ module _ (list : List Record) (e : End) where
       record { there = at.0; named = found; here = at.1; kind = one_code at.0.kind k (ap (λ (n : Name). n.rty) at.2 ∙ both.0); no_link = both.1 }
     where
       one_code : (a b : Kind) → kind_code a ≡ kind_code b → a ≡ b
-      one_code a b h = same_some (sym (whole a) ∙ (ap Rattle.edi_record.specs.RecordRules.kind_named h ∙ whole b))
+      one_code a b h = same_some (sym (whole a) ∙ (ap Rattle.edi_record.specs.inner.RecordRules.kind_named h ∙ whole b))
         where
-          whole : (k : Kind) → Rattle.edi_record.specs.RecordRules.kind_named (kind_code k) ≡ Some k
+          whole : (k : Kind) → Rattle.edi_record.specs.inner.RecordRules.kind_named (kind_code k) ≡ Some k
           whole Pno = refl
           whole Par = refl
           whole Pfe = refl

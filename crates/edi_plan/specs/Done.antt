@@ -9,7 +9,7 @@ use Rattle.edi_schema.specs.declared.role.Role.{Role}
 use Rattle.edi_plan.specs.Joined.{beside}
 use Rattle.edi_plan.specs.ReferenceRules.{BreaksReferenceRule, HasRole, Names}
 use Rattle.edi_plan.specs.SideTable.{side_at}
-use Rattle.edi_plan.specs.declared.sides.ArcSides.{ArcSides}
+use Rattle.edi_schema.specs.declared.by_role.ByRole.{ByRole}
 
 module _ (s : Classes) (list : List Record) where
   -- the two ends of a link name an arc and what is beside it by a role
@@ -39,7 +39,7 @@ module _ (s : Classes) (list : List Record) where
   IsJoinIfAny place a role found = MatchOption found ((x : ℕ) → ¬ (JoinsBefore place a role x)) (JoinsBefore place a role)
 
   -- no record before the place breaks a rule, and the table has what the links before it join
-  pub record IsDone (place : ℕ) (table : List ArcSides) : Type 0 where
+  pub record IsDone (place : ℕ) (table : List (ByRole (Option ℕ))) : Type 0 where
     pub long : length table ≡ length list
     pub unbroken : (k rule : ℕ) → k < place → ¬ (BreaksReferenceRule s list rule (suc k))
     pub joined : (k : ℕ) (r : Record) (role : Role) → k < place → IsLinkAt k r role → (a : ℕ) × (x : ℕ) × JoinsIn r role a x

@@ -1,6 +1,7 @@
 -- The names of the records of a sheet.
-use Rattle.std.specs.Prelude.{◌≡◌, ℕ, ◌<◌, List, Option, MatchOption, slice_get, Some}
+use Rattle.std.specs.Prelude.{◌≡◌, ℕ, ◌<◌, List, Option, MatchOption, slice_get, Some, None, if◌then◌else◌}
 use Rattle.std.specs.Map.{lookup}
+use Rattle.std.specs.Option.{option_or}
 use Rattle.edi_record.specs.Shapes.{kind_code}
 use Rattle.edi_record.specs.declared.name.Name.{Name}
 use Rattle.edi_record.specs.declared.record.Record.{Record}
@@ -13,9 +14,17 @@ use Rattle.edi_plan.specs.declared.names.Names.{Names}
 abbrev pub named : RecordName → Name
 named n = record { rty = kind_code n.kind; rid = n.rid.now }
 
+-- the place that a table has for a name
+abbrev pub place_in : List (RecordName × ℕ) → RecordName → Option ℕ
+place_in table name = lookup (λ n. is_name (named name) (named n)) table
+
+-- the new table has this place for the name if the old has none, and what the old has for each other
+abbrev pub IsPut : List (RecordName × ℕ) → RecordName → ℕ → List (RecordName × ℕ) → Type 0
+IsPut old name place new = (other : RecordName) → place_in new other ≡ option_or (place_in old other) (if is_name (named name) (named other) then Some place else None)
+
 -- each name of a record has the place of the first record of that name, and no other name has one
 abbrev pub AreNamesOf : List Record → Names → Type 0
-AreNamesOf list names = (name : RecordName) → lookup (λ n. is_name (named name) (named n)) names.places.entries ≡ place_named list (named name)
+AreNamesOf list names = (name : RecordName) → place_in names.places.entries name ≡ place_named list (named name)
 
 -- the record at this place has the name of an earlier one
 abbrev pub RepeatsAt : List Record → ℕ → Type 0

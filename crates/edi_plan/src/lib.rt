@@ -5,6 +5,7 @@ pub mod attributes;
 pub mod fault;
 pub mod laws;
 mod names;
+mod places;
 pub mod plan;
 pub mod record;
 mod records;

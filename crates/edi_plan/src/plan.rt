@@ -1,16 +1,15 @@
 ghost use Rattle.std.specs.Prelude.{◌≡◌, ◌≢◌, ◌↔◌, ◌<◌, ◌≤◌, length, Some, OnOk, IfOk, IfErr, MatchOption, option_copied, ℕ};
 ghost use Rattle.edi_line.specs.Refusal.{IsUnbroken};
-ghost use Rattle.edi_plan.specs.Plans.{same_kind};
 
 use crate::fault::RefFault;
+use crate::places::Places;
 use crate::record::{PlanAttribute, PlanEnd, PlanRecord};
 use crate::records::plan_records;
 use crate::references::References;
-use crate::sides::ArcSides;
 use edi_line::{Sequence, Text};
 use edi_record::{Extra, Kind, Point, Sheet};
-use edi_schema::{ClassRef, Role, Schema};
-use std::alloc::{AllocError, Global};
+use edi_schema::{ByRole, ClassRef, Role, Schema};
+use std::alloc::Global;
 use std::marker::Model;
 
 /// The plan that the records of a sheet state.
@@ -18,18 +17,20 @@ use std::marker::Model;
 pub struct Plan {
     cse: Option<Text>,
     list: Sequence<PlanRecord>,
-    sides: Sequence<ArcSides>,
+    sides: Sequence<ByRole<Option<u32>>>,
+    places: Places,
 }
 
 impl Model for Plan {
     ghost use Rattle.edi_plan.specs.Plans.{Drawing};
+    ghost use Rattle.edi_plan.specs.Places.{ArePlacesOf};
     ghost use Rattle.edi_plan.specs.SideTable.{IsKept};
 
     ghost Value = { Drawing };
 
     ghost view = { λ p. record { cse = p.cse; list = p.list } };
 
-    ghost invariant = { λ p. IsKept (record { cse = p.cse; list = p.list }) p.sides };
+    ghost invariant = { λ p. IsKept (record { cse = p.cse; list = p.list }) p.sides × ArePlacesOf p.list p.places };
 }
 
 impl Plan {
@@ -54,10 +55,12 @@ impl Plan {
         let Sheet { cse, list } = sheet;
         let references = References::among(alloc, list.as_slice())?;
         let planned = plan_records(alloc, schema, &references, list)?;
+        let places = Places::among(alloc, &planned.list)?;
         Ok(Plan {
             cse,
             list: Sequence::from_vec(planned.list),
             sides: Sequence::from_vec(planned.sides),
+            places,
         })
     }
 
@@ -94,7 +97,7 @@ impl Plan {
         self.list.as_slice()[place as usize].class
     }
 
-    /// The kind of link that the class of a record has: plain for all but links of the four kinds.
+    /// The kind of link that the class of a record has. It says something of links alone, though records of other types may have such a class.
     pub fn role(&self, place: u32) -> Role
         requires { IsPlace self.now place }
         ensures { result ≡ (record_at self.now place).role }
@@ -142,17 +145,11 @@ impl Plan {
         self.sides.as_slice()[place as usize].of(role)
     }
 
-    /// The places of the records of a kind, in file order.
-    pub fn places(&self, alloc: Global, kind: Kind) -> Result<Vec<u32>, AllocError>
-        ensures { IfOk result (λ places. places.items ≡ places_of kind self.now) }
+    /// The places of the records of a type, in file order.
+    pub fn places(&self, kind: Kind) -> &[u32]
+        ensures { result.now ≡ places_of kind self.now }
     {
-        let mut places = Vec::new(alloc);
-        for place in 0..self.len() {
-            if is_same_kind(kind, self.kind(place)) {
-                places.push(place)?;
-            }
-        }
-        Ok(places)
+        self.places.of(kind)
     }
 
     /// What each plan keeps.
@@ -162,10 +159,4 @@ impl Plan {
     {
         let _ = &self.list;
     }
-}
-
-fn is_same_kind(a: Kind, b: Kind) -> bool
-    ensures { result ≡ same_kind a b }
-{
-    a == b
 }

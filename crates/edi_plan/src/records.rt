@@ -3,7 +3,7 @@
 ghost use Rattle.std.specs.Prelude.{◌≡◌, ◌+◌, ◌<◌, ◌≤◌, true, length, is_none, Any, IfOk, IfErr, OnOk, MatchOption, Some, IsTrue, ◌↔◌, codes};
 ghost use Rattle.std.specs.List.{AllZip, list_any};
 ghost use Rattle.edi_line.specs.Refusal.{first_broken};
-ghost use Rattle.edi_record.specs.Records.{value_of as value_in};
+ghost use Rattle.edi_record.specs.Records.{IsValueOf};
 ghost use Rattle.edi_plan.specs.Done.{IsDone};
 ghost use Rattle.edi_plan.specs.PlanOf.{StatesPlanRecord};
 ghost use Rattle.edi_plan.specs.ReferenceRefusal.{IsReferenceRefusal};
@@ -14,15 +14,15 @@ ghost use Rattle.edi_plan.specs.SideTable.{link_join, HaveEntries, IsNoted};
 use crate::fault::{RefFault, Unresolved};
 use crate::record::{PlanAttribute, PlanEnd, PlanRecord};
 use crate::references::{References, Subset};
-use crate::sides::{ArcSides, note_link, without_links};
+use crate::sides::{note_link, without_links};
 use crate::targets::Target;
 use edi_line::{Num, Sequence, Text};
 use edi_record::{Attribute, End, Record, Value};
-use edi_schema::Schema;
+use edi_schema::{ByRole, Schema};
 use std::alloc::Global;
 
 fn value_of(may_be_number: bool, text: Text) -> Value
-    ensures { result ≡ value_in may_be_number text }
+    ensures { IsValueOf (may_be_number ≡ true) text result }
 {
     if may_be_number {
         match Num::read(text.as_slice()) {
@@ -141,7 +141,7 @@ fn plan_record(
     schema: &Schema,
     subset: &Option<Subset>,
     targets: &[Option<Target>],
-    sides: &mut [ArcSides],
+    sides: &mut [ByRole<Option<u32>>],
     record: Record,
 ) -> Result<PlanRecord, Unresolved>
     requires long { length targets.now ≡ length «record».ends }
@@ -198,7 +198,7 @@ fn broken(rule: u16, place: usize) -> RefFault
 #[derive(Drop)]
 pub(crate) struct Planned {
     pub(crate) list: Vec<PlanRecord>,
-    pub(crate) sides: Vec<ArcSides>,
+    pub(crate) sides: Vec<ByRole<Option<u32>>>,
 }
 
 /// The records in the plan; or the first that breaks a rule of references, and the least rule there.

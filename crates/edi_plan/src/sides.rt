@@ -1,27 +1,18 @@
-//! The nodes and the faces of arcs: rules 306 and 307.
+//! The nodes and the faces of arcs, by the kinds of their links: rules 306 and 307.
 
 ghost use Rattle.std.specs.Prelude.{◌≡◌, ◌<◌, ◌↔◌, ◌&&◌, None, Some, false, length, nat_eq, replicate, if◌then◌else◌, IsTrue, IfOk, IfErr, OnOk};
 ghost use Rattle.edi_line.specs.Refusal.{first_broken};
-ghost use Rattle.edi_schema.specs.Roles.{is_plain, same_role};
+ghost use Rattle.edi_schema.specs.Roles.{is_plain};
 ghost use Rattle.edi_plan.specs.Joined.{beside as beside_of};
 ghost use Rattle.edi_plan.specs.Resolving.{IsUnresolved};
-ghost use Rattle.edi_plan.specs.SideTable.{no_sides, side_in, side_at, join_in, join_of_two, link_join, link_tests, HaveEntries, IsNoted};
-ghost use Rattle.edi_schema.specs.declared.role.Role.{Role as Roles};
+ghost use Rattle.edi_schema.specs.ByRole.{no_values};
+ghost use Rattle.edi_plan.specs.SideTable.{side_at, join_in, join_of_two, link_join, link_tests, HaveEntries, IsNoted};
 
 use crate::fault::Unresolved;
 use crate::targets::Target;
 use edi_record::Kind;
-use edi_schema::Role;
+use edi_schema::{ByRole, Role};
 use std::alloc::{AllocError, Global};
-
-/// What an arc has by the role of each of its links: the place of a node or a face, or nothing.
-#[derive(Clone, Copy, Debug, PartialEq, Eq)]
-pub(crate) struct ArcSides {
-    pub(crate) initial: Option<u32>,
-    pub(crate) final_node: Option<u32>,
-    pub(crate) left: Option<u32>,
-    pub(crate) right: Option<u32>,
-}
 
 /// The arc of a link, and the node or the face that it joins with it.
 #[derive(Clone, Copy, Debug, PartialEq, Eq)]
@@ -30,64 +21,14 @@ pub(crate) struct Join {
     pub(crate) other: u32,
 }
 
-impl ArcSides {
-    /// An arc without links.
-    pub(crate) fn none() -> ArcSides
-        ensures { result ≡ no_sides }
-    {
-        ArcSides {
-            initial: None,
-            final_node: None,
-            left: None,
-            right: None,
-        }
-    }
-
-    /// What the arc has by a role.
-    pub(crate) fn of(&self, role: Role) -> Option<u32>
-        ensures { result ≡ side_in self.now role }
-    {
-        match role {
-            Role::Initial => self.initial,
-            Role::Final => self.final_node,
-            Role::Left => self.left,
-            Role::Right => self.right,
-            Role::Plain => None,
-        }
-    }
-
-    /// The same, with a node or a face by this role.
-    fn with(self, role: Role, place: u32) -> ArcSides
-        ensures { (r : Roles) → is_plain r ≡ false → side_in result r ≡ (if same_role r role then Some place else side_in self r) }
-    {
-        let place = Some(place);
-        match role {
-            Role::Initial => ArcSides {
-                initial: place,
-                ..self
-            },
-            Role::Final => ArcSides {
-                final_node: place,
-                ..self
-            },
-            Role::Left => ArcSides {
-                left: place,
-                ..self
-            },
-            Role::Right => ArcSides {
-                right: place,
-                ..self
-            },
-            Role::Plain => self,
-        }
-    }
-}
-
 /// The table of so many records without links.
-pub(crate) fn without_links(alloc: Global, len: usize) -> Result<Vec<ArcSides>, AllocError>
-    ensures { IfOk result (λ table. table.items ≡ replicate len no_sides) }
+pub(crate) fn without_links(
+    alloc: Global,
+    len: usize,
+) -> Result<Vec<ByRole<Option<u32>>>, AllocError>
+    ensures { IfOk result (λ table. table.items ≡ replicate len no_values) }
 {
-    Ok(vec![in alloc; ArcSides::none(); len]?)
+    Ok(vec![in alloc; ByRole::none(); len]?)
 }
 
 /// What a link of one of the four kinds joins with an arc.
@@ -130,7 +71,7 @@ fn join_of(kind: Kind, targets: &[Option<Target>]) -> Option<Join>
 }
 
 /// Notes what the arc has by a role, if it has nothing by it.
-fn note(sides: &mut [ArcSides], role: Role, join: Join) -> bool
+fn note(sides: &mut [ByRole<Option<u32>>], role: Role, join: Join) -> bool
     requires { join.arc < length sides.old }
     ensures is_new { IsTrue result ↔ (side_at sides.old join.arc role ≡ None) }
     ensures noted { IsTrue result → IsNoted sides.old role (Some join) sides.new }
@@ -145,7 +86,7 @@ fn note(sides: &mut [ArcSides], role: Role, join: Join) -> bool
 
 /// Notes what a link of a role joins, or the least of the rules 306 and 307 that it breaks.
 pub(crate) fn note_link(
-    sides: &mut [ArcSides],
+    sides: &mut [ByRole<Option<u32>>],
     role: Role,
     targets: &[Option<Target>],
 ) -> Result<(), Unresolved>

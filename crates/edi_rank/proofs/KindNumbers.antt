@@ -1,57 +1,43 @@
--- The numbers of the records of a kind, written at their places.
-use Rattle.std.proofs.Common.{◌≡◌, ◌≢◌, ℕ, zero, suc, ◌+◌, ◌<◌, ◌⊎◌, inl, inr, Bool, true, false, cond, true≢false, List, [], ◌∷◌, length, get_or, set, take, sym, ap, ◌∙◌, subst, arith, add-one, count_by, eq-eqb, eqb-true}
+-- The numbers of the records of a type, written at their places.
+use Rattle.std.proofs.Common.{◌≡◌, ◌≢◌, ℕ, ◌+◌, ◌<◌, ◌⊎◌, inl, inr, List, length, get_or, set, sym, ap, ◌∙◌, subst, arith}
 use Rattle.std.proofs.lemmas.Bool.{cases_eq}
+use Rattle.std.proofs.lemmas.List.{get_or-set_same, get_or-set_other}
 use Rattle.edi_record.specs.declared.record.Kind.{Kind}
-use Rattle.edi_schema.proofs.SortedLists.{count_by-cons}
 use Rattle.edi_plan.specs.Places.{places_of, member_of}
-use Rattle.edi_plan.specs.Plans.{Drawing, IsPlace, record_at, kind_rank, same_kind}
-use Rattle.edi_plan.proofs.PlaceLemmas.{one_kind}
+use Rattle.edi_plan.specs.Plans.{Drawing, IsPlace, record_at}
+use Rattle.edi_plan.proofs.PlaceLemmas.{place_there, place_of_kind, places_rise}
 use Rattle.edi_rank.proofs.RankedApart.{place_of_member}
 
-pub same_is : (a b : Kind) → same_kind a b ≡ true → a ≡ b
-same_is a b e = one_kind a b (eqb-true (kind_rank a) (kind_rank b) e)
-
-pub is_same : (a b : Kind) → b ≡ a → same_kind a b ≡ true
-is_same a b e = eq-eqb (kind_rank a) (kind_rank b) (ap kind_rank (sym e))
-
-counted : {X : Type 0} (t : X → Bool) (xs : List X) (k : ℕ) (d : X) → k < length xs → count_by t (take (suc k) xs) ≡ count_by t (take k xs) + cond (t (get_or xs k d)) 1 0
-counted t [] k d h = absurd (omega (arith, h))
-counted t (x ∷ xs) zero d h = omega (arith, count_by-cons t x [])
-counted t (x ∷ xs) (suc k) d h = omega (arith, count_by-cons t x (take (suc k) xs), count_by-cons t x (take k xs), counted t xs k d (omega (arith, h)))
-
-pub count_more : {X : Type 0} (t : X → Bool) (xs : List X) (k : ℕ) (d : X) → k < length xs → count_by t (take (k + 1) xs) ≡ count_by t (take k xs) + cond (t (get_or xs k d)) 1 0
-count_more t xs k d h = ap (λ n. count_by t (take n xs)) (add-one k) ∙ counted t xs k d h
-
 module _ (p : Drawing) (kind : Kind) where
-  abbrev pub before : ℕ → ℕ
-  before place = count_by (λ r. same_kind kind r.kind) (take place p.list)
+  abbrev pub place_at : ℕ → ℕ
+  place_at member = get_or (places_of kind p) member 0
 
-  pub member_is : (k : ℕ) → (record_at p k).kind ≡ kind → member_of p k ≡ before k
-  member_is k e = ap (λ j. count_by (λ r. same_kind j r.kind) (take k p.list)) e
+  -- the numbers of the members before this one stand at their places
+  abbrev pub WrittenTo : List ℕ → ℕ → List ℕ → Type 0
+  WrittenTo ranks n numbers = (m : ℕ) → m < n → get_or numbers (place_at m) 0 ≡ get_or ranks m 0
 
-  pub member_below : (k : ℕ) → IsPlace p k → same_kind kind (record_at p k).kind ≡ true → before k < length (places_of kind p)
-  member_below k h e = subst (λ j. count_by (λ r. same_kind j r.kind) (take k p.list) < length (places_of j p)) (sym (same_is kind (record_at p k).kind e)) (place_of_member p k h).0
+  -- records of other types have the numbers that they had
+  abbrev pub OthersStay : List ℕ → List ℕ → Type 0
+  OthersStay was numbers = (k : ℕ) → k < length p.list → (record_at p k).kind ≢ kind → get_or numbers k 0 ≡ get_or was k 0
 
-  module _ (ranks numbers : List ℕ) (long : length numbers ≡ length p.list) (place : ℕ) (there : IsPlace p place)
-      (each : (k : ℕ) → k < place → (record_at p k).kind ≡ kind → get_or numbers k 0 ≡ get_or ranks (member_of p k) 0) where
-    pub each_written : (value : ℕ) → value ≡ get_or ranks (before place) 0 → (k : ℕ) → k < place + 1 → (record_at p k).kind ≡ kind → get_or (set numbers place value) k 0 ≡ get_or ranks (member_of p k) 0
-    each_written value is k h e = go (cases_eq k place)
+  module _ (numbers : List ℕ) (n value : ℕ) (there : n < length (places_of kind p)) where
+    pub written_more : (ranks : List ℕ) → length numbers ≡ length p.list → value ≡ get_or ranks n 0 → WrittenTo ranks n numbers → WrittenTo ranks (n + 1) (set numbers (place_at n) value)
+    written_more ranks long is before m h = go (cases_eq m n)
       where
-        go : (k ≡ place) ⊎ (k ≡ place → ⊥) → get_or (set numbers place value) k 0 ≡ get_or ranks (member_of p k) 0
+        go : (m ≡ n) ⊎ (m ≡ n → ⊥) → get_or (set numbers (place_at n) value) (place_at m) 0 ≡ get_or ranks m 0
         go (inl same) =
-            subst (λ j. get_or (set numbers place value) j 0 ≡ get_or ranks (member_of p j) 0) (sym same)
-            (Rattle.std.proofs.lemmas.List.get_or-set_same numbers place value 0 (omega (arith, long, there)) ∙ (is ∙ sym (ap (λ m. get_or ranks m 0) (member_is place (ap (λ j. (record_at p j).kind) (sym same) ∙ e)))))
-        go (inr other) = Rattle.std.proofs.lemmas.List.get_or-set_other numbers place k value 0 other ∙ each k (omega (arith, h, other)) e
+            ap (λ j. get_or (set numbers (place_at n) value) (place_at j) 0) same
+            ∙ (get_or-set_same numbers (place_at n) value 0 (omega (arith, long, place_there kind p n there)) ∙ (is ∙ ap (λ j. get_or ranks j 0) (sym same)))
+        go (inr other) =
+            let below : m < n = omega (arith, h, other) in
+            let apart = places_rise kind p m n below there in
+            get_or-set_other numbers (place_at n) (place_at m) value 0 (λ e. omega (arith, apart, e)) ∙ before m below
 
-    pub each_passed : same_kind kind (record_at p place).kind ≡ false → (k : ℕ) → k < place + 1 → (record_at p k).kind ≡ kind → get_or numbers k 0 ≡ get_or ranks (member_of p k) 0
-    each_passed not_here k h e = go (cases_eq k place)
-      where
-        go : (k ≡ place) ⊎ (k ≡ place → ⊥) → get_or numbers k 0 ≡ get_or ranks (member_of p k) 0
-        go (inl same) = absurd (true≢false (sym (is_same kind (record_at p place).kind (ap (λ j. (record_at p j).kind) (sym same) ∙ e)) ∙ not_here))
-        go (inr other) = each k (omega (arith, h, other)) e
+    pub others_stay : (was : List ℕ) → OthersStay was numbers → OthersStay was (set numbers (place_at n) value)
+    others_stay was stay k h other =
+        get_or-set_other numbers (place_at n) k value 0 (λ e. other (ap (λ j. (record_at p j).kind) e ∙ place_of_kind kind p n there)) ∙ stay k h other
 
-  pub others_kept : (numbers was : List ℕ) (place value : ℕ) → same_kind kind (record_at p place).kind ≡ true
-      → ((k : ℕ) → k < length p.list → (record_at p k).kind ≢ kind → get_or numbers k 0 ≡ get_or was k 0)
-      → (k : ℕ) → k < length p.list → (record_at p k).kind ≢ kind → get_or (set numbers place value) k 0 ≡ get_or was k 0
-  others_kept numbers was place value here others k h other =
-      Rattle.std.proofs.lemmas.List.get_or-set_other numbers place k value 0 (λ e. other (ap (λ j. (record_at p j).kind) e ∙ sym (same_is kind (record_at p place).kind here))) ∙ others k h other
+  pub each_member : (ranks numbers : List ℕ) → WrittenTo ranks (length (places_of kind p)) numbers → (k : ℕ) → IsPlace p k → (record_at p k).kind ≡ kind → get_or numbers k 0 ≡ get_or ranks (member_of p k) 0
+  each_member ranks numbers all k h is =
+      let own = subst (λ j. (member_of p k < length (places_of j p)) × (get_or (places_of j p) (member_of p k) 0 ≡ k)) is (place_of_member p k h) in
+      subst (λ j. get_or numbers j 0 ≡ get_or ranks (member_of p k) 0) own.1 (all (member_of p k) own.0)

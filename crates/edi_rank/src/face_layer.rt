@@ -9,9 +9,11 @@ ghost use Rattle.edi_plan.specs.Places.{places_of};
 ghost use Rattle.edi_plan.specs.Plans.{IsPlace, record_at, is_arc as is_arc_kind};
 ghost use Rattle.edi_rank.specs.Beside.{arc_and_other, side_for};
 ghost use Rattle.edi_rank.specs.Keys.{face_key_cmp, least_side, side_by, side_of};
+ghost use Rattle.edi_rank.specs.Labelling.{turned_at};
+ghost use Rattle.edi_rank.specs.Turned.{is_backward};
 ghost use Rattle.edi_rank.specs.Layers.{face_keys, forward_plan, no_side};
 
-use crate::forward::is_turned;
+use crate::forward::{turned_arcs, turned_in};
 use crate::keys::{FaceKey, compare_faces};
 use crate::numbering::number_kind;
 use edi_line::Sequence;
@@ -45,10 +47,26 @@ impl FaceLayer {
         requires { length arcs.now ≡ length (places_of Par sound.now) }
         ensures { IfOk result (λ layer. layer ≡ face_keys sound.now arcs.now) }
     {
+        let turned = turned_arcs(alloc, sound.plan())?;
+        FaceLayer::with_turned(alloc, sound, arcs, &turned)
+    }
+
+    /// The faces of a plan, where its arcs have these numbers and these of them aren't forward.
+    pub(crate) fn with_turned(
+        alloc: Global,
+        sound: &Sound,
+        arcs: &Ranks,
+        turned: &[bool],
+    ) -> Result<FaceLayer, AllocError>
+        requires arcs { length arcs.now ≡ length (places_of Par sound.now) }
+        requires turned_long { length turned.now ≡ length sound.now.list }
+        requires turned { (k : ℕ) → IsPlace sound.now k → turned_at turned.now k ≡ is_backward sound.now k }
+        ensures { IfOk result (λ layer. layer ≡ face_keys sound.now arcs.now) }
+    {
         let plan = sound.plan();
         let unnumbered = vec![in alloc; 0; plan.len() as usize]?;
         let numbers = number_kind(plan, Kind::Par, arcs, unnumbered);
-        let sides = least_sides(alloc, plan, &numbers)?;
+        let sides = least_sides(alloc, plan, &numbers, turned)?;
         let keys = sides_of_faces(alloc, plan, &sides)?;
         Ok(FaceLayer {
             keys: Sequence::from_vec(keys),
@@ -113,15 +131,17 @@ fn side_after(role: Role, turned: bool) -> Option<Role>
 }
 
 /// What a link puts beside an arc, and on which side in the forward direction.
-fn side_put(plan: &Plan, numbers: &[u32], place: u32) -> Option<(u32, FaceKey)>
+fn side_put(plan: &Plan, numbers: &[u32], turned: &[bool], place: u32) -> Option<(u32, FaceKey)>
     requires place { IsPlace plan.now place }
     requires numbers { length numbers.now ≡ length plan.now.list }
+    requires turned_long { length turned.now ≡ length plan.now.list }
+    requires turned { (k : ℕ) → IsPlace plan.now k → turned_at turned.now k ≡ is_backward plan.now k }
     ensures there { MatchOption result ⊤ (λ put. IsPlace plan.now put.0) }
     ensures side { (face : ℕ) → side_by (forward_plan plan.now) (slice_index numbers.now) face (record_at (forward_plan plan.now) place) ≡ side_for face result }
 {
     plan.keeps();
     let (arc, face) = arc_with(plan, plan.ends(place))?;
-    let side = side_after(plan.role(place), is_turned(plan, arc))?;
+    let side = side_after(plan.role(place), turned_in(plan, turned, arc))?;
     let key = FaceKey {
         arc: numbers[arc as usize],
         side,
@@ -150,14 +170,17 @@ fn least_sides(
     alloc: Global,
     plan: &Plan,
     numbers: &[u32],
+    turned: &[bool],
 ) -> Result<Vec<Option<FaceKey>>, AllocError>
-    requires { length numbers.now ≡ length plan.now.list }
+    requires numbers { length numbers.now ≡ length plan.now.list }
+    requires turned_long { length turned.now ≡ length plan.now.list }
+    requires turned { (k : ℕ) → IsPlace plan.now k → turned_at turned.now k ≡ is_backward plan.now k }
     ensures length { IfOk result (λ sides. length sides.items ≡ length plan.now.list) }
     ensures least { IfOk result (λ sides. (k : ℕ) → IsPlace plan.now k → slice_index_or sides.items k None ≡ least_side (forward_plan plan.now) (slice_index numbers.now) k) }
 {
     let mut sides = vec![in alloc; None; plan.len() as usize]?;
     for place in 0..plan.len() {
-        if let Some((face, side)) = side_put(plan, numbers, place) {
+        if let Some((face, side)) = side_put(plan, numbers, turned, place) {
             let least = &mut sides[face as usize];
             *least = Some(lesser_side(*least, side));
         }
@@ -174,9 +197,9 @@ fn sides_of_faces(
     requires { length sides.now ≡ length plan.now.list }
     ensures { IfOk result (λ keys. keys.items ≡ map (λ k. unwrap_or (slice_index_or sides.now k None) no_side) (places_of Pfe plan.now)) }
 {
-    let places = plan.places(alloc, Kind::Pfe)?;
+    let places = plan.places(Kind::Pfe);
     let mut keys = Vec::with_capacity(alloc, places.len())?;
-    for place in &places {
+    for place in places {
         keys.push(sides[*place as usize].unwrap_or(NO_SIDE))?;
     }
     Ok(keys)

@@ -21,6 +21,16 @@ pub(crate) fn is_turned(plan: &Plan, place: u32) -> bool
     }
 }
 
+/// Whether the record is an arc that isn't forward, by the list of those.
+pub(crate) fn turned_in(plan: &Plan, turned: &[bool], place: u32) -> bool
+    requires place { IsPlace plan.now place }
+    requires long { length turned.now ≡ length plan.now.list }
+    requires turned { (k : ℕ) → IsPlace plan.now k → turned_at turned.now k ≡ is_backward plan.now k }
+    ensures { result ≡ is_backward plan.now place }
+{
+    turned[place as usize]
+}
+
 /// Which records are arcs that aren't forward, by place.
 pub(crate) fn turned_arcs(alloc: Global, plan: &Plan) -> Result<Vec<bool>, AllocError>
     ensures length { IfOk result (λ turned. length turned.items ≡ length plan.now.list) }

@@ -48,3 +48,10 @@ pub fn compare_faces(a: FaceKey, b: FaceKey) -> Ordering
 {
     a.cmp(&b)
 }
+
+/// Objects go by class, attributes, extra zones, then pieces.
+pub fn compare_objects(a: &ObjectKey<'_>, b: &ObjectKey<'_>) -> Ordering
+    ensures { result ≡ object_key_cmp a.now b.now }
+{
+    a.cmp(b)
+}

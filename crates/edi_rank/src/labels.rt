@@ -11,7 +11,8 @@ ghost use Rattle.edi_topo.specs.NodeKeys.{IsNodeRanking};
 ghost use Rattle.edi_record.specs.declared.record.Kind.TheVariants.{Fea};
 ghost use Rattle.edi_topo.specs.Arcs.{IsForwardRanking};
 ghost use Rattle.edi_rank.specs.Layers.{IsFaceRanking, IsLinkRanking};
-ghost use Rattle.edi_rank.specs.Labelling.{NumbersEach};
+ghost use Rattle.edi_rank.specs.Labelling.{NumbersEach, turned_at};
+ghost use Rattle.edi_rank.specs.Turned.{is_backward};
 ghost use Rattle.edi_line.specs.Refusal.{IsUnbroken};
 
 use crate::end_orders::{all_orders, lower_orders};
@@ -52,7 +53,7 @@ impl Model for Labels {
 
 impl Labels {
     ghost use Rattle.edi_rank.specs.EndOrder.{positions_at};
-    ghost use Rattle.edi_rank.specs.Labelling.{AreLabels, order_of, number_of, turned_at};
+    ghost use Rattle.edi_rank.specs.Labelling.{AreLabels, order_of, number_of};
     ghost use Rattle.edi_plan.specs.Agreeing.{Agrees};
 
     /// The labels of a sound plan under the schema that it was built under, or the first object that is alike an
@@ -65,7 +66,7 @@ impl Labels {
     {
         let plan = sound.plan();
         let turned = turned_arcs(alloc, plan)?;
-        let lower = lower_ranks(alloc, sound)?;
+        let lower = lower_ranks(alloc, sound, &turned)?;
         let unnamed = lower_numbers(alloc, plan, lower.nodes, lower.arcs, &lower.faces)?;
         let named = name_objects(alloc, sound, unnamed)?;
         let links = link_ranks(alloc, schema, plan, &turned, &named.numbers, &named.others)?;
@@ -136,12 +137,19 @@ impl Labels {
 }
 
 /// The numbers of the faces, in file order.
-fn face_ranks(alloc: Global, sound: &Sound, arcs: &Ranks) -> Result<Ranks, AllocError>
-    requires { IsForwardRanking sound.now arcs.now }
+fn face_ranks(
+    alloc: Global,
+    sound: &Sound,
+    arcs: &Ranks,
+    turned: &[bool],
+) -> Result<Ranks, AllocError>
+    requires ranking { IsForwardRanking sound.now arcs.now }
+    requires turned_long { length turned.now ≡ length sound.now.list }
+    requires turned { (k : ℕ) → IsPlace sound.now k → turned_at turned.now k ≡ is_backward sound.now k }
     ensures { IfOk result (IsFaceRanking sound.now arcs.now) }
 {
     let _plan = sound.plan();
-    let layer = FaceLayer::of(alloc, sound, arcs)?;
+    let layer = FaceLayer::with_turned(alloc, sound, arcs, turned)?;
     match ranks(alloc, &layer) {
         Ok(ranks) => Ok(ranks),
         Err(TieFault::Memory(error)) => Err(error),
@@ -221,7 +229,7 @@ fn link_ranks(
     requires orders { (k : ℕ) → IsPlace plan.now k → OthersInOrder plan.now (slice_index numbers.now) orders.now k }
     ensures { IfOk result (IsLinkRanking (record { plan = plan.now; classes = schema.now; turned = turned.now; numbers = numbers.now })) }
 {
-    let layer = LinkLayer::of(alloc, schema, plan, turned, numbers, orders)?;
+    let layer = LinkLayer::of(schema, plan, turned, numbers, orders);
     match ranks(alloc, &layer) {
         Ok(ranks) => Ok(ranks),
         Err(TieFault::Memory(error)) => Err(error),
@@ -237,14 +245,20 @@ struct LowerRanks<'a> {
     faces: Ranks,
 }
 
-fn lower_ranks<'a>(alloc: Global, sound: &'a Sound) -> Result<LowerRanks<'a>, AllocError>
+fn lower_ranks<'a>(
+    alloc: Global,
+    sound: &'a Sound,
+    turned: &[bool],
+) -> Result<LowerRanks<'a>, AllocError>
+    requires turned_long { length turned.now ≡ length sound.now.list }
+    requires turned { (k : ℕ) → IsPlace sound.now k → turned_at turned.now k ≡ is_backward sound.now k }
     ensures nodes { IfOk result (λ lower. IsNodeRanking sound.now lower.nodes.now) }
     ensures arcs { IfOk result (λ lower. IsForwardRanking sound.now lower.arcs.now) }
     ensures faces { IfOk result (λ lower. IsFaceRanking sound.now lower.arcs.now lower.faces) }
 {
     let nodes = sound.node_ranks();
     let arcs = sound.arc_ranks();
-    let faces = face_ranks(alloc, sound, arcs)?;
+    let faces = face_ranks(alloc, sound, arcs, turned)?;
     Ok(LowerRanks { nodes, arcs, faces })
 }
 
@@ -261,7 +275,6 @@ fn kind_by_number(
     ensures places { IfOk result (λ order. (m : ℕ) → m < length (places_of kind plan.now) → slice_index order (slice_index ranks.now m - 1) ≡ slice_index (places_of kind plan.now) m) }
 {
     plan.keeps();
-    let places = plan.places(alloc, kind)?;
-    let order = places_by_number(alloc, &places, ranks)?;
+    let order = places_by_number(alloc, plan.places(kind), ranks)?;
     Ok(Sequence::from_vec(order))
 }

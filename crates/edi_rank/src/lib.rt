@@ -1,7 +1,6 @@
 //! Directions, keys and numbers of records.
 #![tactic(auto)]
 
-pub mod arc_layer;
 pub mod end_orders;
 pub mod ends;
 pub mod face_layer;
@@ -10,20 +9,17 @@ pub mod forward;
 pub mod keys;
 pub mod labels;
 pub mod laws;
-pub mod layers;
 pub mod link_key;
 mod link_layer;
 mod numbering;
 pub mod object_layer;
 
-pub use arc_layer::ArcLayer;
-pub use edi_topo::{Layer, Ranks, TieFault, is_forward, ranks};
+pub use edi_topo::{ArcLayer, Layer, NodeLayer, Ranks, TieFault, is_forward, ranks};
 pub use end_orders::lower_orders;
 pub use ends::{end_in_order, numbered_end};
 pub use face_layer::FaceLayer;
 pub use fault::RankFault;
 pub use keys::{FaceKey, LinkKey, NumberedEnd, ObjectKey};
 pub use labels::Labels;
-pub use layers::NodeLayer;
 pub use link_key::class_turned;
 pub use object_layer::ObjectLayer;

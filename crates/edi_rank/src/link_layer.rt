@@ -26,7 +26,7 @@ pub(crate) struct LinkLayer<'a> {
     turned: &'a [bool],
     numbers: &'a [u32],
     orders: &'a [Sequence<usize>],
-    places: Vec<u32>,
+    places: &'a [u32],
 }
 
 impl<'a> Model for LinkLayer<'a> {
@@ -42,7 +42,7 @@ impl<'a> Model for LinkLayer<'a> {
 
     ghost view = { λ l. record { plan = l.plan.now; classes = l.schema.now; turned = l.turned.now; numbers = l.numbers.now } };
 
-    ghost invariant = { λ l. (l.places.items ≡ places_of Lnk l.plan.now) × Agrees l.schema.now l.plan.now × (length l.turned.now ≡ length l.plan.now.list) × (length l.numbers.now ≡ length l.plan.now.list)
+    ghost invariant = { λ l. (l.places.now ≡ places_of Lnk l.plan.now) × Agrees l.schema.now l.plan.now × (length l.turned.now ≡ length l.plan.now.list) × (length l.numbers.now ≡ length l.plan.now.list)
         × (length l.orders.now ≡ length l.plan.now.list) × ((k : ℕ) → IsPlace l.plan.now k → OthersInOrder l.plan.now (slice_index l.numbers.now) l.orders.now k) };
 }
 
@@ -50,29 +50,27 @@ impl<'a> LinkLayer<'a> {
     /// The links of a plan, with the records that are turned, the numbers of the other records, and the
     /// positions of the other ends of each in their order, by place.
     pub(crate) fn of(
-        alloc: Global,
         schema: &'a Schema,
         plan: &'a Plan,
         turned: &'a [bool],
         numbers: &'a [u32],
         orders: &'a [Sequence<usize>],
-    ) -> Result<LinkLayer<'a>, AllocError>
+    ) -> LinkLayer<'a>
         requires agrees { Agrees schema.now plan.now }
         requires turned { length turned.now ≡ length plan.now.list }
         requires numbers { length numbers.now ≡ length plan.now.list }
         requires ordered { length orders.now ≡ length plan.now.list }
         requires orders { (k : ℕ) → IsPlace plan.now k → OthersInOrder plan.now (slice_index numbers.now) orders.now k }
-        ensures { IfOk result (λ layer. layer ≡ record { plan = plan.now; classes = schema.now; turned = turned.now; numbers = numbers.now }) }
+        ensures { result ≡ record { plan = plan.now; classes = schema.now; turned = turned.now; numbers = numbers.now } }
     {
-        let places = plan.places(alloc, Kind::Lnk)?;
-        Ok(LinkLayer {
+        LinkLayer {
             plan,
             schema,
             turned,
             numbers,
             orders,
-            places,
-        })
+            places: plan.places(Kind::Lnk),
+        }
     }
 
     /// The place of a link.

@@ -3,7 +3,7 @@
 ghost use Rattle.std.specs.Prelude.{◌≡◌, ◌≢◌, ◌<◌, ◌≤◌, ◌-◌, ℕ, length, slice_index, IfOk};
 ghost use Rattle.edi_record.specs.declared.record.Kind.TheVariants.{Pno, Par, Pfe};
 ghost use Rattle.edi_plan.specs.Places.{places_of, member_of};
-ghost use Rattle.edi_plan.specs.Plans.{IsPlace, record_at, same_kind};
+ghost use Rattle.edi_plan.specs.Plans.{IsPlace, record_at};
 ghost use Rattle.edi_rank.specs.Labelling.{NumbersEach};
 ghost use Rattle.edi_rank.specs.Layers.{ranked};
 
@@ -11,12 +11,6 @@ use edi_plan::Plan;
 use edi_record::Kind;
 use edi_topo::Ranks;
 use std::alloc::{AllocError, Global};
-
-fn is_same_kind(a: Kind, b: Kind) -> bool
-    ensures { result ≡ same_kind a b }
-{
-    a == b
-}
 
 /// The numbers by place, with those of the records of a kind written at their places.
 pub(crate) fn number_kind(plan: &Plan, kind: Kind, ranks: &Ranks, mut numbers: Vec<u32>) -> Vec<u32>
@@ -28,11 +22,9 @@ pub(crate) fn number_kind(plan: &Plan, kind: Kind, ranks: &Ranks, mut numbers: V
 {
     plan.keeps();
     let mut member: u32 = 0;
-    for place in 0..plan.len() {
-        if is_same_kind(kind, plan.kind(place)) {
-            numbers[place as usize] = ranks.number(member);
-            member += 1;
-        }
+    for place in plan.places(kind) {
+        numbers[*place as usize] = ranks.number(member);
+        member += 1;
     }
     numbers
 }

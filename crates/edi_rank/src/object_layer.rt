@@ -28,7 +28,7 @@ pub struct ObjectLayer<'a> {
     plan: &'a Plan,
     numbers: Vec<u32>,
     orders: Vec<Sequence<usize>>,
-    places: Vec<u32>,
+    places: &'a [u32],
     links: Vec<Vec<u32>>,
 }
 
@@ -44,7 +44,7 @@ impl<'a> Model for ObjectLayer<'a> {
 
     ghost view = { λ l. record { plan = l.plan.now; numbers = l.numbers.items } };
 
-    ghost invariant = { λ l. (l.places.items ≡ places_of Fea l.plan.now) × (length l.numbers.items ≡ length l.plan.now.list) × (length l.links.items ≡ length l.plan.now.list)
+    ghost invariant = { λ l. (l.places.now ≡ places_of Fea l.plan.now) × (length l.numbers.items ≡ length l.plan.now.list) × (length l.links.items ≡ length l.plan.now.list)
         × ((k : ℕ) → IsPlace l.plan.now k → is_object (record_at l.plan.now k).kind ≡ true → slice_index_or l.numbers.items k 0 ≡ 0)
         × ((k : ℕ) → IsPlace l.plan.now k → is_object (record_at l.plan.now k).kind ≡ true → slice_index_or (map (λ v. v.items) l.links.items) k [] ≡ piece_places l.plan.now k)
         × (length l.orders.items ≡ length l.plan.now.list)
@@ -87,13 +87,12 @@ impl<'a> ObjectLayer<'a> {
         ensures { IfOk result (λ layer. layer ≡ record { plan = sound.now; numbers = numbers.items }) }
     {
         let plan = sound.plan();
-        let places = plan.places(alloc, Kind::Fea)?;
         let links = links_by_object(alloc, plan)?;
         Ok(ObjectLayer {
             plan,
             numbers,
             orders,
-            places,
+            places: plan.places(Kind::Fea),
             links,
         })
     }

@@ -6,11 +6,12 @@ use Rattle.std.proofs.lemmas.Bool.Decides.{nat_tests}
 use Rattle.std.proofs.lemmas.List.{append-nil}
 use Rattle.std.proofs.lemmas.Slice.Eq.{bytes_eq-Decides}
 use Rattle.edi_line.specs.Entry.{Entry, has_code}
-use Rattle.edi_record.specs.Texts.{pointer}
-use Rattle.edi_record.specs.Lent.{shown}
-use Rattle.edi_record.specs.Records.{opens, closes, set_after, value_after, attributes, placed}
-use Rattle.edi_record.specs.RecordRules.{count_until, has_bad_attribute}
-use Rattle.edi_record.specs.Kept.{is_stray, set_with, set_come, attribute_of, attributes_with, closed_with, repeats_with, KeepsAttributes}
+use Rattle.edi_record.specs.inner.Texts.{pointer}
+use Rattle.edi_record.specs.Texts.{shown}
+use Rattle.edi_record.specs.Records.{opens, closes}
+use Rattle.edi_record.specs.inner.Records.{set_after, value_after, attributes, placed}
+use Rattle.edi_record.specs.inner.RecordRules.{count_until, has_bad_attribute}
+use Rattle.edi_record.specs.inner.Kept.{is_stray, set_with, set_come, attribute_of, attributes_with, closed_with, repeats_with, KeepsAttributes}
 use Rattle.edi_record.specs.declared.attributes.Attributes.{Attributes}
 use Rattle.edi_record.specs.declared.attributes.OpenAttribute.{OpenAttribute}
 use Rattle.edi_record.specs.declared.pointer.Pointer.{Pointer}

@@ -4,8 +4,10 @@ use Rattle.std.specs.List.{list_any}
 use Rattle.std.proofs.lemmas.List.{take_all}
 use Rattle.edi_line.specs.Entry.{Entry, entry, entries}
 use Rattle.edi_line.specs.declared.zone.Zone.{Zone}
-use Rattle.edi_record.specs.Texts.{PointerText, pointer}
-use Rattle.edi_record.specs.Records.{opens, closes, set_after, value_after, attribute, attributes}
+use Rattle.edi_record.specs.Texts.{PointerText}
+use Rattle.edi_record.specs.inner.Texts.{pointer}
+use Rattle.edi_record.specs.Records.{opens, closes}
+use Rattle.edi_record.specs.inner.Records.{set_after, value_after, attribute, attributes}
 use Rattle.edi_record.specs.declared.record.Attribute.{Attribute}
 
 pub set_stops : (z : Entry) (zs : List Entry) → (opens z || closes z) ≡ true → None ≡ set_after (z ∷ zs)

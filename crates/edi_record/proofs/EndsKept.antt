@@ -4,11 +4,12 @@ use Rattle.std.specs.List.{list_any}
 use Rattle.std.proofs.lemmas.Bool.{or_left, or_right}
 use Rattle.std.proofs.lemmas.List.{append-nil}
 use Rattle.edi_line.specs.Entry.{Entry, has_code}
-use Rattle.edi_record.specs.Texts.{pointer}
-use Rattle.edi_record.specs.Lent.{shown}
-use Rattle.edi_record.specs.Records.{is_link, points_at, sns_after, ends}
-use Rattle.edi_record.specs.RecordRules.{kind_in, count_until, repeats, has_bad_end}
-use Rattle.edi_record.specs.Kept.{has_stray, sns_with, sns_come, end_with, ends_with, ended_with, bad_sns_with, KeepsEnds}
+use Rattle.edi_record.specs.inner.Texts.{pointer}
+use Rattle.edi_record.specs.Texts.{shown}
+use Rattle.edi_record.specs.Records.{is_link, points_at}
+use Rattle.edi_record.specs.inner.Records.{sns_after, ends}
+use Rattle.edi_record.specs.inner.RecordRules.{kind_in, count_until, repeats, has_bad_end}
+use Rattle.edi_record.specs.inner.Kept.{has_stray, sns_with, sns_come, end_with, ends_with, ended_with, bad_sns_with, KeepsEnds}
 use Rattle.edi_record.specs.declared.ends.Ends.{Ends}
 use Rattle.edi_record.specs.declared.ends.OpenEnd.{OpenEnd}
 use Rattle.edi_record.specs.declared.pointer.Pointer.{Pointer}

@@ -9,7 +9,7 @@ use Rattle.edi_line.specs.Entry.{Entry, entry, entries, has_code, first}
 use Rattle.edi_record.specs.Records.{values, group_at}
 use Rattle.edi_line.specs.Zones.{begins_group, ends_group, before_end, groups_of}
 use Rattle.edi_line.specs.declared.zone.Zone.{Zone}
-use Rattle.edi_record.specs.RecordRules.{kind_named, kind_in}
+use Rattle.edi_record.specs.inner.RecordRules.{kind_named, kind_in}
 use Rattle.edi_record.specs.declared.record.Kind.{Kind}
 
 abbrev pub begins : Zone → Bool

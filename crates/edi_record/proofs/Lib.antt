@@ -19,8 +19,11 @@ pub mod ListRead
 pub mod PrintedRecords
 pub mod Printable
 pub mod InStretches
+pub mod StatesSaid
+pub mod RulesSaid
 pub mod ReadZones
 pub mod ReadRecords
 pub mod Unnumbered
 pub mod Sound
 pub mod ValueOrder
+pub mod KindOrder

@@ -10,9 +10,10 @@ use Rattle.edi_line.specs.Refusal.{IsUnbroken, IsLeastBroken, Breaks, first_brok
 use Rattle.edi_line.proofs.FirstBroken.{none_broken, first_is_least}
 use Rattle.edi_line.proofs.Rules.{AreApart, two_cuts}
 use Rattle.edi_record.specs.Shapes.{is_in_shape}
-use Rattle.edi_record.specs.Records.{States}
-use Rattle.edi_record.specs.RecordRules.{record_tests, BreaksRecordRule}
-use Rattle.edi_record.specs.RecordRefusal.{IsRecordRefusal, IsGroupRefusal, fault_at}
+use Rattle.edi_record.specs.inner.Records.{ReadsAs}
+use Rattle.edi_record.specs.inner.RecordRules.{record_tests, FailsTest}
+use Rattle.edi_record.specs.RecordRefusal.{IsRecordRefusal}
+use Rattle.edi_record.specs.inner.RecordRefusal.{IsGroupRefusal, fault_at}
 use Rattle.edi_record.specs.declared.fault.GroupFault.{GroupFault}
 use Rattle.edi_record.specs.declared.fault.GroupFault.TheVariants.{Memory as GroupMemory, Broken as GroupBroken}
 use Rattle.edi_record.specs.declared.fault.RecordFault.{RecordFault}
@@ -25,20 +26,20 @@ IsSound group = first_broken (record_tests group) ≡ None
 pub record SoFar (zones rest : List Entry) (list : List Record) : Type 0 where
   pub done : List (List Entry)
   pub cut : groups_of zones ≡ done ++ groups_of rest
-  pub states : AllZip States done list
+  pub states : AllZip ReadsAs done list
   pub sound : AllByRecursion IsSound done
   pub shape : list_all is_in_shape list ≡ true
 
 pub none_done : (zones : List Entry) → SoFar zones zones []
 none_done zones = record { done = []; cut = refl; states = tt; sound = tt; shape = refl }
 
-zip_push : (gs : List (List Entry)) (rs : List Record) (g : List Entry) (r : Record) → AllZip States gs rs → States g r → AllZip States (gs ++ g ∷ []) (rs ++ r ∷ [])
+zip_push : (gs : List (List Entry)) (rs : List Record) (g : List Entry) (r : Record) → AllZip ReadsAs gs rs → ReadsAs g r → AllZip ReadsAs (gs ++ g ∷ []) (rs ++ r ∷ [])
 zip_push [] [] g r h k = (k, tt)
 zip_push [] (y ∷ rs) g r h k = absurd h
 zip_push (x ∷ gs) [] g r h k = absurd h
 zip_push (x ∷ gs) (y ∷ rs) g r h k = (h.0, zip_push gs rs g r h.1 k)
 
-zip_length : (gs : List (List Entry)) (rs : List Record) → AllZip States gs rs → length gs ≡ length rs
+zip_length : (gs : List (List Entry)) (rs : List Record) → AllZip ReadsAs gs rs → length gs ≡ length rs
 zip_length [] [] h = refl
 zip_length [] (y ∷ rs) h = absurd h
 zip_length (x ∷ gs) [] h = absurd h
@@ -60,7 +61,7 @@ pub no_group_here : (z : Entry) (zs : List Entry) → begins_group z ≡ false �
 no_group_here z zs e = rw e refl
 
 pub one_more : (zones rest : List Entry) (list new : List Record) (z : Entry) (zs : List Entry) (r : Record) → SoFar zones rest list → rest ≡ z ∷ zs → begins_group z ≡ true
-    → States (z ∷ before_end zs) r → is_in_shape r ≡ true → IsSound (z ∷ before_end zs) → new ≡ list ++ r ∷ [] → SoFar zones zs new
+    → ReadsAs (z ∷ before_end zs) r → is_in_shape r ≡ true → IsSound (z ∷ before_end zs) → new ≡ list ++ r ∷ [] → SoFar zones zs new
 one_more zones rest list new z zs r h e b states shape sound pushed =
     let group = z ∷ before_end zs in
     subst (λ l. SoFar zones zs l) (sym pushed) (record {
@@ -89,8 +90,8 @@ moved zones rest left list h e = record { done = h.done; cut = h.cut ∙ ap (λ 
 all_cut : (zones rest : List Entry) (list : List Record) (h : SoFar zones rest list) → rest ≡ [] → groups_of zones ≡ h.done
 all_cut zones rest list h e = h.cut ∙ ap (λ t. h.done ++ groups_of t) e ∙ append-nil h.done
 
-pub all_stated : (zones rest : List Entry) (list : List Record) → SoFar zones rest list → rest ≡ [] → AllZip States (groups_of zones) list
-all_stated zones rest list h e = subst (λ gs. AllZip States gs list) (sym (all_cut zones rest list h e)) h.states
+pub all_stated : (zones rest : List Entry) (list : List Record) → SoFar zones rest list → rest ≡ [] → AllZip ReadsAs (groups_of zones) list
+all_stated zones rest list h e = subst (λ gs. AllZip ReadsAs gs list) (sym (all_cut zones rest list h e)) h.states
 
 in_front : (gs : List (List Entry)) (g : List Entry) (more : List (List Entry)) → AllByRecursion IsSound (gs ++ g ∷ more) → IsSound g
 in_front [] g more h = h.0
@@ -99,13 +100,13 @@ in_front (x ∷ gs) g more h = in_front gs g more h.1
 sound_unbroken : (done : List (List Entry)) → AllByRecursion IsSound done → (before : List (List Entry)) (g : List Entry) (after : List (List Entry)) (rule : ℕ) → done ≡ before ++ g ∷ after → Breaks (record_tests g) rule → ⊥
 sound_unbroken done h before g after rule e b = none_broken (record_tests g) (in_front before g after (subst (AllByRecursion IsSound) e h)) rule b
 
-pub all_unbroken : (zones rest : List Entry) (list : List Record) → SoFar zones rest list → rest ≡ [] → IsUnbroken (BreaksRecordRule zones)
+pub all_unbroken : (zones rest : List Entry) (list : List Record) → SoFar zones rest list → rest ≡ [] → IsUnbroken (FailsTest zones)
 all_unbroken zones rest list h e rule place b = sound_unbroken h.done h.sound b.before b.group b.after rule (sym (all_cut zones rest list h e) ∙ b.cut) b.breaks
 
 -- ---- a group that breaks a rule
 
 pub refused : (zones rest : List Entry) (list : List Record) (z : Entry) (zs : List Entry) (rule place : ℕ) → SoFar zones rest list → rest ≡ z ∷ zs → begins_group z ≡ true → place ≡ length list + 1
-    → first_broken (record_tests (z ∷ before_end zs)) ≡ Some rule → IsLeastBroken (BreaksRecordRule zones) rule place
+    → first_broken (record_tests (z ∷ before_end zs)) ≡ Some rule → IsLeastBroken (FailsTest zones) rule place
 refused zones rest list z zs rule place h e b place_is broken =
     let found = first_is_least (record_tests (z ∷ before_end zs)) rule refl broken in
     let count = zip_length h.done list h.states in
@@ -115,7 +116,7 @@ refused zones rest list z zs rule place h e b place_is broken =
       least = λ r p k. go r p k found.least (two_cuts h.done (z ∷ before_end zs) (groups_of zs) k.before k.group k.after (sym cut ∙ k.cut));
     }
   where
-    go : (r p : ℕ) (k : BreaksRecordRule zones r p) → ((q : ℕ) → Breaks (record_tests (z ∷ before_end zs)) q → rule ≤ q) → AreApart h.done (z ∷ before_end zs) k.before k.group → (place < p) ⊎ ((place ≡ p) × (rule ≤ r))
+    go : (r p : ℕ) (k : FailsTest zones r p) → ((q : ℕ) → Breaks (record_tests (z ∷ before_end zs)) q → rule ≤ q) → AreApart h.done (z ∷ before_end zs) k.before k.group → (place < p) ⊎ ((place ≡ p) × (rule ≤ r))
     go r p k least (inl (gs, same)) = absurd (sound_unbroken h.done h.sound k.before k.group gs r same k.breaks)
     go r p k least (inr (inl (same, at))) =
         let long = ap length same in
@@ -135,9 +136,9 @@ pub few_in_all : (zones rest : List Entry) (list : List Record) → SoFar zones 
 few_in_all zones rest list h e few = let count = zip_length h.done list h.states in let cut = ap length (all_cut zones rest list h e) in omega (arith, count, cut, few)
 
 pub refusal_at : (zones rest : List Entry) (list : List Record) (z : Entry) (zs : List Entry) (fault : GroupFault) (at : ℕ) (result : RecordFault) → SoFar zones rest list → rest ≡ z ∷ zs → begins_group z ≡ true
-    → at ≡ length list + 1 → result ≡ fault_at at fault → IsGroupRefusal (z ∷ before_end zs) fault → IsRecordRefusal (BreaksRecordRule zones) result
-refusal_at zones rest list z zs (GroupMemory e) at result h cut b place is broken = subst (IsRecordRefusal (BreaksRecordRule zones)) (sym is) tt
-refusal_at zones rest list z zs (GroupBroken rule) at result h cut b place is broken = subst (IsRecordRefusal (BreaksRecordRule zones)) (sym is) (refused zones rest list z zs rule at h cut b place broken)
+    → at ≡ length list + 1 → result ≡ fault_at at fault → IsGroupRefusal (z ∷ before_end zs) fault → IsRecordRefusal (FailsTest zones) result
+refusal_at zones rest list z zs (GroupMemory e) at result h cut b place is broken = subst (IsRecordRefusal (FailsTest zones)) (sym is) tt
+refusal_at zones rest list z zs (GroupBroken rule) at result h cut b place is broken = subst (IsRecordRefusal (FailsTest zones)) (sym is) (refused zones rest list z zs rule at h cut b place broken)
 
 -- ---- there are no more groups than zones
 

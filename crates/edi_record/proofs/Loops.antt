@@ -12,10 +12,12 @@ use Rattle.std.proofs.lemmas.List.{append_assoc, take_more, take_all, nil_from_l
 use Rattle.std.specs.Str.Parse.{digits_value, digits_value_after}
 use Rattle.edi_line.specs.Entry.{Entry, entry, entries, has_code}
 use Rattle.edi_line.specs.declared.zone.Zone.{Zone}
-use Rattle.edi_record.specs.Records.{opens, closes, points_at, sns_after, end_of, ends, placed, is_open_after, is_extra, extra}
-use Rattle.edi_record.specs.Texts.{PointerText, pointer, count}
-use Rattle.edi_record.specs.RecordRules.{kind_in, is_unknown_pointer, has_unknown_pointer, counts_right}
-use Rattle.edi_record.specs.Kept.{is_stray, extras_after, has_stray}
+use Rattle.edi_record.specs.Records.{opens, closes, points_at}
+use Rattle.edi_record.specs.inner.Records.{sns_after, end_of, ends, placed, is_open_after, is_extra, extra}
+use Rattle.edi_record.specs.Texts.{PointerText}
+use Rattle.edi_record.specs.inner.Texts.{pointer, count}
+use Rattle.edi_record.specs.inner.RecordRules.{kind_in, is_unknown_pointer, has_unknown_pointer, counts_right}
+use Rattle.edi_record.specs.inner.Kept.{is_stray, extras_after, has_stray}
 use Rattle.edi_record.specs.declared.record.Kind.{Kind}
 use Rattle.edi_record.specs.declared.record.Extra.{Extra}
 use Rattle.edi_record.specs.declared.record.End.{End}

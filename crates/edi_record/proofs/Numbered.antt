@@ -4,8 +4,9 @@ use Rattle.std.specs.List.{AllByRecursion, AllZip}
 use Rattle.edi_line.specs.Entry.{Entry, has_code}
 use Rattle.edi_line.specs.Zones.{begins_group, ends_group, before_end, groups_of}
 use Rattle.edi_line.specs.Printing.{at_line, lines_of_zone, numbered}
-use Rattle.edi_record.specs.Texts.{point, class_of}
-use Rattle.edi_record.specs.Records.{values, has_points, is_link, set_after, value_after, attributes, sns_after, ends, Placed, is_open_after, placed, is_extra, extra, States}
+use Rattle.edi_record.specs.inner.Texts.{point, class_of}
+use Rattle.edi_record.specs.Records.{values, has_points, is_link}
+use Rattle.edi_record.specs.inner.Records.{set_after, value_after, attributes, sns_after, ends, Placed, is_open_after, placed, is_extra, extra, ReadsAs}
 use Rattle.edi_record.specs.declared.record.Kind.{Kind}
 use Rattle.edi_record.specs.declared.record.Record.{Record}
 
@@ -61,7 +62,7 @@ same_extras kind b n [] = refl
 same_extras kind b n (z ∷ zs) =
     extra_kept (is_extra kind (place_made b z)) b n z (filter (is_extra kind) (placed (is_open_after b z) (numbered (after n z) zs))) (filter (is_extra kind) (placed (is_open_after b z) zs)) (same_extras kind (is_open_after b z) (after n z) zs)
 
-pub numbered_states : (n : ℕ) (zs : List Entry) (r : Record) → States zs r → States (numbered n zs) r
+pub numbered_states : (n : ℕ) (zs : List Entry) (r : Record) → ReadsAs zs r → ReadsAs (numbered n zs) r
 numbered_states n zs r h = record {
   type = same_values (codes "RTY") n zs ∙ h.type;
   rid = same_values (codes "RID") n zs ∙ h.rid;
@@ -116,9 +117,9 @@ cut_group n zs rest c end =
 
 -- the groups of printed records are theirs
 pub groups_state : (zones : Record → List Entry) (said : Record → Record) (rs : List Record) (n : ℕ) (tail : Entry)
-    → AllByRecursion (λ r. IsCut (zones r) × States (zones r) (said r)) rs → begins_group tail ≡ false → ends_group tail ≡ true
-    → (before_end (numbered n (flat_map zones rs ++ tail ∷ [])) ≡ []) × AllZip States (groups_of (numbered n (flat_map zones rs ++ tail ∷ []))) (map said rs)
-groups_state zones said [] n tail h apart end = (rw end refl, subst (λ gs. AllZip States gs []) (sym (none n tail apart)) tt)
+    → AllByRecursion (λ r. IsCut (zones r) × ReadsAs (zones r) (said r)) rs → begins_group tail ≡ false → ends_group tail ≡ true
+    → (before_end (numbered n (flat_map zones rs ++ tail ∷ [])) ≡ []) × AllZip ReadsAs (groups_of (numbered n (flat_map zones rs ++ tail ∷ []))) (map said rs)
+groups_state zones said [] n tail h apart end = (rw end refl, subst (λ gs. AllZip ReadsAs gs []) (sym (none n tail apart)) tt)
   where
     none : (n : ℕ) (tail : Entry) → begins_group tail ≡ false → groups_of (numbered n (tail ∷ [])) ≡ []
     none n tail apart = rw apart refl
@@ -128,6 +129,6 @@ groups_state zones said (r ∷ rs) n tail h apart end =
     let whole : numbered n (flat_map zones (r ∷ rs) ++ tail ∷ []) ≡ numbered n (zones r) ++ rest =
     ap (numbered n) (append_assoc (zones r) (flat_map zones rs) (tail ∷ [])) ∙ numbered_append n (zones r) (flat_map zones rs ++ tail ∷ []) in (
       ap before_end whole ∙ cut_ends n (zones r) rest h.0.0,
-      subst (λ gs. AllZip States gs (map said (r ∷ rs))) (sym (ap groups_of whole ∙ cut_group n (zones r) rest h.0.0 more.0))
+      subst (λ gs. AllZip ReadsAs gs (map said (r ∷ rs))) (sym (ap groups_of whole ∙ cut_group n (zones r) rest h.0.0 more.0))
           (numbered_states n (zones r) (said r) h.0.1, more.1),
     )

@@ -6,16 +6,18 @@ use Rattle.std.proofs.lemmas.Bool.{or_left, or_right, or_from, leb-true, leb-fal
 use Rattle.std.proofs.lemmas.List.{length-map}
 use Rattle.std.proofs.lemmas.Slice.Eq.{bytes_eq-Decides}
 use Rattle.edi_line.specs.Entry.{Entry, first}
-use Rattle.edi_record.specs.Texts.{PointerText, pointer, point}
+use Rattle.edi_record.specs.Texts.{PointerText}
+use Rattle.edi_record.specs.inner.Texts.{pointer, point}
 use Rattle.edi_record.specs.Shapes.{kind_code, may_have_points}
-use Rattle.edi_record.specs.Records.{values, has_points, is_link, opens, closes, set_after, value_after, attribute, attributes, points_at, sns_after, end_of, ends, placed}
-use Rattle.edi_record.specs.RecordRules.{kind_named, kind_in, repeats, some_no_pointer, has_bad_attribute, has_bad_point, has_bad_end}
+use Rattle.edi_record.specs.Records.{values, has_points, is_link, opens, closes, points_at}
+use Rattle.edi_record.specs.inner.Records.{set_after, value_after, attribute, attributes, sns_after, end_of, ends, placed}
+use Rattle.edi_record.specs.inner.RecordRules.{kind_named, kind_in, repeats, some_no_pointer, has_bad_attribute, has_bad_point, has_bad_end}
 use Rattle.edi_record.specs.declared.record.Kind.{Kind}
 use Rattle.edi_record.specs.declared.record.Kind.TheVariants.{Pno, Par, Pfe, Fea, Lnk}
 use Rattle.edi_record.specs.declared.record.Attribute.{Attribute}
 use Rattle.edi_record.specs.declared.record.End.{End}
 use Rattle.edi_record.specs.declared.record.Point.{Point}
-use Rattle.edi_record.specs.Kept.{is_stray, has_stray}
+use Rattle.edi_record.specs.inner.Kept.{is_stray, has_stray}
 
 none_missing : {X : Type 0} (ys : List X) → list_any is_none (map Some ys) ≡ false
 none_missing [] = refl
@@ -156,7 +158,7 @@ good_ends kind g es bad k h e many s b =
 
 -- ---- types
 
-code_named : (v : List ℕ) (kind : Kind) → kind_named v ≡ Some kind → v ≡ kind_code kind
+pub code_named : (v : List ℕ) (kind : Kind) → kind_named v ≡ Some kind → v ≡ kind_code kind
 code_named v kind e = go (bytes_eq v (codes "PNO")) refl (bytes_eq v (codes "PAR")) refl (bytes_eq v (codes "PFE")) refl (bytes_eq v (codes "FEA")) refl (bytes_eq v (codes "LNK")) refl e
   where
     is : (code : List ℕ) (own : Kind) → kind_code own ≡ code → bytes_eq v code ≡ true → ◌≡◌ {A = Option Kind} (Some own) (Some kind) → v ≡ kind_code kind

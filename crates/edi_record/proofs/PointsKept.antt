@@ -3,11 +3,12 @@ use Rattle.std.proofs.Common.{◌≡◌, Bool, true, false, ◌&&◌, eqb, ltb, 
 use Rattle.std.specs.List.{list_any}
 use Rattle.std.proofs.lemmas.List.{append-nil}
 use Rattle.edi_line.specs.Entry.{Entry, has_code}
-use Rattle.edi_record.specs.Texts.{point}
+use Rattle.edi_record.specs.inner.Texts.{point}
 use Rattle.edi_record.specs.Shapes.{may_have_points}
-use Rattle.edi_record.specs.Records.{values, has_points, placed, is_open_after, is_extra, extra, extras}
-use Rattle.edi_record.specs.RecordRules.{kind_in, has_bad_point, is_unknown_pointer, has_unknown_pointer}
-use Rattle.edi_record.specs.Kept.{KeepsPoints, KeepsExtras, TakesExtra, extras_after}
+use Rattle.edi_record.specs.Records.{values, has_points}
+use Rattle.edi_record.specs.inner.Records.{placed, is_open_after, is_extra, extra, extras}
+use Rattle.edi_record.specs.inner.RecordRules.{kind_in, has_bad_point, is_unknown_pointer, has_unknown_pointer}
+use Rattle.edi_record.specs.inner.Kept.{KeepsPoints, KeepsExtras, TakesExtra, extras_after}
 use Rattle.edi_record.specs.declared.points.Points.{Points}
 use Rattle.edi_record.specs.declared.extras.Extras.{Extras}
 use Rattle.edi_record.specs.declared.record.Kind.{Kind}

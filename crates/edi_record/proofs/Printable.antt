@@ -8,16 +8,16 @@ use Rattle.std.proofs.lemmas.Bool.{ne_eqb}
 use Rattle.std.proofs.lemmas.List.Elements.{All-append, All-cons, All-nil, All-from_recursion}
 use Rattle.std.proofs.lemmas.Fmt.{decimal_is_IsNumeral}
 use Rattle.edi_line.specs.Entry.{Entry}
-use Rattle.edi_line.specs.Number.{IsNumberText, number, plain_text, signed_text, size_of, MOST}
-use Rattle.edi_line.specs.Zones.{kind_of}
-use Rattle.edi_line.specs.LineRules.{is_zone}
+use Rattle.edi_line.specs.Number.{IsNumberText, plain_text, signed_text, size_of, MOST}
+use Rattle.edi_line.specs.inner.Number.{number}
+use Rattle.edi_line.specs.LineKinds.{kind_of, is_zone}
 use Rattle.edi_line.specs.Printing.{zone_text, IsOneLine, IsPrintable}
 use Rattle.edi_line.proofs.Numbers.{number_in_range}
 use Rattle.edi_line.proofs.NumberRead.{number_is, number_lacks}
 use Rattle.edi_line.proofs.Spelled.{signed_text_read, plain_text_read}
 use Rattle.edi_record.specs.Texts.{pointer_text, third_text, point_text}
 use Rattle.edi_record.specs.Shapes.{kind_code}
-use Rattle.edi_record.specs.Records.{value_of}
+use Rattle.edi_record.specs.inner.Records.{value_of}
 use Rattle.edi_record.specs.Layout.{Letters, class_text, value_text, point_zone, set_zone, attribute_zones, extra_zone, end_text, sns_zone, end_zones, count_zones, body_zones, record_zones, end_zone, cse_zone, sheet_zones, IsExtra, IsPoint, IsRecord, IsLineName, IsLineAttribute, IsLineEnd, IsLineValue, IsLineExtra, IsLineRecord, HasPrintableLetters}
 use Rattle.edi_record.specs.declared.name.Name.{Name}
 use Rattle.edi_record.specs.declared.record.Kind.{Kind}

@@ -12,10 +12,12 @@ use Rattle.std.proofs.lemmas.Str.Parse.{numerals_by_value, tells_all_ascii_digit
 use Rattle.edi_line.specs.Entry.{Entry, has_code}
 use Rattle.edi_line.specs.Refusal.{first_broken, test}
 use Rattle.edi_line.specs.Printing.{zone_text}
-use Rattle.edi_record.specs.Texts.{count, point}
+use Rattle.edi_record.specs.inner.Texts.{count, point}
 use Rattle.edi_record.specs.Shapes.{kind_code, may_have_ends}
-use Rattle.edi_record.specs.Records.{values, has_points, is_link, opens, closes, attributes, points_at, ends, Placed, placed, is_extra, value_of, States}
-use Rattle.edi_record.specs.RecordRules.{kind_in, in_kind, is_arc, count_until, repeats, counts_right, counts_wrong, has_no_kind, has_no_identifier, has_no_class, has_bad_attribute, has_wrong_count, has_bad_point, has_bad_end, is_unknown_pointer, has_unknown_pointer, record_tests}
+use Rattle.edi_record.specs.Records.{values, has_points, is_link, opens, closes, points_at}
+use Rattle.edi_record.specs.inner.Records.{attributes, ends, Placed, placed, is_extra, value_of, ReadsAs}
+use Rattle.edi_record.specs.RecordRules.{has_no_identifier}
+use Rattle.edi_record.specs.inner.RecordRules.{kind_in, in_kind, is_arc, count_until, repeats, counts_right, counts_wrong, has_no_kind, has_no_class, has_bad_attribute, has_wrong_count, has_bad_point, has_bad_end, is_unknown_pointer, has_unknown_pointer, record_tests}
 use Rattle.edi_record.specs.Layout.{Letters, class_text, value_text, point_zone, set_zone, attribute_zones, extra_zone, end_text, sns_zone, end_zones, body_zones, record_zones, IsExtra, IsRecord, settled, settled_end, settled_record, KeepsRules}
 use Rattle.edi_record.specs.declared.record.Kind.{Kind}
 use Rattle.edi_record.specs.declared.record.Kind.TheVariants.{Pno, Par, Pfe, Fea, Lnk}
@@ -26,7 +28,7 @@ use Rattle.edi_record.specs.declared.record.End.{End}
 use Rattle.edi_record.specs.declared.record.Point.{Point}
 use Rattle.edi_record.proofs.Stated.{record_again, record_is, unknown, known_apart, joined, mapped, mapped_each, flat_mapped, HoldsInBody, HoldsBehind, body_each, behind, behind_is, behind_each, none_found, and_false, picked_extras}
 use Rattle.edi_record.proofs.Passes.{kind_is, has_kind, has_identifier, has_class}
-use Rattle.edi_record.specs.Kept.{is_stray, has_stray}
+use Rattle.edi_record.specs.inner.Kept.{is_stray, has_stray}
 use Rattle.edi_record.proofs.Loops.{stray_skips, stray_end, stray_sns_goes_on}
 use Rattle.edi_record.proofs.Parts.{same_length, good_attributes, right_points, ends_count, good_ends}
 
@@ -212,10 +214,10 @@ behind_none_ptc = record { atc = λ _. refl; atp = λ _. refl; tex = λ _. refl;
 behind_none_ftc : HoldsBehind (λ z. has_code (codes "FTC") z ≡ false)
 behind_none_ftc = record { atc = λ _. refl; atp = λ _. refl; tex = λ _. refl; atv = λ _ _. refl }
 
-point_count : (s : Letters) (r : Record) → States (record_zones s r) (settled_record s r) → has_points r.kind ≡ true → length (values (codes "COR") (record_zones s r)) ≡ length r.points
+point_count : (s : Letters) (r : Record) → ReadsAs (record_zones s r) (settled_record s r) → has_points r.kind ≡ true → length (values (codes "COR") (record_zones s r)) ≡ length r.points
 point_count s r h t = sym (length-map (values (codes "COR") (record_zones s r)) point) ∙ same_length (map point (values (codes "COR") (record_zones s r))) r.points (places s r h t)
   where
-    places : (s : Letters) (r : Record) → States (record_zones s r) (settled_record s r) → has_points r.kind ≡ true → map point (values (codes "COR") (record_zones s r)) ≡ map Some r.points
+    places : (s : Letters) (r : Record) → ReadsAs (record_zones s r) (settled_record s r) → has_points r.kind ≡ true → map point (values (codes "COR") (record_zones s r)) ≡ map Some r.points
     places s r h t = sym (ap (λ b. cond b (map point (values (codes "COR") (record_zones s r))) []) t) ∙ h.points
 
 right_point_count : (s : Letters) (r : Record) → IsRecord r → KeepsRules r → (in_kind is_arc (record_zones s r) && counts_wrong (codes "PTC") (codes "COR") (record_zones s r)) ≡ false
@@ -240,7 +242,7 @@ right_point_count s r h k = go r.kind refl (kind_is (record_zones s r) (settled_
     go Fea t named = rw (named, t) refl
     go Lnk t named = rw (named, t) refl
 
-end_count : (s : Letters) (r : Record) → States (record_zones s r) (settled_record s r) → is_link r.kind ≡ true → length (values (codes "FTP") (record_zones s r)) ≡ length r.ends
+end_count : (s : Letters) (r : Record) → ReadsAs (record_zones s r) (settled_record s r) → is_link r.kind ≡ true → length (values (codes "FTP") (record_zones s r)) ≡ length r.ends
 end_count s r h t = sym (ends_count (record_zones s r)) ∙ same_length (ends (record_zones s r)) (map settled_end r.ends) (sym (ap (λ b. cond b (ends (record_zones s r)) []) t) ∙ h.ends) ∙ length-map r.ends settled_end
 
 right_end_count : (s : Letters) (r : Record) → IsRecord r → KeepsRules r → (in_kind is_link (record_zones s r) && counts_wrong (codes "FTC") (codes "FTP") (record_zones s r)) ≡ false
@@ -270,7 +272,7 @@ right_end_count s r h k = go r.kind refl (kind_is (record_zones s r) (settled_re
 right_places : (s : Letters) (r : Record) → IsRecord r → KeepsRules r → has_bad_point (record_zones s r) ≡ false
 right_places s r h k = go (has_points r.kind) refl
   where
-    stated : States (record_zones s r) (settled_record s r)
+    stated : ReadsAs (record_zones s r) (settled_record s r)
     stated = record_again s r h
 
     go : (b : Bool) → has_points r.kind ≡ b → has_bad_point (record_zones s r) ≡ false

@@ -7,16 +7,21 @@ use Rattle.std.proofs.lemmas.List.{length-map, nil_from_length}
 use Rattle.std.proofs.lemmas.List.Elements.{All-from_recursion, recursion_from_All}
 use Rattle.edi_line.specs.Entry.{Entry, has_code, first}
 use Rattle.edi_line.specs.LineRules.{BreaksLineRule, IsZonesOf}
-use Rattle.edi_line.specs.Number.{number, size_of, MOST}
+use Rattle.edi_line.specs.Number.{size_of, MOST}
+use Rattle.edi_line.specs.inner.Number.{number}
 use Rattle.edi_line.specs.Printing.{IsOneLine, IsPrintable}
 use Rattle.edi_line.specs.Refusal.{IsUnbroken, Breaks}
-use Rattle.edi_line.specs.Zones.{zones_of, groups_of, charset_of}
+use Rattle.edi_line.specs.Zones.{groups_of, charset_of}
+use Rattle.edi_line.specs.inner.Zones.{zones_of}
 use Rattle.edi_line.proofs.Numbers.{number_in_range}
 use Rattle.edi_line.proofs.NumberRead.{number_is}
-use Rattle.edi_record.specs.Texts.{parts, PointerText, pointer_of, pointer, class_of, flat_place, high_place, point_of, point}
+use Rattle.edi_record.specs.Texts.{PointerText}
+use Rattle.edi_record.specs.inner.Texts.{parts, pointer_of, pointer, class_of, flat_place, high_place, point_of, point}
 use Rattle.edi_record.specs.Shapes.{may_have_points, may_have_ends}
-use Rattle.edi_record.specs.Records.{values, has_points, is_link, opens, closes, set_after, value_after, attribute, attributes, points_at, sns_after, end_of, ends, Placed, is_open_after, placed, is_known, is_extra, value_of, may_be_number, extra, States, StatesSheet}
-use Rattle.edi_record.specs.RecordRules.{kind_in, just_one, is_identifier, has_no_identifier, has_bad_point, has_bad_end, is_unknown_pointer, has_unknown_pointer, record_tests, repeats, some_no_pointer, BreaksRecordRule}
+use Rattle.edi_record.specs.Records.{values, has_points, is_link, opens, closes, points_at, is_known, may_be_number, StatesSheet}
+use Rattle.edi_record.specs.inner.Records.{set_after, value_after, attribute, attributes, sns_after, end_of, ends, Placed, is_open_after, placed, is_extra, value_of, extra, ReadsAs}
+use Rattle.edi_record.specs.RecordRules.{BreaksRecordRule, just_one, is_identifier, has_no_identifier}
+use Rattle.edi_record.specs.inner.RecordRules.{kind_in, has_bad_point, has_bad_end, is_unknown_pointer, has_unknown_pointer, record_tests, repeats, some_no_pointer, FailsTest}
 use Rattle.edi_record.specs.Layout.{value_text, IsOwnValue, IsExtra, IsName, IsPoint, IsRecord, IsLineName, IsLineAttribute, IsLineValue, IsLineExtra, IsLineEnd, IsLineRecord, KeepsRules}
 use Rattle.edi_record.specs.Readable.{IsPrintableSheet}
 use Rattle.edi_record.specs.declared.name.Name.{Name}
@@ -29,6 +34,9 @@ use Rattle.edi_record.specs.declared.record.Value.TheVariants.{Number, Bytes}
 use Rattle.edi_record.specs.declared.record.End.{End}
 use Rattle.edi_record.specs.declared.record.Point.{Point}
 use Rattle.edi_record.specs.declared.sheet.Sheet.{Sheet}
+use Rattle.edi_line.proofs.ZonesSaid.{zones_read}
+use Rattle.edi_record.proofs.StatesSaid.{all_read}
+use Rattle.edi_record.proofs.RulesSaid.{records_pass}
 use Rattle.edi_record.proofs.Passes.{kind_is}
 use Rattle.edi_record.proofs.Parts.{same_length, ends_count}
 use Rattle.edi_record.proofs.ReadZones.{NoFeed, one_line, IsGroupZone, AreGroupZones, zones_printable, few_zones_of, groups_readable, few_in_groups}
@@ -290,7 +298,7 @@ kept_each : (groups : List (List Entry)) → ((before : List (List Entry)) (grou
 kept_each [] k = tt
 kept_each (g ∷ gs) k = (k [] g gs refl, kept_each gs (λ before group after e. k (g ∷ before) group after (ap (λ t. g ∷ t) e)))
 
-all_kept : (zones : List Entry) → IsUnbroken (BreaksRecordRule zones) → AllByRecursion IsKept (groups_of zones)
+all_kept : (zones : List Entry) → IsUnbroken (FailsTest zones) → AllByRecursion IsKept (groups_of zones)
 all_kept zones unbroken =
     kept_each (groups_of zones) (λ before group after e rule b. unbroken rule (length before + 1) (record { before = before; group = group; after = after; cut = e; place_is = refl; breaks = b }))
 
@@ -310,7 +318,7 @@ not_false : (b : Bool) → not b ≡ false → b ≡ true
 not_false true e = refl
 not_false false e = cc
 
-identifier_read : (group : List Entry) (r : Record) → States group r → IsKept group → is_identifier r.rid ≡ true
+identifier_read : (group : List Entry) (r : Record) → ReadsAs group r → IsKept group → is_identifier r.rid ≡ true
 identifier_read group r h k = not_false (is_identifier r.rid) (sym (ap (λ vs. not (just_one is_identifier vs)) h.rid) ∙ identifier_kept group k)
 
 -- ---- points and ends where the kind has them
@@ -426,7 +434,7 @@ record IsReadRecord (r : Record) : Type 0 where
   line : IsLineRecord r
   rules : KeepsRules r
 
-record_read : (group : List Entry) (r : Record) → AreGroupZones group → States group r → length group < 2 ^ 64 → IsKept group → IsReadRecord r
+record_read : (group : List Entry) (r : Record) → AreGroupZones group → ReadsAs group r → length group < 2 ^ 64 → IsKept group → IsReadRecord r
 record_read group r h s few kept =
     let lines = printables group h in
     let rid = subst (AllByRecursion IsOneLine) s.rid (values_one_line (has_code (codes "RID")) group lines) in
@@ -473,7 +481,7 @@ record_read group r h s few kept =
       };
     }
 
-records_read : (groups : List (List Entry)) (rs : List Record) → AllZip States groups rs → AllByRecursion AreGroupZones groups → AllByRecursion (λ g. length g < 2 ^ 64) groups → AllByRecursion IsKept groups → AllByRecursion IsReadRecord rs
+records_read : (groups : List (List Entry)) (rs : List Record) → AllZip ReadsAs groups rs → AllByRecursion AreGroupZones groups → AllByRecursion (λ g. length g < 2 ^ 64) groups → AllByRecursion IsKept groups → AllByRecursion IsReadRecord rs
 records_read [] [] s h few kept = tt
 records_read [] (r ∷ rs) s h few kept = absurd s
 records_read (g ∷ gs) [] s h few kept = tt
@@ -498,10 +506,12 @@ charset_line (z ∷ zs) h = go (has_code (codes "CSE") z) (charset_line zs h.1)
 -- What a file states can be printed.
 pub sheet_read : (bytes : List ℕ) (zones : List Entry) (sheet : Sheet) → length bytes < 2 ^ 64 → IsZonesOf bytes zones → IsUnbroken (BreaksLineRule bytes)
     → StatesSheet zones sheet → IsUnbroken (BreaksRecordRule zones) → IsPrintableSheet sheet
-sheet_read bytes zones sheet long of lines states rules =
+sheet_read bytes zones sheet long are lines states unbroken =
+    let of = zones_read bytes zones are in
+    let rules = records_pass zones unbroken in
     let groups = subst (λ zs. AllByRecursion AreGroupZones (groups_of zs)) (sym of.is) (groups_readable bytes lines) in
     let few : length zones ≤ length bytes = subst (λ zs. length zs ≤ length bytes) (sym of.is) (few_zones_of bytes) in
-    let read = record_parts sheet.list (records_read (groups_of zones) sheet.list states.records groups (fewer (length bytes) long (groups_of zones) (few_in_groups zones (length bytes) few)) (all_kept zones rules)) in
+    let read = record_parts sheet.list (records_read (groups_of zones) sheet.list (all_read (groups_of zones) sheet.list states.records) groups (fewer (length bytes) long (groups_of zones) (few_in_groups zones (length bytes) few)) (all_kept zones rules)) in
     record {
       cse = subst (λ o. IfSome o IsOneLine) (sym states.cse) (subst (λ zs. IfSome (option_map (λ (e : Entry). e.value) (charset_of zs)) IsOneLine) (sym of.is) (charset_line (zones_of bytes) (zones_printable bytes)));
       records = read.0;

@@ -8,14 +8,19 @@ use Rattle.std.proofs.lemmas.Grind.{common_steps}
 use Rattle.std.proofs.lemmas.List.{length-map}
 use Rattle.std.proofs.lemmas.List.Elements.{All-from_recursion}
 use Rattle.edi_line.specs.Entry.{Entry}
-use Rattle.edi_line.specs.Lines.{HasNoFeed, IsEnded, IsUnended, AreLines, without_last, content_of, lines_of, contents_of}
-use Rattle.edi_line.specs.Spelling.{Spelling, Reading, reading_of, is_code_byte, is_printable, is_space, is_digit, code_of, has_head, spelling_of, stated_length}
-use Rattle.edi_line.specs.Zones.{readings_of, kind_of, Part, part_by, part_of, parts_after, continuation, whole_zones, zones_of, begins_group, ends_group, before_end, groups_of}
-use Rattle.edi_line.specs.Zones.Part.{Blank, Continues, IsRemark, Begins}
-use Rattle.edi_line.specs.LineRules.{is_bom, is_cse, is_rty, is_zone, bears, some_bears, BreaksAt, BreaksLineRule}
+use Rattle.edi_line.specs.Lines.{HasNoFeed, IsEnded, IsUnended, AreLines, without_last, content_of}
+use Rattle.edi_line.specs.inner.Lines.{lines_of, contents_of}
+use Rattle.edi_line.specs.Spelling.{Spelling, Reading, is_code_byte, is_printable}
+use Rattle.edi_line.specs.inner.Spelling.{reading_of, is_space, is_digit, code_of, has_head, spelling_of, stated_length}
+use Rattle.edi_line.specs.Zones.{begins_group, ends_group, before_end, groups_of}
+use Rattle.edi_line.specs.inner.Zones.{readings_of, Part, part_by, part_of, parts_after, continuation, whole_zones, zones_of}
+use Rattle.edi_line.specs.LineKinds.{kind_of, is_bom, is_cse, is_rty, is_zone, bears, some_bears}
+use Rattle.edi_line.specs.inner.Zones.Part.{Blank, Continues, IsRemark, Begins}
+use Rattle.edi_line.specs.LineRules.{BreaksAt, BreaksLineRule}
 use Rattle.edi_line.specs.Refusal.{IsUnbroken}
 use Rattle.edi_line.specs.Printing.{is_code, IsOneLine, IsPrintable}
 use Rattle.edi_line.proofs.Cut.{lines_exist}
+use Rattle.edi_line.proofs.Readings.{unbroken_read}
 use Rattle.edi_record.specs.Layout.{is_free}
 
 -- ---- contents have no line feed
@@ -381,7 +386,7 @@ each_both (g ∷ gs) h k = (both g h.0 k.0, each_both gs h.1 k.1)
 pub groups_readable : (bytes : List ℕ) → IsUnbroken (BreaksLineRule bytes) → AllByRecursion AreGroupZones (groups_of (zones_of bytes))
 groups_readable bytes unbroken =
     each_both (groups_of (zones_of bytes)) (groups_printable (zones_of bytes) (zones_printable bytes))
-    (free_front 0 (readings_of bytes) (runs_from [] (readings_of bytes) (λ rule place b. unbroken rule place (inl b))))
+    (free_front 0 (readings_of bytes) (runs_from [] (readings_of bytes) (λ rule place b. unbroken_read bytes unbroken rule place (inl b))))
 
 few_before : (zones : List Entry) → length (before_end zones) ≤ length zones
 few_before [] = omega arith

@@ -4,9 +4,10 @@ use Rattle.std.specs.List.{list_any}
 use Rattle.std.proofs.lemmas.Bool.{or_right, or_parts}
 use Rattle.std.proofs.lemmas.Slice.Eq.{bytes_eq-Decides}
 use Rattle.edi_line.specs.Entry.{Entry, has_code}
-use Rattle.edi_record.specs.Records.{values, has_points, is_link, known_anywhere, known_in, is_known, is_open_after, is_extra}
-use Rattle.edi_record.specs.RecordRules.{is_arc}
-use Rattle.edi_record.specs.Kept.{AreTexts, KeepsAttributes, KeepsPoints, KeepsEnds, KeepsExtras, KeepsRecord, LeavesOpen, TakesExtra}
+use Rattle.edi_record.specs.Records.{values, has_points, is_link, known_anywhere, known_in, is_known}
+use Rattle.edi_record.specs.inner.Records.{is_open_after, is_extra}
+use Rattle.edi_record.specs.inner.RecordRules.{is_arc}
+use Rattle.edi_record.specs.inner.Kept.{AreTexts, KeepsAttributes, KeepsPoints, KeepsEnds, KeepsExtras, KeepsRecord, LeavesOpen, TakesExtra}
 use Rattle.edi_record.specs.declared.only.Only.{Only}
 use Rattle.edi_record.specs.declared.attributes.Attributes.{Attributes}
 use Rattle.edi_record.specs.declared.extras.Extras.{Extras}

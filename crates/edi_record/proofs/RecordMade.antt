@@ -2,9 +2,11 @@
 use Rattle.std.proofs.Common.{◌≡◌, ℕ, ◌+◌, Bool, true, false, not, ◌&&◌, ◌||◌, List, length, map, Some, None, is_none, codes, refl, sym, ap, ◌∙◌, subst, arith, Result, Ok, Err, IsErrAnd, IfErr}
 use Rattle.edi_line.specs.Entry.{Entry}
 use Rattle.edi_line.specs.Refusal.{first_broken}
-use Rattle.edi_record.specs.Records.{values, has_points, is_link, attributes}
-use Rattle.edi_record.specs.RecordRules.{kind_in, is_arc, counts_right, has_no_kind, has_no_identifier, has_no_class, has_bad_attribute, has_wrong_count, has_bad_point, has_bad_end, has_unknown_pointer, record_tests}
-use Rattle.edi_record.specs.RecordRefusal.{IsBreachOf, IsGroupRefusal}
+use Rattle.edi_record.specs.Records.{values, has_points, is_link}
+use Rattle.edi_record.specs.inner.Records.{attributes}
+use Rattle.edi_record.specs.RecordRules.{has_no_identifier}
+use Rattle.edi_record.specs.inner.RecordRules.{kind_in, is_arc, counts_right, has_no_kind, has_no_class, has_bad_attribute, has_wrong_count, has_bad_point, has_bad_end, has_unknown_pointer, record_tests}
+use Rattle.edi_record.specs.inner.RecordRefusal.{IsBreachOf, IsGroupRefusal}
 use Rattle.edi_record.specs.declared.record.Kind.{Kind}
 use Rattle.edi_record.specs.declared.record.Kind.TheVariants.{Pno, Par, Pfe, Fea, Lnk}
 use Rattle.edi_record.specs.declared.record.Attribute.{Attribute}

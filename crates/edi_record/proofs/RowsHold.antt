@@ -1,32 +1,117 @@
 -- Known files against the definitions.
-use Rattle.std.proofs.Common.{◌≡◌, [], ◌∷◌, Some, None, codes, refl}
-use Rattle.edi_line.specs.Spelling.{reading_of, has_head}
-use Rattle.edi_line.specs.Number.{number, whole_number, fraction_number}
-use Rattle.edi_line.specs.Zones.{zones_of, groups_of}
-use Rattle.edi_record.specs.Texts.{pointer, point, count}
-use Rattle.edi_record.specs.Records.{set_after, value_after, attributes, sns_after, ends, placed, States}
-use Rattle.edi_record.specs.Rows.{line, one_node, the_node, rules_of, node_group}
+use Rattle.std.proofs.Common.{◌≡◌, ℕ, Option, Some, None, List, [], ◌∷◌, ◌++◌, map, codes, refl, sym, ap, ◌∙◌, subst, inr, length, arith}
+use Rattle.edi_line.specs.Entry.{Entry}
+use Rattle.edi_line.specs.LineRules.{IsZonesOf}
+use Rattle.edi_line.specs.Refusal.{IsUnbroken, IsLeastBroken, Breaks, first_broken}
+use Rattle.edi_line.specs.Zones.{groups_of}
+use Rattle.edi_line.specs.inner.Number.{number, whole_number, fraction_number}
+use Rattle.edi_line.specs.inner.Spelling.{reading_of, has_head}
+use Rattle.edi_line.specs.inner.Zones.{zones_of}
+use Rattle.edi_line.proofs.FirstBroken.{none_broken, first_is_least}
+use Rattle.edi_line.proofs.KnownFiles.{zones_as}
+use Rattle.edi_record.specs.RecordRules.{BreaksRecordRule}
+use Rattle.edi_record.specs.Records.{States}
+use Rattle.edi_record.specs.Rows.{line, one_node, the_node, node_group}
+use Rattle.edi_record.specs.inner.RecordRules.{record_tests, FailsTest}
+use Rattle.edi_record.specs.inner.Records.{ReadsAs, set_after, value_after, attributes, sns_after, ends, placed}
+use Rattle.edi_record.specs.inner.Rows.{rules_of}
+use Rattle.edi_record.specs.inner.Texts.{pointer, point, count}
+use Rattle.edi_record.proofs.RulesSaid.{records_unbroken, record_least}
+use Rattle.edi_record.proofs.StatesSaid.{states_said}
 
 pub node_zones : groups_of (zones_of (one_node [])) ≡ node_group ∷ []
 unfolding reading_of has_head
 node_zones = refl
 
-pub node_stated : States node_group the_node
+pub node_stated : ReadsAs node_group the_node
 unfolding number whole_number fraction_number pointer point set_after value_after attributes sns_after ends placed
 node_stated = record { type = refl; rid = refl; scp = refl; points = refl; ends = refl; attributes = refl; extras = refl }
+
+pub node_said : States node_group the_node
+node_said = states_said node_group the_node node_stated
 
 pub node_unbroken : rules_of (one_node []) ≡ None ∷ []
 unfolding reading_of has_head number whole_number fraction_number pointer point count placed
 node_unbroken = refl
 
-pub wrong_count : rules_of (one_node (line (codes "ATCSN01:1") [])) ≡ Some 205 ∷ []
+wrong_count_rule : rules_of (one_node (line (codes "ATCSN01:1") [])) ≡ Some 205 ∷ []
 unfolding reading_of has_head number whole_number fraction_number pointer point count placed
-wrong_count = refl
+wrong_count_rule = refl
 
-pub unknown_pointer : rules_of (one_node (line (codes "REFCP22:EDAB01;SeT1;PNO;Noeud_") [])) ≡ Some 208 ∷ []
+unknown_pointer_rule : rules_of (one_node (line (codes "REFCP22:EDAB01;SeT1;PNO;Noeud_") [])) ≡ Some 208 ∷ []
 unfolding reading_of has_head number whole_number fraction_number pointer point count placed
-unknown_pointer = refl
+unknown_pointer_rule = refl
 
-pub empty_pointer : rules_of (one_node (line (codes "REFCP00:") [])) ≡ None ∷ []
+empty_pointer_rule : rules_of (one_node (line (codes "REFCP00:") [])) ≡ None ∷ []
 unfolding reading_of has_head number whole_number fraction_number pointer point count placed
-empty_pointer = refl
+empty_pointer_rule = refl
+
+-- ---- a file of one record
+
+in_one : (g group : List Entry) (before after : List (List Entry)) → g ∷ [] ≡ before ++ group ∷ after → (before ≡ []) × (group ≡ g)
+in_one g group [] after e = (refl, (let h : g ≡ group = cc in sym h))
+in_one g group (b ∷ []) after e = absurd cc
+in_one g group (b ∷ c ∷ before) after e = absurd cc
+
+one_unbroken : (zones : List Entry) (g : List Entry) → groups_of zones ≡ g ∷ [] → first_broken (record_tests g) ≡ None → IsUnbroken (FailsTest zones)
+one_unbroken zones g one none rule place h = none_broken (record_tests g) none rule (subst (λ x. Breaks (record_tests x) rule) (in_one g h.group h.before h.after (sym one ∙ h.cut)).1 h.breaks)
+
+one_least : (zones : List Entry) (g : List Entry) (rule : ℕ) → groups_of zones ≡ g ∷ [] → first_broken (record_tests g) ≡ Some rule → IsLeastBroken (FailsTest zones) rule 1
+one_least zones g rule one e =
+    let found = first_is_least (record_tests g) rule refl e in
+    record {
+      is = record { before = []; group = g; after = []; cut = one; place_is = refl; breaks = found.breaks };
+      least = λ r p h.
+          let here = in_one g h.group h.before h.after (sym one ∙ h.cut) in
+          inr (omega (arith, h.place_is, ap length here.0), found.least r (subst (λ x. Breaks (record_tests x) r) here.1 h.breaks));
+    }
+
+abbrev least_rules : List Entry → List (Option ℕ)
+least_rules zones = map (λ group. first_broken (record_tests group)) (groups_of zones)
+
+unbroken_by : (zones : List Entry) → least_rules zones ≡ None ∷ [] → IsUnbroken (BreaksRecordRule zones)
+unbroken_by zones e = records_unbroken zones (go (groups_of zones) refl e)
+  where
+    go : (gs : List (List Entry)) → groups_of zones ≡ gs → map (λ group. first_broken (record_tests group)) gs ≡ None ∷ [] → IsUnbroken (FailsTest zones)
+    go [] q e = absurd cc
+    go (g ∷ []) q e = one_unbroken zones g q cc
+    go (g ∷ h ∷ gs) q e = absurd cc
+
+least_by : (zones : List Entry) (rule : ℕ) → least_rules zones ≡ Some rule ∷ [] → IsLeastBroken (BreaksRecordRule zones) rule 1
+least_by zones rule e = record_least zones rule 1 (go (groups_of zones) refl e)
+  where
+    go : (gs : List (List Entry)) → groups_of zones ≡ gs → map (λ group. first_broken (record_tests group)) gs ≡ Some rule ∷ [] → IsLeastBroken (FailsTest zones) rule 1
+    go [] q e = absurd cc
+    go (g ∷ []) q e = one_least zones g rule q cc
+    go (g ∷ h ∷ gs) q e = absurd cc
+
+abbrev Read : List ℕ → Type 0
+Read bytes = IsZonesOf bytes (zones_of bytes)
+
+node_read : Read (one_node [])
+unfolding reading_of has_head
+node_read = zones_as (one_node []) _ refl refl
+
+wrong_count_read : Read (one_node (line (codes "ATCSN01:1") []))
+unfolding reading_of has_head
+wrong_count_read = zones_as (one_node (line (codes "ATCSN01:1") [])) _ refl refl
+
+unknown_pointer_read : Read (one_node (line (codes "REFCP22:EDAB01;SeT1;PNO;Noeud_") []))
+unfolding reading_of has_head
+unknown_pointer_read = zones_as (one_node (line (codes "REFCP22:EDAB01;SeT1;PNO;Noeud_") [])) _ refl refl
+
+empty_pointer_read : Read (one_node (line (codes "REFCP00:") []))
+unfolding reading_of has_head
+empty_pointer_read = zones_as (one_node (line (codes "REFCP00:") [])) _ refl refl
+
+pub node_file : (zones : List Entry) × IsZonesOf (one_node []) zones × (groups_of zones ≡ node_group ∷ []) × IsUnbroken (BreaksRecordRule zones)
+node_file = (zones_of (one_node []), node_read, node_zones, unbroken_by (zones_of (one_node [])) node_unbroken)
+
+pub wrong_count : (zones : List Entry) × IsZonesOf (one_node (line (codes "ATCSN01:1") [])) zones × IsLeastBroken (BreaksRecordRule zones) 205 1
+wrong_count = (zones_of (one_node (line (codes "ATCSN01:1") [])), wrong_count_read, least_by _ 205 wrong_count_rule)
+
+pub unknown_pointer : (zones : List Entry) × IsZonesOf (one_node (line (codes "REFCP22:EDAB01;SeT1;PNO;Noeud_") [])) zones × IsLeastBroken (BreaksRecordRule zones) 208 1
+unknown_pointer = (zones_of (one_node (line (codes "REFCP22:EDAB01;SeT1;PNO;Noeud_") [])), unknown_pointer_read, least_by _ 208 unknown_pointer_rule)
+
+pub empty_pointer : (zones : List Entry) × IsZonesOf (one_node (line (codes "REFCP00:") [])) zones × IsUnbroken (BreaksRecordRule zones)
+empty_pointer = (zones_of (one_node (line (codes "REFCP00:") [])), empty_pointer_read, unbroken_by _ empty_pointer_rule)

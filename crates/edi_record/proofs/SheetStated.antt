@@ -3,13 +3,18 @@ use Rattle.std.proofs.Common.{◌≡◌, ℕ, ◌+◌, true, false, List, [], �
 use Rattle.std.specs.List.{AllByRecursion, AllZip}
 use Rattle.std.proofs.lemmas.Bool.{not-true, or_from}
 use Rattle.edi_line.specs.Entry.{Entry, has_code, first}
-use Rattle.edi_line.specs.Zones.{ends_group, groups_of, charset_of, zones_of}
+use Rattle.edi_line.specs.Zones.{ends_group, groups_of, charset_of}
+use Rattle.edi_line.specs.inner.Zones.{zones_of, zones_in}
 use Rattle.edi_line.specs.Printing.{zone_text, numbered, IsPrintable, lines_of_zone}
 use Rattle.edi_line.proofs.Printed.{printed_again}
 use Rattle.edi_record.specs.Shapes.{kind_code}
 use Rattle.edi_record.specs.Records.{values, States}
-use Rattle.edi_record.specs.Layout.{Letters, class_text, cse_zone, begin_zone, end_zone, body_zones, record_zones, sheet_zones, layout, is_free, IsRecord, settled_record}
+use Rattle.edi_record.specs.inner.Records.{ReadsAs}
+use Rattle.edi_record.specs.Layout.{Letters, class_text, cse_zone, begin_zone, end_zone, body_zones, record_zones, sheet_zones, layout, is_free, IsRecord, settled_record, LayoutIsReadAgain}
 use Rattle.edi_record.specs.declared.record.Record.{Record}
+use Rattle.edi_line.proofs.Readings.{readings_are}
+use Rattle.edi_line.proofs.ZonesSaid.{zones_are}
+use Rattle.edi_record.proofs.StatesSaid.{all_said}
 use Rattle.edi_record.proofs.Stated.{record_again, record_is, unknown, any_apart, joined, HoldsInBody, HoldsBehind, body_each, behind, behind_each, none_found}
 use Rattle.edi_record.proofs.Numbered.{IsCut, groups_state, same_values}
 
@@ -74,16 +79,16 @@ set_found None zs h = ap (λ t. first (map (λ (e : Entry). e.value) t)) (none_f
 set_found (Some text) zs h = refl
 
 -- each record states what it is settled as, and is cut off well
-each_stated : (s : Letters) (rs : List Record) → AllByRecursion IsRecord rs → AllByRecursion (λ r. IsCut (record_zones s r) × States (record_zones s r) (settled_record s r)) rs
+each_stated : (s : Letters) (rs : List Record) → AllByRecursion IsRecord rs → AllByRecursion (λ r. IsCut (record_zones s r) × ReadsAs (record_zones s r) (settled_record s r)) rs
 each_stated s [] h = tt
 each_stated s (r ∷ rs) h = ((record_cut s r h.0, record_again s r h.0), each_stated s rs h.1)
 
-behind_set : (cse : Option (List ℕ)) (n : ℕ) (zs : List Entry) (rs : List Record) → ((m : ℕ) → AllZip States (groups_of (numbered m zs)) rs) → AllZip States (groups_of (numbered n (map cse_zone (option_to_list cse) ++ zs))) rs
+behind_set : (cse : Option (List ℕ)) (n : ℕ) (zs : List Entry) (rs : List Record) → ((m : ℕ) → AllZip ReadsAs (groups_of (numbered m zs)) rs) → AllZip ReadsAs (groups_of (numbered n (map cse_zone (option_to_list cse) ++ zs))) rs
 behind_set None n zs rs more = more n
 behind_set (Some text) n zs rs more = more (n + length (lines_of_zone (cse_zone text)))
 
 pub sheet_again : (s : Letters) (cse : Option (List ℕ)) (rs : List Record) → AllByRecursion IsPrintable (sheet_zones s cse rs) → AllByRecursion IsRecord rs
-    → (option_map (λ (e : Entry). e.value) (charset_of (zones_of (layout s cse rs))) ≡ cse) × AllZip States (groups_of (zones_of (layout s cse rs))) (map (settled_record s) rs)
+    → (option_map (λ (e : Entry). e.value) (charset_of (zones_of (layout s cse rs))) ≡ cse) × AllZip ReadsAs (groups_of (zones_of (layout s cse rs))) (map (settled_record s) rs)
 sheet_again s cse rs p h =
     let body = flat_map (record_zones s) rs ++ end_zone ∷ [] in
     let zones = printed_again (sheet_zones s cse rs) p in (
@@ -91,7 +96,16 @@ sheet_again s cse rs p h =
           ∙ first_value (filter (has_code (codes "CSE")) (numbered 1 (sheet_zones s cse rs)))
           ∙ ap first (same_values (codes "CSE") 1 (sheet_zones s cse rs))
           ∙ set_found cse body (no_sets s rs h),
-      subst (λ zs. AllZip States (groups_of zs) (map (settled_record s) rs)) (sym zones)
+      subst (λ zs. AllZip ReadsAs (groups_of zs) (map (settled_record s) rs)) (sym zones)
           (behind_set cse (1 + length (lines_of_zone begin_zone)) body (map (settled_record s) rs)
           (λ m. (groups_state (record_zones s) (settled_record s) rs m end_zone (each_stated s rs h) refl refl).1)),
+    )
+
+-- the same, of whatever zones the lines of the layout have
+pub sheet_stated : LayoutIsReadAgain
+sheet_stated s cse rs readings zones p h say are =
+    let same : zones ≡ zones_of (layout s cse rs) = zones_are readings zones are ∙ ap zones_in (readings_are (layout s cse rs) readings say) in
+    let again = sheet_again s cse rs p h in (
+      ap (λ zs. option_map (λ (e : Entry). e.value) (charset_of zs)) same ∙ again.0,
+      subst (λ zs. AllZip States (groups_of zs) (map (settled_record s) rs)) (sym same) (all_said (groups_of (zones_of (layout s cse rs))) (map (settled_record s) rs) again.1),
     )

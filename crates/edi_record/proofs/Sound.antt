@@ -5,14 +5,19 @@ use Rattle.std.specs.List.{AllByRecursion}
 use Rattle.std.proofs.lemmas.List.{length-map}
 use Rattle.edi_line.specs.Entry.{Entry}
 use Rattle.edi_line.specs.Refusal.{IsUnbroken, first_broken}
-use Rattle.edi_line.specs.Zones.{kind_of, is_inner, IsGroup, IsFileOf, zones_of, groups_of}
+use Rattle.edi_line.specs.Zones.{IsGroup, IsFileOf, groups_of}
+use Rattle.edi_line.specs.inner.Zones.{zones_of}
+use Rattle.edi_line.specs.LineKinds.{kind_of, is_inner}
 use Rattle.edi_line.specs.Printing.{zone_text, numbered, IsOneLine}
 use Rattle.edi_line.proofs.FirstBroken.{none_broken}
 use Rattle.edi_line.proofs.Printed.{printed_again}
 use Rattle.edi_line.proofs.PrintedRules as lines
 use Rattle.edi_line.proofs.Said.{file_said}
+use Rattle.edi_line.proofs.Readings.{unbroken_read}
+use Rattle.edi_line.proofs.ZonesSaid.{zones_said}
+use Rattle.edi_record.proofs.RulesSaid.{records_unbroken}
 use Rattle.edi_record.specs.Shapes.{kind_code}
-use Rattle.edi_record.specs.RecordRules.{record_tests, BreaksRecordRule}
+use Rattle.edi_record.specs.inner.RecordRules.{record_tests, FailsTest}
 use Rattle.edi_record.specs.Layout.{Letters, HasPrintableLetters, class_text, extra_zone, begin_zone, end_zone, cse_zone, body_zones, record_zones, sheet_zones, layout, IsExtra, IsRecord, IsLineRecord, KeepsRules}
 use Rattle.edi_record.specs.Sound.{IsSoundFile}
 use Rattle.edi_record.specs.declared.record.Record.{Record}
@@ -114,7 +119,7 @@ one_of : (before : List (List Entry)) (group : List Entry) (after : List (List E
 one_of [] group after h = h.0
 one_of (g ∷ before) group after h = one_of before group after h.1
 
-kept_unbroken : (zones : List Entry) → AllByRecursion IsKept (groups_of zones) → IsUnbroken (BreaksRecordRule zones)
+kept_unbroken : (zones : List Entry) → AllByRecursion IsKept (groups_of zones) → IsUnbroken (FailsTest zones)
 kept_unbroken zones h rule place b = none_broken (record_tests b.group) (one_of b.before b.group b.after (subst (AllByRecursion IsKept) b.cut h)) rule b.breaks
 
 -- What is printed of a sheet breaks no rule.
@@ -129,7 +134,8 @@ sheet_sound s cse rs letters text is lines_of rules few =
     let kept = numbered_kept 1 (sheet_zones s cse rs) (subst (AllByRecursion IsKept) (sym groups.1) (records_kept s rs is rules)) in
     record {
       file = file;
-      zones = record { readable = λ rule place own broken. unbroken rule place (inl broken); is = refl };
+      zones = zones_of (layout s cse rs);
+      are_zones = zones_said (layout s cse rs) (zones_of (layout s cse rs)) (record { readable = λ rule place own broken. unbroken_read (layout s cse rs) unbroken rule place (inl broken); is = refl });
       lines = unbroken;
-      records = kept_unbroken (zones_of (layout s cse rs)) (subst (λ zs. AllByRecursion IsKept (groups_of zs)) (sym (printed_again (sheet_zones s cse rs) printable)) kept);
+      records = records_unbroken (zones_of (layout s cse rs)) (kept_unbroken (zones_of (layout s cse rs)) (subst (λ zs. AllByRecursion IsKept (groups_of zs)) (sym (printed_again (sheet_zones s cse rs) printable)) kept));
     }

@@ -6,13 +6,16 @@ use Rattle.std.proofs.lemmas.Bool.{or_parts}
 use Rattle.std.proofs.lemmas.List.{append-nil}
 use Rattle.std.proofs.lemmas.List.Elements.{All-from_recursion, filter-append}
 use Rattle.edi_line.specs.Entry.{Entry, has_code}
-use Rattle.edi_line.specs.Number.{number, plain_text, signed_text, size_of, MOST}
+use Rattle.edi_line.specs.Number.{plain_text, signed_text, size_of, MOST}
+use Rattle.edi_line.specs.inner.Number.{number}
 use Rattle.edi_line.specs.Printing.{zone_text}
 use Rattle.edi_line.proofs.NumberRead.{number_is}
 use Rattle.edi_line.proofs.Spelled.{signed_text_read, plain_text_read}
-use Rattle.edi_record.specs.Texts.{PointerText, pointer, class_of, pointer_text, point, third_text, point_text}
+use Rattle.edi_record.specs.Texts.{PointerText, pointer_text, third_text, point_text}
+use Rattle.edi_record.specs.inner.Texts.{pointer, class_of, point}
 use Rattle.edi_record.specs.Shapes.{kind_code}
-use Rattle.edi_record.specs.Records.{values, has_points, is_link, opens, closes, set_after, value_after, attributes, points_at, sns_after, end_of, ends, Placed, placed, known_anywhere, known_in, is_known, is_extra, value_of, may_be_number, extra, extras, States}
+use Rattle.edi_record.specs.Records.{values, has_points, is_link, opens, closes, points_at, known_anywhere, known_in, is_known, may_be_number}
+use Rattle.edi_record.specs.inner.Records.{set_after, value_after, attributes, sns_after, end_of, ends, Placed, placed, is_extra, value_of, extra, extras, ReadsAs}
 use Rattle.edi_record.specs.Layout.{Letters, class_text, value_text, point_zone, set_zone, attribute_zones, extra_zone, end_text, sns_zone, end_zones, count_zones, body_zones, record_zones, IsOwnValue, IsExtra, IsName, IsPoint, IsRecord, settled, settled_end, settled_record}
 use Rattle.edi_record.specs.declared.name.Name.{Name}
 use Rattle.edi_record.specs.declared.record.Kind.{Kind}
@@ -400,7 +403,7 @@ extras_stated s r h =
     ∙ extras_again r.kind r.extras h.extras
 
 -- The zones of a record state it, with its ends and values as they are written.
-pub record_again : (s : Letters) (r : Record) → IsRecord r → States (record_zones s r) (settled_record s r)
+pub record_again : (s : Letters) (r : Record) → IsRecord r → ReadsAs (record_zones s r) (settled_record s r)
 record_again s r h = record {
   type = ap (values (codes "RTY")) (record_is s r) ∙ ap (λ t. kind_code r.kind ∷ t) (nothing_found s r (codes "RTY") (record { ptc = λ _. refl; ftc = λ _. refl; cor = λ _. refl; ftp = λ _. refl; sns = λ _. refl }) (record { atc = λ _. refl; atp = λ _. refl; tex = λ _. refl; atv = λ _ _. refl }) (λ e k. (unknown r.kind e k).0) h);
   rid = ap (values (codes "RID")) (record_is s r) ∙ ap (λ t. r.rid ∷ t) (nothing_found s r (codes "RID") (record { ptc = λ _. refl; ftc = λ _. refl; cor = λ _. refl; ftp = λ _. refl; sns = λ _. refl }) (record { atc = λ _. refl; atp = λ _. refl; tex = λ _. refl; atv = λ _ _. refl }) (λ e k. (unknown r.kind e k).1.0) h);

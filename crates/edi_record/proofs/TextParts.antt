@@ -1,17 +1,19 @@
 -- Texts in parts.
-use Rattle.std.proofs.Common.{◌≡◌, ℕ, ◌+◌, ◌<◌, ◌⊎◌, ◌↔◌, Bool, true, false, cond, eqb, inl, inr, List, [], ◌∷◌, ◌++◌, length, take, drop, Option, Some, None, is_some, option_map, position, All, ℤ, refl, sym, ap, ◌∙◌, subst, arith}
+use Rattle.std.proofs.Common.{◌≡◌, ℕ, ◌+◌, ◌<◌, ◌⊎◌, ◌↔◌, Bool, true, false, cond, eqb, inl, inr, List, [], ◌∷◌, ◌++◌, length, take, drop, Option, Some, None, is_some, option_map, MatchOption, position, All, ℤ, refl, sym, ap, ◌∙◌, subst, arith}
 use Rattle.std.specs.List.{AllByRecursion, onto_first, join_with_byte, AllZip}
 use Rattle.std.proofs.lemmas.Bool.{ne_eqb, eqb-true}
 use Rattle.std.proofs.lemmas.List.Elements.{All-from_recursion}
 use Rattle.std.proofs.lemmas.List.{append_assoc, nil_from_length}
 use Rattle.std.proofs.lemmas.List.Splits.{slice_split_at, slice_split_none, slice_split_first, join_with_byte-slice_split, length-slice_split}
-use Rattle.edi_line.specs.Number.{IsNumberText, number}
+use Rattle.edi_line.specs.Number.{IsNumberText}
+use Rattle.edi_line.specs.inner.Number.{number}
 use Rattle.std.proofs.lemmas.List.Sums.{fails_before_first}
 use Rattle.edi_line.proofs.Numbers.{position_at_Some, position_at_None}
-use Rattle.edi_line.proofs.NumberRead.{number_is, number_lacks}
-use Rattle.edi_record.specs.Texts.{is_semicolon, parts, PointerText, pointer_of, pointer, IsPointer, flat_place, high_place, point_of, point, coordinates, last_part, IsPlace}
-use Rattle.edi_record.specs.Lent.{AreCut}
+use Rattle.edi_line.proofs.NumberRead.{number_is, number_lacks, number_says, same_number}
+use Rattle.edi_record.specs.Texts.{shown, is_semicolon, PointerText, IsPointer, coordinates, IsPlace}
+use Rattle.edi_record.specs.inner.Texts.{parts, pointer_of, pointer, flat_place, high_place, point_of, point, last_part, AreCut}
 use Rattle.edi_record.specs.declared.record.Point.{Point}
+use Rattle.edi_record.specs.declared.pointer.Pointer.{Pointer}
 
 abbrev Lacks : List ℕ → Type 0
 Lacks part = AllByRecursion (λ c. eqb c 59 ≡ false) part
@@ -312,3 +314,29 @@ not_empty t e is full empty = let f : true ≡ false = sym (is ∙ ap (λ s. eqb
 
 pub is_nil : (t : List ℕ) (e : Bool) → e ≡ eqb (length t) 0 → e ≡ true → t ≡ []
 is_nil t e is empty = nil_from_length t (eqb-true _ _ (sym is ∙ empty))
+
+-- ---- what is found
+
+pub pointer_one : (text : List ℕ) (p q : PointerText) → IsPointer text p → IsPointer text q → p ≡ q
+pointer_one text p q h k = let e : Some p ≡ Some q = sym ((pointer_is text p).1 h) ∙ (pointer_is text q).1 k in cc
+
+pub place_one : (text : List ℕ) (p q : Point) → IsPlace text p → IsPlace text q → p ≡ q
+place_one text p q h k = let e : Some p ≡ Some q = sym ((place_is text p).1 h) ∙ (place_is text q).1 k in cc
+
+pub no_pointer : (text : List ℕ) → None ≡ pointer text → (p : PointerText) → ¬ (IsPointer text p)
+no_pointer text e p h = let f : ◌≡◌ {A = Option PointerText} None (Some p) = e ∙ (pointer_is text p).1 h in absurd cc
+
+pub some_pointer : (text : List ℕ) (p : PointerText) → Some p ≡ pointer text → IsPointer text p
+some_pointer text p e = (pointer_is text p).0 (sym e)
+
+-- what a call of `read` found, as the function has it
+pub pointer_found : (text : List ℕ) (r : Option Pointer) → MatchOption r ((p : PointerText) → ¬ (IsPointer text p)) (λ p. IsPointer text (shown p)) → option_map shown r ≡ pointer text
+pointer_found text (Some p) h = sym ((pointer_is text (shown p)).1 h)
+pointer_found text None h = go (pointer text) refl
+  where
+    go : (o : Option PointerText) → pointer text ≡ o → None ≡ o
+    go None e = refl
+    go (Some p) e = absurd (h p ((pointer_is text p).0 e))
+
+pub number_found : (text : List ℕ) (r : Option ℤ) → MatchOption r ((m : ℤ) → ¬ (IsNumberText text m)) (λ m. IsNumberText text m) → r ≡ number text
+number_found text r h = same_number text r (number text) h (number_says text)

@@ -1,16 +1,18 @@
 -- The zones of canonical records.
-use Rattle.std.specs.Prelude.{◌≡◌, ℕ, Bool, true, false, List, [], ◌∷◌, ◌++◌, map, length, flat_map, codes, Option, None, option_map, option_to_list, decimal, All, ◌==◌, ◌<◌, ◌≤◌, ◌^◌, not, IfSome, bytes_eq}
+use Rattle.std.specs.Prelude.{◌≡◌, ℕ, Bool, true, false, List, [], ◌∷◌, ◌++◌, map, length, flat_map, codes, Option, None, option_map, option_to_list, decimal, ◌<◌, ◌≤◌, ◌^◌, not, IfSome, bytes_eq}
 use Rattle.std.specs.List.{AllByRecursion, AllZip, list_any}
-use Rattle.edi_line.specs.Zones.{zones_of, groups_of, charset_of}
+use Rattle.edi_line.specs.Zones.{IsZonesIn, groups_of, charset_of}
 use Rattle.edi_line.specs.Entry.{Entry}
-use Rattle.edi_line.specs.Spelling.{is_printable}
-use Rattle.edi_line.specs.Number.{number, plain_text, size_of, MOST}
-use Rattle.edi_line.specs.Printing.{zone_text, printed, is_code, IsOneLine, IsPrintable}
-use Rattle.edi_record.specs.Texts.{pointer_text, point_text}
-use Rattle.edi_line.specs.Refusal.{first_broken}
-use Rattle.edi_record.specs.RecordRules.{is_identifier, record_tests}
+use Rattle.edi_line.specs.Spelling.{is_printable, Reading, AreReadings}
+use Rattle.edi_line.specs.Number.{plain_text, size_of, MOST}
+use Rattle.edi_line.specs.inner.Number.{number}
+use Rattle.edi_line.specs.Printing.{zone_text, zone_headed, printed, is_code, IsOneLine, IsPrintable}
+use Rattle.edi_record.specs.Texts.{HasNoSemicolon, pointer_text, point_text}
+use Rattle.edi_record.specs.Bytes.{letter_p}
+use Rattle.edi_record.specs.RecordRules.{BreaksGroupRule, is_identifier}
 use Rattle.edi_record.specs.Shapes.{kind_code, is_in_shape}
-use Rattle.edi_record.specs.Records.{has_points, is_link, value_of, is_known, may_be_number, States}
+use Rattle.edi_record.specs.Records.{States, has_points, is_link, is_known, may_be_number}
+use Rattle.edi_record.specs.inner.Records.{value_of}
 use Rattle.edi_record.specs.declared.name.Name.{Name}
 use Rattle.edi_record.specs.declared.record.Kind.{Kind}
 use Rattle.edi_record.specs.declared.record.Kind.TheVariants.{Pno, Par, Pfe, Fea, Lnk}
@@ -35,16 +37,16 @@ value_text (Number m) = plain_text m
 value_text (Bytes text) = text
 
 abbrev pub point_zone : Point → Entry
-point_zone p = zone_text (codes "COR") 67 67 (point_text p)
+point_zone p = zone_headed (codes "CORCC") (point_text p)
 
 abbrev pub set_zone : List ℕ → Entry
-set_zone text = zone_text (codes "TEX") 84 32 text
+set_zone text = zone_headed (codes "TEXT ") text
 
 unfoldable pub attribute_zones : Letters → Attribute → List Entry
 attribute_zones s a =
-    zone_text (codes "ATP") 67 80 (class_text a.atp)
+    zone_headed (codes "ATPCP") (class_text a.atp)
     ∷ map set_zone (option_to_list a.tex)
-    ++ zone_text (codes "ATV") 83 (s.letter a.atp) (value_text (value_of (s.is_number a.atp) a.atv)) ∷ []
+    ++ zone_headed (codes "ATVS" ++ s.letter a.atp ∷ []) (value_text (value_of (s.is_number a.atp) a.atv)) ∷ []
 
 abbrev pub extra_zone : Extra → Entry
 extra_zone e = zone_text e.code e.nature e.format (value_text e.value)
@@ -53,37 +55,37 @@ abbrev pub end_text : Name → List ℕ
 end_text n = pointer_text (record { lot = codes "CANON"; subset = codes "S"; rty = n.rty; rid = n.rid })
 
 abbrev pub sns_zone : List ℕ → Entry
-sns_zone text = zone_text (codes "SNS") 83 65 text
+sns_zone text = zone_headed (codes "SNSSA") text
 
 unfoldable pub end_zones : End → List Entry
-end_zones e = zone_text (codes "FTP") 67 80 (end_text e.target) ∷ map sns_zone (option_to_list e.sns)
+end_zones e = zone_headed (codes "FTPCP") (end_text e.target) ∷ map sns_zone (option_to_list e.sns)
 
 -- the count of points or ends, where there is one
 abbrev pub count_zones : Kind → ℕ → ℕ → List Entry
 count_zones Pno points ends = []
-count_zones Par points ends = zone_text (codes "PTC") 83 78 (decimal points) ∷ []
+count_zones Par points ends = zone_headed (codes "PTCSN") (decimal points) ∷ []
 count_zones Pfe points ends = []
 count_zones Fea points ends = []
-count_zones Lnk points ends = zone_text (codes "FTC") 83 78 (decimal ends) ∷ []
+count_zones Lnk points ends = zone_headed (codes "FTCSN") (decimal ends) ∷ []
 
 unfoldable pub body_zones : Kind → List Point → List End → List Entry
 body_zones kind points ends = count_zones kind (length points) (length ends) ++ (map point_zone points ++ flat_map end_zones ends)
 
 unfoldable pub record_zones : Letters → Record → List Entry
 record_zones s r =
-    zone_text (codes "RTY") 83 65 (kind_code r.kind) ∷ zone_text (codes "RID") 83 65 r.rid ∷ zone_text (codes "SCP") 67 80 (class_text r.scp)
+    zone_headed (codes "RTYSA") (kind_code r.kind) ∷ zone_headed (codes "RIDSA") r.rid ∷ zone_headed (codes "SCPCP") (class_text r.scp)
     ∷ (body_zones r.kind r.points r.ends
-    ++ (zone_text (codes "ATC") 83 78 (decimal (length r.attributes))
+    ++ (zone_headed (codes "ATCSN") (decimal (length r.attributes))
     ∷ (flat_map (attribute_zones s) r.attributes ++ map extra_zone r.extras)))
 
 abbrev pub begin_zone : Entry
-begin_zone = zone_text (codes "BOM") 84 32 (codes "CANON.VEC")
+begin_zone = zone_headed (codes "BOMT ") (codes "CANON.VEC")
 
 abbrev pub end_zone : Entry
-end_zone = zone_text (codes "EOM") 84 32 []
+end_zone = zone_headed (codes "EOMT ") []
 
 abbrev pub cse_zone : List ℕ → Entry
-cse_zone text = zone_text (codes "CSE") 84 32 text
+cse_zone text = zone_headed (codes "CSET ") text
 
 abbrev pub sheet_zones : Letters → Option (List ℕ) → List Record → List Entry
 sheet_zones s cse rs = begin_zone ∷ (map cse_zone (option_to_list cse) ++ (flat_map (record_zones s) rs ++ end_zone ∷ []))
@@ -109,8 +111,8 @@ pub record IsExtra (kind : Kind) (e : Extra) : Type 0 where
   pub free : is_free e.code ≡ true
 
 pub record IsName (n : Name) : Type 0 where
-  pub rty : All (λ b. (b == 59) ≡ false) n.rty
-  pub rid : All (λ b. (b == 59) ≡ false) n.rid
+  pub rty : HasNoSemicolon n.rty
+  pub rid : HasNoSemicolon n.rid
 
 pub record IsPoint (p : Point) : Type 0 where
   pub x : size_of p.x ≤ MOST
@@ -181,8 +183,9 @@ HasPrintableLetters s = (n : Name) → is_printable (s.letter n) ≡ true
 -- The layout of records states them, with their ends and values as they are written.
 abbrev pub LayoutIsReadAgain : Type 0
 LayoutIsReadAgain =
-    (s : Letters) (cse : Option (List ℕ)) (rs : List Record) → AllByRecursion IsPrintable (sheet_zones s cse rs) → AllByRecursion IsRecord rs
-    → (option_map (λ (e : Entry). e.value) (charset_of (zones_of (layout s cse rs))) ≡ cse) × AllZip States (groups_of (zones_of (layout s cse rs))) (map (settled_record s) rs)
+    (s : Letters) (cse : Option (List ℕ)) (rs : List Record) (readings : List Reading) (zones : List Entry) → AllByRecursion IsPrintable (sheet_zones s cse rs) → AllByRecursion IsRecord rs
+    → AreReadings (layout s cse rs) readings → IsZonesIn readings zones
+    → (option_map (λ (e : Entry). e.value) (charset_of zones) ≡ cse) × AllZip States (groups_of zones) (map (settled_record s) rs)
 
 -- what a record keeps that was read from zones which break no rule of records
 pub record KeepsRules (r : Record) : Type 0 where
@@ -191,11 +194,11 @@ pub record KeepsRules (r : Record) : Type 0 where
   pub few_attributes : length r.attributes < 2 ^ 64
   pub few_points : length r.points < 2 ^ 64
   pub few_ends : length r.ends < 2 ^ 64
-  pub pointers : AllByRecursion (λ e. e.format ≡ 80 → value_text e.value ≡ []) r.extras
+  pub pointers : AllByRecursion (λ e. e.format ≡ letter_p → value_text e.value ≡ []) r.extras
 
 -- The zones of such a record break no rule of records.
 abbrev pub PrintedRecordsAreUnbroken : Type 0
-PrintedRecordsAreUnbroken = (s : Letters) (r : Record) → IsRecord r → KeepsRules r → first_broken (record_tests (record_zones s r)) ≡ None
+PrintedRecordsAreUnbroken = (s : Letters) (r : Record) → IsRecord r → KeepsRules r → (rule : ℕ) → ¬ (BreaksGroupRule (record_zones s r) rule)
 
 -- Sheets whose texts are each one line can be printed.
 abbrev pub SheetsArePrintable : Type 0

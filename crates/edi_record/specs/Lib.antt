@@ -1,13 +1,12 @@
+pub mod Bytes
 pub mod Texts
-pub mod Lent
 pub mod Shapes
 pub mod Records
 pub mod RecordRules
 pub mod RecordRefusal
-pub mod Kept
 pub mod Layout
 pub mod Orders
 pub mod Rows
-pub mod Stretches
 pub mod Readable
 pub mod Sound
+pub mod inner

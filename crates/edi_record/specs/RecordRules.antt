@@ -1,42 +1,15 @@
 -- The rules of records.
-use Rattle.std.specs.Prelude.{◌≡◌, ℕ, ◌+◌, Bool, true, false, not, ◌&&◌, ◌||◌, ◌==◌, nat_le, nat_lt, nat_eq, is_none, is_some, List, [], ◌∷◌, ◌++◌, length, if◌then◌else◌, Option, Some, None, option_and_then, codes, bytes_eq}
-use Rattle.std.specs.List.{list_any, before_first}
+use Rattle.std.specs.Prelude.{◌≡◌, ◌≢◌, ◌⊎◌, ℕ, ◌+◌, ◌<◌, Bool, true, false, not, ◌&&◌, nat_le, List, [], ◌∷◌, ◌++◌, length, Some, codes, Any}
+use Rattle.std.specs.List.{list_any}
 use Rattle.edi_line.specs.Entry.{Entry, has_code, first}
 use Rattle.edi_line.specs.Zones.{groups_of}
-use Rattle.edi_line.specs.Refusal.{Test, test, Breaks}
-use Rattle.edi_record.specs.Texts.{is_semicolon, pointer, point, count}
-use Rattle.edi_record.specs.Records.{values, has_points, is_link, opens, closes, points_at, Placed, placed, is_extra}
+use Rattle.edi_record.specs.Bytes.{letter_p}
+use Rattle.edi_record.specs.Records.{values, has_points, IsSince, closes, IsOpen, points_at, IsExtraAt}
+use Rattle.edi_record.specs.Shapes.{kind_code}
+use Rattle.edi_record.specs.Texts.{is_semicolon, PointerText, IsPointer, IsPlace, IsCount}
 use Rattle.edi_record.specs.declared.record.Kind.{Kind}
-use Rattle.edi_record.specs.declared.record.Kind.TheVariants.{Pno, Par, Pfe, Fea, Lnk}
-
-abbrev pub kind_named : List ℕ → Option Kind
-kind_named code =
-    if bytes_eq code (codes "PNO") then Some Pno
-    else (if bytes_eq code (codes "PAR") then Some Par
-    else (if bytes_eq code (codes "PFE") then Some Pfe
-    else (if bytes_eq code (codes "FEA") then Some Fea
-    else (if bytes_eq code (codes "LNK") then Some Lnk
-    else None))))
-
--- the kind that the type of a record names
-abbrev pub kind_in : List Entry → Option Kind
-kind_in group = option_and_then kind_named (first (values (codes "RTY") group))
-
--- the kind is known and passes the test
-abbrev pub in_kind : (Kind → Bool) → List Entry → Bool
-in_kind test group = kind_passes (kind_in group)
-  where
-    kind_passes : Option Kind → Bool
-    kind_passes (Some kind) = test kind
-    kind_passes None = false
-
-abbrev pub is_node : Kind → Bool
-is_node Pno = true
-is_node _ = false
-
-abbrev pub is_arc : Kind → Bool
-is_arc Par = true
-is_arc _ = false
+use Rattle.edi_record.specs.declared.record.Kind.TheVariants.{Pno, Par, Lnk}
+use Rattle.edi_record.specs.declared.record.Point.{Point}
 
 -- there is just one, and it passes the test
 abbrev pub just_one : (List ℕ → Bool) → List (List ℕ) → Bool
@@ -44,98 +17,89 @@ just_one test (text ∷ []) = test text
 just_one test [] = false
 just_one test (text ∷ other ∷ texts) = false
 
--- 201: the type isn't one of the five
-abbrev pub has_no_kind : List Entry → Bool
-has_no_kind group = is_none (kind_in group)
-
 -- 1 to 255 bytes, and no semicolon
 abbrev pub is_identifier : List ℕ → Bool
 is_identifier text = nat_le 1 (length text) && (nat_le (length text) 255 && not (list_any is_semicolon text))
 
--- 202: not exactly one RID in form
+-- not exactly one RID in form
 abbrev pub has_no_identifier : List Entry → Bool
 has_no_identifier group = not (just_one is_identifier (values (codes "RID") group))
 
--- 203: not exactly one SCP that is a pointer
-abbrev pub has_no_class : List Entry → Bool
-has_no_class group = not (just_one (λ text. is_some (pointer text)) (values (codes "SCP") group))
+-- the first RTY names the kind
+abbrev pub IsOfKind : List Entry → Kind → Type 0
+IsOfKind group kind = first (values (codes "RTY") group) ≡ Some (kind_code kind)
 
--- some of the texts is no pointer
-abbrev pub some_no_pointer : List (List ℕ) → Bool
-some_no_pointer texts = list_any (λ text. is_none (pointer text)) texts
+abbrev pub IsNoPointer : List ℕ → Type 0
+IsNoPointer text = (p : PointerText) → ¬ (IsPointer text p)
 
--- how many zones with a code come before the next that ends the stretch
-abbrev pub count_until : (Entry → Bool) → List ℕ → List Entry → ℕ
-count_until ends code [] = 0
-count_until ends code (z ∷ zs) = if ends z then 0 else (if has_code code z then 1 + count_until ends code zs else count_until ends code zs)
+-- no count, or just one, of so many
+abbrev pub Counts : List (List ℕ) → ℕ → Type 0
+Counts texts n = (texts ≡ []) ⊎ ((text : List ℕ) × (texts ≡ text ∷ []) × IsCount text n)
 
--- behind a zone that opens a stretch, the code comes twice or more in it
-abbrev pub repeats : (Entry → Bool) → (Entry → Bool) → List ℕ → List Entry → Bool
-repeats opens_it ends_it code [] = false
-repeats opens_it ends_it code (z ∷ zs) = (opens_it z && nat_le 2 (count_until ends_it code zs)) || repeats opens_it ends_it code zs
+module _ (group : List Entry) where
+  -- a zone of the group, behind these
+  abbrev pub IsIn : List Entry → Entry → Type 0
+  IsIn front z = (behind : List Entry) × (group ≡ front ++ z ∷ behind)
 
--- 204: an ATP is no pointer; an ATV with no open attribute; a second TEX in one open attribute
-abbrev pub has_bad_attribute : List Entry → Bool
-has_bad_attribute group =
-    some_no_pointer (values (codes "ATP") group)
-    || (list_any (λ p. closes p.zone && not p.open_before) (placed false group)
-    || repeats opens (λ z. opens z || closes z) (codes "TEX") group)
+  -- 201: the type isn't one of the five
+  abbrev pub LacksKind : Type 0
+  LacksKind = (kind : Kind) → ¬ (IsOfKind group kind)
 
--- none, or one text that counts so many
-abbrev pub counts_right : List (List ℕ) → ℕ → Bool
-counts_right [] n = true
-counts_right (text ∷ []) n = counts (count text)
-  where
-    counts : Option ℕ → Bool
-    counts (Some m) = m == n
-    counts None = false
-counts_right (text ∷ other ∷ texts) n = false
+  -- 203: not exactly one SCP that is a pointer
+  abbrev pub LacksClass : Type 0
+  LacksClass = (text : List ℕ) → values (codes "SCP") group ≡ text ∷ [] → IsNoPointer text
 
--- the count is repeated, not digits, or not that of the zones counted
-abbrev pub counts_wrong : List ℕ → List ℕ → List Entry → Bool
-counts_wrong counting counted group = not (counts_right (values counting group) (length (values counted group)))
+  -- 204: an ATP is no pointer; an ATV where no attribute is open; a second TEX in one open attribute
+  pub data HasBadAttribute : Type 0 where
+    no_pointer : Any IsNoPointer (values (codes "ATP") group) → HasBadAttribute
+    stray_value : (front : List Entry) (z : Entry) → IsIn front z → closes z ≡ true → ((since : List Entry) → ¬ (IsOpen front since)) → HasBadAttribute
+    second_set : (front since : List Entry) (z : Entry) → IsIn front z → has_code (codes "TEX") z ≡ true → IsOpen front since → list_any (has_code (codes "TEX")) since ≡ true → HasBadAttribute
 
--- 205: a wrong ATC; a wrong PTC of an arc; a wrong FTC of a link
-abbrev pub has_wrong_count : List Entry → Bool
-has_wrong_count group =
-    counts_wrong (codes "ATC") (codes "ATP") group
-    || ((in_kind is_arc group && counts_wrong (codes "PTC") (codes "COR") group)
-    || (in_kind is_link group && counts_wrong (codes "FTC") (codes "FTP") group))
+  -- the zones with one code aren't as many as the zone with the other says
+  abbrev pub CountsWrong : List ℕ → List ℕ → Type 0
+  CountsWrong counting counted = ¬ (Counts (values counting group) (length (values counted group)))
 
--- 206: a COR of a node or an arc is no place; a node without exactly one COR; an arc with fewer than two
-abbrev pub has_bad_point : List Entry → Bool
-has_bad_point group =
-    (in_kind has_points group && list_any (λ text. is_none (point text)) (values (codes "COR") group))
-    || ((in_kind is_node group && not (nat_eq (length (values (codes "COR") group)) 1))
-    || (in_kind is_arc group && nat_lt (length (values (codes "COR") group)) 2))
+  -- 205: a wrong ATC; a wrong PTC of an arc; a wrong FTC of a link
+  pub data HasWrongCount : Type 0 where
+    of_attributes : CountsWrong (codes "ATC") (codes "ATP") → HasWrongCount
+    of_points : IsOfKind group Par → CountsWrong (codes "PTC") (codes "COR") → HasWrongCount
+    of_ends : IsOfKind group Lnk → CountsWrong (codes "FTC") (codes "FTP") → HasWrongCount
 
--- 207: of a link, an FTP is no pointer; fewer than two ends; an SNS before any FTP, or twice for one
-abbrev pub has_bad_end : List Entry → Bool
-has_bad_end group =
-    in_kind is_link group
-    && (some_no_pointer (values (codes "FTP") group)
-    || (nat_lt (length (values (codes "FTP") group)) 2
-    || (list_any (has_code (codes "SNS")) (before_first points_at group)
-    || repeats points_at points_at (codes "SNS") group)))
+  -- 206: a COR of a node or an arc is no place; a node without exactly one COR; an arc with fewer than two
+  pub data HasBadPoint : Type 0 where
+    no_place : (kind : Kind) → IsOfKind group kind → has_points kind ≡ true → Any (λ text. (p : Point) → ¬ (IsPlace text p)) (values (codes "COR") group) → HasBadPoint
+    of_node : IsOfKind group Pno → length (values (codes "COR") group) ≢ 1 → HasBadPoint
+    of_arc : IsOfKind group Par → length (values (codes "COR") group) < 2 → HasBadPoint
 
-abbrev pub is_unknown_pointer : Kind → Placed → Bool
-is_unknown_pointer kind p = is_extra kind p && ((p.zone.format == 80) && nat_lt 0 (length p.zone.value))
+  -- 207: of a link, an FTP is no pointer; fewer than two ends; an SNS before any FTP; a second SNS behind one FTP
+  pub data HasBadEnd : Type 0 where
+    no_pointer : Any IsNoPointer (values (codes "FTP") group) → HasBadEnd
+    few : length (values (codes "FTP") group) < 2 → HasBadEnd
+    stray_sense : (front : List Entry) (z : Entry) → IsIn front z → has_code (codes "SNS") z ≡ true → list_any points_at front ≡ false → HasBadEnd
+    second_sense : (front since : List Entry) (z : Entry) → IsIn front z → has_code (codes "SNS") z ≡ true → IsSince points_at points_at front since
+        → list_any (has_code (codes "SNS")) since ≡ true → HasBadEnd
 
--- 208: an extra with format `P` and a value that isn't empty
-abbrev pub has_unknown_pointer : List Entry → Bool
-has_unknown_pointer group = in_kind (λ kind. list_any (is_unknown_pointer kind) (placed false group)) group
+  -- 208: an extra with format `P` and a value that isn't empty
+  pub record HasUnknownPointer : Type 0 where
+    pub kind : Kind
+    pub is_kind : IsOfKind group kind
+    pub front : List Entry
+    pub zone : Entry
+    pub is_in : IsIn front zone
+    pub extra : IsExtraAt kind front zone
+    pub format : zone.format ≡ letter_p
+    pub some : zone.value ≢ []
 
-abbrev pub record_tests : List Entry → List Test
-record_tests group =
-    test 201 (has_no_kind group)
-    ∷ test 202 (has_no_identifier group)
-    ∷ test 203 (has_no_class group)
-    ∷ test 204 (has_bad_attribute group)
-    ∷ test 205 (has_wrong_count group)
-    ∷ test 206 (has_bad_point group)
-    ∷ test 207 (has_bad_end group)
-    ∷ test 208 (has_unknown_pointer group)
-    ∷ []
+  -- the group breaks a rule
+  pub data BreaksGroupRule (rule : ℕ) : Type 0 where
+    lacks_kind : rule ≡ 201 → LacksKind → BreaksGroupRule rule
+    lacks_identifier : rule ≡ 202 → has_no_identifier group ≡ true → BreaksGroupRule rule
+    lacks_class : rule ≡ 203 → LacksClass → BreaksGroupRule rule
+    bad_attribute : rule ≡ 204 → HasBadAttribute → BreaksGroupRule rule
+    wrong_count : rule ≡ 205 → HasWrongCount → BreaksGroupRule rule
+    bad_point : rule ≡ 206 → HasBadPoint → BreaksGroupRule rule
+    bad_end : rule ≡ 207 → IsOfKind group Lnk → HasBadEnd → BreaksGroupRule rule
+    unknown_pointer : rule ≡ 208 → HasUnknownPointer → BreaksGroupRule rule
 
 -- the record of this number breaks the rule
 pub record BreaksRecordRule (zones : List Entry) (rule place : ℕ) : Type 0 where
@@ -144,4 +108,4 @@ pub record BreaksRecordRule (zones : List Entry) (rule place : ℕ) : Type 0 whe
   pub after : List (List Entry)
   pub cut : groups_of zones ≡ before ++ group ∷ after
   pub place_is : place ≡ length before + 1
-  pub breaks : Breaks (record_tests group) rule
+  pub breaks : BreaksGroupRule group rule

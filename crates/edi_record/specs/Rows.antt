@@ -1,14 +1,13 @@
 -- Known files, and what they state.
-use Rattle.std.specs.Prelude.{ℕ, pos, List, [], ◌∷◌, ◌++◌, map, Option, None, codes}
+use Rattle.std.specs.Prelude.{ℕ, pos, List, [], ◌∷◌, ◌++◌, None, codes}
+use Rattle.edi_line.specs.Bytes.{line_feed}
 use Rattle.edi_line.specs.Entry.{Entry}
-use Rattle.edi_line.specs.Zones.{zones_of, groups_of}
-use Rattle.edi_line.specs.Refusal.{first_broken}
-use Rattle.edi_record.specs.RecordRules.{record_tests}
+use Rattle.edi_line.specs.Printing.{at_line, zone_headed}
 use Rattle.edi_record.specs.declared.record.Kind.TheVariants.{Pno}
 use Rattle.edi_record.specs.declared.record.Record.{Record}
 
 abbrev pub line : List ℕ → List ℕ → List ℕ
-line text rest = text ++ 10 ∷ rest
+line text rest = text ++ line_feed ∷ rest
 
 -- a sheet with one node, and more zones behind its point
 abbrev pub one_node : List ℕ → List ℕ
@@ -27,15 +26,11 @@ the_node = record {
   extras = [];
 }
 
--- the least rule that each record breaks
-abbrev pub rules_of : List ℕ → List (Option ℕ)
-rules_of bytes = map (λ group. first_broken (record_tests group)) (groups_of (zones_of bytes))
-
 -- the zones of that node
 abbrev pub node_group : List Entry
 node_group =
-    record { line = 3; code = codes "RTY"; nature = 83; format = 65; value = codes "PNO" }
-    ∷ record { line = 4; code = codes "RID"; nature = 83; format = 65; value = codes "Noeud_1" }
-    ∷ record { line = 5; code = codes "SCP"; nature = 67; format = 80; value = codes "EDAB01;SeSD;PGE;NOD_id" }
-    ∷ record { line = 6; code = codes "COR"; nature = 67; format = 67; value = codes "+10.50;+020;" }
+    at_line 3 (zone_headed (codes "RTYSA") (codes "PNO"))
+    ∷ at_line 4 (zone_headed (codes "RIDSA") (codes "Noeud_1"))
+    ∷ at_line 5 (zone_headed (codes "SCPCP") (codes "EDAB01;SeSD;PGE;NOD_id"))
+    ∷ at_line 6 (zone_headed (codes "CORCC") (codes "+10.50;+020;"))
     ∷ []

@@ -13,6 +13,14 @@ kind_code Pfe = codes "PFE"
 kind_code Fea = codes "FEA"
 kind_code Lnk = codes "LNK"
 
+-- nodes before arcs before faces before objects before links
+abbrev pub kind_rank : Kind → ℕ
+kind_rank Pno = 0
+kind_rank Par = 1
+kind_rank Pfe = 2
+kind_rank Fea = 3
+kind_rank Lnk = 4
+
 -- one point per node, two or more per arc, none elsewhere
 abbrev pub may_have_points : Kind → ℕ → Bool
 may_have_points Pno n = nat_eq n 1

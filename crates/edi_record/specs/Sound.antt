@@ -1,7 +1,9 @@
 -- What is printed breaks no rule.
 use Rattle.std.specs.Prelude.{ℕ, ◌≤◌, List, map, length, Option, option_map, IfSome}
 use Rattle.std.specs.List.{AllByRecursion}
-use Rattle.edi_line.specs.Zones.{zones_of, IsFileOf}
+use Rattle.edi_line.specs.Zones.{IsFileOf}
+use Rattle.edi_line.specs.Bytes.{most_records}
+use Rattle.edi_line.specs.Entry.{Entry}
 use Rattle.edi_line.specs.LineRules.{BreaksLineRule, IsZonesOf}
 use Rattle.edi_line.specs.Refusal.{IsUnbroken}
 use Rattle.edi_line.specs.Printing.{IsOneLine}
@@ -12,12 +14,13 @@ use Rattle.edi_record.specs.declared.record.Record.{Record}
 -- the zones of these records are those of a file, and its bytes break no rule of lines and of records
 pub record IsSoundFile (s : Letters) (cse : Option (List ℕ)) (rs : List Record) : Type 0 where
   pub file : IsFileOf (sheet_zones s cse rs) (option_map cse_zone cse) (map (record_zones s) rs)
-  pub zones : IsZonesOf (layout s cse rs) (zones_of (layout s cse rs))
+  pub zones : List Entry
+  pub are_zones : IsZonesOf (layout s cse rs) zones
   pub lines : IsUnbroken (BreaksLineRule (layout s cse rs))
-  pub records : IsUnbroken (BreaksRecordRule (zones_of (layout s cse rs)))
+  pub records : IsUnbroken (BreaksRecordRule zones)
 
 -- Sheets of at most 9,999,999 records that can be printed are printed without a broken rule.
 abbrev pub PrintedSheetsAreSound : Type 0
 PrintedSheetsAreSound =
     (s : Letters) (cse : Option (List ℕ)) (rs : List Record) → HasPrintableLetters s → IfSome cse IsOneLine → AllByRecursion IsRecord rs → AllByRecursion IsLineRecord rs → AllByRecursion KeepsRules rs
-    → length rs ≤ 9999999 → IsSoundFile s cse rs
+    → length rs ≤ most_records → IsSoundFile s cse rs

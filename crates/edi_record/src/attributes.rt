@@ -2,10 +2,10 @@
 
 ghost use Rattle.std.specs.Prelude.{◌≡◌, ℕ, List, [], ◌++◌, codes, map, true, false, Some, None, option_map, is_some, IfOk, IfErr, OnOk};
 ghost use Rattle.edi_line.specs.Entry.{Entry};
-ghost use Rattle.edi_record.specs.Records.{attributes};
-ghost use Rattle.edi_record.specs.RecordRules.{has_bad_attribute};
-ghost use Rattle.edi_record.specs.RecordRefusal.{IsBreachOf};
-ghost use Rattle.edi_record.specs.Kept.{Takes, KeepsAttributes, LeavesOpen, closed_with};
+ghost use Rattle.edi_record.specs.inner.Records.{attributes};
+ghost use Rattle.edi_record.specs.inner.RecordRules.{has_bad_attribute};
+ghost use Rattle.edi_record.specs.inner.RecordRefusal.{IsBreachOf};
+ghost use Rattle.edi_record.specs.inner.Kept.{Takes, KeepsAttributes, LeavesOpen, closed_with};
 
 use crate::fault::GroupFault;
 use crate::pointer::Pointer;

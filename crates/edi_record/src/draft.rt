@@ -3,12 +3,14 @@
 ghost use Rattle.std.specs.Prelude.{◌≡◌, ℕ, ◌+◌, ◌<◌, ◌≤◌, ◌^◌, ◌&&◌, ◌||◌, not, true, false, List, [], ◌∷◌, map, length, codes, Some, None, is_some, MatchOption, IfOk, IfErr, OnOk};
 ghost use Rattle.edi_line.specs.Entry.{Entry, entry};
 ghost use Rattle.edi_line.specs.Refusal.{first_broken};
-ghost use Rattle.edi_record.specs.Texts.{pointer, class_of};
+ghost use Rattle.edi_record.specs.inner.Texts.{pointer, class_of};
 ghost use Rattle.edi_record.specs.Shapes.{is_in_shape};
-ghost use Rattle.edi_record.specs.Records.{values, is_link, States};
-ghost use Rattle.edi_record.specs.RecordRules.{kind_in, is_arc, counts_right, just_one, is_identifier as is_identifier_text, record_tests};
-ghost use Rattle.edi_record.specs.RecordRefusal.{IsGroupRefusal};
-ghost use Rattle.edi_record.specs.Kept.{AreTexts, KeepsRecord};
+ghost use Rattle.edi_record.specs.Records.{values, is_link};
+ghost use Rattle.edi_record.specs.inner.Records.{ReadsAs};
+ghost use Rattle.edi_record.specs.RecordRules.{just_one, is_identifier as is_identifier_text};
+ghost use Rattle.edi_record.specs.inner.RecordRules.{kind_in, is_arc, counts_right, record_tests};
+ghost use Rattle.edi_record.specs.inner.RecordRefusal.{IsGroupRefusal};
+ghost use Rattle.edi_record.specs.inner.Kept.{AreTexts, KeepsRecord};
 
 use crate::attributes::Attributes;
 use crate::counts::is_wrong;
@@ -99,7 +101,7 @@ impl<'a> Draft<'a> {
 
     /// The record, of which all zones have come, or the least of the rules 202 to 208 that it breaks.
     pub(crate) fn finish(self, alloc: Global) -> Result<Record, GroupFault>
-        ensures states { IfOk result (λ r. (group : List Entry) → length (values (codes "RTY") group) ≡ 1 → kind_in group ≡ Some self.entry.kind → KeepsRecord self.entry [] group → States group r) }
+        ensures states { IfOk result (λ r. (group : List Entry) → length (values (codes "RTY") group) ≡ 1 → kind_in group ≡ Some self.entry.kind → KeepsRecord self.entry [] group → ReadsAs group r) }
         ensures shape { IfOk result (λ r. is_in_shape r ≡ true) }
         ensures sound { OnOk result ((group : List Entry) → kind_in group ≡ Some self.entry.kind → KeepsRecord self.entry [] group → first_broken (record_tests group) ≡ None) }
         ensures least { IfErr result (λ fault. (group : List Entry) → kind_in group ≡ Some self.entry.kind → KeepsRecord self.entry [] group → IsGroupRefusal group fault) }

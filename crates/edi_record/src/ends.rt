@@ -3,10 +3,11 @@
 ghost use Rattle.std.specs.Prelude.{◌≡◌, ℕ, List, [], ◌++◌, codes, map, length, true, false, if◌then◌else◌, Some, None, option_map, IfOk, IfErr, OnOk};
 ghost use Rattle.edi_line.specs.Entry.{Entry};
 ghost use Rattle.edi_record.specs.Shapes.{may_have_ends};
-ghost use Rattle.edi_record.specs.Records.{is_link, ends};
-ghost use Rattle.edi_record.specs.RecordRules.{kind_in, has_bad_end};
-ghost use Rattle.edi_record.specs.RecordRefusal.{IsBreachOf};
-ghost use Rattle.edi_record.specs.Kept.{Takes, KeepsEnds, ended_with};
+ghost use Rattle.edi_record.specs.Records.{is_link};
+ghost use Rattle.edi_record.specs.inner.Records.{ends};
+ghost use Rattle.edi_record.specs.inner.RecordRules.{kind_in, has_bad_end};
+ghost use Rattle.edi_record.specs.inner.RecordRefusal.{IsBreachOf};
+ghost use Rattle.edi_record.specs.inner.Kept.{Takes, KeepsEnds, ended_with};
 
 use crate::attributes::copied;
 use crate::fault::GroupFault;

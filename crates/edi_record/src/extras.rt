@@ -2,10 +2,11 @@
 
 ghost use Rattle.std.specs.Prelude.{◌≡◌, ◌==◌, ◌&&◌, nat_lt, length, Bool, false, List, [], Some, IfOk, IfErr, OnOk};
 ghost use Rattle.edi_line.specs.Entry.{Entry, entry};
-ghost use Rattle.edi_record.specs.Records.{value_of as value_in, may_be_number as number_format, extra as extra_in, extras};
-ghost use Rattle.edi_record.specs.RecordRules.{kind_in, has_unknown_pointer};
-ghost use Rattle.edi_record.specs.RecordRefusal.{IsBreachOf};
-ghost use Rattle.edi_record.specs.Kept.{KeepsExtras, TakesExtra};
+ghost use Rattle.edi_record.specs.Records.{may_be_number as number_format};
+ghost use Rattle.edi_record.specs.inner.Records.{value_of as value_in, extra as extra_in, extras};
+ghost use Rattle.edi_record.specs.inner.RecordRules.{kind_in, has_unknown_pointer};
+ghost use Rattle.edi_record.specs.inner.RecordRefusal.{IsBreachOf};
+ghost use Rattle.edi_record.specs.inner.Kept.{KeepsExtras, TakesExtra};
 ghost use Rattle.edi_record.specs.declared.record.Kind.{Kind};
 
 use crate::fault::GroupFault;

@@ -3,7 +3,7 @@
 ghost use Rattle.std.specs.Prelude.{◌≡◌, alloc_error};
 ghost use Rattle.edi_record.specs.declared.fault.RecordFault.TheVariants.{Memory};
 ghost use Rattle.edi_record.specs.declared.fault.GroupFault.TheVariants.{Memory as GroupMemory};
-ghost use Rattle.edi_record.specs.RecordRefusal.{fault_at};
+ghost use Rattle.edi_record.specs.inner.RecordRefusal.{fault_at};
 
 use std::alloc::{AllocError, AllocFailed};
 use thiserror::Error;

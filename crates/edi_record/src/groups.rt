@@ -4,7 +4,8 @@ ghost use Rattle.std.specs.Prelude.{◌≡◌, List, ◌+◌, ◌<◌, ◌≤◌
 ghost use Rattle.std.specs.List.{position_or_len};
 ghost use Rattle.edi_line.specs.Entry.{Entry, entry, entries, first};
 ghost use Rattle.edi_line.specs.Zones.{ends_group, before_end};
-ghost use Rattle.edi_record.specs.Records.{values, only, group_at as group_in};
+ghost use Rattle.edi_record.specs.Records.{values, group_at as group_in};
+ghost use Rattle.edi_record.specs.inner.Records.{only};
 ghost use Rattle.edi_record.specs.RecordRules.{is_identifier as is_identifier_text, has_no_identifier};
 
 use edi_line::Zone;

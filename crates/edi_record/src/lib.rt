@@ -8,6 +8,7 @@ mod ends;
 mod extras;
 pub mod fault;
 pub mod groups;
+pub mod laws;
 pub mod name;
 mod only;
 pub mod pointer;
@@ -21,11 +22,11 @@ mod stating;
 pub use fault::RecordFault;
 pub use groups::{first_value, group_here, lacks_identifier};
 pub use name::Name;
-pub use pointer::{Pointer, texts_are_in_parts};
+pub use pointer::{Pointer, texts_are_unique};
 pub use reading::{
-    attributes_and_ends_are_in_stretches, known_files_are_read, printed_records_break_no_rule,
-    printed_sheets_are_sound, read_sheets_are_printable, records, records_are_read_again,
-    records_are_unique, sheets_are_printable, stated_records_have_names,
+    known_files_are_read, printed_records_break_no_rule, printed_sheets_are_sound,
+    read_sheets_are_printable, records, records_are_read_again, records_are_unique,
+    sheets_are_printable, stated_records_have_names,
 };
 pub use record::{Attribute, End, Extra, Kind, Point, Record, Value};
 pub use sheet::Sheet;

@@ -1,9 +1,8 @@
 //! Pointers.
 
-ghost use Rattle.std.specs.Prelude.{◌≡◌, ◌↔◌, IfOk, ℕ, List, [], ◌∷◌, Some, None, MatchOption, length, take, drop, position, option_map, ◌==◌, ◌+◌};
-ghost use Rattle.std.specs.List.{slice_split};
-ghost use Rattle.edi_record.specs.Texts.{pointer, parts, point, IsPointer, IsPlace, PointerText};
-ghost use Rattle.edi_record.specs.Lent.{shown, AreCut};
+ghost use Rattle.std.specs.Prelude.{◌≡◌, IfOk, ℕ, List, Some, MatchOption, position, option_map, ◌==◌, ◌+◌};
+ghost use Rattle.edi_record.specs.Texts.{PointerText, shown, IsPointer, IsPlace, IsCount};
+ghost use Rattle.edi_record.specs.inner.Texts.{AreCut};
 ghost use Rattle.edi_record.specs.declared.record.Point.{Point};
 
 use crate::name::Name;
@@ -36,7 +35,7 @@ fn semicolon_in(text: &[u8]) -> Option<usize>
 impl<'a> Pointer<'a> {
     /// The parts of a text with exactly three semicolons.
     pub fn read(text: &'a [u8]) -> Option<Pointer<'a>>
-        ensures { option_map shown result ≡ pointer text.now }
+        ensures { MatchOption result ((p : PointerText) → ¬ (IsPointer text.now p)) (λ p. IsPointer text.now (shown p)) }
     {
         let (lot, rest) = cut(text)?;
         let (subset, rest) = cut(rest)?;
@@ -63,8 +62,9 @@ impl<'a> Pointer<'a> {
     }
 }
 
-/// What pointers and places are, in words of their parts.
-pub fn texts_are_in_parts()
-    ensures pointer { (text : List ℕ) (p : PointerText) → pointer text ≡ Some p ↔ IsPointer text p }
-    ensures place { (text : List ℕ) (p : Point) → point text ≡ Some p ↔ IsPlace text p }
+/// A text has one list of parts, stands for one place, and counts one number.
+pub fn texts_are_unique()
+    ensures pointer { (text : List ℕ) (p q : PointerText) → IsPointer text p → IsPointer text q → p ≡ q }
+    ensures place { (text : List ℕ) (p q : Point) → IsPlace text p → IsPlace text q → p ≡ q }
+    ensures count { (text : List ℕ) (m n : ℕ) → IsCount text m → IsCount text n → m ≡ n }
 {}

@@ -2,13 +2,13 @@
 
 ghost use Rattle.std.specs.Prelude.{◌≡◌, true, false, if◌then◌else◌, List, [], map, length, codes, Some, option_map, IfOk, IfErr, OnOk};
 ghost use Rattle.edi_line.specs.Entry.{Entry};
-ghost use Rattle.edi_line.specs.Number.{number};
-ghost use Rattle.edi_record.specs.Texts.{parts, point, flat_place, high_place, last_part};
+ghost use Rattle.edi_line.specs.inner.Number.{number};
+ghost use Rattle.edi_record.specs.inner.Texts.{parts, point, flat_place, high_place, last_part};
 ghost use Rattle.edi_record.specs.Shapes.{may_have_points};
 ghost use Rattle.edi_record.specs.Records.{values, has_points};
-ghost use Rattle.edi_record.specs.RecordRules.{kind_in, has_bad_point};
-ghost use Rattle.edi_record.specs.RecordRefusal.{IsBreachOf};
-ghost use Rattle.edi_record.specs.Kept.{Takes, KeepsPoints};
+ghost use Rattle.edi_record.specs.inner.RecordRules.{kind_in, has_bad_point};
+ghost use Rattle.edi_record.specs.inner.RecordRefusal.{IsBreachOf};
+ghost use Rattle.edi_record.specs.inner.Kept.{Takes, KeepsPoints};
 
 use crate::fault::GroupFault;
 use crate::pointer::cut;

@@ -1,20 +1,24 @@
 //! The records that zones state.
 
-ghost use Rattle.std.specs.Prelude.{◌≡◌, ◌≤◌, ◌<◌, ◌+◌, List, [], ◌∷◌, Some, None, MatchOption, drop, Bool, ℕ, true, false, codes, length, option_map, IfOk, IfErr, OnOk};
+ghost use Rattle.std.specs.Prelude.{◌≡◌, ◌≤◌, ◌<◌, ◌+◌, List, [], ◌∷◌, MatchOption, drop, Bool, ℕ, true, false, codes, length, option_map, IfOk, IfErr, OnOk};
 ghost use Rattle.std.specs.List.{AllZip};
-ghost use Rattle.edi_record.specs.Shapes.{AreInShape};
+ghost use Rattle.edi_line.specs.Bytes.{most_records};
 ghost use Rattle.edi_line.specs.Entry.{Entry, entry, entries};
-ghost use Rattle.edi_line.specs.Zones.{groups_of, charset_of as charset_in, zones_of};
-ghost use Rattle.edi_line.specs.Refusal.{IsUnbroken};
-ghost use Rattle.edi_record.specs.Records.{States, StatesSheet, value_of, IsValueOf};
+ghost use Rattle.edi_line.specs.LineRules.{IsZonesOf};
+ghost use Rattle.edi_line.specs.Refusal.{IsUnbroken, IsLeastBroken};
+ghost use Rattle.edi_line.specs.Zones.{groups_of, charset_of as charset_in};
 ghost use Rattle.edi_record.specs.Layout.{Letters, IsRecord, record_zones, settled_record, LayoutIsReadAgain, PrintedRecordsAreUnbroken, SheetsArePrintable};
-ghost use Rattle.edi_record.specs.Stretches.{AttributesAreInStretches, EndsAreInStretches};
 ghost use Rattle.edi_record.specs.Readable.{ReadSheetsArePrintable};
-ghost use Rattle.edi_record.specs.Sound.{PrintedSheetsAreSound};
-ghost use Rattle.edi_record.specs.Rows.{line, one_node, the_node, node_group, rules_of};
-ghost use Rattle.edi_record.specs.RecordRules.{BreaksRecordRule, has_no_kind, is_identifier, has_no_identifier, has_no_class};
 ghost use Rattle.edi_record.specs.RecordRefusal.{IsRecordRefusal};
+ghost use Rattle.edi_record.specs.RecordRules.{BreaksRecordRule, LacksKind, is_identifier, has_no_identifier, LacksClass};
+ghost use Rattle.edi_record.specs.Records.{States, StatesSheet, IsValueOf};
+ghost use Rattle.edi_record.specs.Rows.{line, one_node, the_node, node_group};
+ghost use Rattle.edi_record.specs.Shapes.{AreInShape};
+ghost use Rattle.edi_record.specs.Sound.{PrintedSheetsAreSound};
+ghost use Rattle.edi_record.specs.inner.RecordRules.{FailsTest};
+ghost use Rattle.edi_record.specs.inner.Records.{ReadsAs};
 ghost use Rattle.edi_record.specs.declared.record.Record.{Record};
+ghost use Rattle.edi_record.specs.declared.record.Value.{Value};
 
 use crate::attributes::copied;
 use crate::fault::RecordFault;
@@ -52,12 +56,12 @@ fn zone_at<'a, 'b>(zones: &'b [Zone<'a>], at: usize) -> Option<(&'b Zone<'a>, &'
 /// The records that the groups of zones state, or the first that breaks a rule and the least rule
 /// that it breaks.
 fn list_of(alloc: Global, zones: &[Zone<'_>]) -> Result<Vec<Record>, RecordFault>
-    requires few { length (groups_of (entries zones.now)) ≤ 9999999 }
-    ensures states { IfOk result (λ v. AllZip States (groups_of (entries zones.now)) v.items) }
-    ensures few { IfOk result (λ v. length v.items ≤ 9999999) }
+    requires few { length (groups_of (entries zones.now)) ≤ most_records }
+    ensures states { IfOk result (λ v. AllZip ReadsAs (groups_of (entries zones.now)) v.items) }
+    ensures few { IfOk result (λ v. length v.items ≤ most_records) }
     ensures shape { IfOk result (λ v. AreInShape v.items) }
-    ensures sound { OnOk result (IsUnbroken (BreaksRecordRule (entries zones.now))) }
-    ensures least { IfErr result (IsRecordRefusal (BreaksRecordRule (entries zones.now))) }
+    ensures sound { OnOk result (IsUnbroken (FailsTest (entries zones.now))) }
+    ensures least { IfErr result (IsRecordRefusal (FailsTest (entries zones.now))) }
 {
     let mut list = Vec::new(alloc);
     let mut at = 0;
@@ -79,7 +83,7 @@ fn list_of(alloc: Global, zones: &[Zone<'_>]) -> Result<Vec<Record>, RecordFault
 /// The records that the zones of a file state, in their order, with the value of its first CSE; or
 /// the first record that breaks one of the rules 201 to 208, and the least rule that it breaks.
 pub fn records(alloc: Global, zones: &[Zone<'_>]) -> Result<Sheet, RecordFault>
-    requires few { length (groups_of (entries zones.now)) ≤ 9999999 }
+    requires few { length (groups_of (entries zones.now)) ≤ most_records }
     ensures states { IfOk result (StatesSheet (entries zones.now)) }
     ensures sound { OnOk result (IsUnbroken (BreaksRecordRule (entries zones.now))) }
     ensures least { IfErr result (IsRecordRefusal (BreaksRecordRule (entries zones.now))) }
@@ -100,13 +104,6 @@ pub fn records_are_unique()
 pub fn records_are_read_again()
     ensures record { (s : Letters) (r : Record) → IsRecord r → States (record_zones s r) (settled_record s r) }
     ensures sheet { LayoutIsReadAgain }
-{}
-
-/// An attribute is an ATP with the first TEX and the first ATV before the next ATP, the TEX not after
-/// that ATV; an end is an FTP with the first SNS before the next FTP.
-pub fn attributes_and_ends_are_in_stretches()
-    ensures attributes { AttributesAreInStretches }
-    ensures ends { EndsAreInStretches }
 {}
 
 /// A sheet whose texts are each one line can be printed.
@@ -131,19 +128,19 @@ pub fn printed_records_break_no_rule()
 
 /// Known files state what they should.
 pub fn known_files_are_read()
-    ensures zones { groups_of (zones_of (one_node [])) ≡ node_group ∷ [] }
+    ensures zones { (zones : List Entry) × IsZonesOf (one_node []) zones × (groups_of zones ≡ node_group ∷ []) × IsUnbroken (BreaksRecordRule zones) }
     ensures node { States node_group the_node }
-    ensures unbroken { rules_of (one_node []) ≡ None ∷ [] }
-    ensures wrong_count { rules_of (one_node (line (codes "ATCSN01:1") [])) ≡ Some 205 ∷ [] }
-    ensures unknown_pointer { rules_of (one_node (line (codes "REFCP22:EDAB01;SeT1;PNO;Noeud_") [])) ≡ Some 208 ∷ [] }
-    ensures empty_pointer { rules_of (one_node (line (codes "REFCP00:") [])) ≡ None ∷ [] }
+    ensures wrong_count { (zones : List Entry) × IsZonesOf (one_node (line (codes "ATCSN01:1") [])) zones × IsLeastBroken (BreaksRecordRule zones) 205 1 }
+    ensures unknown_pointer { (zones : List Entry) × IsZonesOf (one_node (line (codes "REFCP22:EDAB01;SeT1;PNO;Noeud_") [])) zones × IsLeastBroken (BreaksRecordRule zones) 208 1 }
+    ensures empty_pointer { (zones : List Entry) × IsZonesOf (one_node (line (codes "REFCP00:") [])) zones × IsUnbroken (BreaksRecordRule zones) }
 {}
 
 /// A group of zones that states a record breaks no rule on its type, its identifier or its class;
-/// and its values are numbers where they may be.
+/// and a text has one value.
 pub fn stated_records_have_names()
-    ensures kind { (group : List Entry) (r : Record) → States group r → has_no_kind group ≡ false }
+    ensures kind { (group : List Entry) (r : Record) → States group r → ¬ (LacksKind group) }
     ensures identifier { (group : List Entry) (r : Record) → States group r → is_identifier r.rid ≡ true → has_no_identifier group ≡ false }
-    ensures class { (group : List Entry) (r : Record) → States group r → has_no_class group ≡ false }
-    ensures value { (may : Bool) (text : List ℕ) → IsValueOf (may ≡ true) text (value_of may text) }
+    ensures class { (group : List Entry) (r : Record) → States group r → ¬ (LacksClass group) }
+    ensures value { (may : Bool) (text : List ℕ) → (value : Value) × IsValueOf (may ≡ true) text value }
+    ensures one_value { (may : Bool) (text : List ℕ) (value other : Value) → IsValueOf (may ≡ true) text value → IsValueOf (may ≡ true) text other → value ≡ other }
 {}

@@ -2,7 +2,7 @@
 
 ghost use Rattle.std.specs.Prelude.{◌≡◌, ◌||◌};
 ghost use Rattle.edi_record.specs.Records.{has_points as kind_has_points, is_link as kind_is_link};
-ghost use Rattle.edi_record.specs.RecordRules.{is_arc};
+ghost use Rattle.edi_record.specs.inner.RecordRules.{is_arc};
 ghost use Rattle.edi_record.specs.Shapes.{may_have_points as may_have_so_many};
 
 use crate::name::Name;

@@ -5,9 +5,9 @@ ghost use Rattle.edi_line.specs.Entry.{entry, entries};
 ghost use Rattle.edi_line.specs.Zones.{begins_group, ends_group, before_end, groups_of};
 ghost use Rattle.edi_line.specs.Refusal.{first_broken};
 ghost use Rattle.edi_record.specs.Shapes.{is_in_shape};
-ghost use Rattle.edi_record.specs.Records.{States};
-ghost use Rattle.edi_record.specs.RecordRules.{kind_named as kind_by, record_tests};
-ghost use Rattle.edi_record.specs.RecordRefusal.{IsGroupRefusal};
+ghost use Rattle.edi_record.specs.inner.Records.{ReadsAs};
+ghost use Rattle.edi_record.specs.inner.RecordRules.{kind_named as kind_by, record_tests};
+ghost use Rattle.edi_record.specs.inner.RecordRefusal.{IsGroupRefusal};
 
 use crate::draft::Draft;
 use crate::fault::GroupFault;
@@ -48,7 +48,7 @@ pub(crate) fn record_of(
     behind: &[Zone<'_>],
 ) -> Result<(Record, usize), GroupFault>
     requires { begins_group (entry head.now) ≡ true }
-    ensures states { IfOk result (λ p. States (entry head.now ∷ before_end (entries behind.now)) p.0) }
+    ensures states { IfOk result (λ p. ReadsAs (entry head.now ∷ before_end (entries behind.now)) p.0) }
     ensures shape { IfOk result (λ p. is_in_shape p.0 ≡ true) }
     ensures within { IfOk result (λ p. p.1 ≤ length behind.now) }
     ensures left { IfOk result (λ p. groups_of (entries (drop p.1 behind.now)) ≡ groups_of (entries behind.now)) }

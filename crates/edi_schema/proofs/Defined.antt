@@ -1,5 +1,5 @@
 -- Steps of the loop that reads the records of a file.
-use Rattle.std.proofs.Common.{◌≡◌, ℕ, Bool, true, false, cond, List, [], ◌∷◌, ◌++◌, ◌≤◌, ◌<◌, ◌-◌, length, take, drop, arith, map, Option, Some, None, refl, sym, ap, ◌∙◌}
+use Rattle.std.proofs.Common.{◌≡◌, Bool, true, false, cond, List, [], ◌∷◌, ◌++◌, ◌≤◌, ◌<◌, ◌-◌, length, take, drop, arith, map, Some, None, refl, sym, ap, ◌∙◌}
 use Rattle.std.proofs.lemmas.List.{append-nil, append_assoc, take_all, map-append}
 use Rattle.edi_line.specs.Entry.{Entry, entry, entries}
 use Rattle.edi_line.specs.Zones.{begins_group, before_end, groups_of}

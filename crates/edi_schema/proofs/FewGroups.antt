@@ -1,16 +1,19 @@
 -- A file whose lines break no rule has at most 9,999,999 records.
-use Rattle.std.proofs.Common.{◌≡◌, ◌⊎◌, ℕ, zero, suc, ◌+◌, ◌<◌, ◌≤◌, Bool, true, false, cond, ◌&&◌, ◌==◌, eqb, List, [], ◌∷◌, ◌++◌, length, Option, Some, None, Result, Ok, Err, count_by, codes, bytes_eq, refl, sym, ap, ◌∙◌, subst, arith, inl, inr, eq-eqb}
+use Rattle.std.proofs.Common.{◌≡◌, ◌⊎◌, ℕ, zero, suc, ◌+◌, ◌<◌, ◌≤◌, Bool, true, false, cond, ◌&&◌, ◌==◌, List, [], ◌∷◌, ◌++◌, length, Some, None, Ok, Err, count_by, codes, bytes_eq, refl, sym, ap, ◌∙◌, subst, arith, inl, inr, eq-eqb}
 use Rattle.std.proofs.lemmas.Slice.Eq.{bytes_eq-Decides}
 use Rattle.edi_line.specs.Entry.{Entry}
 use Rattle.edi_line.specs.Spelling.{Spelling, Reading}
-use Rattle.edi_line.specs.LineRules.{IsZonesOf}
-use Rattle.edi_line.specs.Zones.{kind_of, Part, part_by, parts_after, continuation, with_more, entry_of, whole_zones, groups_of, before_end, begins_group, zones_of, readings_of}
-use Rattle.edi_line.specs.LineRules.{is_rty, bears, BreaksLineRule, BreaksAt}
+use Rattle.edi_line.specs.LineRules.{IsZonesOf, BreaksLineRule, BreaksAt}
+use Rattle.edi_line.specs.Zones.{groups_of}
+use Rattle.edi_line.specs.inner.Zones.{Part, part_by, parts_after, whole_zones, zones_of, readings_of}
+use Rattle.edi_line.specs.LineKinds.{kind_of, is_rty, bears}
 use Rattle.edi_line.specs.Refusal.{IsUnbroken}
+use Rattle.edi_line.proofs.Readings.{unbroken_read}
+use Rattle.edi_line.proofs.ZonesSaid.{zones_read}
 use Rattle.edi_schema.proofs.Paired.{count-cons}
 
 pub zones_are : (b : List ℕ) (zones : List Entry) → IsZonesOf b zones → zones ≡ zones_of b
-zones_are b zones h = h.is
+zones_are b zones h = (zones_read b zones h).is
 
 by_code : (code text : List ℕ) (P : List ℕ → Type 0) → P text → (bytes_eq code text ≡ false → P code) → P code
 by_code code text P here other = go (bytes_eq code text) refl
@@ -83,5 +86,5 @@ few_records lines sound = go (Rattle.std.proofs.lemmas.Bool.cases_order (count_b
 
 pub few_groups : (b : List ℕ) (zones : List Entry) → IsZonesOf b zones → IsUnbroken (BreaksLineRule b) → length (groups_of zones) ≤ 9999999
 few_groups b zones is sound =
-    let few = few_records (readings_of b) (λ place h. sound 110 place (inl h)) in
+    let few = few_records (readings_of b) (λ place h. unbroken_read b sound 110 place (inl h)) in
     omega (arith, ap (λ z. length (groups_of z)) (zones_are b zones is), groups_counted 0 (readings_of b), few)

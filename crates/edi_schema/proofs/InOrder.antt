@@ -1,5 +1,5 @@
 -- Drafts in the order of their names.
-use Rattle.std.proofs.Common.{◌≡◌, ℕ, zero, suc, ◌+◌, ◌<◌, ◌≤◌, Bool, true, false, List, [], ◌∷◌, ◌++◌, length, take, drop, map, get_or, Option, None, refl, sym, ap, ◌∙◌, subst, arith, IsPermutation, Ordering, Less}
+use Rattle.std.proofs.Common.{◌≡◌, ℕ, ◌+◌, ◌<◌, ◌≤◌, Bool, true, false, List, [], ◌∷◌, ◌++◌, length, take, drop, map, get_or, None, refl, sym, ap, ◌∙◌, subst, arith, IsPermutation, Less}
 use Rattle.std.specs.List.{IsDistinct}
 use Rattle.std.specs.List.Sorted.{IsStrictlySortedBy}
 use Rattle.std.specs.Ordering.{is_lt}
@@ -13,7 +13,6 @@ use Rattle.edi_schema.specs.Drafts.{named, drafted}
 use Rattle.edi_schema.specs.Sorted.{AlwaysRises}
 use Rattle.edi_schema.specs.declared.class.Class.{Class}
 use Rattle.edi_schema.specs.declared.draft.Draft.{Draft}
-use Rattle.edi_schema.specs.declared.title.Title.{Title}
 use Rattle.edi_schema.proofs.Names.{same_name, name_itself, less_name, absent_before}
 use Rattle.edi_schema.proofs.Ordered.{name_total}
 

@@ -19,3 +19,4 @@ pub mod FewGroups
 pub mod Loaded
 pub mod One
 pub mod SortedLists
+pub mod RoleOrder

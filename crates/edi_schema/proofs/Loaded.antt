@@ -6,9 +6,8 @@ use Rattle.edi_line.specs.Entry.{Entry as Zone, entries}
 use Rattle.edi_line.specs.declared.zone.Zone.{Zone as ZoneOf}
 use Rattle.edi_schema.specs.declared.definition.Definition.{Definition}
 use Rattle.edi_schema.specs.declared.draft.Draft.{Draft}
-use Rattle.edi_line.specs.LineRules.{IsZonesOf}
+use Rattle.edi_line.specs.LineRules.{IsZonesOf, BreaksLineRule}
 use Rattle.edi_line.specs.Zones.{HasShape, IsFileOf, groups_of}
-use Rattle.edi_line.specs.LineRules.{BreaksLineRule}
 use Rattle.edi_line.specs.Refusal.{IsUnbroken}
 use Rattle.edi_line.proofs.Said.{file_said}
 use Rattle.edi_schema.specs.Roles.{KindCodes}

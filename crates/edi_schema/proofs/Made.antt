@@ -9,6 +9,7 @@ use Rattle.edi_line.specs.Entry.{Entry}
 use Rattle.edi_record.specs.declared.name.Name.{Name}
 use Rattle.edi_record.specs.Records.{values, first}
 use Rattle.edi_record.specs.Texts.{is_semicolon}
+use Rattle.edi_record.proofs.StatesSaid.{points_said}
 use Rattle.edi_schema.specs.Roles.{KindCodes, role_by, is_plain, same_role, exchanged}
 use Rattle.edi_schema.specs.Classes.{Classes, is_name, has_role, is_pointable}
 use Rattle.edi_schema.specs.Drafts.{Said, said_in, name_in, word_in, type_by, class_in}
@@ -58,7 +59,7 @@ module _ (ws : List (List Entry)) (led : AllByRecursion IsLed ws) (form : AreIde
       by_word text f (Some w) h e =
           let found = word_named ws led form text w h in
           let there : find (λ word. is_name found.0 word.name) (map said_in ws) ≡ Some w = sym (ap (Rattle.std.specs.Prelude.option_and_then (λ name. find (λ word. is_name name word.name) (map said_in ws))) found.3) ∙ h in
-          some f found.3 (found_up found.0 ws w there ∙ e)
+          some f (points_said text found.0 found.3) (found_up found.0 ws w there ∙ e)
 
       go : (o : Option (List ℕ)) → first (values (codes "DIP") g) ≡ o → type_by (map said_in ws) o ≡ Some t → HasType (map word_of ws) g t
       go None f e = subst (HasType (map word_of ws) g) (same_Some None t e) (none (no_first (values (codes "DIP") g) f))

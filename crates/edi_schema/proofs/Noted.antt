@@ -1,5 +1,5 @@
 -- The places of the classes of the four kinds, as a loop notes them.
-use Rattle.std.proofs.Common.{◌≡◌, ◌⊎◌, ℕ, zero, suc, ◌+◌, ◌<◌, ◌≤◌, Bool, true, false, cond, not, ◌&&◌, nat_lt, ltb, List, [], ◌∷◌, ◌++◌, length, take, drop, map, get_or, Option, Some, None, option_map, is_some, slice_get, position, count_by, refl, sym, ap, ◌∙◌, subst, arith, true≢false, inl, inr, one-add}
+use Rattle.std.proofs.Common.{◌≡◌, ◌⊎◌, ℕ, zero, suc, ◌+◌, ◌<◌, ◌≤◌, Bool, true, false, cond, ◌&&◌, ltb, List, [], ◌∷◌, ◌++◌, length, take, drop, map, get_or, Option, Some, None, option_map, is_some, position, count_by, refl, sym, ap, ◌∙◌, subst, arith, inl, inr, one-add}
 use Rattle.std.specs.List.{position_or_len}
 use Rattle.std.proofs.lemmas.Bool.{ltb-true, ltb-false, lt-ltb}
 use Rattle.std.proofs.lemmas.List.{map_more, take_all, take-append-drop, map-append, length-map, length-take-le}
@@ -8,12 +8,13 @@ use Rattle.edi_record.specs.declared.name.Name.{Name}
 use Rattle.edi_schema.specs.declared.role.Role.{Role}
 use Rattle.edi_schema.specs.declared.role.Role.TheVariants.{Initial, Final, Left, Right, Plain}
 use Rattle.edi_schema.specs.declared.class.Class.{Class}
-use Rattle.edi_schema.specs.declared.places.Places.{Places}
+use Rattle.edi_schema.specs.declared.by_role.ByRole.{ByRole}
 use Rattle.edi_schema.specs.declared.draft.Draft.{Draft}
 use Rattle.edi_schema.specs.Drafts.{drafted}
 use Rattle.edi_schema.specs.Roles.{is_plain, same_role, exchanged}
 use Rattle.edi_schema.specs.Classes.{Classes, has_role}
-use Rattle.edi_schema.specs.Places.{place_in, IsNoted, are_alike, are_paired, AreNoted, ArePlaces, AreUnpaired}
+use Rattle.edi_schema.specs.ByRole.{of_role, IsWith}
+use Rattle.edi_schema.specs.Places.{are_alike, are_paired, AreNoted, ArePlaces, AreUnpaired}
 use Rattle.edi_schema.proofs.Paired.{one_role, itself, still_kind, count-cons, found_at}
 
 -- ---- first places, a step at a time
@@ -88,29 +89,29 @@ module _ {X : Type 0} (p : X → Bool) where
 
 -- ---- a class is noted
 
-pub noted_more : (s : Classes) (e : Name × Class) (old new : Places) → AreNoted s old → IsNoted old e.1.role (length s) new → is_some (place_in old e.1.role) ≡ false → AreNoted (s ++ e ∷ []) new
+pub noted_more : (s : Classes) (e : Name × Class) (old new : ByRole (Option ℕ)) → AreNoted s old → IsWith old e.1.role (length s) new → is_some (of_role old e.1.role) ≡ false → AreNoted (s ++ e ∷ []) new
 noted_more s e old new noted write free = record { place = λ r kind. (by_role r kind).0; one = λ r kind. (by_role r kind).1 }
   where
     no_place : (o : Option ℕ) → is_some o ≡ false → o ≡ None
     no_place None h = refl
     no_place (Some k) h = absurd cc
 
-    by_role : (r : Role) → is_plain r ≡ false → (place_in new r ≡ position (has_role r) (s ++ e ∷ [])) × (count_by (has_role r) (s ++ e ∷ []) ≤ 1)
+    by_role : (r : Role) → is_plain r ≡ false → (of_role new r ≡ position (has_role r) (s ++ e ∷ [])) × (count_by (has_role r) (s ++ e ∷ []) ≤ 1)
     by_role r kind = go (same_role r e.1.role) refl
       where
-        go : (b : Bool) → same_role r e.1.role ≡ b → (place_in new r ≡ position (has_role r) (s ++ e ∷ [])) × (count_by (has_role r) (s ++ e ∷ []) ≤ 1)
+        go : (b : Bool) → same_role r e.1.role ≡ b → (of_role new r ≡ position (has_role r) (s ++ e ∷ [])) × (count_by (has_role r) (s ++ e ∷ []) ≤ 1)
         go true h =
             let same : r ≡ e.1.role = one_role r e.1.role h in
-            let none : position (has_role r) s ≡ None = sym (noted.place r kind) ∙ (ap (place_in old) same ∙ no_place _ free) in
+            let none : position (has_role r) s ≡ None = sym (noted.place r kind) ∙ (ap (of_role old) same ∙ no_place _ free) in
             let count = count_push (has_role r) s e true h in
-            (write r kind ∙ (ap (λ b. cond b (Some (length s)) (place_in old r)) h ∙ sym (position_push_new (has_role r) s e none h)), omega (arith, count, none_counted (has_role r) s none))
+            (write r kind ∙ (ap (λ b. cond b (Some (length s)) (of_role old r)) h ∙ sym (position_push_new (has_role r) s e none h)), omega (arith, count, none_counted (has_role r) s none))
         go false h =
             let count = count_push (has_role r) s e false h in
-            (write r kind ∙ (ap (λ b. cond b (Some (length s)) (place_in old r)) h ∙ (noted.place r kind ∙ sym (position_push_old (has_role r) s e h))), omega (arith, count, noted.one r kind))
+            (write r kind ∙ (ap (λ b. cond b (Some (length s)) (of_role old r)) h ∙ (noted.place r kind ∙ sym (position_push_old (has_role r) s e h))), omega (arith, count, noted.one r kind))
 
 -- ---- a second class of a kind
 
-placed_kind : (p : Places) (r : Role) → is_some (place_in p r) ≡ true → is_plain r ≡ false
+placed_kind : (p : ByRole (Option ℕ)) (r : Role) → is_some (of_role p r) ≡ true → is_plain r ≡ false
 placed_kind p Initial h = refl
 placed_kind p Final h = refl
 placed_kind p Left h = refl
@@ -121,7 +122,7 @@ some_place : (o : Option ℕ) → is_some o ≡ true → (k : ℕ) × (o ≡ Som
 some_place None h = absurd cc
 some_place (Some k) h = (k, refl)
 
-pub second_found : (s more : Classes) (e : Name × Class) (p : Places) → AreNoted s p → is_some (place_in p e.1.role) ≡ true → AreUnpaired ((s ++ e ∷ []) ++ more)
+pub second_found : (s more : Classes) (e : Name × Class) (p : ByRole (Option ℕ)) → AreNoted s p → is_some (of_role p e.1.role) ≡ true → AreUnpaired ((s ++ e ∷ []) ++ more)
 second_found s more e p noted taken =
     let kind = placed_kind p e.1.role taken in
     let at = some_place _ taken in
@@ -131,26 +132,26 @@ second_found s more e p noted taken =
 
 -- ---- pairs
 
-module _ (s : Classes) (p : Places) (noted : AreNoted s p) where
-  one_there : (r : Role) (k : ℕ) → is_plain r ≡ false → place_in p r ≡ Some k → count_by (has_role r) s ≡ 1
+module _ (s : Classes) (p : ByRole (Option ℕ)) (noted : AreNoted s p) where
+  one_there : (r : Role) (k : ℕ) → is_plain r ≡ false → of_role p r ≡ Some k → count_by (has_role r) s ≡ 1
   one_there r k kind e = omega (arith, some_counted (has_role r) s k (sym (noted.place r kind) ∙ e), noted.one r kind)
 
-  none_there : (r : Role) → is_plain r ≡ false → place_in p r ≡ None → count_by (has_role r) s ≡ 0
+  none_there : (r : Role) → is_plain r ≡ false → of_role p r ≡ None → count_by (has_role r) s ≡ 0
   none_there r kind e = none_counted (has_role r) s (sym (noted.place r kind) ∙ e)
 
-  same_counts : (r q : Role) → is_plain r ≡ false → is_plain q ≡ false → are_alike (place_in p r) (place_in p q) ≡ true → count_by (has_role r) s ≡ count_by (has_role q) s
-  same_counts r q kind other alike = go (place_in p r) (place_in p q) refl refl alike
+  same_counts : (r q : Role) → is_plain r ≡ false → is_plain q ≡ false → are_alike (of_role p r) (of_role p q) ≡ true → count_by (has_role r) s ≡ count_by (has_role q) s
+  same_counts r q kind other alike = go (of_role p r) (of_role p q) refl refl alike
     where
-      go : (a b : Option ℕ) → place_in p r ≡ a → place_in p q ≡ b → are_alike a b ≡ true → count_by (has_role r) s ≡ count_by (has_role q) s
+      go : (a b : Option ℕ) → of_role p r ≡ a → of_role p q ≡ b → are_alike a b ≡ true → count_by (has_role r) s ≡ count_by (has_role q) s
       go (Some m) (Some n) e f h = one_there r m kind e ∙ sym (one_there q n other f)
       go None None e f h = none_there r kind e ∙ sym (none_there q other f)
       go (Some m) None e f h = absurd cc
       go None (Some n) e f h = absurd cc
 
-  one_lacks : (r q : Role) → exchanged r ≡ q → exchanged q ≡ r → is_plain r ≡ false → is_plain q ≡ false → are_alike (place_in p r) (place_in p q) ≡ false → AreUnpaired s
-  one_lacks r q to back kind other alike = go (place_in p r) (place_in p q) refl refl alike
+  one_lacks : (r q : Role) → exchanged r ≡ q → exchanged q ≡ r → is_plain r ≡ false → is_plain q ≡ false → are_alike (of_role p r) (of_role p q) ≡ false → AreUnpaired s
+  one_lacks r q to back kind other alike = go (of_role p r) (of_role p q) refl refl alike
     where
-      go : (a b : Option ℕ) → place_in p r ≡ a → place_in p q ≡ b → are_alike a b ≡ false → AreUnpaired s
+      go : (a b : Option ℕ) → of_role p r ≡ a → of_role p q ≡ b → are_alike a b ≡ false → AreUnpaired s
       go (Some m) (Some n) e f h = absurd cc
       go None None e f h = absurd cc
       go (Some m) None e f h = (r, kind, inr (omega (arith, one_there r m kind e), ap (λ x. count_by (has_role x) s) to ∙ none_there q other f))
@@ -194,18 +195,18 @@ module _ (s : Classes) (p : Places) (noted : AreNoted s p) where
 abbrev Front : List Draft → ℕ → Classes
 Front ds i = map drafted (take i ds)
 
-pub draft_noted : (ds : List Draft) (i : ℕ) (d : Draft) (old new : Places) → i < length ds → AreNoted (Front ds i) old → is_some (place_in old (get_or ds i d).class.role) ≡ false
-    → IsNoted old (get_or ds i d).class.role i new → AreNoted (Front ds (i + 1)) new
+pub draft_noted : (ds : List Draft) (i : ℕ) (d : Draft) (old new : ByRole (Option ℕ)) → i < length ds → AreNoted (Front ds i) old → is_some (of_role old (get_or ds i d).class.role) ≡ false
+    → IsWith old (get_or ds i d).class.role i new → AreNoted (Front ds (i + 1)) new
 draft_noted ds i d old new below noted free write =
     let count : length (Front ds i) ≡ i = length-map (take i ds) drafted ∙ length-take-le i ds (omega (arith, below)) in
-    subst (λ s. AreNoted s new) (sym (map_more drafted ds i d below)) (noted_more (Front ds i) (drafted (get_or ds i d)) old new noted (subst (λ k. IsNoted old (get_or ds i d).class.role k new) (sym count) write) free)
+    subst (λ s. AreNoted s new) (sym (map_more drafted ds i d below)) (noted_more (Front ds i) (drafted (get_or ds i d)) old new noted (subst (λ k. IsWith old (get_or ds i d).class.role k new) (sym count) write) free)
 
-pub draft_repeats : (ds : List Draft) (i : ℕ) (d : Draft) (p : Places) → i < length ds → AreNoted (Front ds i) p → is_some (place_in p (get_or ds i d).class.role) ≡ true → AreUnpaired (map drafted ds)
+pub draft_repeats : (ds : List Draft) (i : ℕ) (d : Draft) (p : ByRole (Option ℕ)) → i < length ds → AreNoted (Front ds i) p → is_some (of_role p (get_or ds i d).class.role) ≡ true → AreUnpaired (map drafted ds)
 draft_repeats ds i d p below noted taken =
     let found = second_found (Front ds i) (map drafted (drop (i + 1) ds)) (drafted (get_or ds i d)) p noted taken in
     let whole : map drafted ds ≡ (Front ds i ++ drafted (get_or ds i d) ∷ []) ++ map drafted (drop (i + 1) ds) =
     ap (map drafted) (sym (take-append-drop (i + 1) ds)) ∙ (map-append drafted (take (i + 1) ds) (drop (i + 1) ds) ∙ ap (λ t. t ++ map drafted (drop (i + 1) ds)) (map_more drafted ds i d below)) in
     subst AreUnpaired (sym whole) found
 
-pub all_noted : (ds : List Draft) (i : ℕ) (p : Places) → length ds ≤ i → AreNoted (Front ds i) p → AreNoted (map drafted ds) p
+pub all_noted : (ds : List Draft) (i : ℕ) (p : ByRole (Option ℕ)) → length ds ≤ i → AreNoted (Front ds i) p → AreNoted (map drafted ds) p
 all_noted ds i p past noted = subst (λ l. AreNoted (map drafted l) p) (take_all i ds past) noted

@@ -1,21 +1,22 @@
 -- Two schemas of the same files and codes are one.
-use Rattle.std.proofs.Common.{◌≡◌, ◌⊎◌, inl, inr, ℕ, zero, suc, List, [], ◌∷◌, map, slice_get, IsPermutation, Option, Some, None, option_map, codes, refl, sym, ap, ◌∙◌, subst, arith, Ordering, Less, Equal, Greater}
-use Rattle.std.specs.List.{AllByRecursion, AllZip}
+use Rattle.std.proofs.Common.{◌≡◌, ◌⊎◌, inl, inr, ℕ, zero, suc, List, [], ◌∷◌, slice_get, IsPermutation, Option, Some, option_map, codes, refl, sym, ap, ◌∙◌, subst, Less, Equal, Greater}
+use Rattle.std.specs.List.{AllZip}
 use Rattle.std.specs.Map.{lookup, keys_of}
 use Rattle.std.specs.Ordering.{ordering_reverse}
 use Rattle.std.proofs.lemmas.Cmp.{tied_itself}
 use Rattle.std.proofs.lemmas.Option.{same_Some, none-some, slice_get-map, slice_get_within, get_or_from_slice_get, slice_get-get_or}
 use Rattle.std.proofs.lemmas.List.Sorted.{IsPermutation-sym, IsPermutation-trans, Contains-permutation}
 use Rattle.edi_line.specs.Entry.{Entry}
-use Rattle.edi_line.specs.Zones.{groups_of, zones_of}
+use Rattle.edi_line.specs.Zones.{groups_of}
+use Rattle.edi_line.specs.inner.Zones.{zones_of}
 use Rattle.edi_line.proofs.Said.{file_said}
 use Rattle.edi_record.specs.declared.name.Name.{Name}
 use Rattle.edi_record.specs.Records.{values, first}
-use Rattle.edi_record.specs.Texts.{class_of}
+use Rattle.edi_record.specs.inner.Texts.{class_of}
+use Rattle.edi_record.proofs.StatesSaid.{points_read}
 use Rattle.edi_schema.specs.Roles.{KindCodes, role_by}
 use Rattle.edi_schema.specs.Classes.{Classes, is_name, name_cmp}
-use Rattle.edi_schema.specs.Drafts.{name_in}
-use Rattle.edi_schema.specs.SchemaOf.{IsGroupsOf, IsNamed, Words, StatesWord, HasType, StatesClass, IsSchemaOf, letter_of, is_number_type}
+use Rattle.edi_schema.specs.SchemaOf.{IsGroupsOf, Words, StatesWord, HasType, StatesClass, IsSchemaOf, letter_of, is_number_type}
 use Rattle.edi_schema.specs.SchemaOf.HasType.{none, some}
 use Rattle.edi_schema.specs.SchemaRefusal.{IsGoodSchema}
 use Rattle.edi_schema.specs.Sorted.{AlwaysRises}
@@ -46,7 +47,7 @@ type_one words g s t (none e) (some f points found) = absurd (none-some _ (sym (
 type_one words g s t (some f points found) (none e) = absurd (none-some _ (sym (ap first e) ∙ f))
 type_one words g s t (some {text} {name} f points found) (some {text = text2} {name = name2} f2 points2 found2) =
     let texts : text ≡ text2 = same_Some _ _ (sym f ∙ f2) in
-    let names : name ≡ name2 = same_Some _ _ (sym points ∙ (ap class_of texts ∙ points2)) in
+    let names : name ≡ name2 = same_Some _ _ (sym (points_read text name points) ∙ (ap class_of texts ∙ points_read text2 name2 points2)) in
     same_Some _ _ (sym found ∙ (ap (λ n. lookup (is_name n) words) names ∙ found2))
 
 class_same : (a b : Class) → a.role ≡ b.role → a.letter ≡ b.letter → a.is_number ≡ b.is_number → a ≡ b

@@ -11,6 +11,7 @@ use Rattle.edi_line.specs.Printing.{IsOneLine}
 use Rattle.edi_line.specs.Refusal.{IsUnbroken}
 use Rattle.edi_line.specs.Zones.{groups_of}
 use Rattle.edi_line.proofs.Said.{file_said}
+use Rattle.edi_line.proofs.ZonesSaid.{zones_read}
 use Rattle.edi_record.specs.RecordRules.{is_identifier, just_one}
 use Rattle.edi_record.specs.Records.{values}
 use Rattle.edi_record.specs.Texts.{is_semicolon, HasNoSemicolon}
@@ -60,7 +61,7 @@ the_one test (x ∷ y ∷ xs) text h e = absurd (true≢false (sym h))
 -- ---- the classes that files state
 
 pub group_lines : (b : List ℕ) (groups : List (List Entry)) → IsGroupsOf b groups → IsUnbroken (BreaksLineRule b) → AllByRecursion AreGroupZones groups
-group_lines b groups file sound = subst (AllByRecursion AreGroupZones) (ap groups_of (sym file.2.is) ∙ (file_said file.0 file.1 groups file.3).1) (groups_readable b sound)
+group_lines b groups file sound = subst (AllByRecursion AreGroupZones) (ap groups_of (sym (zones_read b file.0 file.2).is) ∙ (file_said file.0 file.1 groups file.3).1) (groups_readable b sound)
 
 module _ (classes entries : List (List Entry)) (rules : EntriesHold classes entries) where
   has_identifier : (k : ℕ) (group : List Entry) → slice_get classes k ≡ Some group → just_one is_identifier (values (codes "RID") group) ≡ true

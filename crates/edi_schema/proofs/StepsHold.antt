@@ -1,7 +1,7 @@
 -- The rules of the records of two files, against the steps over what is read of them.
 use Rattle.std.proofs.Common.{◌≡◌, ◌≢◌, ◌⊎◌, ℕ, zero, suc, ◌+◌, ◌-◌, ◌<◌, ◌≤◌, Bool, true, false, not, cond, ◌||◌, List, [], ◌∷◌, length, map, take, Option, Some, None, option_map, slice_get, position, codes, refl, sym, ap, ◌∙◌, subst, arith, inl, inr, true≢false}
 use Rattle.std.specs.Prelude.{option_and_then, find}
-use Rattle.std.specs.List.{AllByRecursion, IsDistinct, list_any, position_or_len}
+use Rattle.std.specs.List.{AllByRecursion, IsDistinct, list_any}
 use Rattle.std.proofs.lemmas.Option.{same_Some, none-some, slice_get-map, slice_get_within, slice_get-get_or, get_or_from_slice_get}
 use Rattle.std.proofs.lemmas.List.Quantifiers.{position-Some}
 use Rattle.std.proofs.lemmas.Map.Keys.{apart_from_distinct}
@@ -9,12 +9,14 @@ use Rattle.edi_line.specs.Entry.{Entry}
 use Rattle.edi_record.specs.declared.name.Name.{Name}
 use Rattle.edi_record.specs.Records.{values, first}
 use Rattle.edi_record.specs.RecordRules.{has_no_identifier}
-use Rattle.edi_record.specs.Texts.{class_of, PointsTo}
+use Rattle.edi_record.specs.Texts.{PointsTo}
+use Rattle.edi_record.specs.inner.Texts.{class_of}
+use Rattle.edi_record.proofs.StatesSaid.{points_said, points_read}
 use Rattle.edi_schema.specs.Roles.{KindCodes}
 use Rattle.edi_schema.specs.Classes.{Classes, is_name}
 use Rattle.edi_schema.specs.Drafts.{Said, said_in, name_in, word_in, type_by, class_by, class_in}
 use Rattle.edi_schema.specs.SchemaOf.{IsNamed}
-use Rattle.edi_schema.specs.SchemaRules.{BreaksEntry, LacksIdentifier, RepeatsName, HasNoWord, GroupAt, IsFirstEntry, EntriesHold, step}
+use Rattle.edi_schema.specs.SchemaRules.{BreaksEntry, HasNoWord, IsFirstEntry, EntriesHold, step}
 use Rattle.edi_schema.specs.SchemaRules.BreaksEntry.{lacks_identifier, repeats_name, no_word}
 use Rattle.edi_schema.specs.Steps.{AreIdentified, IsFirstUnidentified, IsFirstRepeat, IsFirstLacking, names_of, AreNamed, StopsAt, AreStated}
 use Rattle.edi_schema.specs.Steps.StopsAt.{class_unidentified, word_unidentified, class_repeats, word_repeats, lacks_word}
@@ -253,7 +255,7 @@ module _ (ws : List (List Entry)) (led : AllByRecursion IsLed ws) (form : AreIde
       go (Some w) f =
           let found = word_named none.0 w f in
           let place : suc found.1 - 1 ≡ found.1 = omega arith in
-          none.2 found.0 found.3 (suc found.1) found.2 (omega arith, ap (slice_get ws) place ∙ found.4) found.6
+          none.2 found.0 (points_said none.0 found.0 found.3) (suc found.1) found.2 (omega arith, ap (slice_get ws) place ∙ found.4) found.6
 
   -- a record without a class has none
   pub lacks_class : (kinds : KindCodes) (g : List Entry) → class_in kinds (map said_in ws) (said_in g) ≡ None → NoWord ws g
@@ -266,7 +268,7 @@ module _ (ws : List (List Entry)) (led : AllByRecursion IsLed ws) (form : AreIde
         text,
         f,
         λ name points m word at is.
-            let lacks : find (λ word. is_name name word.name) (map said_in ws) ≡ None = sym (ap (option_and_then (λ name. find (λ word. is_name name word.name) (map said_in ws))) points) ∙ h in
+            let lacks : find (λ word. is_name name word.name) (map said_in ws) ≡ None = sym (ap (option_and_then (λ name. find (λ word. is_name name word.name) (map said_in ws))) (points_read text name points)) ∙ h in
             let other = find_lacks (λ word. is_name name word.name) (map said_in ws) lacks (m - 1) (said_in word) (slice_get-map said_in ws (m - 1) ∙ ap (option_map said_in) at.1) in
             let same : name ≡ name_in word = named_so word name is in
             true≢false (sym (name_itself (name_in word)) ∙ (ap (λ x. is_name x (name_in word)) (sym same) ∙ other)),

@@ -1,18 +1,16 @@
 -- The steps over what is read of the records, as the code takes them.
 use Rattle.std.proofs.Common.{◌≡◌, ℕ, ◌+◌, ◌≤◌, Bool, true, false, List, [], ◌∷◌, length, map, position, Option, Some, None, option_map, refl, sym, ap, ◌∙◌, subst, arith, IsPermutation}
 use Rattle.std.specs.Map.{keys_of}
-use Rattle.std.specs.List.{IsDistinct, position_or_len}
+use Rattle.std.specs.List.{position_or_len}
 use Rattle.std.proofs.lemmas.List.{length-map}
 use Rattle.std.proofs.lemmas.List.Sorted.{length_permutation}
 use Rattle.edi_record.specs.declared.name.Name.{Name}
-use Rattle.edi_schema.specs.Roles.{KindCodes, is_plain, exchanged}
-use Rattle.edi_schema.specs.Classes.{Classes, IsSchema, is_name, name_cmp}
-use Rattle.edi_schema.specs.Drafts.{Said, said, class_in, class_by, type_by, drafted}
-use Rattle.edi_schema.specs.Sorted.{AlwaysRises}
-use Rattle.edi_schema.specs.Steps.{IfEntry, AreIdentified, IsFirstUnidentified, IsFirstRepeat, IsFirstLacking, names_of, AreNamed, StopsAt, AreStated}
+use Rattle.edi_schema.specs.Roles.{KindCodes}
+use Rattle.edi_schema.specs.Classes.{Classes}
+use Rattle.edi_schema.specs.Drafts.{Said, said, class_in, class_by, type_by}
+use Rattle.edi_schema.specs.Steps.{IfEntry, AreIdentified, IsFirstUnidentified, names_of, AreStated}
 use Rattle.edi_schema.specs.declared.class.Class.{Class}
 use Rattle.edi_schema.specs.declared.definition.Definition.{Definition}
-use Rattle.edi_schema.specs.declared.draft.Draft.{Draft}
 use Rattle.edi_schema.specs.declared.fault.Source.{Source}
 use Rattle.edi_schema.specs.declared.fault.SchemaFault.{SchemaFault}
 use Rattle.edi_schema.specs.declared.fault.SchemaFault.TheVariants.{Memory, Line, Entry, Kinds}

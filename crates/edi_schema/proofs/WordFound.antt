@@ -1,13 +1,13 @@
 -- The record of the dictionary that a pointer names, by the place of its name.
-use Rattle.std.proofs.Common.{◌≡◌, ℕ, zero, suc, ◌+◌, ◌<◌, ◌≤◌, Bool, true, false, cond, not, List, [], ◌∷◌, length, map, slice_get, get_or, position, Option, Some, None, option_map, refl, sym, ap, ◌∙◌, arith}
+use Rattle.std.proofs.Common.{◌≡◌, ℕ, ◌+◌, ◌<◌, ◌≤◌, Bool, cond, not, List, [], ◌∷◌, length, map, slice_get, get_or, position, Some, None, option_map, refl, sym, ap, ◌∙◌, arith}
 use Rattle.std.proofs.lemmas.List.{length-map}
 use Rattle.std.specs.Prelude.{option_and_then, find}
 use Rattle.std.specs.List.{position_or_len}
 use Rattle.std.proofs.lemmas.List.Folds.{find_at}
 use Rattle.std.proofs.lemmas.Option.{slice_get-map, slice_get-get_or, slice_get_past}
 use Rattle.edi_record.specs.declared.name.Name.{Name}
-use Rattle.edi_record.specs.Texts.{PointerText, pointer, class_of}
-use Rattle.edi_record.specs.Lent.{shown}
+use Rattle.edi_record.specs.Texts.{shown}
+use Rattle.edi_record.specs.inner.Texts.{pointer, class_of}
 use Rattle.edi_record.specs.declared.pointer.Pointer.{Pointer}
 use Rattle.edi_record.proofs.GroupCuts.{place_at_Some, no_place}
 use Rattle.edi_schema.specs.Classes.{is_name}
@@ -58,3 +58,7 @@ module _ (eq : Title → Title → Bool) (is : (a b : Title) → eq a b ≡ is_n
       let lengths : length ts ≡ length ds = omega (arith, length-map {A = Title} {B = Name}, length-map {A = Definition} {B = Name}, ap length same) in
       let past : length ds ≤ position_or_len (eq t) ts = omega (arith, no_place (eq t) ts (sym none), lengths) in
       sym (ap (option_map (λ word. word.word_type)) (in_words text p read rty rid ∙ ap (option_map said) (slice_get_past ds (position_or_len (eq t) ts) past)))
+
+pub no_word : (words : List Said) (text : List ℕ) → None ≡ pointer text → None ≡ option_map (λ word. word.word_type) (word_in words text)
+no_word words text e =
+    ap (λ o. option_map (λ (word : Said). word.word_type) (option_and_then (λ name. find (λ (word : Said). is_name name word.name) words) (option_map (λ q. (let n : Name = record { rty = q.rty; rid = q.rid } in n)) o))) e

@@ -1,10 +1,10 @@
 -- What single records of a schema's files say.
-use Rattle.std.specs.Prelude.{◌≡◌, ℕ, Bool, List, [], ◌∷◌, Option, Some, None, codes, option_map, option_and_then, unwrap_or, find, map}
-use Rattle.edi_line.specs.Entry.{Entry, entries}
+use Rattle.std.specs.Prelude.{ℕ, Bool, List, [], Option, Some, None, codes, option_map, option_and_then, unwrap_or, find}
+use Rattle.edi_line.specs.Entry.{Entry}
 use Rattle.edi_record.specs.declared.name.Name.{Name}
 use Rattle.edi_record.specs.Records.{values, first}
 use Rattle.edi_record.specs.RecordRules.{has_no_identifier}
-use Rattle.edi_record.specs.Texts.{class_of}
+use Rattle.edi_record.specs.inner.Texts.{class_of}
 use Rattle.edi_schema.specs.Roles.{KindCodes, role_by}
 use Rattle.edi_schema.specs.Classes.{is_name}
 use Rattle.edi_schema.specs.SchemaOf.{letter_of, is_number_type}

@@ -1,5 +1,6 @@
 pub mod Sorted
 pub mod Roles
+pub mod ByRole
 pub mod Classes
 pub mod SchemaOf
 pub mod SchemaRules

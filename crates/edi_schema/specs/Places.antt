@@ -3,20 +3,8 @@ use Rattle.std.specs.Prelude.{◌≡◌, ◌⊎◌, ℕ, ◌<◌, ◌≤◌, Boo
 use Rattle.edi_schema.specs.Roles.{is_plain, same_role, exchanged}
 use Rattle.edi_schema.specs.Classes.{Classes, has_role}
 use Rattle.edi_schema.specs.declared.role.Role.{Role}
-use Rattle.edi_schema.specs.declared.role.Role.TheVariants.{Initial, Final, Left, Right, Plain}
-use Rattle.edi_schema.specs.declared.places.Places.{Places}
-
--- the place of the class of a kind
-abbrev pub place_in : Places → Role → Option ℕ
-place_in p Initial = p.initial
-place_in p Final = p.final_node
-place_in p Left = p.left
-place_in p Right = p.right
-place_in p Plain = None
-
--- the new places have this place for the role, and those of the old for each other kind
-abbrev pub IsNoted : Places → Role → ℕ → Places → Type 0
-IsNoted old role place new = (r : Role) → is_plain r ≡ false → place_in new r ≡ (if same_role r role then Some place else place_in old r)
+use Rattle.edi_schema.specs.ByRole.{of_role}
+use Rattle.edi_schema.specs.declared.by_role.ByRole.{ByRole}
 
 -- both or none
 abbrev pub are_alike : Option ℕ → Option ℕ → Bool
@@ -25,16 +13,16 @@ are_alike None None = true
 are_alike (Some m) None = false
 are_alike None (Some n) = false
 
-abbrev pub are_paired : Places → Bool
+abbrev pub are_paired : ByRole (Option ℕ) → Bool
 are_paired p = are_alike p.initial p.final_node && are_alike p.left p.right
 
 -- each kind has one class at most, and this is its place
-pub record AreNoted (s : Classes) (p : Places) : Type 0 where
-  pub place : (role : Role) → is_plain role ≡ false → place_in p role ≡ position (has_role role) s
+pub record AreNoted (s : Classes) (p : ByRole (Option ℕ)) : Type 0 where
+  pub place : (role : Role) → is_plain role ≡ false → of_role p role ≡ position (has_role role) s
   pub one : (role : Role) → is_plain role ≡ false → count_by (has_role role) s ≤ 1
 
 -- and it has one if the kind that it is exchanged with has
-pub record ArePlaces (s : Classes) (p : Places) : Type 0 where
+pub record ArePlaces (s : Classes) (p : ByRole (Option ℕ)) : Type 0 where
   pub noted : AreNoted s p
   pub both : (role : Role) → is_plain role ≡ false → count_by (has_role role) s ≡ count_by (has_role (exchanged role)) s
 

@@ -12,6 +12,7 @@ use crate::definition::Definition;
 use crate::fault::{SchemaFault, Source};
 use crate::kinds::Kinds;
 use crate::title::Title;
+use edi_hash::NameHash;
 use edi_record::Pointer;
 use indexmap::IndexSet;
 use std::alloc::Global;
@@ -46,7 +47,7 @@ fn is_number(word_type: Option<&[u8]>) -> bool
 /// The records of the dictionary and their names.
 #[derive(Clone, Copy)]
 pub(crate) struct Words<'w, 'a> {
-    pub(crate) titles: &'w IndexSet<Title<'a>>,
+    pub(crate) titles: &'w IndexSet<Title<'a>, NameHash>,
     pub(crate) records: &'w [Definition<'a>],
 }
 

@@ -1,17 +1,14 @@
-ghost use Rattle.std.specs.Prelude.{◌≡◌, ◌↔◌, IsSome, IfSome, codes};
-ghost use Rattle.std.specs.Prelude.{option_map};
+ghost use Rattle.std.specs.Prelude.{◌≡◌, ◌↔◌, IsSome, IfSome, codes, option_map};
 ghost use Rattle.edi_schema.specs.Roles.{AreKindCodes, role_coded, role_by};
 
+use crate::by_role::ByRole;
 use crate::role::Role;
 use std::marker::Model;
 
 /// The codes of the four kinds of link.
 #[derive(Debug, Drop)]
 pub struct Kinds<'a> {
-    initial: &'a [u8],
-    final_node: &'a [u8],
-    left: &'a [u8],
-    right: &'a [u8],
+    codes: ByRole<&'a [u8]>,
 }
 
 impl<'a> Model for Kinds<'a> {
@@ -19,9 +16,9 @@ impl<'a> Model for Kinds<'a> {
 
     ghost Value = { KindCodes };
 
-    ghost view = { λ k. record { initial = k.initial.now; final_node = k.final_node.now; left = k.left.now; right = k.right.now } };
+    ghost view = { λ k. record { initial = k.codes.initial.now; final_node = k.codes.final_node.now; left = k.codes.left.now; right = k.codes.right.now } };
 
-    ghost invariant = { λ k. AreKindCodes (record { initial = k.initial.now; final_node = k.final_node.now; left = k.left.now; right = k.right.now }) };
+    ghost invariant = { λ k. AreKindCodes (record { initial = k.codes.initial.now; final_node = k.codes.final_node.now; left = k.codes.left.now; right = k.codes.right.now }) };
 }
 
 impl<'a> Kinds<'a> {
@@ -30,10 +27,12 @@ impl<'a> Kinds<'a> {
         ensures { result ≡ record { initial = codes "IND"; final_node = codes "FND"; left = codes "LPO"; right = codes "RPO" } }
     {
         Kinds {
-            initial: b"IND",
-            final_node: b"FND",
-            left: b"LPO",
-            right: b"RPO",
+            codes: ByRole {
+                initial: b"IND",
+                final_node: b"FND",
+                left: b"LPO",
+                right: b"RPO",
+            },
         }
     }
 
@@ -57,10 +56,12 @@ impl<'a> Kinds<'a> {
             return None;
         }
         Some(Kinds {
-            initial,
-            final_node,
-            left,
-            right,
+            codes: ByRole {
+                initial,
+                final_node,
+                left,
+                right,
+            },
         })
     }
 
@@ -68,13 +69,13 @@ impl<'a> Kinds<'a> {
     fn coded(&self, code: &[u8]) -> Option<Role>
         ensures { result ≡ role_coded self.now code.now }
     {
-        if code == self.initial {
+        if code == self.codes.initial {
             Some(Role::Initial)
-        } else if code == self.final_node {
+        } else if code == self.codes.final_node {
             Some(Role::Final)
-        } else if code == self.left {
+        } else if code == self.codes.left {
             Some(Role::Left)
-        } else if code == self.right {
+        } else if code == self.codes.right {
             Some(Role::Right)
         } else {
             None

@@ -1,6 +1,7 @@
 //! Classes, kinds of link and letters.
 #![tactic(auto)]
 
+pub mod by_role;
 pub mod class;
 mod definition;
 mod draft;
@@ -14,13 +15,9 @@ mod sorting;
 mod title;
 mod titles;
 
+pub use by_role::ByRole;
 pub use class::{Class, ClassRef};
 pub use fault::{SchemaFault, Source};
 pub use kinds::Kinds;
 pub use role::Role;
 pub use schema::Schema;
-
-#[cfg(test)]
-mod schema_cases;
-#[cfg(test)]
-mod tests;

@@ -1,21 +1,22 @@
-ghost use Rattle.std.specs.Prelude.{◌≡◌, ◌<◌, ◌≤◌, length, map, Some, option_map, IfOk, IfErr, OnOk};
+ghost use Rattle.std.specs.Prelude.{◌≡◌, ◌<◌, ◌≤◌, length, map, Some, option_map, IfOk, IfErr, IfSome, OnOk};
 ghost use Rattle.edi_line.specs.Entry.{entries};
-ghost use Rattle.edi_line.specs.LineRules.{IsZonesOf};
+ghost use Rattle.edi_line.specs.LineRules.{IsZonesOf, BreaksLineRule};
 ghost use Rattle.edi_line.specs.Zones.{HasShape};
-ghost use Rattle.edi_line.specs.LineRules.{BreaksLineRule};
 ghost use Rattle.edi_line.specs.Refusal.{IsUnbroken, IsLeastBroken};
 ghost use Rattle.edi_schema.specs.Drafts.{said, drafted};
 ghost use Rattle.edi_schema.specs.Steps.{IfLine, IfEntry, IfKinds, AreStated, AreMatched, AreUnmatched, StopsAt};
 
+use crate::by_role::ByRole;
 use crate::class::{Class, ClassRef};
 use crate::definition::{Definition, definitions};
 use crate::draft::{Draft, Words, drafts};
 use crate::fault::{SchemaFault, Source};
 use crate::kinds::Kinds;
-use crate::places::{Places, are_pointable};
+use crate::places::{are_pointable, kind_places};
 use crate::role::Role;
 use crate::sorting::{by_name, sorted_by_name};
 use crate::titles::{identified, titles};
+use edi_hash::NameHash;
 use edi_line::{LineFault, Zone, zones};
 use edi_record::Name;
 use indexmap::IndexMap;
@@ -25,8 +26,8 @@ use std::marker::Model;
 /// The classes of a schema, in the order of their names.
 #[derive(Drop)]
 pub struct Schema {
-    classes: IndexMap<Name, Class>,
-    places: Places,
+    classes: IndexMap<Name, Class, NameHash>,
+    places: ByRole<Option<u32>>,
 }
 
 impl Model for Schema {
@@ -122,7 +123,7 @@ impl Schema {
         if !are_pointable(classes) {
             return Err(SchemaFault::Kinds);
         }
-        match Places::among(classes) {
+        match kind_places(classes) {
             Some(places) => Ok(Schema {
                 classes: by_name(alloc, classes)?,
                 places,
@@ -133,7 +134,8 @@ impl Schema {
 
     /// The class with a name. Classes count from 0 in the order of their types, then of their identifiers.
     pub fn class(&self, name: &Name) -> Option<ClassRef>
-        ensures { result ≡ place_of self.now name.now }
+        ensures class { result ≡ place_of self.now name.now }
+        ensures within { IfSome result (λ class. class < length self.now) }
     {
         let place = self.classes.get_index_of(name)?;
         Some(ClassRef::at(place as u32))
@@ -158,7 +160,8 @@ impl Schema {
     /// The class of the kind that is exchanged with that of this one where an arc is reversed.
     pub fn partner(&self, class: ClassRef) -> Option<ClassRef>
         requires { class < length self.now }
-        ensures { result ≡ partner_at self.now class }
+        ensures class { result ≡ partner_at self.now class }
+        ensures within { IfSome result (λ partner. partner < length self.now) }
     {
         let place = self.places.of(self.role(class).exchanged())?;
         Some(ClassRef::at(place))

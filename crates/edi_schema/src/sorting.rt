@@ -1,14 +1,16 @@
 //! Classes in the order of their names.
 
-ghost use Rattle.std.specs.Prelude.{◌≡◌, map, IfOk, IsPermutation};
+ghost use Rattle.std.specs.Prelude.{◌≡◌, map, flat_map, IfOk, IsPermutation};
 ghost use Rattle.std.specs.List.{IsDistinct};
 ghost use Rattle.std.specs.Map.{keys_of};
-ghost use Rattle.edi_schema.specs.Classes.{is_name, name_cmp};
+ghost use Rattle.edi_hash.specs.Keys.{keyed_by};
+ghost use Rattle.edi_schema.specs.Classes.{is_name, name_cmp, name_parts};
 ghost use Rattle.edi_schema.specs.Drafts.{drafted};
 ghost use Rattle.edi_schema.specs.Sorted.{AlwaysRises};
 
 use crate::class::Class;
 use crate::draft::Draft;
+use edi_hash::{KeyNames, NameHash};
 use edi_line::Text;
 use edi_record::Name;
 use indexmap::IndexMap;
@@ -33,15 +35,26 @@ fn name(alloc: Global, draft: &Draft<'_>) -> Result<Name, AllocError>
     })
 }
 
+/// The hash for the names of these classes.
+fn hash_of(drafts: &[Draft<'_>]) -> NameHash
+    ensures { result ≡ keyed_by (flat_map (λ d. name_parts (drafted d).0) drafts.now) }
+{
+    let mut names = KeyNames::new();
+    for draft in drafts {
+        draft.title.add_to(&mut names);
+    }
+    names.hash()
+}
+
 /// The classes by their names, in the same order.
 pub(crate) fn by_name(
     alloc: Global,
     drafts: &[Draft<'_>],
-) -> Result<IndexMap<Name, Class>, AllocError>
+) -> Result<IndexMap<Name, Class, NameHash>, AllocError>
     requires { AlwaysRises name_cmp (keys_of (map drafted drafts.now)) }
     ensures { IfOk result (λ classes. classes.entries ≡ map drafted drafts.now) }
 {
-    let mut classes = IndexMap::new(alloc);
+    let mut classes = IndexMap::with_hasher(alloc, hash_of(drafts));
     for draft in drafts {
         classes.insert(name(alloc, draft)?, draft.class)?;
     }

@@ -1,9 +1,12 @@
 //! The names of the records of a schema's files, as their zones lend them.
 
-ghost use Rattle.std.specs.Prelude.{◌≡◌};
+ghost use Rattle.std.specs.Prelude.{◌≡◌, ◌++◌, List, ℕ};
 ghost use Rattle.edi_line.specs.Entry.{entries};
+ghost use Rattle.edi_hash.specs.Keys.{Holds};
+ghost use Rattle.edi_schema.specs.Classes.{name_parts};
 ghost use Rattle.edi_schema.specs.Drafts.{name_in, named};
 
+use edi_hash::KeyNames;
 use edi_line::Zone;
 use edi_record::first_value;
 
@@ -27,5 +30,13 @@ impl<'a> Title<'a> {
             rty: first_value(group, TYPE).unwrap_or(&[]),
             rid: first_value(group, IDENTIFIER).unwrap_or(&[]),
         }
+    }
+
+    /// Adds the name to those that decide the key of a table.
+    pub(crate) fn add_to(self, names: &mut KeyNames)
+        ensures { (parts : List (List ℕ)) → Holds names.old parts → Holds names.new (parts ++ name_parts (named self.entry)) }
+    {
+        names.add(self.rty);
+        names.add(self.rid);
     }
 }

@@ -1,14 +1,16 @@
 //! The names of the records of a file: rules 601 and 602.
 
-ghost use Rattle.std.specs.Prelude.{◌≡◌, ℕ, ◌+◌, Some, None, map, position, IfOk, OnOk, IfErr};
+ghost use Rattle.std.specs.Prelude.{◌≡◌, ℕ, ◌+◌, Some, None, map, flat_map, position, IfOk, OnOk, IfErr};
 ghost use Rattle.std.specs.List.{IsDistinct};
-ghost use Rattle.edi_schema.specs.Classes.{is_name};
+ghost use Rattle.edi_hash.specs.Keys.{keyed_by};
+ghost use Rattle.edi_schema.specs.Classes.{is_name, name_parts};
 ghost use Rattle.edi_schema.specs.Drafts.{named, said};
 ghost use Rattle.edi_schema.specs.Steps.{IfEntry, IsFirstRepeat};
 
 use crate::definition::Definition;
 use crate::fault::{SchemaFault, Source};
 use crate::title::Title;
+use edi_hash::{KeyNames, NameHash};
 use indexmap::IndexSet;
 use std::alloc::Global;
 
@@ -34,18 +36,29 @@ pub(crate) fn identified(file: Source, records: &[Definition<'_>]) -> Result<(),
     }
 }
 
+/// The hash for the names of these records.
+fn hash_of(records: &[Definition<'_>]) -> NameHash
+    ensures { result ≡ keyed_by (flat_map (λ d. name_parts (said d).name) records.now) }
+{
+    let mut names = KeyNames::new();
+    for record in records {
+        record.title.add_to(&mut names);
+    }
+    names.hash()
+}
+
 /// The names of the records of a file, where no two are the same.
 pub(crate) fn titles<'a>(
     alloc: Global,
     file: Source,
     records: &[Definition<'a>],
-) -> Result<IndexSet<Title<'a>>, SchemaFault>
+) -> Result<IndexSet<Title<'a>, NameHash>, SchemaFault>
     ensures titles { IfOk result (λ titles. map named titles.keys ≡ map (λ d. (said d).name) records.now) }
     ensures distinct { IfOk result (λ titles. IsDistinct is_name (map (λ d. (said d).name) records.now)) }
     ensures repeat { IfErr result (IfEntry (λ source rule at.
         (source ≡ file) × (rule ≡ 602) × IsFirstRepeat (map (λ d. (said d).name) records.now) at)) }
 {
-    let mut titles = IndexSet::new(alloc);
+    let mut titles = IndexSet::with_hasher(alloc, hash_of(records));
     for (place, record) in records.iter().enumerate() {
         if !titles.insert(record.title)? {
             return Err(SchemaFault::Entry {

@@ -11,6 +11,7 @@ use crate::forward_points::ForwardPoints;
 use crate::layer::Layer;
 use crate::numbers::Ranks;
 use crate::ranking::ranks;
+use crate::sound::Sound;
 use edi_plan::Plan;
 use edi_record::Kind;
 use std::alloc::{AllocError, Global};
@@ -18,12 +19,12 @@ use std::marker::Model;
 
 /// The arcs of a plan, in file order, by their points in the forward direction.
 #[derive(Drop)]
-pub struct PlanArcs<'a> {
+pub struct ArcLayer<'a> {
     plan: &'a Plan,
-    places: Vec<u32>,
+    places: &'a [u32],
 }
 
-impl<'a> Model for PlanArcs<'a> {
+impl<'a> Model for ArcLayer<'a> {
     ghost use Rattle.std.specs.Prelude.{◌≡◌};
     ghost use Rattle.edi_record.specs.declared.record.Kind.TheVariants.{Par};
     ghost use Rattle.edi_plan.specs.Places.{places_of};
@@ -33,16 +34,25 @@ impl<'a> Model for PlanArcs<'a> {
 
     ghost view = { λ l. l.plan.now };
 
-    ghost invariant = { λ l. l.places.items ≡ places_of Par l.plan.now };
+    ghost invariant = { λ l. l.places.now ≡ places_of Par l.plan.now };
 }
 
-impl<'a> PlanArcs<'a> {
-    /// The arcs of a plan.
-    pub fn of(alloc: Global, plan: &'a Plan) -> Result<PlanArcs<'a>, AllocError>
-        ensures { IfOk result (λ arcs. arcs ≡ plan.now) }
+impl<'a> ArcLayer<'a> {
+    /// The arcs of a sound plan.
+    pub fn of(_alloc: Global, sound: &'a Sound) -> Result<ArcLayer<'a>, AllocError>
+        ensures { IfOk result (λ layer. layer ≡ sound.now) }
     {
-        let places = plan.places(alloc, Kind::Par)?;
-        Ok(PlanArcs { plan, places })
+        Ok(ArcLayer::in_plan(sound.plan()))
+    }
+
+    /// The arcs of a plan.
+    pub(crate) fn in_plan(plan: &'a Plan) -> ArcLayer<'a>
+        ensures { result ≡ plan.now }
+    {
+        ArcLayer {
+            plan,
+            places: plan.places(Kind::Par),
+        }
     }
 
     /// The place of an arc.
@@ -54,7 +64,7 @@ impl<'a> PlanArcs<'a> {
     }
 }
 
-impl<'a> Layer for PlanArcs<'a> {
+impl<'a> Layer for ArcLayer<'a> {
     type Key = ForwardPoints<'a>;
 
     ghost size = { λ l. length (places_of Par l) };
@@ -77,7 +87,7 @@ pub(crate) fn ranks_or_repeat(alloc: Global, plan: &Plan) -> Result<Result<Ranks
     ensures ranks { IfOk result (λ found. IfOk found (IsForwardRanking plan.now)) }
     ensures repeat { IfOk result (λ found. IsFirstRepeatIfAny plan.now (result_err found)) }
 {
-    let arcs = PlanArcs::of(alloc, plan)?;
+    let arcs = ArcLayer::in_plan(plan);
     match ranks(alloc, &arcs) {
         Ok(ranks) => Ok(Ok(ranks)),
         Err(TieFault::Tie(member)) => Ok(Err(arcs.place(member))),

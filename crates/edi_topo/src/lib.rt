@@ -15,13 +15,13 @@ pub mod numbers;
 pub mod ranking;
 pub mod sound;
 
-pub use arcs::PlanArcs;
+pub use arcs::ArcLayer;
 pub use directions::is_forward;
 pub use fault::{TieFault, TopoFault};
 pub use forward_points::ForwardPoints;
 pub use layer::Layer;
 pub use node_key::{NodeKey, node_key_at};
-pub use nodes::PlanNodes;
+pub use nodes::NodeLayer;
 pub use numbers::Ranks;
 pub use ranking::ranks;
 pub use sound::Sound;

@@ -14,19 +14,20 @@ use crate::layer::Layer;
 use crate::node_key::{NodeKey, node_key_at};
 use crate::numbers::Ranks;
 use crate::ranking::ranks;
+use crate::sound::Sound;
 use edi_plan::Plan;
 use edi_record::Kind;
 use std::alloc::{AllocError, Global};
 use std::marker::Model;
 
-/// The nodes of a plan, in file order.
+/// The nodes of a plan, in file order, by place, class, attributes and extras.
 #[derive(Drop)]
-pub struct PlanNodes<'a> {
+pub struct NodeLayer<'a> {
     plan: &'a Plan,
-    places: Vec<u32>,
+    places: &'a [u32],
 }
 
-impl<'a> Model for PlanNodes<'a> {
+impl<'a> Model for NodeLayer<'a> {
     ghost use Rattle.std.specs.Prelude.{List, map, ◌≡◌, ◌≤◌, length};
     ghost use Rattle.edi_record.specs.declared.record.Kind.TheVariants.{Pno};
     ghost use Rattle.edi_plan.specs.Places.{places_of};
@@ -36,16 +37,25 @@ impl<'a> Model for PlanNodes<'a> {
 
     ghost view = { λ n. n.plan.now };
 
-    ghost invariant = { λ n. n.places.items ≡ places_of Pno n.plan.now };
+    ghost invariant = { λ n. n.places.now ≡ places_of Pno n.plan.now };
 }
 
-impl<'a> PlanNodes<'a> {
-    /// The nodes of a plan.
-    pub fn of(alloc: Global, plan: &'a Plan) -> Result<PlanNodes<'a>, AllocError>
-        ensures { IfOk result (λ nodes. nodes ≡ plan.now) }
+impl<'a> NodeLayer<'a> {
+    /// The nodes of a sound plan.
+    pub fn of(_alloc: Global, sound: &'a Sound) -> Result<NodeLayer<'a>, AllocError>
+        ensures { IfOk result (λ layer. layer ≡ sound.now) }
     {
-        let places = plan.places(alloc, Kind::Pno)?;
-        Ok(PlanNodes { plan, places })
+        Ok(NodeLayer::in_plan(sound.plan()))
+    }
+
+    /// The nodes of a plan.
+    pub(crate) fn in_plan(plan: &'a Plan) -> NodeLayer<'a>
+        ensures { result ≡ plan.now }
+    {
+        NodeLayer {
+            plan,
+            places: plan.places(Kind::Pno),
+        }
     }
 
     /// The place of a node.
@@ -57,7 +67,7 @@ impl<'a> PlanNodes<'a> {
     }
 }
 
-impl<'a> Layer for PlanNodes<'a> {
+impl<'a> Layer for NodeLayer<'a> {
     type Key = NodeKey<'a>;
 
     ghost size = { λ n. length (places_of Pno n) };
@@ -80,7 +90,7 @@ pub(crate) fn ranks_or_repeat(alloc: Global, plan: &Plan) -> Result<Result<Ranks
     ensures repeat { IfOk result (λ found. IsFirstRepeatIfAny plan.now (result_err found)) }
 {
     plan.keeps();
-    let nodes = PlanNodes::of(alloc, plan)?;
+    let nodes = NodeLayer::in_plan(plan);
     match ranks(alloc, &nodes) {
         Ok(ranks) => Ok(Ok(ranks)),
         Err(TieFault::Tie(member)) => Ok(Err(nodes.place(member))),

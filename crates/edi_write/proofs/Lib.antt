@@ -8,3 +8,4 @@ pub mod WrittenRecords
 pub mod WrittenReferences
 pub mod WrittenPrinted
 pub mod KindNames
+pub mod Rows

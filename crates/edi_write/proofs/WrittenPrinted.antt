@@ -2,7 +2,7 @@
 use Rattle.std.proofs.Common.{◌≡◌, ℕ, zero, suc, ◌+◌, ◌-◌, ◌<◌, ◌≤◌, ◌^◌, ℤ, Bool, true, false, cond, not, ◌&&◌, eqb, true≢false, List, [], ◌∷◌, ◌++◌, length, map, get_or, reverse, length-append, Option, Some, None, option_map, unwrap_or, slice_get, position, refl, sym, ap, ap₂, ◌∙◌, subst, arith, nat_lt, IsPermutation, ◌⊎◌, inl, inr, Any}
 use Rattle.std.specs.Prelude.{codes, decimal, All, IfSome, bytes_eq}
 use Rattle.std.specs.List.{AllByRecursion, AllZip, position_or_len}
-use Rattle.std.specs.Map.{keys_of}
+use Rattle.std.specs.Map.{keys_of, lookup}
 use Rattle.std.proofs.lemmas.Bool.{ltb-true, le-leb, ne_eqb}
 use Rattle.std.proofs.lemmas.Fmt.{decimal_is_IsNumeral, length-decimal-le}
 use Rattle.std.proofs.lemmas.List.{length-map}
@@ -11,9 +11,16 @@ use Rattle.std.proofs.lemmas.List.Folds.{list_any_none}
 use Rattle.std.proofs.lemmas.List.Sorted.{All-permutation, length_permutation, IsPermutation-reverse}
 use Rattle.std.proofs.lemmas.Option.{same_Some, none-some, slice_get_within, get_or_from_slice_get}
 use Rattle.std.proofs.lemmas.Slice.Eq.{bytes_eq-Decides}
+use Rattle.edi_line.specs.Spelling.{Reading, AreReadings}
+use Rattle.edi_line.specs.Zones.{IsZonesIn}
+use Rattle.edi_line.proofs.Readings.{readings_are}
+use Rattle.edi_line.proofs.ZonesSaid.{zones_are}
+use Rattle.edi_record.proofs.StatesSaid.{states_unique, all_said}
+use Rattle.edi_plan.proofs.Built.{value_found}
+use Rattle.edi_write.specs.Laws.{LayoutHasPlan, LayoutKeepsReferences, LayoutIsSound}
 use Rattle.edi_line.specs.Entry.{Entry}
-use Rattle.edi_line.specs.Zones.{zones_of}
-use Rattle.edi_line.specs.Number.{number}
+use Rattle.edi_line.specs.inner.Zones.{zones_of, zones_in}
+use Rattle.edi_line.specs.inner.Number.{number}
 use Rattle.edi_line.specs.Printing.{IsOneLine}
 use Rattle.edi_line.specs.Refusal.{IsUnbroken}
 use Rattle.edi_line.proofs.NumberRead.{number_is, number_lacks, digits_lack}
@@ -21,8 +28,9 @@ use Rattle.edi_line.proofs.Numbers.{number_in_range}
 use Rattle.edi_line.proofs.Spelled.{plain_text_read}
 use Rattle.edi_record.specs.Layout.{value_text, HasPrintableLetters, settled_record, IsRecord, IsLineRecord, KeepsRules, IsName, IsPoint, IsExtra, IsLineName, IsLineAttribute, IsLineEnd, IsLineExtra}
 use Rattle.edi_record.specs.Readable.{IsPrintableSheet}
-use Rattle.edi_record.specs.RecordRules.{is_identifier}
-use Rattle.edi_record.specs.Records.{value_of, has_points, is_link, States, StatesSheet}
+use Rattle.edi_record.specs.RecordRules.{is_identifier, BreaksRecordRule}
+use Rattle.edi_record.specs.Records.{has_points, is_link, StatesSheet, States}
+use Rattle.edi_record.specs.inner.Records.{value_of}
 use Rattle.edi_record.specs.Shapes.{kind_code, may_have_points, may_have_ends}
 use Rattle.edi_record.specs.Texts.{is_semicolon}
 use Rattle.edi_record.specs.declared.name.Name.{Name}
@@ -41,13 +49,10 @@ use Rattle.edi_schema.specs.declared.role.Role.TheVariants.{Initial, Final, Left
 use Rattle.edi_schema.proofs.Names.{same_name}
 use Rattle.edi_record.proofs.Printable.{sheet_printable}
 use Rattle.edi_record.proofs.SheetStated.{sheet_again}
-use Rattle.edi_record.proofs.Unique.{states_one}
-use Rattle.edi_record.specs.RecordRules.{BreaksRecordRule}
 use Rattle.edi_record.proofs.Sound.{sheet_sound}
 use Rattle.edi_line.specs.LineRules.{BreaksLineRule, IsZonesOf}
 use Rattle.edi_line.specs.Spelling.{is_printable}
 use Rattle.edi_schema.specs.declared.class.Class.{Class}
-use Rattle.std.specs.Map.{lookup}
 use Rattle.edi_plan.specs.Agreeing.{Agrees}
 use Rattle.edi_plan.specs.ReferenceRules.{BreaksReferenceRule}
 use Rattle.edi_plan.specs.ReferenceRules.BreaksReferenceRule.{lacks_attribute_class}
@@ -191,7 +196,7 @@ attribute_prints s b a name line states =
       record {
         class = subst IsLineName same line.class;
         set = subst (λ t. IfSome t IsOneLine) (sym states.set) line.set;
-        value = subst (λ v. IsOneLine (value_text v)) (sym states.value) (may _);
+        value = subst (λ v. IsOneLine (value_text v)) (sym (value_found s b.atp b.atv a.value states.value)) (may _);
       },
     )
 
@@ -429,7 +434,7 @@ attribute_classes s sheet p q unbroken plan same = all_places (λ r. AllByRecurs
 -- ---- the layout, read again
 
 one_sheet : (gs : List (List Entry)) (rs qs : List Record) → AllZip States gs rs → AllZip States gs qs → rs ≡ qs
-one_sheet gs rs qs h g = zip_one States States (λ x y z a b. states_one x y z a b) gs rs qs h g
+one_sheet gs rs qs h g = zip_one States States states_unique gs rs qs h g
 
 read_list : (s : Classes) (q : Drawing) (sheet : Sheet) → IsSchema s → HasPrintableLetters (letters s) → IsWhole q → Agrees s q → CanBePrinted q.cse (written_records s q)
     → StatesSheet (zones_of (layout s q)) sheet → (sheet.cse ≡ q.cse) × (sheet.list ≡ map (settled_record (letters s)) (written_records s q))
@@ -437,27 +442,29 @@ read_list s q sheet keeps printable whole agrees can states =
     let rs = written_records s q in
     let again = sheet_again (letters s) q.cse rs (sheet_printable (letters s) q.cse rs printable can.set can.records can.lines) can.records in
     let stated = subst (λ bytes. StatesSheet (zones_of bytes) sheet) (written_layout s q keeps whole agrees) states in
-    (stated.cse ∙ again.0, one_sheet _ sheet.list (map (settled_record (letters s)) rs) stated.records again.1)
+    (stated.cse ∙ again.0, one_sheet _ sheet.list (map (settled_record (letters s)) rs) stated.records (all_said _ (map (settled_record (letters s)) rs) again.1))
 
-pub layout_plan : (s : Classes) (q : Drawing) (sheet : Sheet) → IsSchema s → HasPrintableLetters (letters s) → IsWhole q → Agrees s q → CanBePrinted q.cse (written_records s q)
-    → StatesSheet (zones_of (layout s q)) sheet → IsPlanOf s sheet q
-layout_plan s q sheet keeps printable whole agrees can states =
-    let same = read_list s q sheet keeps printable whole agrees can states in
+-- whatever zones the lines of the layout have
+zones_same : (s : Classes) (q : Drawing) (readings : List Reading) (zones : List Entry) → AreReadings (layout s q) readings → IsZonesIn readings zones → zones ≡ zones_of (layout s q)
+zones_same s q readings zones say are = zones_are readings zones are ∙ ap zones_in (readings_are (layout s q) readings say)
+
+pub layout_plan : LayoutHasPlan
+layout_plan s q sheet readings zones keeps printable whole agrees can say are states =
+    let same = read_list s q sheet keeps printable whole agrees can (subst (λ zs. StatesSheet zs sheet) (zones_same s q readings zones say are) states) in
     written_plan s q sheet keeps whole agrees same.0 same.1
 
-pub layout_references : (s : Classes) (q : Drawing) (sheet : Sheet) → IsSchema s → HasPrintableLetters (letters s) → IsWhole q → Agrees s q → CanBePrinted q.cse (written_records s q)
-    → IsJoined q → HasAttributeClasses s q → StatesSheet (zones_of (layout s q)) sheet → IsUnbroken (BreaksReferenceRule s sheet.list)
-layout_references s q sheet keeps printable whole agrees can joined types states =
-    subst (λ rs. IsUnbroken (BreaksReferenceRule s rs)) (sym (read_list s q sheet keeps printable whole agrees can states).1) (written_references s q keeps whole agrees joined types)
+pub layout_references : LayoutKeepsReferences
+layout_references s q sheet readings zones keeps printable whole agrees can joined types say are states =
+    let same = read_list s q sheet keeps printable whole agrees can (subst (λ zs. StatesSheet zs sheet) (zones_same s q readings zones say are) states) in
+    subst (λ rs. IsUnbroken (BreaksReferenceRule s rs)) (sym same.1) (written_references s q keeps whole agrees joined types)
 
-pub layout_sound : (s : Classes) (q : Drawing) → IsSchema s → HasPrintableLetters (letters s) → IsWhole q → Agrees s q → CanBePrinted q.cse (written_records s q)
-    → IsZonesOf (layout s q) (zones_of (layout s q)) × IsUnbroken (BreaksLineRule (layout s q)) × IsUnbroken (BreaksRecordRule (zones_of (layout s q)))
+pub layout_sound : LayoutIsSound
 layout_sound s q keeps printable whole agrees can =
     let rs = written_records s q in
     let few : length rs ≤ 9999999 = let f = whole.few in omega (arith, f, written_count s q) in
     let sound = sheet_sound (letters s) q.cse rs printable can.set can.records can.lines can.rules few in
-    subst (λ bytes. IsZonesOf bytes (zones_of bytes) × IsUnbroken (BreaksLineRule bytes) × IsUnbroken (BreaksRecordRule (zones_of bytes)))
-    (sym (written_layout s q keeps whole agrees)) (sound.zones, sound.lines, sound.records)
+    subst (λ bytes. (zones : List Entry) × IsZonesOf bytes zones × IsUnbroken (BreaksLineRule bytes) × IsUnbroken (BreaksRecordRule zones))
+    (sym (written_layout s q keeps whole agrees)) (sound.zones, sound.are_zones, sound.lines, sound.records)
 
 -- ---- the letters of a schema
 

@@ -6,13 +6,17 @@ use Rattle.std.specs.Map.{keys_of}
 use Rattle.std.proofs.lemmas.Bool.{lt-ltb}
 use Rattle.std.proofs.lemmas.List.{length-map}
 use Rattle.std.proofs.lemmas.Option.{same_Some, none-some, slice_get-get_or, slice_get_within, slice_get-map}
-use Rattle.edi_line.specs.Number.{number}
+use Rattle.edi_record.specs.Records.{IsValueOf}
+use Rattle.edi_record.proofs.Passes.{value_said}
+use Rattle.edi_record.proofs.StatesSaid.{value_read}
+use Rattle.edi_plan.proofs.Built.{value_stated}
+use Rattle.edi_line.specs.inner.Number.{number}
 use Rattle.edi_line.specs.Printing.{zone_text, printed}
 use Rattle.edi_line.proofs.NumberRead.{number_is}
 use Rattle.edi_line.proofs.Numbers.{number_in_range}
 use Rattle.edi_record.specs.Layout.{Letters, class_text, value_text, point_zone, set_zone, extra_zone, begin_zone, cse_zone, end_zone, settled, settled_record, settled_end, IsOwnValue}
 use Rattle.edi_record.specs.Layout as records
-use Rattle.edi_record.specs.Records.{value_of}
+use Rattle.edi_record.specs.inner.Records.{value_of}
 use Rattle.edi_record.specs.Shapes.{may_have_points, may_have_ends, kind_code}
 use Rattle.edi_record.specs.declared.name.Name.{Name}
 use Rattle.edi_record.specs.declared.record.Kind.{Kind}
@@ -88,7 +92,7 @@ again : (may : Bool) (v : Value) (text : List ℕ) → v ≡ value_of may text �
 again may v text e = own_again may v (subst (IsOwnValue may) (sym e) (value_own may text))
 
 attribute_again : (s : Classes) → IsSchema s → (a : PlanAttribute) → AttributeAgrees s a → value_of ((letters s).is_number (name_of s a.atp)) (value_text a.value) ≡ a.value
-attribute_again s keeps a agrees = ap (λ may. value_of may (value_text a.value)) (number_there s keeps a.atp agrees.known) ∙ again (is_number_of s a.atp) a.value agrees.text agrees.value
+attribute_again s keeps a agrees = ap (λ may. value_of may (value_text a.value)) (number_there s keeps a.atp agrees.known) ∙ again (is_number_of s a.atp) a.value agrees.text (value_read (is_number_of s a.atp) agrees.text a.value agrees.value)
 
 -- ---- the zones of what is written
 
@@ -155,7 +159,8 @@ states_attribute : (s : Classes) → IsSchema s → (a : PlanAttribute) → Attr
 states_attribute s keeps a agrees =
     let may = (letters s).is_number (name_of s a.atp) in
     let one = attribute_again s keeps a agrees in
-    record { class = place_there s keeps a.atp agrees.known; set = refl; value = sym (ap (λ v. value_of may (value_text v)) one ∙ one) }
+    let text = value_text (value_of may (value_text a.value)) in
+    record { class = place_there s keeps a.atp agrees.known; set = refl; value = value_stated s (name_of s a.atp) may text a.value refl (subst (IsValueOf (may ≡ true) text) (ap (λ v. value_of may (value_text v)) one ∙ one) (value_said may text)) }
 
 states_attributes : (s : Classes) → IsSchema s → (xs : List PlanAttribute) → AllByRecursion (AttributeAgrees s) xs → AllZip (StatesPlanAttribute s) (map (settled (letters s)) (map (written_attribute s) xs)) xs
 states_attributes s keeps [] agree = tt

@@ -2,7 +2,9 @@
 use Rattle.std.specs.Prelude.{◌≡◌, ℕ, Bool, List, map, Some}
 use Rattle.edi_line.specs.Refusal.{IsUnbroken}
 use Rattle.edi_line.specs.LineRules.{BreaksLineRule, IsZonesOf}
-use Rattle.edi_line.specs.Zones.{zones_of}
+use Rattle.edi_line.specs.Entry.{Entry}
+use Rattle.edi_line.specs.Spelling.{Reading, AreReadings}
+use Rattle.edi_line.specs.Zones.{IsZonesIn}
 use Rattle.edi_record.specs.RecordRules.{BreaksRecordRule}
 use Rattle.edi_record.specs.Layout.{settled_record, HasPrintableLetters, IsRecord, IsLineRecord, KeepsRules}
 use Rattle.edi_record.specs.Layout as records
@@ -65,20 +67,20 @@ WrittenHasAttributeClasses =
 -- Each sheet that the zones of the layout state has the plan that was laid out, where the records that are written of it can be printed.
 abbrev pub LayoutHasPlan : Type 0
 LayoutHasPlan =
-    (s : Classes) (q : Drawing) (sheet : Sheet) → IsSchema s → HasPrintableLetters (letters s) → IsWhole q → Agrees s q → CanBePrinted q.cse (written_records s q)
-    → StatesSheet (zones_of (layout s q)) sheet → IsPlanOf s sheet q
+    (s : Classes) (q : Drawing) (sheet : Sheet) (readings : List Reading) (zones : List Entry) → IsSchema s → HasPrintableLetters (letters s) → IsWhole q → Agrees s q
+    → CanBePrinted q.cse (written_records s q) → AreReadings (layout s q) readings → IsZonesIn readings zones → StatesSheet zones sheet → IsPlanOf s sheet q
 
 -- Such a sheet breaks no rule of references, where the plan's links are joins and each attribute's class is of type ATT.
 abbrev pub LayoutKeepsReferences : Type 0
 LayoutKeepsReferences =
-    (s : Classes) (q : Drawing) (sheet : Sheet) → IsSchema s → HasPrintableLetters (letters s) → IsWhole q → Agrees s q → CanBePrinted q.cse (written_records s q)
-    → IsJoined q → HasAttributeClasses s q → StatesSheet (zones_of (layout s q)) sheet → IsUnbroken (BreaksReferenceRule s sheet.list)
+    (s : Classes) (q : Drawing) (sheet : Sheet) (readings : List Reading) (zones : List Entry) → IsSchema s → HasPrintableLetters (letters s) → IsWhole q → Agrees s q
+    → CanBePrinted q.cse (written_records s q) → IsJoined q → HasAttributeClasses s q → AreReadings (layout s q) readings → IsZonesIn readings zones → StatesSheet zones sheet → IsUnbroken (BreaksReferenceRule s sheet.list)
 
 -- The layout has zones, and breaks no rule of lines and of records, where the records that are written can be printed.
 abbrev pub LayoutIsSound : Type 0
 LayoutIsSound =
     (s : Classes) (q : Drawing) → IsSchema s → HasPrintableLetters (letters s) → IsWhole q → Agrees s q → CanBePrinted q.cse (written_records s q)
-    → IsZonesOf (layout s q) (zones_of (layout s q)) × IsUnbroken (BreaksLineRule (layout s q)) × IsUnbroken (BreaksRecordRule (zones_of (layout s q)))
+    → (zones : List Entry) × IsZonesOf (layout s q) zones × IsUnbroken (BreaksLineRule (layout s q)) × IsUnbroken (BreaksRecordRule zones)
 
 -- The letters of a schema can be printed.
 abbrev pub SchemasHavePrintableLetters : Type 0

@@ -1,7 +1,8 @@
 -- The bytes of a plan whose records stand in their order.
 use Rattle.std.specs.Prelude.{ℕ, ◌+◌, List, [], ◌∷◌, ◌++◌, length, take, map, flat_map, count_by, option_map, option_to_list, unwrap_or, codes, decimal}
+use Rattle.edi_line.specs.Bytes.{letter_a}
 use Rattle.edi_line.specs.Entry.{Entry}
-use Rattle.edi_line.specs.Printing.{zone_text, printed}
+use Rattle.edi_line.specs.Printing.{zone_headed, printed}
 use Rattle.edi_record.specs.Layout.{class_text, end_text, value_text, point_zone, set_zone, sns_zone, extra_zone, begin_zone, cse_zone, end_zone}
 use Rattle.edi_record.specs.declared.record.Kind.{Kind}
 use Rattle.edi_record.specs.declared.record.Kind.TheVariants.{Pno, Par, Pfe, Fea, Lnk}
@@ -22,7 +23,7 @@ abbrev pub name_of : Classes → ℕ → Name
 name_of s class = unwrap_or (name_at s class) no_name
 
 abbrev pub letter_of : Classes → ℕ → ℕ
-letter_of s class = unwrap_or (option_map (λ c. c.letter) (class_at s class)) 65
+letter_of s class = unwrap_or (option_map (λ c. c.letter) (class_at s class)) letter_a
 
 -- the identifier of a record: the letter of its type and its number
 
@@ -38,17 +39,17 @@ identifier kind number = kind_letter kind ++ decimal number
 
 -- the zones of an attribute: its class, its character set if any, its value
 abbrev pub attribute_zones : Classes → PlanAttribute → List Entry
-attribute_zones s a = zone_text (codes "ATP") 67 80 (class_text (name_of s a.atp))
-    ∷ (map set_zone (option_to_list a.tex) ++ zone_text (codes "ATV") 83 (letter_of s a.atp) (value_text a.value) ∷ [])
+attribute_zones s a = zone_headed (codes "ATPCP") (class_text (name_of s a.atp))
+    ∷ (map set_zone (option_to_list a.tex) ++ zone_headed (codes "ATVS" ++ letter_of s a.atp ∷ []) (value_text a.value) ∷ [])
 
 -- what stands in front of the body, and behind it
 
 abbrev pub head_zones : Classes → ℕ → PlanRecord → List Entry
-head_zones s number r = zone_text (codes "RTY") 83 65 (kind_code r.kind) ∷ zone_text (codes "RID") 83 65 (identifier r.kind number)
-    ∷ zone_text (codes "SCP") 67 80 (class_text (name_of s r.class)) ∷ []
+head_zones s number r = zone_headed (codes "RTYSA") (kind_code r.kind) ∷ zone_headed (codes "RIDSA") (identifier r.kind number)
+    ∷ zone_headed (codes "SCPCP") (class_text (name_of s r.class)) ∷ []
 
 abbrev pub tail_zones : Classes → PlanRecord → List Entry
-tail_zones s r = zone_text (codes "ATC") 83 78 (decimal (length r.attributes)) ∷ (flat_map (attribute_zones s) r.attributes ++ map extra_zone r.extras)
+tail_zones s r = zone_headed (codes "ATCSN") (decimal (length r.attributes)) ∷ (flat_map (attribute_zones s) r.attributes ++ map extra_zone r.extras)
 
 module _ (s : Classes) (p : Drawing) where
   -- the number of a record: one more than the records of its type before it
@@ -59,15 +60,15 @@ module _ (s : Classes) (p : Drawing) where
   name_in place = record { rty = kind_code (record_at p place).kind; rid = identifier (record_at p place).kind (number_in place) }
 
   abbrev pub end_zones : PlanEnd → List Entry
-  end_zones e = zone_text (codes "FTP") 67 80 (end_text (name_in e.target)) ∷ map sns_zone (option_to_list e.sns)
+  end_zones e = zone_headed (codes "FTPCP") (end_text (name_in e.target)) ∷ map sns_zone (option_to_list e.sns)
 
   -- what stands between the class and the attributes
   abbrev pub body_zones : Kind → PlanRecord → List Entry
   body_zones Pno r = map point_zone r.points
-  body_zones Par r = zone_text (codes "PTC") 83 78 (decimal (length r.points)) ∷ map point_zone r.points
+  body_zones Par r = zone_headed (codes "PTCSN") (decimal (length r.points)) ∷ map point_zone r.points
   body_zones Pfe r = []
   body_zones Fea r = []
-  body_zones Lnk r = zone_text (codes "FTC") 83 78 (decimal (length r.ends)) ∷ flat_map end_zones r.ends
+  body_zones Lnk r = zone_headed (codes "FTCSN") (decimal (length r.ends)) ∷ flat_map end_zones r.ends
 
   -- the zones of a record with this number
   abbrev pub record_zones : ℕ → PlanRecord → List Entry

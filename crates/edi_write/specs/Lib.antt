@@ -2,5 +2,4 @@ pub mod Heads
 pub mod Laws
 pub mod Layout
 pub mod Numbered
-pub mod Rows
 pub mod Written

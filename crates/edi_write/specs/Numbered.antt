@@ -1,7 +1,7 @@
 -- A record as it is written of a plan that labels turn and number.
 use Rattle.std.specs.Prelude.{ℕ, Bool, List, [], ◌∷◌, ◌++◌, length, map, flat_map, option_to_list, codes, decimal}
 use Rattle.edi_line.specs.Entry.{Entry}
-use Rattle.edi_line.specs.Printing.{zone_text}
+use Rattle.edi_line.specs.Printing.{zone_headed}
 use Rattle.edi_record.specs.Layout.{end_text, extra_zone, point_zone, sns_zone}
 use Rattle.edi_record.specs.Shapes.{kind_code}
 use Rattle.edi_record.specs.declared.name.Name.{Name}
@@ -27,15 +27,15 @@ numbered_name kind number = record { rty = kind_code kind; rid = identifier kind
 
 -- the zones of an end by the type and the number of what it names
 abbrev pub numbered_end_zones : NumberedEnd → List Entry
-numbered_end_zones e = zone_text (codes "FTP") 67 80 (end_text (numbered_name e.kind e.number)) ∷ map sns_zone (option_to_list e.sns)
+numbered_end_zones e = zone_headed (codes "FTPCP") (end_text (numbered_name e.kind e.number)) ∷ map sns_zone (option_to_list e.sns)
 
 -- the count of an arc's points, and these in its direction
 abbrev pub arc_body : Bool → List Point → List Entry
-arc_body turned points = zone_text (codes "PTC") 83 78 (decimal (length points)) ∷ map point_zone (directed turned points)
+arc_body turned points = zone_headed (codes "PTCSN") (decimal (length points)) ∷ map point_zone (directed turned points)
 
 -- the count of a link's ends, the origin, and then the other ends in order
 abbrev pub link_body : Labelling → Drawing → List PlanEnd → List Entry
-link_body l p ends = zone_text (codes "FTC") 83 78 (decimal (length ends)) ∷ flat_map numbered_end_zones (ends_key p (number_of l) ends)
+link_body l p ends = zone_headed (codes "FTCSN") (decimal (length ends)) ∷ flat_map numbered_end_zones (ends_key p (number_of l) ends)
 
 -- what stands between the class and the attributes of the record at a place
 abbrev pub numbered_body : Labelling → Drawing → ℕ → Kind → List Entry
@@ -47,7 +47,7 @@ numbered_body l p place Lnk = link_body l p (record_at p place).ends
 
 -- the attributes in order, and the extra zones
 abbrev pub ordered_tail : Classes → PlanRecord → List Entry
-ordered_tail s r = zone_text (codes "ATC") 83 78 (decimal (length (sort_by attribute_cmp r.attributes)))
+ordered_tail s r = zone_headed (codes "ATCSN") (decimal (length (sort_by attribute_cmp r.attributes)))
     ∷ (flat_map (attribute_zones s) (sort_by attribute_cmp r.attributes) ++ map extra_zone r.extras)
 
 -- the zones of the record at a place, with its number and those of its ends

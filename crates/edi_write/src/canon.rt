@@ -8,8 +8,9 @@ ghost use Rattle.edi_rank.specs.Arranged.{arranged};
 ghost use Rattle.edi_rank.specs.Labelling.{AreLabels};
 ghost use Rattle.edi_write.specs.Layout.{layout};
 
+use crate::page::Page;
 use crate::records::write_records;
-use crate::zones::{Head, write_zone};
+use crate::zones::Head;
 use edi_rank::Labels;
 use edi_schema::Schema;
 use edi_topo::Sound;
@@ -46,20 +47,20 @@ pub fn write_canon(
     ensures { IfOk result (λ c. c.items ≡ layout schema.now (arranged schema.now labels.now sound.now)) }
 {
     let plan = sound.plan();
-    let mut out = Vec::new(alloc);
-    write_begin(&mut out, plan.cse())?;
-    write_records(alloc, &mut out, schema, plan, labels)?;
-    write_zone(&mut out, END, b"")?;
-    Ok(out)
+    let mut page = Page::new(alloc);
+    write_begin(&mut page, plan.cse())?;
+    write_records(alloc, &mut page, schema, plan, labels)?;
+    page.write(END, b"")?;
+    Ok(page.file)
 }
 
 /// Writes what stands before the records: the first zone, and the character set if there is one.
-fn write_begin(out: &mut Vec<u8>, set: Option<&[u8]>) -> Result<(), AllocError>
-    ensures { OnOk result (out.new.items ≡ out.old.items ++ printed (begin_zone ∷ map cse_zone (option_to_list (option_copied set.entry)))) }
+fn write_begin(page: &mut Page, set: Option<&[u8]>) -> Result<(), AllocError>
+    ensures { OnOk result (page.new.file.items ≡ page.old.file.items ++ printed (begin_zone ∷ map cse_zone (option_to_list (option_copied set.entry)))) }
 {
-    write_zone(out, BEGIN, b"CANON.VEC")?;
+    page.write(BEGIN, b"CANON.VEC")?;
     match set {
-        Some(text) => write_zone(out, CHARACTER_SET, text),
+        Some(text) => page.write(CHARACTER_SET, text),
         None => Ok(()),
     }
 }

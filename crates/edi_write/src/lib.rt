@@ -5,6 +5,7 @@ pub mod canon;
 pub mod laws;
 mod links;
 mod names;
+mod page;
 mod parts;
 mod records;
 pub mod writing;

@@ -9,11 +9,12 @@ ghost use Rattle.edi_rank.specs.Keys.{ends_key, numbered};
 ghost use Rattle.edi_rank.specs.Labelling.{number_of};
 ghost use Rattle.edi_write.specs.Numbered.{numbered_end_zones};
 
-use crate::names::end_pointer;
-use crate::zones::{Head, write_zone};
+use crate::names::put_end_pointer;
+use crate::page::Page;
+use crate::zones::Head;
 use edi_plan::{Plan, PlanEnd};
 use edi_rank::{Labels, NumberedEnd, end_in_order, numbered_end};
-use std::alloc::{AllocError, Global};
+use std::alloc::AllocError;
 
 const END: Head = Head {
     code: *b"FTP",
@@ -28,21 +29,20 @@ const SENSE: Head = Head {
 };
 
 /// Writes an end: its pointer, and its SNS if it has one.
-fn write_end(alloc: Global, out: &mut Vec<u8>, end: &NumberedEnd<'_>) -> Result<(), AllocError>
-    ensures { OnOk result (out.new.items ≡ out.old.items ++ printed (numbered_end_zones end.now)) }
+fn write_end(page: &mut Page, end: &NumberedEnd<'_>) -> Result<(), AllocError>
+    ensures { OnOk result (page.new.file.items ≡ page.old.file.items ++ printed (numbered_end_zones end.now)) }
 {
-    let text = end_pointer(alloc, end.kind, end.number)?;
-    write_zone(out, END, &text)?;
+    put_end_pointer(&mut page.text, end.kind, end.number)?;
+    page.write_text(END)?;
     match &end.sns {
-        Some(sns) => write_zone(out, SENSE, sns.as_slice()),
+        Some(sns) => page.write(SENSE, sns.as_slice()),
         None => Ok(()),
     }
 }
 
 /// Writes the ends of a link that stand behind its origin, in this order.
 fn write_others(
-    alloc: Global,
-    out: &mut Vec<u8>,
+    page: &mut Page,
     plan: &Plan,
     labels: &Labels,
     order: &[usize],
@@ -51,19 +51,18 @@ fn write_others(
     requires numbered { length labels.now.numbers ≡ length plan.now.list }
     requires there { AllByRecursion (λ e. IsPlace plan.now e.target) others.now }
     requires order { GivesEach order.now others.now }
-    ensures { OnOk result (out.new.items ≡ out.old.items ++ printed (flat_map numbered_end_zones (map (numbered plan.now (number_of labels.now)) (ends_at order.now others.now)))) }
+    ensures { OnOk result (page.new.file.items ≡ page.old.file.items ++ printed (flat_map numbered_end_zones (map (numbered plan.now (number_of labels.now)) (ends_at order.now others.now)))) }
 {
     for index in 0..others.len() {
         let end = end_in_order(order, others, index);
-        write_end(alloc, out, &numbered_end(plan, labels.numbers(), end))?;
+        write_end(page, &numbered_end(plan, labels.numbers(), end))?;
     }
     Ok(())
 }
 
 /// Writes the ends of a link: the origin, and then the others in their order.
 pub(crate) fn write_ends(
-    alloc: Global,
-    out: &mut Vec<u8>,
+    page: &mut Page,
     plan: &Plan,
     labels: &Labels,
     place: u32,
@@ -72,18 +71,18 @@ pub(crate) fn write_ends(
     requires ordered { length labels.now.others ≡ length plan.now.list }
     requires place { IsPlace plan.now place }
     requires order { OthersInOrder plan.now (number_of labels.now) labels.now.others place }
-    ensures { OnOk result (out.new.items ≡ out.old.items ++ printed (flat_map numbered_end_zones (ends_key plan.now (number_of labels.now) (record_at plan.now place).ends))) }
+    ensures { OnOk result (page.new.file.items ≡ page.old.file.items ++ printed (flat_map numbered_end_zones (ends_key plan.now (number_of labels.now) (record_at plan.now place).ends))) }
 {
     plan.keeps();
     match plan.ends(place) {
         [] => Ok(()),
         [origin, others @ ..] => {
-            write_end(alloc, out, &numbered_end(plan, labels.numbers(), origin))?;
+            write_end(page, &numbered_end(plan, labels.numbers(), origin))?;
             // Nearly each link has one other end. Its order needn't be fetched.
             if let [other] = others {
-                return write_end(alloc, out, &numbered_end(plan, labels.numbers(), other));
+                return write_end(page, &numbered_end(plan, labels.numbers(), other));
             }
-            write_others(alloc, out, plan, labels, labels.others(place), others)
+            write_others(page, plan, labels, labels.others(place), others)
         }
     }
 }

@@ -1,13 +1,14 @@
 //! The names of records: types and identifiers.
 
-ghost use Rattle.std.specs.Prelude.{◌≡◌, ◌∷◌, ◌++◌, [], IfOk, OnOk};
+ghost use Rattle.std.specs.Prelude.{◌≡◌, ◌∷◌, ◌++◌, [], OnOk};
 ghost use Rattle.edi_record.specs.Layout.{end_text};
 ghost use Rattle.edi_record.specs.Shapes.{kind_code as code_of_kind};
 ghost use Rattle.edi_write.specs.Layout.{identifier, kind_letter as letter_of_kind};
 ghost use Rattle.edi_write.specs.Numbered.{numbered_name};
 
 use edi_record::Kind;
-use std::alloc::{AllocError, Global};
+use itoa::Buffer;
+use std::alloc::AllocError;
 
 /// The type of a record, as its zone spells it.
 pub(crate) fn kind_code(kind: Kind) -> [u8; 3]
@@ -36,41 +37,30 @@ fn kind_letter(kind: Kind) -> u8
 }
 
 /// Appends the identifier of a record: the letter of its type, and its number.
-fn push_identifier(
-    alloc: Global,
-    text: &mut Vec<u8>,
-    kind: Kind,
-    number: u32,
-) -> Result<(), AllocError>
+fn push_identifier(text: &mut Vec<u8>, kind: Kind, number: u32) -> Result<(), AllocError>
     ensures { OnOk result (text.new.items ≡ text.old.items ++ identifier kind number) }
 {
     text.push(kind_letter(kind))?;
-    let digits = number.to_string(alloc)?;
-    text.extend_from_slice(digits.as_bytes())
+    let mut digits = Buffer::new();
+    text.extend_from_slice(digits.format(number).as_bytes())
 }
 
-/// The identifier of a record.
-pub(crate) fn record_identifier(
-    alloc: Global,
-    kind: Kind,
-    number: u32,
-) -> Result<Vec<u8>, AllocError>
-    ensures { IfOk result (λ text. text.items ≡ identifier kind number) }
+/// Makes the text the identifier of a record.
+pub(crate) fn put_identifier(text: &mut Vec<u8>, kind: Kind, number: u32) -> Result<(), AllocError>
+    ensures { OnOk result (text.new.items ≡ identifier kind number) }
 {
-    let mut text = Vec::new(alloc);
-    push_identifier(alloc, &mut text, kind, number)?;
-    Ok(text)
+    text.clear();
+    push_identifier(text, kind, number)
 }
 
-/// The pointer of an end to a record.
+/// Makes the text the pointer of an end to a record.
 #[tactic(auto, unfolding(edi_record::specs::Texts::pointer_text))]
-pub(crate) fn end_pointer(alloc: Global, kind: Kind, number: u32) -> Result<Vec<u8>, AllocError>
-    ensures { IfOk result (λ text. text.items ≡ end_text (numbered_name kind number)) }
+pub(crate) fn put_end_pointer(text: &mut Vec<u8>, kind: Kind, number: u32) -> Result<(), AllocError>
+    ensures { OnOk result (text.new.items ≡ end_text (numbered_name kind number)) }
 {
-    let mut text = Vec::new(alloc);
+    text.clear();
     text.extend_from_slice(b"CANON;S;")?;
     text.extend_from_slice(&kind_code(kind))?;
     text.push(b';')?;
-    push_identifier(alloc, &mut text, kind, number)?;
-    Ok(text)
+    push_identifier(text, kind, number)
 }

@@ -14,13 +14,15 @@ ghost use Rattle.edi_write.specs.Layout.{attribute_zones, head_zones};
 ghost use Rattle.edi_write.specs.Numbered.{arc_body, link_body, numbered_body, numbered_zones, ordered_tail};
 
 use crate::links::write_ends;
-use crate::names::{kind_code, record_identifier};
+use crate::names::{kind_code, put_identifier};
+use crate::page::Page;
 use crate::parts::{write_attribute, write_class, write_extra, write_point};
-use crate::zones::{Head, write_zone};
+use crate::zones::Head;
 use edi_plan::{Plan, PlanAttribute, sorted_attributes};
 use edi_rank::{Labels, class_turned};
 use edi_record::{Extra, Kind, Point};
 use edi_schema::Schema;
+use itoa::Buffer;
 use std::alloc::{AllocError, Global};
 
 const TYPE: Head = Head {
@@ -59,64 +61,57 @@ const ENDS: Head = Head {
     format: b'N',
 };
 
-fn write_number(
-    alloc: Global,
-    out: &mut Vec<u8>,
-    head: Head,
-    number: usize,
-) -> Result<(), AllocError>
-    ensures { OnOk result (out.new.items ≡ out.old.items ++ printed_zone (headed head (decimal number))) }
+fn write_number(page: &mut Page, head: Head, number: usize) -> Result<(), AllocError>
+    ensures { OnOk result (page.new.file.items ≡ page.old.file.items ++ printed_zone (headed head (decimal number))) }
 {
-    let text = number.to_string(alloc)?;
-    write_zone(out, head, text.as_bytes())
+    let mut digits = Buffer::new();
+    page.write(head, digits.format(number).as_bytes())
 }
 
-fn write_forward(alloc: Global, out: &mut Vec<u8>, points: &[Point]) -> Result<(), AllocError>
-    ensures { OnOk result (out.new.items ≡ out.old.items ++ printed (map point_zone points.now)) }
+fn write_forward(page: &mut Page, points: &[Point]) -> Result<(), AllocError>
+    ensures { OnOk result (page.new.file.items ≡ page.old.file.items ++ printed (map point_zone points.now)) }
 {
     for point in points {
-        write_point(alloc, out, *point)?;
+        write_point(page, *point)?;
     }
     Ok(())
 }
 
-fn write_backward(alloc: Global, out: &mut Vec<u8>, points: &[Point]) -> Result<(), AllocError>
-    ensures { OnOk result (out.new.items ≡ out.old.items ++ printed (map point_zone (reverse points.now))) }
+fn write_backward(page: &mut Page, points: &[Point]) -> Result<(), AllocError>
+    ensures { OnOk result (page.new.file.items ≡ page.old.file.items ++ printed (map point_zone (reverse points.now))) }
 {
     for place in (0..points.len()).rev() {
-        write_point(alloc, out, points[place])?;
+        write_point(page, points[place])?;
     }
     Ok(())
 }
 
 fn write_attributes(
-    alloc: Global,
-    out: &mut Vec<u8>,
+    page: &mut Page,
     schema: &Schema,
     attributes: &[&PlanAttribute],
 ) -> Result<(), AllocError>
     requires { AllByRecursion (λ a. AttributeAgrees schema.now a.now) attributes.now }
-    ensures { OnOk result (out.new.items ≡ out.old.items ++ printed (flat_map (attribute_zones schema.now) (map (λ a. a.now) attributes.now))) }
+    ensures { OnOk result (page.new.file.items ≡ page.old.file.items ++ printed (flat_map (attribute_zones schema.now) (map (λ a. a.now) attributes.now))) }
 {
     for attribute in attributes {
-        write_attribute(alloc, out, schema, attribute)?;
+        write_attribute(page, schema, attribute)?;
     }
     Ok(())
 }
 
-fn write_extras(alloc: Global, out: &mut Vec<u8>, extras: &[Extra]) -> Result<(), AllocError>
-    ensures { OnOk result (out.new.items ≡ out.old.items ++ printed (map extra_zone extras.now)) }
+fn write_extras(page: &mut Page, extras: &[Extra]) -> Result<(), AllocError>
+    ensures { OnOk result (page.new.file.items ≡ page.old.file.items ++ printed (map extra_zone extras.now)) }
 {
     for extra in extras {
-        write_extra(alloc, out, extra)?;
+        write_extra(page, extra)?;
     }
     Ok(())
 }
 
 /// Writes the type, the identifier and the class of a record.
 fn write_head(
-    alloc: Global,
-    out: &mut Vec<u8>,
+    page: &mut Page,
     schema: &Schema,
     plan: &Plan,
     labels: &Labels,
@@ -125,96 +120,79 @@ fn write_head(
     requires agrees { Agrees schema.now plan.now }
     requires labels { AreLabels schema.now plan.now labels.now }
     requires place { IsPlace plan.now place }
-    ensures { OnOk result (out.new.items ≡ out.old.items ++ printed (head_zones schema.now (number_of labels.now place) (arranged_record schema.now labels.now plan.now place))) }
+    ensures { OnOk result (page.new.file.items ≡ page.old.file.items ++ printed (head_zones schema.now (number_of labels.now place) (arranged_record schema.now labels.now plan.now place))) }
 {
     let kind = plan.kind(place);
-    write_zone(out, TYPE, &kind_code(kind))?;
-    let identifier = record_identifier(alloc, kind, labels.number(place))?;
-    write_zone(out, IDENTIFIER, &identifier)?;
+    page.write(TYPE, &kind_code(kind))?;
+    put_identifier(&mut page.text, kind, labels.number(place))?;
+    page.write_text(IDENTIFIER)?;
     let class = class_turned(schema, plan, labels.turned_arcs(), place);
-    write_class(alloc, out, CLASS, schema.name(class))
+    write_class(page, CLASS, schema.name(class))
 }
 
 /// Writes the count of an arc's points, and these in its direction.
-fn write_arc(
-    alloc: Global,
-    out: &mut Vec<u8>,
-    points: &[Point],
-    turned: bool,
-) -> Result<(), AllocError>
-    ensures { OnOk result (out.new.items ≡ out.old.items ++ printed (arc_body turned points.now)) }
+fn write_arc(page: &mut Page, points: &[Point], turned: bool) -> Result<(), AllocError>
+    ensures { OnOk result (page.new.file.items ≡ page.old.file.items ++ printed (arc_body turned points.now)) }
 {
-    write_number(alloc, out, POINTS, points.len())?;
+    write_number(page, POINTS, points.len())?;
     if turned {
-        write_backward(alloc, out, points)
+        write_backward(page, points)
     } else {
-        write_forward(alloc, out, points)
+        write_forward(page, points)
     }
 }
 
 /// Writes the count of a link's ends, and these in their order.
-fn write_link(
-    alloc: Global,
-    out: &mut Vec<u8>,
-    plan: &Plan,
-    labels: &Labels,
-    place: u32,
-) -> Result<(), AllocError>
+fn write_link(page: &mut Page, plan: &Plan, labels: &Labels, place: u32) -> Result<(), AllocError>
     requires numbered { length labels.now.numbers ≡ length plan.now.list }
     requires ordered { length labels.now.others ≡ length plan.now.list }
     requires place { IsPlace plan.now place }
     requires order { OthersInOrder plan.now (number_of labels.now) labels.now.others place }
-    ensures { OnOk result (out.new.items ≡ out.old.items ++ printed (link_body labels.now plan.now (record_at plan.now place).ends)) }
+    ensures { OnOk result (page.new.file.items ≡ page.old.file.items ++ printed (link_body labels.now plan.now (record_at plan.now place).ends)) }
 {
-    write_number(alloc, out, ENDS, plan.ends(place).len())?;
-    write_ends(alloc, out, plan, labels, place)
+    write_number(page, ENDS, plan.ends(place).len())?;
+    write_ends(page, plan, labels, place)
 }
 
 /// Writes what stands between the class and the attributes: points or ends.
-fn write_body(
-    alloc: Global,
-    out: &mut Vec<u8>,
-    plan: &Plan,
-    labels: &Labels,
-    place: u32,
-) -> Result<(), AllocError>
+fn write_body(page: &mut Page, plan: &Plan, labels: &Labels, place: u32) -> Result<(), AllocError>
     requires numbered { length labels.now.numbers ≡ length plan.now.list }
     requires directed { length labels.now.turned ≡ length plan.now.list }
     requires ordered { length labels.now.others ≡ length plan.now.list }
     requires place { IsPlace plan.now place }
     requires order { OthersInOrder plan.now (number_of labels.now) labels.now.others place }
-    ensures { OnOk result (out.new.items ≡ out.old.items ++ printed (numbered_body labels.now plan.now place (record_at plan.now place).kind)) }
+    ensures { OnOk result (page.new.file.items ≡ page.old.file.items ++ printed (numbered_body labels.now plan.now place (record_at plan.now place).kind)) }
 {
     match plan.kind(place) {
-        Kind::Pno => write_forward(alloc, out, plan.points(place)),
-        Kind::Par => write_arc(alloc, out, plan.points(place), labels.turned(place)),
+        Kind::Pno => write_forward(page, plan.points(place)),
+        Kind::Par => write_arc(page, plan.points(place), labels.turned(place)),
         Kind::Pfe | Kind::Fea => Ok(()),
-        Kind::Lnk => write_link(alloc, out, plan, labels, place),
+        Kind::Lnk => write_link(page, plan, labels, place),
     }
 }
 
 /// Writes the count of a record's attributes, these in their order, and its extra zones.
 fn write_tail(
     alloc: Global,
-    out: &mut Vec<u8>,
+    page: &mut Page,
     schema: &Schema,
     plan: &Plan,
     place: u32,
 ) -> Result<(), AllocError>
     requires agrees { Agrees schema.now plan.now }
     requires place { IsPlace plan.now place }
-    ensures { OnOk result (out.new.items ≡ out.old.items ++ printed (ordered_tail schema.now (record_at plan.now place))) }
+    ensures { OnOk result (page.new.file.items ≡ page.old.file.items ++ printed (ordered_tail schema.now (record_at plan.now place))) }
 {
     let attributes = sorted_attributes(alloc, plan.attributes(place))?;
-    write_number(alloc, out, ATTRIBUTES, attributes.len())?;
-    write_attributes(alloc, out, schema, &attributes)?;
-    write_extras(alloc, out, plan.extras(place))
+    write_number(page, ATTRIBUTES, attributes.len())?;
+    write_attributes(page, schema, &attributes)?;
+    write_extras(page, plan.extras(place))
 }
 
 /// Writes the record at a place.
 fn write_record(
     alloc: Global,
-    out: &mut Vec<u8>,
+    page: &mut Page,
     schema: &Schema,
     plan: &Plan,
     labels: &Labels,
@@ -223,17 +201,17 @@ fn write_record(
     requires agrees { Agrees schema.now plan.now }
     requires labels { AreLabels schema.now plan.now labels.now }
     requires place { IsPlace plan.now place }
-    ensures { OnOk result (out.new.items ≡ out.old.items ++ printed (numbered_zones schema.now labels.now plan.now place)) }
+    ensures { OnOk result (page.new.file.items ≡ page.old.file.items ++ printed (numbered_zones schema.now labels.now plan.now place)) }
 {
-    write_head(alloc, out, schema, plan, labels, place)?;
-    write_body(alloc, out, plan, labels, place)?;
-    write_tail(alloc, out, schema, plan, place)
+    write_head(page, schema, plan, labels, place)?;
+    write_body(page, plan, labels, place)?;
+    write_tail(alloc, page, schema, plan, place)
 }
 
 /// Writes the records of a kind, by their numbers.
 fn write_kind(
     alloc: Global,
-    out: &mut Vec<u8>,
+    page: &mut Page,
     schema: &Schema,
     plan: &Plan,
     labels: &Labels,
@@ -241,11 +219,11 @@ fn write_kind(
 ) -> Result<(), AllocError>
     requires agrees { Agrees schema.now plan.now }
     requires labels { AreLabels schema.now plan.now labels.now }
-    ensures { OnOk result (out.new.items ≡ out.old.items ++ printed (flat_map (numbered_zones schema.now labels.now plan.now) (order_of labels.now kind))) }
+    ensures { OnOk result (page.new.file.items ≡ page.old.file.items ++ printed (flat_map (numbered_zones schema.now labels.now plan.now) (order_of labels.now kind))) }
 {
     let places = labels.order(kind);
     for place in places {
-        write_record(alloc, out, schema, plan, labels, *place)?;
+        write_record(alloc, page, schema, plan, labels, *place)?;
     }
     Ok(())
 }
@@ -253,18 +231,18 @@ fn write_kind(
 /// Writes the records of a plan: nodes, arcs, faces, objects and links, each by their numbers.
 pub(crate) fn write_records(
     alloc: Global,
-    out: &mut Vec<u8>,
+    page: &mut Page,
     schema: &Schema,
     plan: &Plan,
     labels: &Labels,
 ) -> Result<(), AllocError>
     requires agrees { Agrees schema.now plan.now }
     requires labels { AreLabels schema.now plan.now labels.now }
-    ensures { OnOk result (out.new.items ≡ out.old.items ++ printed (flat_map (numbered_zones schema.now labels.now plan.now) (old_places labels.now))) }
+    ensures { OnOk result (page.new.file.items ≡ page.old.file.items ++ printed (flat_map (numbered_zones schema.now labels.now plan.now) (old_places labels.now))) }
 {
-    write_kind(alloc, out, schema, plan, labels, Kind::Pno)?;
-    write_kind(alloc, out, schema, plan, labels, Kind::Par)?;
-    write_kind(alloc, out, schema, plan, labels, Kind::Pfe)?;
-    write_kind(alloc, out, schema, plan, labels, Kind::Fea)?;
-    write_kind(alloc, out, schema, plan, labels, Kind::Lnk)
+    write_kind(alloc, page, schema, plan, labels, Kind::Pno)?;
+    write_kind(alloc, page, schema, plan, labels, Kind::Par)?;
+    write_kind(alloc, page, schema, plan, labels, Kind::Pfe)?;
+    write_kind(alloc, page, schema, plan, labels, Kind::Fea)?;
+    write_kind(alloc, page, schema, plan, labels, Kind::Lnk)
 }

@@ -1,25 +1,22 @@
 -- The status of a run that has no answer, and what a refusal says.
-use Rattle.std.proofs.Common.{◌≡◌, ◌≢◌, ◌⊎◌, ℕ, Bool, List, [], Option, Some, None, IfSome, codes, length, refl, sym, subst, ◌∙◌, inl, inr, arith, ◌<◌, ◌++◌, Bor, Result, Ok, Err, IfOk, IfErr}
-use Rattle.std.specs.Fmt.{decimal}
-use Rattle.std.specs.Io.KnownBytes.{Appends}
+use Rattle.std.proofs.Common.{◌≡◌, ◌≢◌, ◌⊎◌, ◌≤◌, ℕ, Bool, List, [], Option, IfSome, IsTrue, codes, length, refl, sym, subst, ◌∙◌, ap, inl, inr, arith, ◌<◌, Bor, Result, Ok, Err, IfOk, IfErr}
 use Rattle.edi_schema.specs.Roles.{KindCodes}
 use Rattle.edi_schema.specs.declared.fault.SchemaFault.{SchemaFault}
 use Rattle.edi_schema.specs.declared.fault.SchemaFault.TheVariants as schema
 use Rattle.edi_compare.specs.declared.fault.Fault.{Fault}
 use Rattle.edi_compare.specs.declared.fault.Fault.TheVariants as sheet
-use Rattle.edi_compare.specs.declared.pairing.Pairing.{Pairing}
 use Rattle.edi_compare.specs.declared.pairing.Verdict.{Verdict}
 use Rattle.edi_compare.specs.declared.pairing.Verdict.TheVariants as verdict
 use Rattle.edi_compare.specs.declared.fault.RunFault.{RunFault}
 use Rattle.edi_compare.specs.declared.fault.RunFault.TheVariants.{Memory, Read, TooLong, Schema, First, Second, Write}
 use Rattle.edi_compare.specs.Bundle.{OfParts}
-use Rattle.edi_compare.specs.Runs.{BeforeWriting, InputFault, IsVerdictOf, TellFour, Told}
+use Rattle.edi_compare.specs.Runs.{BeforeWriting, InputFault, IsVerdictOf, Seen}
 use Rattle.edicad.specs.declared.words.PairFiles.{PairFiles}
 use Rattle.edicad.specs.declared.words.SheetFiles.{SheetFiles}
 use Rattle.edicad.specs.Outcome.{FaultHasNames, HasNames, ended, first_text, outcome_for, sheet_text, status_for, status_of_fault, status_of_schema, status_of_sheet, words_for, words_of_fault}
-use Rattle.edicad.specs.Requests.{usual_kinds}
-use Rattle.edicad.specs.SheetRuns.{Contents, FileFault, OfFiles, OfPair, PairFileFault}
-use Rattle.edicad.specs.Statuses.{IsBundleStatus, IsCompareStatus, IsSheetStatus, IsToldAs, SaysPairRefusal, SaysRefusal}
+use Rattle.edicad.specs.SheetRuns.{AreFourThere, CanonFault, FileFault, FirstOfFourMissing, Inputs, IsInput, OfFiles, OfPair, PairFileFault}
+use Rattle.edicad.specs.Statuses.{AreTried, IsCompareStatus, IsToldAs, MeansStatus, Says, SaysPairRefusal, SaysRefusal, Warns, pair_names_of}
+use Rattle.edicad.proofs.Canonical.{files_map, pair_map, parts_map}
 
 -- a run that ends with 2 has an outcome of status 2
 pub told_two : (status s : ℕ) → IsToldAs status s → s ≡ 2 → status ≡ 2
@@ -27,49 +24,29 @@ told_two status s (inl e) two = sym e ∙ two
 told_two status s (inr (inl e)) two = absurd (omega (arith, e, two))
 told_two status s (inr (inr e)) two = absurd (omega (arith, e.1, two))
 
-told_map : (a b c : Option (List ℕ)) (P Q : List ℕ → List ℕ → List ℕ → Type 0) → ((s d v : List ℕ) → P s d v → Q s d v) → Told a b c P → Told a b c Q
-told_map None b c P Q f h = tt
-told_map (Some x) None c P Q f h = tt
-told_map (Some x) (Some y) None P Q f h = tt
-told_map (Some x) (Some y) (Some z) P Q f h = f x y z h
-
--- what follows from a fact of three files holds of them
-pub files_map : (holds : Contents) (files : SheetFiles) (P Q : List ℕ → List ℕ → List ℕ → Type 0) → ((s d v : List ℕ) → P s d v → Q s d v)
-    → OfFiles holds files P → OfFiles holds files Q
-files_map holds files P Q f h = (h.0, h.1, h.2, h.3, h.4, h.5, told_map h.0 h.1 h.2 P Q f h.6)
-
-parts_map : (told : Option (List ℕ)) (P Q : List ℕ → List ℕ → List ℕ → Type 0) → ((s d v : List ℕ) → P s d v → Q s d v)
-    → IfSome told (λ b. OfParts b P) → IfSome told (λ b. OfParts b Q)
-parts_map None P Q f h = tt
-parts_map (Some b) P Q f h = (h.0, h.1, h.2, h.3, f h.0 h.1 h.2 h.4)
-
-tell_four_map : (a b c d : Option (List ℕ)) (P Q : List ℕ → List ℕ → List ℕ → List ℕ → Type 0) → ((s t u v : List ℕ) → P s t u v → Q s t u v)
-    → TellFour a b c d P → TellFour a b c d Q
-tell_four_map a b c None P Q f h = tt
-tell_four_map a b c (Some w) P Q f h = told_map a b c _ _ (λ s t u. f s t u w) h
-
--- what follows from a fact of four files holds of them
-pub pair_map : (holds : Contents) (files : PairFiles) (P Q : List ℕ → List ℕ → List ℕ → List ℕ → Type 0) → ((s d a b : List ℕ) → P s d a b → Q s d a b)
-    → OfPair holds files P → OfPair holds files Q
-pair_map holds files P Q f h = (h.0, h.1, h.2, h.3, h.4, h.5, h.6, h.7, tell_four_map h.0 h.1 h.2 h.3 P Q f h.8)
-
 -- a refusal is said as its line
-module _ (old new : Option (List ℕ)) (kinds : KindCodes) (names : List (List ℕ)) (alone : first_text (length names) ≡ []) where
-  says_sheet : (f : Fault) → Appends old new (ended (sheet_text (first_text (length names)) f)) → Appends old new (ended (sheet_text [] f))
-  says_sheet f line = subst (λ which. Appends old new (ended (sheet_text which f))) alone line
+module _ (out : Seen) (kinds : KindCodes) (names : List (List ℕ)) (alone : first_text (length names) ≡ []) where
+  says_sheet : (f : Fault) → Says out (ended (sheet_text (first_text (length names)) f)) → Says out (ended (sheet_text [] f))
+  says_sheet f line = subst (λ which. Says out (ended (sheet_text which f))) alone line
 
-  file_refused : (holds : Contents) (files : SheetFiles) (W : ℕ → Type 0) (e : RunFault) → FileFault holds kinds files W e → status_of_fault e ≡ 2
-      → Appends old new (ended (words_of_fault e names)) → OfFiles holds files (SaysRefusal old new kinds)
-  file_refused holds files W (Memory e) h two line = absurd (omega (arith, two))
-  file_refused holds files W (Read n) h two line = absurd (omega (arith, two))
-  file_refused holds files W (TooLong n) h two line = absurd (omega (arith, two))
-  file_refused holds files W (Schema f) h two line = files_map holds files _ _ (λ s d v r. inl (f, r, line)) h
-  file_refused holds files W (First f) h two line = files_map holds files _ _ (λ s d v r. inr (f, r, says_sheet f line)) h
-  file_refused holds files W (Second f) h two line = absurd h
-  file_refused holds files W (Write w) h two line = absurd (omega (arith, two))
+  pub file_refused : (inputs : Inputs) (files : SheetFiles) (W : ℕ → Type 0) (e : RunFault) → FileFault inputs kinds files W e → status_of_fault e ≡ 2
+      → Says out (ended (words_of_fault e names)) → OfFiles inputs files (SaysRefusal out kinds)
+  file_refused inputs files W e (inl missing) two line = absurd (omega (arith, ap status_of_fault missing.2, two))
+  file_refused inputs files W (Memory e) (inr h) two line = absurd (omega (arith, two))
+  file_refused inputs files W (Read n) (inr h) two line = absurd (omega (arith, two))
+  file_refused inputs files W (TooLong n) (inr h) two line = absurd (omega (arith, two))
+  file_refused inputs files W (Schema f) (inr h) two line = files_map inputs files _ _ (λ s d v r. inl (f, r, line)) h.1
+  file_refused inputs files W (First f) (inr h) two line = files_map inputs files _ _ (λ s d v r. inr (f, r, says_sheet f line)) h.1
+  file_refused inputs files W (Second f) (inr h) two line = absurd h.1
+  file_refused inputs files W (Write w) (inr h) two line = absurd (omega (arith, two))
 
-  input_refused : (told : Option (List ℕ)) (failed : Bool) (W : ℕ → Type 0) (e : RunFault) → InputFault kinds told failed W e → status_of_fault e ≡ 2
-      → Appends old new (ended (words_of_fault e names)) → IfSome told (λ b. OfParts b (SaysRefusal old new kinds))
+  pub canon_refused : (inputs : Inputs) (is_one : List ℕ → List ℕ → Bool → Type 0) (files : SheetFiles) (path : List ℕ) (W : ℕ → Type 0) (e : RunFault)
+      → CanonFault inputs is_one kinds files path W e → status_of_fault e ≡ 2 → Says out (ended (words_of_fault e names)) → OfFiles inputs files (SaysRefusal out kinds)
+  canon_refused inputs is_one files path W e (inl input) two line = absurd (omega (arith, ap status_of_fault input.1, two))
+  canon_refused inputs is_one files path W e (inr h) two line = file_refused inputs files W e h.1 two line
+
+  pub input_refused : (told : Option (List ℕ)) (failed : Bool) (W : ℕ → Type 0) (e : RunFault) → InputFault kinds told failed W e → status_of_fault e ≡ 2
+      → Says out (ended (words_of_fault e names)) → IfSome told (λ b. OfParts b (SaysRefusal out kinds))
   input_refused told failed W (Memory e) h two line = absurd (omega (arith, two))
   input_refused told failed W (Read n) h two line = absurd (omega (arith, two))
   input_refused told failed W (TooLong n) h two line = absurd (omega (arith, two))
@@ -78,18 +55,34 @@ module _ (old new : Option (List ℕ)) (kinds : KindCodes) (names : List (List �
   input_refused told failed W (Second f) h two line = absurd h
   input_refused told failed W (Write w) h two line = absurd (omega (arith, two))
 
+-- the files were tried
+pub file_tried : (inputs : Inputs) (kinds : KindCodes) (files : SheetFiles) (W : ℕ → Type 0) (e : RunFault) → FileFault inputs kinds files W e → AreTried inputs files
+file_tried inputs kinds files W e (inl missing) = inr (missing.0, missing.1)
+file_tried inputs kinds files W e (inr h) = inl h.0
+
+pub canon_tried : (inputs : Inputs) (is_one : List ℕ → List ℕ → Bool → Type 0) (kinds : KindCodes) (files : SheetFiles) (path : List ℕ) (W : ℕ → Type 0) (e : RunFault)
+    → CanonFault inputs is_one kinds files path W e → IsInput is_one files path ⊎ AreTried inputs files
+canon_tried inputs is_one kinds files path W e (inl input) = inl input.0
+canon_tried inputs is_one kinds files path W e (inr h) = inr (file_tried inputs kinds files W e h.1)
+
+pair_tried : (inputs : Inputs) (kinds : KindCodes) (files : PairFiles) (e : RunFault) → PairFileFault inputs kinds files e
+    → AreFourThere inputs files ⊎ ((n : ℕ) × FirstOfFourMissing inputs files n)
+pair_tried inputs kinds files e (inl missing) = inr (missing.0, missing.1)
+pair_tried inputs kinds files e (inr h) = inl h.0
+
 -- a refusal of one of two sheets is said as its line
-module _ (old new : Option (List ℕ)) (kinds : KindCodes) (names : List (List ℕ)) (two_sheets : first_text (length names) ≡ codes "first ") where
-  pair_refused : (holds : Contents) (files : PairFiles) (e : RunFault) → PairFileFault holds kinds files e → status_of_fault e ≡ 2
-      → Appends old new (ended (words_of_fault e names)) → OfPair holds files (SaysPairRefusal old new kinds)
-  pair_refused holds files (Memory e) h two line = absurd (omega (arith, two))
-  pair_refused holds files (Read n) h two line = absurd (omega (arith, two))
-  pair_refused holds files (TooLong n) h two line = absurd (omega (arith, two))
-  pair_refused holds files (Schema f) h two line = pair_map holds files _ _ (λ s d a b r. inl (f, r, line)) h
-  pair_refused holds files (First f) h two line =
-      pair_map holds files _ _ (λ s d a b r. inr (inl (f, r, subst (λ which. Appends old new (ended (sheet_text which f))) two_sheets line))) h
-  pair_refused holds files (Second f) h two line = pair_map holds files _ _ (λ s d a b r. inr (inr (f, r, line))) h
-  pair_refused holds files (Write w) h two line = absurd h
+module _ (out : Seen) (kinds : KindCodes) (names : List (List ℕ)) (two_sheets : first_text (length names) ≡ codes "first ") where
+  pair_refused : (inputs : Inputs) (files : PairFiles) (e : RunFault) → PairFileFault inputs kinds files e → status_of_fault e ≡ 2
+      → Says out (ended (words_of_fault e names)) → OfPair inputs files (SaysPairRefusal out kinds)
+  pair_refused inputs files e (inl missing) two line = absurd (omega (arith, ap status_of_fault missing.2, two))
+  pair_refused inputs files (Memory e) (inr h) two line = absurd (omega (arith, two))
+  pair_refused inputs files (Read n) (inr h) two line = absurd (omega (arith, two))
+  pair_refused inputs files (TooLong n) (inr h) two line = absurd (omega (arith, two))
+  pair_refused inputs files (Schema f) (inr h) two line = pair_map inputs files _ _ (λ s d a b r. inl (f, r, line)) h.1
+  pair_refused inputs files (First f) (inr h) two line =
+      pair_map inputs files _ _ (λ s d a b r. inr (inl (f, r, subst (λ which. Says out (ended (sheet_text which f))) two_sheets line))) h.1
+  pair_refused inputs files (Second f) (inr h) two line = pair_map inputs files _ _ (λ s d a b r. inr (inr (f, r, line))) h.1
+  pair_refused inputs files (Write w) (inr h) two line = absurd h.1
 
 -- the status of a fault
 abbrev IsFaultStatus : ℕ → Type 0
@@ -130,88 +123,81 @@ not_one s (inl e) one = absurd (omega (arith, e, one))
 not_one s (inr (inl e)) one = absurd (omega (arith, e, one))
 not_one s (inr (inr e)) one = absurd (omega (arith, e, one))
 
--- the status of a run that has no answer, whatever 0 says
-pub files_status : (old new : Option (List ℕ)) (kinds : KindCodes) (names : List (List ℕ)) (holds : Contents) (files : SheetFiles) (W : ℕ → Type 0) (e : RunFault) (s : ℕ)
-    (A : Type 0) → first_text (length names) ≡ [] → FileFault holds kinds files W e → IsToldAs (status_of_fault e) s
-    → (s ≡ 2 → Appends old new (ended (words_of_fault e names))) → IsSheetStatus s × (s ≡ 0 → A) × (s ≡ 2 → OfFiles holds files (SaysRefusal old new kinds))
-files_status old new kinds names holds files W e s A alone h told line =
-    let is = told_fault (status_of_fault e) s (fault_status e) told in (
-      inr is,
-      (λ zero. absurd (not_zero s is zero)),
-      (λ two. file_refused old new kinds names alone holds files W e h (told_two (status_of_fault e) s told two) (line two)),
-    )
+-- what a status says of a run that has no answer
+module _ (Done Refused : Type 0) (IsFault : RunFault → Type 0) (names : List (List ℕ)) (out err : Seen) (s : ℕ) where
+  failure : (e : RunFault) → (3 ≤ status_of_fault e → s ≡ 4 → IsFault e) → IsToldAs (status_of_fault e) s → (status_of_fault e < 3 → s ≡ 4 → IsTrue out.failed)
+      → (3 ≤ status_of_fault e → s ≡ 4 → Warns err (ended (words_of_fault e names))) → s ≡ 4 → IsFaultStatus (status_of_fault e)
+      → IsTrue out.failed ⊎ ((f : RunFault) × IsFault f × (status_of_fault f ≡ 4) × Warns err (ended (words_of_fault f names)))
+  failure e h told stopped warned four (inl two) = inl (stopped (omega (arith, two)) four)
+  failure e h told stopped warned four (inr (inl is)) = inr (e, h (omega (arith, is)) four, is, warned (omega (arith, is)) four)
+  failure e h (inl is) stopped warned four (inr (inr five)) = absurd (omega (arith, is, four, five))
+  failure e h (inr (inl is)) stopped warned four (inr (inr five)) = absurd (omega (arith, is, four))
+  failure e h (inr (inr is)) stopped warned four (inr (inr five)) = absurd (omega (arith, is.0, five))
 
-pub bundle_status : (old new : Option (List ℕ)) (names : List (List ℕ)) (input : Option (List ℕ)) (failed : Bool) (W : ℕ → Type 0) (e : RunFault) (s : ℕ)
-    → first_text (length names) ≡ [] → InputFault usual_kinds input failed W e → IsToldAs (status_of_fault e) s
-    → (s ≡ 2 → Appends old new (ended (words_of_fault e names))) → IsBundleStatus input old new s
-bundle_status old new names input failed W e s alone h told line =
-    let is = told_fault (status_of_fault e) s (fault_status e) told in (
-      inr is,
-      (λ zero. absurd (not_zero s is zero)),
-      (λ two. input_refused old new usual_kinds names alone input failed W e h (told_two (status_of_fault e) s told two) (line two)),
-    )
+  pub means_fault : (e : RunFault) → (3 ≤ status_of_fault e → s ≡ 4 → IsFault e) → (status_of_fault e ≡ 2 → s ≡ 2 → Refused) → IsToldAs (status_of_fault e) s
+      → (status_of_fault e < 3 → s ≡ 4 → IsTrue out.failed) → (3 ≤ status_of_fault e → s ≡ 4 → Warns err (ended (words_of_fault e names)))
+      → (s ≡ 5 → Warns err (ended (codes "out of memory"))) → MeansStatus Done Refused IsFault names out err s
+  means_fault e h refuses told stopped warned memory = record {
+    done = λ zero. absurd (not_zero s (told_fault (status_of_fault e) s (fault_status e) told) zero);
+    refused = λ two. refuses (told_two (status_of_fault e) s told two) two;
+    failed = λ four. failure e h told stopped warned four (fault_status e);
+    memory = memory;
+  }
+
+  -- and of one that has an answer, which is said
+  pub means_answer : (status : ℕ) → status < 2 → (s ≡ 0 → Done) → IsToldAs status s → (status < 3 → s ≡ 4 → IsTrue out.failed)
+      → (s ≡ 5 → Warns err (ended (codes "out of memory"))) → MeansStatus Done Refused IsFault names out err s
+  means_answer status small done told stopped memory = record {
+    done = done;
+    refused = λ two. absurd (omega (arith, small, told_two status s told two));
+    failed = λ four. inl (stopped (omega (arith, small)) four);
+    memory = memory;
+  }
 
 -- the status of a comparison
-module _ (old new : Option (List ℕ)) (kinds : KindCodes) (names : List (List ℕ)) (two_sheets : first_text (length names) ≡ codes "first ")
-    (holds : Contents) (files : PairFiles) (s : ℕ) where
-  pair_status : (e : RunFault) → PairFileFault holds kinds files e → IsToldAs (status_of_fault e) s
-      → (s < 3 → Appends old new (ended (words_of_fault e names))) → IsCompareStatus holds old new kinds files s
-  pair_status e h told line =
-      let is = told_fault (status_of_fault e) s (fault_status e) told in (
-        inr (inr is),
-        (λ zero. absurd (not_zero s is zero)),
-        (λ one. absurd (not_one s is one)),
-        (λ two. pair_refused old new kinds names two_sheets holds files e h (told_two (status_of_fault e) s told two) (line (omega (arith, two)))),
-      )
+module _ (inputs : Inputs) (out err : Seen) (kinds : KindCodes) (files : PairFiles) (names : List (List ℕ)) (are : names ≡ pair_names_of files) (s : ℕ) where
+  of_fault : (e : RunFault) → PairFileFault inputs kinds files e → IsToldAs (status_of_fault e) s
+      → (s < 3 → Says out (ended (words_of_fault e names))) → (status_of_fault e < 3 → s ≡ 4 → IsTrue out.failed)
+      → (3 ≤ status_of_fault e → s ≡ 4 → Warns err (ended (words_of_fault e names))) → (s ≡ 5 → Warns err (ended (codes "out of memory")))
+      → IsCompareStatus inputs out err kinds files s
+  of_fault e h told line stopped warned memory = record {
+    tried = pair_tried inputs kinds files e h;
+    different = λ one. absurd (not_one s (told_fault (status_of_fault e) s (fault_status e) told) one);
+    means = means_fault _ _ _ (pair_names_of files) out err s e (λ big four. h)
+        (λ is two. pair_refused out kinds (pair_names_of files) refl inputs files e h is (subst (λ n. Says out (ended (words_of_fault e n))) are (line (omega (arith, two))))) told
+        stopped
+        (subst (λ n. 3 ≤ status_of_fault e → s ≡ 4 → Warns err (ended (words_of_fault e n))) are warned) memory;
+  }
 
-  same_status : (pairing : Pairing) → OfPair holds files (λ scd dic a b. IsVerdictOf kinds scd dic a b (verdict.Same pairing)) → IsToldAs 0 s
-      → (s < 3 → Appends old new (ended (codes "same"))) → IsCompareStatus holds old new kinds files s
-  same_status pairing h (inl e) line = (
-    inr (inl e),
-    (λ zero. ((pairing, h), line (omega (arith, e)))),
-    (λ one. absurd (omega (arith, e, one))),
-    (λ two. absurd (omega (arith, e, two))),
-  )
-  same_status pairing h (inr (inl e)) line = (
-    inr (inr (inr (inr e))),
-    (λ zero. absurd (omega (arith, e, zero))),
-    (λ one. absurd (omega (arith, e, one))),
-    (λ two. absurd (omega (arith, e, two))),
-  )
-  same_status pairing h (inr (inr e)) line = (
-    inr (inr (inr (inl e.1))),
-    (λ zero. absurd (omega (arith, e.1, zero))),
-    (λ one. absurd (omega (arith, e.1, one))),
-    (λ two. absurd (omega (arith, e.1, two))),
-  )
+  were_four : (P : List ℕ → List ℕ → List ℕ → List ℕ → Type 0) → OfPair inputs files P → AreFourThere inputs files
+  were_four P h = ((h.0, h.4), (h.1, h.5), (h.2, h.6), (h.3, h.7))
 
-  different_status : (line : ℕ) → OfPair holds files (λ scd dic a b. IsVerdictOf kinds scd dic a b (verdict.Different line)) → IsToldAs 1 s
-      → (s < 3 → Appends old new (ended (codes "different at line " ++ decimal line))) → IsCompareStatus holds old new kinds files s
-  different_status line h (inl e) said = (
-    inl e,
-    (λ zero. absurd (omega (arith, e, zero))),
-    (λ one. (line, h, said (omega (arith, e)))),
-    (λ two. absurd (omega (arith, e, two))),
-  )
-  different_status line h (inr (inl e)) said = (
-    inr (inr (inr (inr e))),
-    (λ zero. absurd (omega (arith, e, zero))),
-    (λ one. absurd (omega (arith, e, one))),
-    (λ two. absurd (omega (arith, e, two))),
-  )
-  different_status line h (inr (inr e)) said = (
-    inr (inr (inr (inl e.1))),
-    (λ zero. absurd (omega (arith, e.1, zero))),
-    (λ one. absurd (omega (arith, e.1, one))),
-    (λ two. absurd (omega (arith, e.1, two))),
-  )
+  not_zero_of_one : s ≡ 0 → IsToldAs 1 s → ⊥
+  not_zero_of_one zero (inl e) = absurd (omega (arith, e, zero))
+  not_zero_of_one zero (inr (inl e)) = absurd (omega (arith, e, zero))
+  not_zero_of_one zero (inr (inr e)) = absurd (omega (arith, e.1, zero))
 
-  pub compare_status : (r : Result Verdict RunFault) → IfOk r (λ v. OfPair holds files (λ scd dic a b. IsVerdictOf kinds scd dic a b v))
-      → IfErr r (PairFileFault holds kinds files) → IsToldAs (status_for (outcome_for r)) s
-      → (s < 3 → Appends old new (ended (words_for (outcome_for r) names))) → IsCompareStatus holds old new kinds files s
-  compare_status (Ok (verdict.Same pairing)) ok err told line = same_status pairing ok told line
-  compare_status (Ok (verdict.Different at)) ok err told line = different_status at ok told line
-  compare_status (Err e) ok err told line = pair_status e err told line
+  not_one_of_zero : s ≡ 1 → IsToldAs 0 s → ⊥
+  not_one_of_zero one (inl e) = absurd (omega (arith, e, one))
+  not_one_of_zero one (inr (inl e)) = absurd (omega (arith, e, one))
+  not_one_of_zero one (inr (inr e)) = absurd (omega (arith, e.1, one))
+
+  pub compare_status : (r : Result Verdict RunFault) → IfOk r (λ v. OfPair inputs files (λ scd dic a b. IsVerdictOf kinds scd dic a b v))
+      → IfErr r (PairFileFault inputs kinds files) → IsToldAs (status_for (outcome_for r)) s
+      → (s < 3 → Says out (ended (words_for (outcome_for r) names))) → (status_for (outcome_for r) < 3 → s ≡ 4 → IsTrue out.failed)
+      → (3 ≤ status_for (outcome_for r) → s ≡ 4 → Warns err (ended (words_for (outcome_for r) names))) → (s ≡ 5 → Warns err (ended (codes "out of memory")))
+      → IsCompareStatus inputs out err kinds files s
+  compare_status (Ok (verdict.Same pairing)) h fault told line stopped warned memory = record {
+    tried = inl (were_four _ h);
+    different = λ one. absurd (not_one_of_zero one told);
+    means = means_answer _ _ _ (pair_names_of files) out err s 0 (omega arith) (λ zero. ((pairing, h), line (omega (arith, zero)))) told stopped memory;
+  }
+  compare_status (Ok (verdict.Different at)) h fault told line stopped warned memory = record {
+    tried = inl (were_four _ h);
+    different = λ one. (at, h, line (omega (arith, one)));
+    means = means_answer _ _ _ (pair_names_of files) out err s 1 (omega arith) (λ zero. absurd (not_zero_of_one zero told)) told stopped memory;
+  }
+  compare_status (Err e) ok h told line stopped warned memory = of_fault e h told line stopped warned memory
 
 -- the names that the line of a comparison needs
 pub compare_names : (r : Result Verdict RunFault) (names : List (Bor (List ℕ))) → length names ≡ 5 → IfErr r (λ e. FaultHasNames e 5) → HasNames (outcome_for r) names

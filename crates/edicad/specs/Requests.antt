@@ -1,12 +1,15 @@
 -- What the words of the command line ask for.
-use Rattle.std.specs.Prelude.{◌≡◌, ◌⊎◌, ◌==◌, ℕ, true, List, [], ◌∷◌, Option, Some, None, IfSome, codes, unwrap_or}
+use Rattle.std.specs.Prelude.{◌≡◌, ◌⊎◌, ◌<◌, ◌+◌, ◌==◌, ℕ, Bool, true, if◌then◌else◌, List, [], ◌∷◌, Option, Some, None, IfSome, codes, unwrap_or}
 use Rattle.std.specs.List.{slice_split}
+use Rattle.std.specs.Str.{bytes_eq}
 use Rattle.clap.specs.Words.{App, IsAmong, Row, Rule, Text, fault_of, first_of, new_app, new_rule, subcommand_of, with_rule, with_subcommand}
 use Rattle.clap.specs.declared.error.kind.ErrorKind.{ErrorKind}
 use Rattle.clap.specs.declared.error.kind.ErrorKind.TheVariants.{OutOfMemory, DisplayHelp, DisplayVersion}
 use Rattle.edi_schema.specs.Roles.{KindCodes, AreKindCodes}
 use Rattle.edicad.specs.declared.words.Request.{Request}
-use Rattle.edicad.specs.declared.words.Request.TheVariants.{Bundle, Check, Canon, Compare, Answered}
+use Rattle.edicad.specs.declared.words.Request.TheVariants.{Bundle, Check, Canon, Compare, Misused, Answered}
+use Rattle.edicad.specs.declared.words.Misuse.{Misuse}
+use Rattle.edicad.specs.declared.words.Misuse.TheVariants.{BadKinds, TwoStandard}
 use Rattle.edicad.specs.declared.words.PairFiles.{PairFiles}
 use Rattle.edicad.specs.declared.words.SheetFiles.{SheetFiles}
 
@@ -32,8 +35,12 @@ canon_command = with_rule (with_rule (schema_command (codes "canon")) (file_rule
 abbrev pub compare_command : App
 compare_command = with_rule (with_rule (schema_command (codes "compare")) (file_rule (codes "A"))) (file_rule (codes "B"))
 
+-- a command that says its version
+abbrev pub versioned : App → App
+versioned a = record a { top = record a.top { has_version = true } }
+
 abbrev pub edicad : App
-edicad = with_subcommand (with_subcommand (with_subcommand (new_app (codes "edicad")) check_command.top) canon_command.top) compare_command.top
+edicad = with_subcommand (with_subcommand (with_subcommand (versioned (new_app (codes "edicad"))) check_command.top) canon_command.top) compare_command.top
 
 -- IND, FND, LPO and RPO
 abbrev pub usual_kinds : KindCodes
@@ -74,6 +81,28 @@ pub record ArePairFiles (rows : List Row) (files : PairFiles) : Type 0 where
 abbrev pub HasBadKinds : List Row → Type 0
 HasBadKinds rows = (k : KindCodes) → ¬ GiveKinds rows k
 
+-- whether a path stands for a standard stream
+abbrev pub is_standard_path : List ℕ → Bool
+is_standard_path path = bytes_eq path (codes "-")
+
+-- how many of the inputs are standard input
+abbrev pub standard_at : Text → List Row → ℕ
+standard_at id rows = if is_standard_path (value_at id rows) then 1 else 0
+
+abbrev pub standard_count : List Row → ℕ
+standard_count rows =
+    standard_at (codes "SCD") rows + standard_at (codes "DIC") rows + standard_at (codes "VEC") rows + standard_at (codes "A") rows + standard_at (codes "B") rows
+
+-- the arguments can't be meant: the codes are no codes, or standard input is to be read twice
+abbrev pub IsMisuse : List Row → Misuse → Type 0
+IsMisuse rows BadKinds = HasBadKinds rows
+IsMisuse rows TwoStandard = 1 < standard_count rows
+
+-- what is said of it
+abbrev pub misuse_text : Misuse → List ℕ
+misuse_text BadKinds = codes "bad kinds"
+misuse_text TwoStandard = codes "only one input can be -"
+
 -- the subcommand, if there is one, is check, canon or compare
 abbrev pub IsOwn : Option (Text × List Row) → Type 0
 IsOwn met = IfSome met (λ p. (p.0 ≡ codes "check") ⊎ ((p.0 ≡ codes "canon") ⊎ (p.0 ≡ codes "compare")))
@@ -85,7 +114,8 @@ Means met (Check kinds files) = (rows : List Row) × (met ≡ Some (codes "check
 Means met (Canon kinds files out) = (rows : List Row) × (met ≡ Some (codes "canon", rows)) × GiveKinds rows kinds × AreSheetFiles rows files
     × (out.now ≡ value_at (codes "OUT") rows)
 Means met (Compare kinds files) = (rows : List Row) × (met ≡ Some (codes "compare", rows)) × GiveKinds rows kinds × ArePairFiles rows files
-Means met (Answered status) = (name : Text) × (rows : List Row) × (met ≡ Some (name, rows)) × HasBadKinds rows × (status ≡ 3)
+Means met (Misused misuse) = (name : Text) × (rows : List Row) × (met ≡ Some (name, rows)) × IsMisuse rows misuse
+Means met (Answered status) = ⊥
 
 -- 5 without memory, 0 where help was asked for, and else 3
 abbrev pub status_of_kind : ErrorKind → ℕ

@@ -1,61 +1,126 @@
 -- What a run over the files of a folder answers.
-use Rattle.std.specs.Prelude.{◌≤◌, ◌==◌, ℕ, List, length, Option, if◌then◌else◌}
+use Rattle.std.specs.Prelude.{◌≡◌, ◌≢◌, ◌⊎◌, ◌≤◌, ◌==◌, ℕ, Bool, true, false, List, Option, if◌then◌else◌, IsTrue}
+use Rattle.std.specs.Bool.{MatchBool}
 use Rattle.edi_schema.specs.Roles.{KindCodes}
 use Rattle.edi_compare.specs.declared.fault.RunFault.{RunFault}
-use Rattle.edi_compare.specs.Runs.{IsCanonOf, IsTooLong, MatchFault, RefusesSchema, RefusesSecond, RefusesSheet, TellFour, Told}
+use Rattle.edi_compare.specs.declared.fault.RunFault.TheVariants.{Read, Write}
+use Rattle.edi_compare.specs.Runs.{IsCanonOf, IsTooLong, MatchFault, OfFour, OfThree, RefusesSchema, RefusesSecond, RefusesSheet, TellFour, Told}
+use Rattle.edicad.specs.Requests.{is_standard_path}
 use Rattle.edicad.specs.declared.words.PairFiles.{PairFiles}
 use Rattle.edicad.specs.declared.words.SheetFiles.{SheetFiles}
 
--- what the file of a path may tell that it holds
-abbrev pub Contents : Type 1
-Contents = List ℕ → Option (List ℕ) → Type 0
+-- what is known of the inputs
+pub record Inputs : Type 1 where
+  -- the file of a path can be opened, and may tell that it holds this
+  pub holds : List ℕ → Option (List ℕ) → Type 0
+  -- the file of a path can't be opened
+  pub closed : List ℕ → Type 0
+  -- standard input may tell that it holds this
+  pub standard : Option (List ℕ) → Type 0
+  -- an input that was opened has failed
+  pub failed : Type 0
+
+-- what is known of the inputs that are read as R
+abbrev pub inputs_of : (R : Type 0) → (List ℕ → Option (List ℕ) → Type 0) → (List ℕ → Type 0) → (Option (List ℕ) → Type 0) → (R → Bool) → Inputs
+inputs_of R holds closed standard failed =
+    record { holds = holds; closed = closed; standard = standard; failed = (input : R) × IsTrue (failed input) }
+
+-- the input of a path is there, and may tell that it holds this
+abbrev pub Gives : Inputs → List ℕ → Option (List ℕ) → Type 0
+Gives inputs path told = MatchBool (is_standard_path path) (inputs.standard told) (inputs.holds path told)
+
+-- the input of a path is there
+abbrev pub IsThere : Inputs → List ℕ → Type 0
+IsThere inputs path = (told : Option (List ℕ)) × Gives inputs path told
+
+-- the input of a path is a file that can't be opened
+abbrev pub IsMissing : Inputs → List ℕ → Type 0
+IsMissing inputs path = (is_standard_path path ≡ false) × inputs.closed path
 
 -- a fact of what the three files hold, where they tell it
-abbrev pub OfFiles : Contents → SheetFiles → (List ℕ → List ℕ → List ℕ → Type 0) → Type 0
-OfFiles holds files P = (s d v : Option (List ℕ)) × holds files.scd.now s × holds files.dic.now d × holds files.vec.now v × Told s d v P
+abbrev pub OfFiles : Inputs → SheetFiles → (List ℕ → List ℕ → List ℕ → Type 0) → Type 0
+OfFiles inputs files P = (s d v : Option (List ℕ)) × Gives inputs files.scd.now s × Gives inputs files.dic.now d × Gives inputs files.vec.now v × Told s d v P
+
+-- all three were opened
+abbrev pub AreThere : Inputs → SheetFiles → Type 0
+AreThere inputs files = IsThere inputs files.scd.now × IsThere inputs files.dic.now × IsThere inputs files.vec.now
+
+-- the first that is missing
+abbrev pub FirstMissing : Inputs → SheetFiles → ℕ → Type 0
+FirstMissing inputs files n = OfThree n (IsThere inputs files.scd.now) (IsThere inputs files.dic.now)
+    (IsMissing inputs files.scd.now) (IsMissing inputs files.dic.now) (IsMissing inputs files.vec.now)
 
 -- the path of an input
 abbrev pub path_at : SheetFiles → ℕ → List ℕ
 path_at files n = if n == 1 then files.scd.now else if n == 2 then files.dic.now else files.vec.now
 
--- the file of an input holds more bytes than a run reads
-abbrev pub HoldsTooMuch : Contents → SheetFiles → ℕ → Type 0
-HoldsTooMuch holds files n = (told : Option (List ℕ)) × holds (path_at files n) told × IsTooLong told
+-- an input holds more bytes than a run reads
+abbrev pub HoldsTooMuch : Inputs → List ℕ → Type 0
+HoldsTooMuch inputs path = (told : Option (List ℕ)) × Gives inputs path told × IsTooLong told
 
--- Why a run over the files has no answer: one of the three was not read or is too long, the schema or the sheet is
--- refused, or so many bytes went out before the writer failed.
-abbrev pub FileFault : Contents → KindCodes → SheetFiles → (ℕ → Type 0) → RunFault → Type 0
-FileFault holds kinds files W e = MatchFault e
-    (λ n. (1 ≤ n) × (n ≤ 3))
-    (λ n. (1 ≤ n) × (n ≤ 3) × HoldsTooMuch holds files n)
-    (λ f. OfFiles holds files (λ s d v. RefusesSchema kinds s d f))
-    (λ f. OfFiles holds files (λ s d v. RefusesSheet kinds s d v f))
-    (λ _. ⊥) W
+-- Why a run over the files has no answer. One of the three is missing; or all were opened, and one failed or is too
+-- long, the schema or the sheet is refused, or so many bytes went out before the writer failed.
+abbrev pub FileFault : Inputs → KindCodes → SheetFiles → (ℕ → Type 0) → RunFault → Type 0
+FileFault inputs kinds files W e =
+    ((n : ℕ) × FirstMissing inputs files n × (e ≡ Read n))
+    ⊎ (AreThere inputs files × MatchFault e
+    (λ n. (1 ≤ n) × (n ≤ 3) × inputs.failed)
+    (λ n. (1 ≤ n) × (n ≤ 3) × HoldsTooMuch inputs (path_at files n))
+    (λ f. OfFiles inputs files (λ s d v. RefusesSchema kinds s d f))
+    (λ f. OfFiles inputs files (λ s d v. RefusesSheet kinds s d v f))
+    (λ _. ⊥) W)
 
--- the canonical file of the sheet was sent
-abbrev pub SendsCanon : Contents → KindCodes → SheetFiles → (List ℕ → Type 0) → Type 0
-SendsCanon holds kinds files Sent = OfFiles holds files (λ s d v. (c : List ℕ) × IsCanonOf kinds s d v c × Sent c)
+-- the canonical file of the sheet, of which this holds
+abbrev pub OfCanon : Inputs → KindCodes → SheetFiles → (List ℕ → Type 0) → Type 0
+OfCanon inputs kinds files P = OfFiles inputs files (λ s d v. (c : List ℕ) × IsCanonOf kinds s d v c × P c)
 
--- the canonical file has so many bytes or more
-abbrev pub SentFirst : Contents → KindCodes → SheetFiles → ℕ → Type 0
-SentFirst holds kinds files count = OfFiles holds files (λ s d v. (c : List ℕ) × IsCanonOf kinds s d v c × (count ≤ length c))
+-- a path is that of an input, or leads to its file
+abbrev pub Meets : (List ℕ → List ℕ → Bool → Type 0) → List ℕ → List ℕ → Type 0
+Meets is_one out path = (is_standard_path path ≡ false) × ((path ≡ out) ⊎ is_one path out true)
+
+abbrev pub IsApart : (List ℕ → List ℕ → Bool → Type 0) → List ℕ → List ℕ → Type 0
+IsApart is_one out path = (is_standard_path path ≡ true) ⊎ ((path ≢ out) × is_one path out false)
+
+-- OUT is one of the inputs, and none of them
+abbrev pub IsInput : (List ℕ → List ℕ → Bool → Type 0) → SheetFiles → List ℕ → Type 0
+IsInput is_one files out = Meets is_one out files.scd.now ⊎ (Meets is_one out files.dic.now ⊎ Meets is_one out files.vec.now)
+
+abbrev pub IsNoInput : (List ℕ → List ℕ → Bool → Type 0) → SheetFiles → List ℕ → Type 0
+IsNoInput is_one files out = IsApart is_one out files.scd.now × IsApart is_one out files.dic.now × IsApart is_one out files.vec.now
+
+-- Why no canonical file came to OUT: OUT is an input, and nothing was opened; or the run has no answer.
+abbrev pub CanonFault : Inputs → (List ℕ → List ℕ → Bool → Type 0) → KindCodes → SheetFiles → List ℕ → (ℕ → Type 0) → RunFault → Type 0
+CanonFault inputs is_one kinds files out W e =
+    (IsInput is_one files out × (e ≡ Write (record { count = 0 }))) ⊎ (IsNoInput is_one files out × FileFault inputs kinds files W e)
 
 -- a fact of what the four files of two sheets hold, where they tell it
-abbrev pub OfPair : Contents → PairFiles → (List ℕ → List ℕ → List ℕ → List ℕ → Type 0) → Type 0
-OfPair holds files P = (s d a b : Option (List ℕ)) × holds files.scd.now s × holds files.dic.now d × holds files.first.now a × holds files.second.now b
-    × TellFour s d a b P
+abbrev pub OfPair : Inputs → PairFiles → (List ℕ → List ℕ → List ℕ → List ℕ → Type 0) → Type 0
+OfPair inputs files P = (s d a b : Option (List ℕ)) × Gives inputs files.scd.now s × Gives inputs files.dic.now d × Gives inputs files.first.now a
+    × Gives inputs files.second.now b × TellFour s d a b P
+
+-- all four were opened
+abbrev pub AreFourThere : Inputs → PairFiles → Type 0
+AreFourThere inputs files =
+    IsThere inputs files.scd.now × IsThere inputs files.dic.now × IsThere inputs files.first.now × IsThere inputs files.second.now
+
+-- the first of the four that is missing
+abbrev pub FirstOfFourMissing : Inputs → PairFiles → ℕ → Type 0
+FirstOfFourMissing inputs files n = OfFour n (IsThere inputs files.scd.now) (IsThere inputs files.dic.now) (IsThere inputs files.first.now)
+    (IsMissing inputs files.scd.now) (IsMissing inputs files.dic.now) (IsMissing inputs files.first.now) (IsMissing inputs files.second.now)
 
 -- the path of an input
 abbrev pub pair_path_at : PairFiles → ℕ → List ℕ
 pair_path_at files n = if n == 1 then files.scd.now else if n == 2 then files.dic.now else if n == 3 then files.first.now else files.second.now
 
--- Why a run over the files of two sheets has no answer: one of the four was not read or is too long, the schema is
--- refused, the first sheet is, or the second where the first is accepted.
-abbrev pub PairFileFault : Contents → KindCodes → PairFiles → RunFault → Type 0
-PairFileFault holds kinds files e = MatchFault e
-    (λ n. (1 ≤ n) × (n ≤ 4))
-    (λ n. (1 ≤ n) × (n ≤ 4) × ((told : Option (List ℕ)) × holds (pair_path_at files n) told × IsTooLong told))
-    (λ f. OfPair holds files (λ s d a b. RefusesSchema kinds s d f))
-    (λ f. OfPair holds files (λ s d a b. RefusesSheet kinds s d a f))
-    (λ f. OfPair holds files (λ s d a b. RefusesSecond kinds s d a b f))
-    (λ _. ⊥)
+-- Why a run over the files of two sheets has no answer. One of the four is missing; or all were opened, and one failed or
+-- is too long, the schema is refused, the first sheet is, or the second where the first is accepted.
+abbrev pub PairFileFault : Inputs → KindCodes → PairFiles → RunFault → Type 0
+PairFileFault inputs kinds files e =
+    ((n : ℕ) × FirstOfFourMissing inputs files n × (e ≡ Read n))
+    ⊎ (AreFourThere inputs files × MatchFault e
+    (λ n. (1 ≤ n) × (n ≤ 4) × inputs.failed)
+    (λ n. (1 ≤ n) × (n ≤ 4) × HoldsTooMuch inputs (pair_path_at files n))
+    (λ f. OfPair inputs files (λ s d a b. RefusesSchema kinds s d f))
+    (λ f. OfPair inputs files (λ s d a b. RefusesSheet kinds s d a f))
+    (λ f. OfPair inputs files (λ s d a b. RefusesSecond kinds s d a b f))
+    (λ _. ⊥))

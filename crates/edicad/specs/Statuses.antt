@@ -1,21 +1,23 @@
 -- The exit statuses.
-use Rattle.std.specs.Prelude.{◌≡◌, ◌⊎◌, ◌<◌, ◌++◌, ℕ, Bool, List, [], Option, IfSome, IsTrue, codes}
+use Rattle.std.specs.Prelude.{◌≡◌, ◌⊎◌, ◌<◌, ◌++◌, ℕ, Bool, List, [], ◌∷◌, Option, IfSome, IsTrue, codes, if◌then◌else◌}
+use Rattle.std.specs.Bool.{MatchBool}
 use Rattle.std.specs.Fmt.{decimal}
 use Rattle.std.specs.Io.KnownBytes.{Appends}
 use Rattle.edi_schema.specs.Roles.{KindCodes}
 use Rattle.edi_schema.specs.declared.fault.SchemaFault.{SchemaFault}
 use Rattle.edi_compare.specs.declared.fault.Fault.{Fault}
+use Rattle.edi_compare.specs.declared.fault.RunFault.{RunFault}
 use Rattle.edi_compare.specs.declared.pairing.Pairing.{Pairing}
 use Rattle.edi_compare.specs.declared.pairing.Verdict.TheVariants.{Same, Different}
 use Rattle.edi_compare.specs.Bundle.{OfParts}
-use Rattle.edi_compare.specs.Runs.{IsSheetUnder, IsVerdictOf, RefusesSchema, RefusesSecond, RefusesSheet, WritesAll}
-use Rattle.edicad.specs.Outcome.{ended, schema_text, sheet_text}
-use Rattle.edicad.specs.Requests.{IsAsked, usual_kinds}
-use Rattle.edicad.specs.SheetRuns.{Contents, OfFiles, OfPair, SendsCanon}
+use Rattle.edi_compare.specs.Runs.{InputFault, IsSheetUnder, IsVerdictOf, RefusesSchema, RefusesSecond, RefusesSheet, Seen, WritesAll, WritesFirst}
+use Rattle.edicad.specs.Outcome.{ended, schema_text, sheet_text, status_of_fault, words_of_fault}
+use Rattle.edicad.specs.Requests.{IsAsked, is_standard_path, misuse_text, usual_kinds}
+use Rattle.edicad.specs.SheetRuns.{AreFourThere, AreThere, CanonFault, FileFault, FirstMissing, FirstOfFourMissing, Inputs, IsInput, OfCanon, OfFiles, OfPair, PairFileFault}
 use Rattle.edicad.specs.declared.words.PairFiles.{PairFiles}
 use Rattle.edicad.specs.declared.words.SheetFiles.{SheetFiles}
 use Rattle.edicad.specs.declared.words.Request.{Request}
-use Rattle.edicad.specs.declared.words.Request.TheVariants.{Bundle, Check, Canon, Compare, Answered}
+use Rattle.edicad.specs.declared.words.Request.TheVariants.{Bundle, Check, Canon, Compare, Misused, Answered}
 
 -- of a run over a sheet: accepted, refused, not read or not written, out of memory
 abbrev pub IsSheetStatus : ℕ → Type 0
@@ -31,6 +33,7 @@ IsStatusOf Bundle s = IsSheetStatus s
 IsStatusOf (Check kinds files) s = IsSheetStatus s
 IsStatusOf (Canon kinds files out) s = IsSheetStatus s
 IsStatusOf (Compare kinds files) s = IsPairStatus s
+IsStatusOf (Misused misuse) s = s ≡ 3
 IsStatusOf (Answered status) s = s ≡ status
 
 -- the words ask for something, and the status is of that
@@ -41,60 +44,110 @@ HasStatus words s = (request : Request) × IsAsked words request × IsStatusOf r
 abbrev pub IsStatus : ℕ → Type 0
 IsStatus s = ((words : List (List ℕ)) × HasStatus words s) ⊎ ((s ≡ 3) ⊎ (s ≡ 5))
 
--- the schema or the sheet is refused, and the line of the refusal went out
-abbrev pub SaysRefusal : Option (List ℕ) → Option (List ℕ) → KindCodes → List ℕ → List ℕ → List ℕ → Type 0
-SaysRefusal old new kinds scd dic b =
-    ((f : SchemaFault) × RefusesSchema kinds scd dic f × Appends old new (ended (schema_text f)))
-    ⊎ ((f : Fault) × RefusesSheet kinds scd dic b f × Appends old new (ended (sheet_text [] f)))
-
--- The status of a run over files, with what the output has before and after: 0 only of an accepted sheet, 2 only of a
--- refused one, and each is said.
-abbrev pub IsFileStatus : Contents → Option (List ℕ) → Option (List ℕ) → KindCodes → SheetFiles → ℕ → Type 0
-IsFileStatus holds old new kinds files s = IsSheetStatus s
-    × (s ≡ 0 → OfFiles holds files (IsSheetUnder kinds) × Appends old new (ended (codes "accepted")))
-    × (s ≡ 2 → OfFiles holds files (SaysRefusal old new kinds))
-
--- The same of a run that sends the canonical file.
-abbrev pub IsCanonStatus : Contents → Option (List ℕ) → Option (List ℕ) → KindCodes → SheetFiles → (List ℕ → Type 0) → ℕ → Type 0
-IsCanonStatus holds old new kinds files Sent s = IsSheetStatus s
-    × (s ≡ 0 → SendsCanon holds kinds files Sent × Appends old new (ended (codes "accepted")))
-    × (s ≡ 2 → OfFiles holds files (SaysRefusal old new kinds))
-
--- The status of a run over a bundle: 0 only where its canonical file went out, 2 only of a refused sheet.
-abbrev pub IsBundleStatus : Option (List ℕ) → Option (List ℕ) → Option (List ℕ) → ℕ → Type 0
-IsBundleStatus input old new s = IsSheetStatus s
-    × (s ≡ 0 → IfSome input (λ b. OfParts b (λ scd dic vec. WritesAll usual_kinds scd dic vec old new)))
-    × (s ≡ 2 → IfSome input (λ b. OfParts b (SaysRefusal old new usual_kinds)))
-
--- the schema, the first sheet, or the second where the first is accepted, is refused, and the line of the refusal went out
-abbrev pub SaysPairRefusal : Option (List ℕ) → Option (List ℕ) → KindCodes → List ℕ → List ℕ → List ℕ → List ℕ → Type 0
-SaysPairRefusal old new kinds scd dic a b =
-    ((f : SchemaFault) × RefusesSchema kinds scd dic f × Appends old new (ended (schema_text f)))
-    ⊎ (((f : Fault) × RefusesSheet kinds scd dic a f × Appends old new (ended (sheet_text (codes "first ") f)))
-    ⊎ ((f : Fault) × RefusesSecond kinds scd dic a b f × Appends old new (ended (sheet_text (codes "second ") f))))
-
--- The status of a run over two sheets: 0 only where a pairing carries the one plan onto the other, 1 only where the plans
--- are not the same, 2 only where a sheet is refused, and each is said.
-abbrev pub IsCompareStatus : Contents → Option (List ℕ) → Option (List ℕ) → KindCodes → PairFiles → ℕ → Type 0
-IsCompareStatus holds old new kinds files s = IsPairStatus s
-    × (s ≡ 0 → ((pairing : Pairing) × OfPair holds files (λ scd dic a b. IsVerdictOf kinds scd dic a b (Same pairing))) × Appends old new (ended (codes "same")))
-    × (s ≡ 1 → (line : ℕ) × OfPair holds files (λ scd dic a b. IsVerdictOf kinds scd dic a b (Different line))
-    × Appends old new (ended (codes "different at line " ++ decimal line)))
-    × (s ≡ 2 → OfPair holds files (SaysPairRefusal old new kinds))
-
--- The status of what was asked for, over what the files hold, which bytes were sent to which path, what the input holds,
--- and what the output has before and after.
-abbrev pub IsAnswered : Contents → (List ℕ → List ℕ → Type 0) → Option (List ℕ) → Option (List ℕ) → Option (List ℕ) → Request → ℕ → Type 0
-IsAnswered holds Sent input old new Bundle s = IsBundleStatus input old new s
-IsAnswered holds Sent input old new (Check kinds files) s = IsFileStatus holds old new kinds files s
-IsAnswered holds Sent input old new (Canon kinds files out) s = IsCanonStatus holds old new kinds files (Sent out.now) s
-IsAnswered holds Sent input old new (Compare kinds files) s = IsCompareStatus holds old new kinds files s
-IsAnswered holds Sent input old new (Answered status) s = s ≡ status
-
--- the status once the line was printed: that of the outcome, 5 without memory for the line, 4 where it can't be printed
-abbrev pub IsToldAs : ℕ → ℕ → Type 0
-IsToldAs status s = (s ≡ status) ⊎ ((s ≡ 5) ⊎ ((status < 3) × (s ≡ 4)))
+-- a stream over a run got this text and nothing else
+abbrev pub Says : Seen → List ℕ → Type 0
+Says stream text = Appends stream.before stream.after text
 
 -- the text went out, or the writer has failed
 abbrev pub GoesOut : Option (List ℕ) → Option (List ℕ) → Bool → List ℕ → Type 0
 GoesOut old new failed text = Appends old new text ⊎ IsTrue failed
+
+-- a stream got this text, or it has failed
+abbrev pub Warns : Seen → List ℕ → Type 0
+Warns stream text = GoesOut stream.before stream.after stream.failed text
+
+-- the name of an input, and of OUT
+abbrev pub input_name : List ℕ → List ℕ
+input_name path = if is_standard_path path then codes "standard input" else path
+
+abbrev pub output_name : List ℕ → List ℕ
+output_name path = if is_standard_path path then codes "standard output" else path
+
+-- the names that a line may have: of the inputs, and then of the output
+abbrev pub names_of : SheetFiles → List ℕ → List (List ℕ)
+names_of files out = input_name files.scd.now ∷ input_name files.dic.now ∷ input_name files.vec.now ∷ out ∷ []
+
+abbrev pub pair_names_of : PairFiles → List (List ℕ)
+pair_names_of files =
+    input_name files.scd.now ∷ input_name files.dic.now ∷ input_name files.first.now ∷ input_name files.second.now ∷ codes "standard output" ∷ []
+
+-- What a status of a run says: 0 that it is done, 2 that something is refused, 4 that a file could not be read or written
+-- or the output failed, 5 that memory ran out. The last two are said on the stream of errors.
+pub record MeansStatus (Done Refused : Type 0) (IsFault : RunFault → Type 0) (names : List (List ℕ)) (out err : Seen) (s : ℕ) : Type 0 where
+  pub done : s ≡ 0 → Done
+  pub refused : s ≡ 2 → Refused
+  pub failed : s ≡ 4 → IsTrue out.failed ⊎ ((e : RunFault) × IsFault e × (status_of_fault e ≡ 4) × Warns err (ended (words_of_fault e names)))
+  pub memory : s ≡ 5 → Warns err (ended (codes "out of memory"))
+
+-- the schema or the sheet is refused, and the line of the refusal went out
+abbrev pub SaysRefusal : Seen → KindCodes → List ℕ → List ℕ → List ℕ → Type 0
+SaysRefusal out kinds scd dic b =
+    ((f : SchemaFault) × RefusesSchema kinds scd dic f × Says out (ended (schema_text f)))
+    ⊎ ((f : Fault) × RefusesSheet kinds scd dic b f × Says out (ended (sheet_text [] f)))
+
+-- each file was opened, or one is missing
+abbrev pub AreTried : Inputs → SheetFiles → Type 0
+AreTried inputs files = AreThere inputs files ⊎ ((n : ℕ) × FirstMissing inputs files n)
+
+-- The status of a run over files, with what the streams have before and after: 0 only of an accepted sheet, 2 only of a
+-- refused one, and each is said. No status comes before the files were opened.
+pub record IsFileStatus (inputs : Inputs) (out err : Seen) (kinds : KindCodes) (files : SheetFiles) (s : ℕ) : Type 0 where
+  pub tried : AreTried inputs files
+  pub means : MeansStatus (OfFiles inputs files (IsSheetUnder kinds) × Says out (ended (codes "accepted"))) (OfFiles inputs files (SaysRefusal out kinds))
+      (FileFault inputs kinds files (λ _. ⊥)) (names_of files (codes "standard output")) out err s
+
+-- The same of a run that puts the canonical file at a path: Puts says of bytes that they are there, and Stops why they
+-- are not.
+pub record IsCanonStatus (inputs : Inputs) (is_one : List ℕ → List ℕ → Bool → Type 0) (out err : Seen) (kinds : KindCodes) (files : SheetFiles) (path : List ℕ)
+    (Puts : List ℕ → Type 0) (Stops : ℕ → List ℕ → Type 0) (s : ℕ) : Type 0 where
+  pub tried : IsInput is_one files path ⊎ AreTried inputs files
+  pub means : MeansStatus (OfCanon inputs kinds files Puts × Says out (ended (codes "accepted"))) (OfFiles inputs files (SaysRefusal out kinds))
+      (CanonFault inputs is_one kinds files path (λ count. OfCanon inputs kinds files (Stops count))) (names_of files path) out err s
+
+-- The same of a run that sends the canonical file to the output, which gets nothing else.
+pub record IsSendStatus (inputs : Inputs) (out err : Seen) (kinds : KindCodes) (files : SheetFiles) (s : ℕ) : Type 0 where
+  pub tried : AreTried inputs files
+  pub means : MeansStatus (OfFiles inputs files (λ scd dic vec. WritesAll kinds scd dic vec out.before out.after)) (OfFiles inputs files (SaysRefusal out kinds))
+      (FileFault inputs kinds files (λ count. IsTrue out.failed × OfFiles inputs files (λ scd dic vec. WritesFirst kinds scd dic vec count out.before out.after)))
+      (names_of files (codes "standard output")) out err s
+
+-- The status of a run over a bundle: 0 only where its canonical file went out, 2 only of a refused sheet.
+abbrev pub IsBundleStatus : Inputs → Seen → Seen → ℕ → Type 0
+IsBundleStatus inputs out err s = (told : Option (List ℕ)) × (failed : Bool) × inputs.standard told × (IsTrue failed → inputs.failed)
+    × MeansStatus (IfSome told (λ b. OfParts b (λ scd dic vec. WritesAll usual_kinds scd dic vec out.before out.after)))
+    (IfSome told (λ b. OfParts b (SaysRefusal out usual_kinds)))
+    (InputFault usual_kinds told failed (λ count. IsTrue out.failed × IfSome told (λ b. OfParts b (λ scd dic vec.
+    WritesFirst usual_kinds scd dic vec count out.before out.after))))
+    (codes "standard input" ∷ codes "standard output" ∷ []) out err s
+
+-- the schema, the first sheet, or the second where the first is accepted, is refused, and the line of the refusal went out
+abbrev pub SaysPairRefusal : Seen → KindCodes → List ℕ → List ℕ → List ℕ → List ℕ → Type 0
+SaysPairRefusal out kinds scd dic a b =
+    ((f : SchemaFault) × RefusesSchema kinds scd dic f × Says out (ended (schema_text f)))
+    ⊎ (((f : Fault) × RefusesSheet kinds scd dic a f × Says out (ended (sheet_text (codes "first ") f)))
+    ⊎ ((f : Fault) × RefusesSecond kinds scd dic a b f × Says out (ended (sheet_text (codes "second ") f))))
+
+-- The status of a run over two sheets: 0 only where a pairing carries the one plan onto the other, 1 only where the plans
+-- are not the same, 2 only where a sheet is refused, and each is said.
+pub record IsCompareStatus (inputs : Inputs) (out err : Seen) (kinds : KindCodes) (files : PairFiles) (s : ℕ) : Type 0 where
+  pub tried : AreFourThere inputs files ⊎ ((n : ℕ) × FirstOfFourMissing inputs files n)
+  pub different : s ≡ 1 → (line : ℕ) × OfPair inputs files (λ scd dic a b. IsVerdictOf kinds scd dic a b (Different line))
+      × Says out (ended (codes "different at line " ++ decimal line))
+  pub means : MeansStatus
+      (((pairing : Pairing) × OfPair inputs files (λ scd dic a b. IsVerdictOf kinds scd dic a b (Same pairing))) × Says out (ended (codes "same")))
+      (OfPair inputs files (SaysPairRefusal out kinds)) (PairFileFault inputs kinds files) (pair_names_of files) out err s
+
+-- The status of what was asked for, over what is known of the inputs, which bytes were put where, and what the two streams
+-- have before and after.
+abbrev pub IsAnswered : Inputs → (List ℕ → List ℕ → Bool → Type 0) → (List ℕ → List ℕ → Type 0) → (List ℕ → ℕ → List ℕ → Type 0) → Seen → Seen → Request → ℕ → Type 0
+IsAnswered inputs is_one Puts Stops out err Bundle s = IsBundleStatus inputs out err s
+IsAnswered inputs is_one Puts Stops out err (Check kinds files) s = IsFileStatus inputs out err kinds files s
+IsAnswered inputs is_one Puts Stops out err (Canon kinds files path) s = MatchBool (is_standard_path path.now) (IsSendStatus inputs out err kinds files s)
+    (IsCanonStatus inputs is_one out err kinds files path.now (Puts path.now) (Stops path.now) s)
+IsAnswered inputs is_one Puts Stops out err (Compare kinds files) s = IsCompareStatus inputs out err kinds files s
+IsAnswered inputs is_one Puts Stops out err (Misused misuse) s = (s ≡ 3) × Warns err (ended (misuse_text misuse))
+IsAnswered inputs is_one Puts Stops out err (Answered status) s = s ≡ status
+
+-- the status once the line was printed: that of the outcome, 5 without memory for the line, 4 where it can't be printed
+abbrev pub IsToldAs : ℕ → ℕ → Type 0
+IsToldAs status s = (s ≡ status) ⊎ ((s ≡ 5) ⊎ ((status < 3) × (s ≡ 4)))

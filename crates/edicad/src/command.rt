@@ -1,113 +1,129 @@
 //! What the program does with its words.
-ghost use Rattle.std.specs.Prelude.{◌≡◌, ℕ, List, Option, map, string_bytes};
-ghost use Rattle.std.specs.Io.KnownBytes.{Appends};
-ghost use Rattle.edicad.specs.Outcome.{outcome_for};
+ghost use Rattle.std.specs.Prelude.{◌≡◌, ◌⊎◌, ℕ, List, Option, map, string_bytes, codes};
+ghost use Rattle.edi_compare.specs.Runs.{seen};
+ghost use Rattle.edicad.specs.Outcome.{ended, outcome_for};
+ghost use Rattle.edicad.specs.Outputs.{IsUnmade, Reaches, Stops};
 ghost use Rattle.edicad.specs.Requests.{IsAsked};
-ghost use Rattle.edicad.specs.Statuses.{HasStatus, IsAnswered, IsBundleStatus, IsCanonStatus, IsCompareStatus, IsFileStatus, IsStatus, IsStatusOf};
+ghost use Rattle.edicad.specs.SheetRuns.{inputs_of};
+ghost use Rattle.edicad.specs.Statuses.{HasStatus, IsAnswered, IsBundleStatus, IsCanonStatus, IsCompareStatus, IsFileStatus, IsPairStatus, IsSendStatus, IsSheetStatus, IsStatus, IsStatusOf, Warns, input_name};
 ghost use Rattle.edicad.specs.declared.words.Request.{Request};
 
+use crate::disk::Disk;
+use crate::folder::Folder;
 use crate::outcome::Outcome;
-use crate::system::{Disk, Errors, Folder};
+use crate::sheets::is_standard;
+use crate::system::{CommandLine, Errors, Words};
 use crate::words::{PairFiles, Request, SheetFiles, asked};
 use crate::{report, sheets};
 use edi_compare::{RunFault, Verdict};
-use edi_line::{ByteIn, ByteOut, FromRead, ToWrite};
+use edi_line::{ByteOut, ToWrite};
 use edi_schema::Kinds;
 use std::alloc::Global;
+use std::io;
 use std::rt::Runtime;
-use std::{env, io};
-
-const USAGE_STATUS: u8 = 3;
 
 /// Does what the words of the command line ask for, and gives the exit status.
 pub fn run<R: Runtime + AllocGlobal>(rt: &R) -> u8
     ensures { IsStatus result }
 {
-    match words(rt) {
-        Ok(words) => run_words(rt, &words),
-        Err(error) if error.kind() == io::ErrorKind::OutOfMemory => {
-            report::out_of_memory(&mut Errors::new(rt))
-        }
-        Err(_) => {
-            let _ = rt.eprint("error: the words are not all UTF-8\n");
-            USAGE_STATUS
-        }
-    }
+    let line = CommandLine { rt };
+    let mut folder = Disk::new(rt);
+    let mut out = ToWrite::new(io::writer(rt));
+    let mut err = Errors::new(rt);
+    run_line(rt, &line, &mut folder, &mut out, &mut err)
 }
 
-// The words of the command line, from the program's name on.
-fn words<R: Runtime + AllocGlobal>(rt: &R) -> io::Result<Vec<String>> {
-    Ok(env::args(rt)?.collect(rt.alloc())?)
+/// Does what the words of a line ask for, over a folder and two streams, and gives the exit status.
+pub fn run_line<R: Eprint + AllocGlobal, W: Words, F: Folder, O: ByteOut, E: ByteOut>(
+    rt: &R,
+    line: &W,
+    folder: &mut F,
+    out: &mut O,
+    err: &mut E,
+) -> u8
+    ensures { ((words : List (List ℕ)) × W.gives line.now words × HasStatus words result
+        × ((request : Request) × IsAsked words request × IsAnswered (inputs_of F.Reader (F.holds folder.old) (F.closed folder.old) (F.standard folder.old) F.Reader.has_failed) (F.is_one folder.old)
+        (λ path. Reaches F.Sink (F.holds folder.new path) (F.sinks folder.old path) F.Sink.told) (λ path. Stops F.Sink (IsUnmade F.NewFile (F.unwritable folder.new path) F.NewFile.has_failed) (F.sinks folder.old path) F.Sink.told F.Sink.has_failed) (seen (O.told out.old) (O.told out.new) (O.has_failed out.new)) (seen (E.told err.old) (E.told err.new) (E.has_failed err.new)) request result))
+        ⊎ (((result ≡ 3) × Warns (seen (E.told err.old) (E.told err.new) (E.has_failed err.new)) (ended (codes "error: the words are not all UTF-8")))
+        ⊎ ((result ≡ 5) × Warns (seen (E.told err.old) (E.told err.new) (E.has_failed err.new)) (ended (codes "out of memory")))) }
+{
+    match line.words() {
+        Ok(words) => run_over(rt, folder, out, err, &words),
+        Err(error) if error.kind() == io::ErrorKind::OutOfMemory => report::out_of_memory(err),
+        Err(_) => report::not_text(err),
+    }
 }
 
 /// Does what the words ask for, over the files and the streams of the system.
 pub fn run_words<R: Runtime + AllocGlobal>(rt: &R, words: &[String]) -> u8
     ensures { HasStatus (map string_bytes words.now) result }
 {
-    let mut folder = Disk { files: rt };
-    let mut input = FromRead::new(rt.reader());
+    let mut folder = Disk::new(rt);
     let mut out = ToWrite::new(io::writer(rt));
     let mut err = Errors::new(rt);
-    run_over(rt, &mut folder, &mut input, &mut out, &mut err, words)
+    run_over(rt, &mut folder, &mut out, &mut err, words)
 }
 
-/// Does what the words ask for, over a folder and three streams, and gives the exit status. What is wrong with the
+/// Does what the words ask for, over a folder and two streams, and gives the exit status. What `clap` says of the
 /// words is said through `rt`.
-pub fn run_over<R: Eprint + AllocGlobal, F: Folder, I: ByteIn, O: ByteOut, E: ByteOut>(
+pub fn run_over<R: Eprint + AllocGlobal, F: Folder, O: ByteOut, E: ByteOut>(
     rt: &R,
     folder: &mut F,
-    input: &mut I,
     out: &mut O,
     err: &mut E,
     words: &[String],
 ) -> u8
     ensures status { HasStatus (map string_bytes words.now) result }
-    ensures answer { (request : Request) × IsAsked (map string_bytes words.now) request
-        × IsAnswered (F.holds folder.old) (λ path c. (made : Option (List ℕ)) × (file : F.Writer)
-        × F.makes folder.old path made × Appends made (F.Writer.told file) c)
-        (I.told input.old) (O.told out.old) (O.told out.new) request result }
+    ensures answer { (request : Request) × IsAsked (map string_bytes words.now) request × IsAnswered (inputs_of F.Reader (F.holds folder.old) (F.closed folder.old) (F.standard folder.old) F.Reader.has_failed) (F.is_one folder.old)
+        (λ path. Reaches F.Sink (F.holds folder.new path) (F.sinks folder.old path) F.Sink.told) (λ path. Stops F.Sink (IsUnmade F.NewFile (F.unwritable folder.new path) F.NewFile.has_failed) (F.sinks folder.old path) F.Sink.told F.Sink.has_failed) (seen (O.told out.old) (O.told out.new) (O.has_failed out.new)) (seen (E.told err.old) (E.told err.new) (E.has_failed err.new)) request result }
 {
     let request = asked(rt, words);
-    answered(rt.alloc(), folder, input, out, err, request)
+    answered(rt.alloc(), folder, out, err, request)
 }
 
 /// Does what is asked for, and gives the exit status.
-pub fn answered<F: Folder, I: ByteIn, O: ByteOut, E: ByteOut>(
+pub fn answered<F: Folder, O: ByteOut, E: ByteOut>(
     alloc: Global,
     folder: &mut F,
-    input: &mut I,
     out: &mut O,
     err: &mut E,
     request: Request<'_>,
 ) -> u8
     ensures status { IsStatusOf request.entry result }
-    ensures answer { IsAnswered (F.holds folder.old) (λ path c. (made : Option (List ℕ)) × (file : F.Writer)
-        × F.makes folder.old path made × Appends made (F.Writer.told file) c)
-        (I.told input.old) (O.told out.old) (O.told out.new) request.entry result }
+    ensures answer { IsAnswered (inputs_of F.Reader (F.holds folder.old) (F.closed folder.old) (F.standard folder.old) F.Reader.has_failed) (F.is_one folder.old)
+        (λ path. Reaches F.Sink (F.holds folder.new path) (F.sinks folder.old path) F.Sink.told) (λ path. Stops F.Sink (IsUnmade F.NewFile (F.unwritable folder.new path) F.NewFile.has_failed) (F.sinks folder.old path) F.Sink.told F.Sink.has_failed) (seen (O.told out.old) (O.told out.new) (O.has_failed out.new)) (seen (E.told err.old) (E.told err.new) (E.has_failed err.new)) request.entry result }
 {
     match request {
-        Request::Bundle => bundle(alloc, input, out, err),
+        Request::Bundle => bundle(alloc, folder, out, err),
         Request::Check { kinds, files } => check(alloc, folder, &kinds, &files, out, err),
         Request::Canon {
             kinds,
             files,
             out: path,
-        } => canon(alloc, folder, &kinds, &files, path, out, err),
+        } => {
+            if is_standard(path) {
+                send(alloc, folder, &kinds, &files, out, err)
+            } else {
+                canon(alloc, folder, &kinds, &files, path, out, err)
+            }
+        }
         Request::Compare { kinds, files } => compare(alloc, folder, &kinds, &files, out, err),
+        Request::Misused(misuse) => report::misused(err, misuse),
         Request::Answered(status) => status,
     }
 }
 
-// The bundle on the input, of which only a fault has a line.
-fn bundle<I: ByteIn, O: ByteOut, E: ByteOut>(
+// The bundle on standard input, of which only a fault has a line.
+fn bundle<F: Folder, O: ByteOut, E: ByteOut>(
     alloc: Global,
-    input: &mut I,
+    folder: &F,
     out: &mut O,
     err: &mut E,
 ) -> u8
-    ensures { IsBundleStatus (I.told input.old) (O.told out.old) (O.told out.new) result }
+    ensures status { IsSheetStatus result }
+    ensures answer { IsBundleStatus (inputs_of F.Reader (F.holds folder.now) (F.closed folder.now) (F.standard folder.now) F.Reader.has_failed) (seen (O.told out.old) (O.told out.new) (O.has_failed out.new)) (seen (E.told err.old) (E.told err.new) (E.has_failed err.new)) result }
 {
-    match sheets::bundle(alloc, input, out) {
+    match sheets::bundle(alloc, folder, out) {
         Ok(()) => 0,
         Err(fault) => report::told(
             alloc,
@@ -128,12 +144,13 @@ fn check<F: Folder, O: ByteOut, E: ByteOut>(
     out: &mut O,
     err: &mut E,
 ) -> u8
-    ensures { IsFileStatus (F.holds folder.now) (O.told out.old) (O.told out.new) kinds.now files.now result }
+    ensures status { IsSheetStatus result }
+    ensures answer { IsFileStatus (inputs_of F.Reader (F.holds folder.now) (F.closed folder.now) (F.standard folder.now) F.Reader.has_failed) (seen (O.told out.old) (O.told out.new) (O.has_failed out.new)) (seen (E.told err.old) (E.told err.new) (E.has_failed err.new)) kinds.now files.now result }
 {
     let names = [
-        files.scd.as_bytes(),
-        files.dic.as_bytes(),
-        files.vec.as_bytes(),
+        input_name(files.scd),
+        input_name(files.dic),
+        input_name(files.vec),
         b"standard output",
     ];
     match sheets::check(alloc, folder, kinds, files) {
@@ -142,7 +159,7 @@ fn check<F: Folder, O: ByteOut, E: ByteOut>(
     }
 }
 
-// The canonical file of a sheet.
+// The canonical file of a sheet, to a path.
 fn canon<F: Folder, O: ByteOut, E: ByteOut>(
     alloc: Global,
     folder: &mut F,
@@ -152,18 +169,43 @@ fn canon<F: Folder, O: ByteOut, E: ByteOut>(
     out: &mut O,
     err: &mut E,
 ) -> u8
-    ensures status { IsCanonStatus (F.holds folder.old) (O.told out.old) (O.told out.new) kinds.now files.now
-        (λ c. (made : Option (List ℕ)) × (file : F.Writer) × F.makes folder.old path.now made × Appends made (F.Writer.told file) c) result }
+    ensures status { IsSheetStatus result }
+    ensures answer { IsCanonStatus (inputs_of F.Reader (F.holds folder.old) (F.closed folder.old) (F.standard folder.old) F.Reader.has_failed) (F.is_one folder.old) (seen (O.told out.old) (O.told out.new) (O.has_failed out.new)) (seen (E.told err.old) (E.told err.new) (E.has_failed err.new)) kinds.now files.now path.now
+        (Reaches F.Sink (F.holds folder.new path.now) (F.sinks folder.old path.now) F.Sink.told) (Stops F.Sink (IsUnmade F.NewFile (F.unwritable folder.new path.now) F.NewFile.has_failed) (F.sinks folder.old path.now) F.Sink.told F.Sink.has_failed) result }
     ensures unmade { result ≡ 2 → folder.new ≡ folder.old }
 {
     let names = [
-        files.scd.as_bytes(),
-        files.dic.as_bytes(),
-        files.vec.as_bytes(),
+        input_name(files.scd),
+        input_name(files.dic),
+        input_name(files.vec),
         path.as_bytes(),
     ];
     match sheets::canon(alloc, folder, kinds, files, path) {
         Ok(()) => report::told(alloc, out, err, &Outcome::Accepted, &names),
+        Err(fault) => report::told(alloc, out, err, &Outcome::Fault(fault), &names),
+    }
+}
+
+// The canonical file of a sheet, to the output, of which only a fault has a line.
+fn send<F: Folder, O: ByteOut, E: ByteOut>(
+    alloc: Global,
+    folder: &F,
+    kinds: &Kinds<'_>,
+    files: &SheetFiles<'_>,
+    out: &mut O,
+    err: &mut E,
+) -> u8
+    ensures status { IsSheetStatus result }
+    ensures answer { IsSendStatus (inputs_of F.Reader (F.holds folder.now) (F.closed folder.now) (F.standard folder.now) F.Reader.has_failed) (seen (O.told out.old) (O.told out.new) (O.has_failed out.new)) (seen (E.told err.old) (E.told err.new) (E.has_failed err.new)) kinds.now files.now result }
+{
+    let names = [
+        input_name(files.scd),
+        input_name(files.dic),
+        input_name(files.vec),
+        b"standard output",
+    ];
+    match sheets::send(alloc, folder, kinds, files, out) {
+        Ok(()) => 0,
         Err(fault) => report::told(alloc, out, err, &Outcome::Fault(fault), &names),
     }
 }
@@ -177,17 +219,29 @@ fn compare<F: Folder, O: ByteOut, E: ByteOut>(
     out: &mut O,
     err: &mut E,
 ) -> u8
-    ensures { IsCompareStatus (F.holds folder.now) (O.told out.old) (O.told out.new) kinds.now files.now result }
+    ensures status { IsPairStatus result }
+    ensures answer { IsCompareStatus (inputs_of F.Reader (F.holds folder.now) (F.closed folder.now) (F.standard folder.now) F.Reader.has_failed) (seen (O.told out.old) (O.told out.new) (O.has_failed out.new)) (seen (E.told err.old) (E.told err.new) (E.has_failed err.new)) kinds.now files.now result }
 {
     let names = [
-        files.scd.as_bytes(),
-        files.dic.as_bytes(),
-        files.first.as_bytes(),
-        files.second.as_bytes(),
+        input_name(files.scd),
+        input_name(files.dic),
+        input_name(files.first),
+        input_name(files.second),
         b"standard output",
     ];
     let outcome = outcome_of(sheets::compare(alloc, folder, kinds, files));
     report::told(alloc, out, err, &outcome, &names)
+}
+
+// The name of an input in a line.
+fn input_name(path: &str) -> &[u8]
+    ensures { result.now ≡ input_name path.now }
+{
+    if is_standard(path) {
+        b"standard input"
+    } else {
+        path.as_bytes()
+    }
 }
 
 // What a comparison came to.

@@ -1,7 +1,7 @@
 //! What the definitions say of known words.
 ghost use Rattle.std.specs.Prelude.{◌≡◌, [], ◌∷◌, None, Some, codes};
 ghost use Rattle.clap.specs.Words.{fault_of, subcommand_of};
-ghost use Rattle.clap.specs.declared.error.ErrorKind.TheVariants.{DisplayHelp, InvalidSubcommand, MissingRequiredArgument, UnknownArgument};
+ghost use Rattle.clap.specs.declared.error.ErrorKind.TheVariants.{DisplayHelp, DisplayVersion, InvalidSubcommand, MissingRequiredArgument, UnknownArgument};
 ghost use Rattle.edicad.specs.Requests.{edicad};
 ghost use Rattle.edicad.specs.Known.{values_of, words_in};
 
@@ -19,6 +19,7 @@ pub fn known_words_are_asked()
     ensures no_canon_fault { fault_of edicad (words_in (codes "edicad canon s --kinds=A,B,C,D d v o")) ≡ [] }
     ensures no_compare_fault { fault_of edicad (words_in (codes "edicad compare s d a b")) ≡ [] }
     ensures help { fault_of edicad (words_in (codes "edicad --help")) ≡ DisplayHelp ∷ [] }
+    ensures version { fault_of edicad (words_in (codes "edicad --version")) ≡ DisplayVersion ∷ [] }
     ensures lacking { fault_of edicad (words_in (codes "edicad canon s d v")) ≡ MissingRequiredArgument ∷ [] }
     ensures unknown { fault_of edicad (words_in (codes "edicad paint")) ≡ UnknownArgument ∷ InvalidSubcommand ∷ [] }
 {}

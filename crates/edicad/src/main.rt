@@ -2,9 +2,12 @@
 #![tactic(auto)]
 
 mod command;
+mod disk;
+mod folder;
 #[cfg(test)]
 mod known;
 mod outcome;
+mod output;
 mod report;
 mod sheets;
 mod system;

@@ -2,9 +2,11 @@
 ghost use Rattle.std.specs.Prelude.{◌≡◌, ◌<◌, ◌≤◌, IsTrue, codes};
 ghost use Rattle.std.specs.Io.KnownBytes.{Appends};
 ghost use Rattle.edicad.specs.Outcome.{HasNames, ended, line_for, status_for};
+ghost use Rattle.edicad.specs.Requests.{misuse_text};
 ghost use Rattle.edicad.specs.Statuses.{GoesOut, IsToldAs};
 
 use crate::outcome::{Outcome, line_of, status_of};
+use crate::words::Misuse;
 use edi_line::ByteOut;
 use edi_write::put_all;
 use std::alloc::Global;
@@ -13,6 +15,9 @@ use std::alloc::Global;
 pub const MEMORY_STATUS: u8 = 5;
 
 const WRITE_STATUS: u8 = 4;
+
+/// The exit status of words that are not taken.
+pub const USAGE_STATUS: u8 = 3;
 
 /// Writes the outcome's line where it belongs: answers and refusals to `out`, all else to `err`. Gives the exit
 /// status: that of the outcome, 4 if `out` fails, 5 if there is no memory for the line.
@@ -53,6 +58,27 @@ pub fn out_of_memory<E: ByteOut>(err: &mut E) -> u8
 {
     warn(err, b"out of memory\n");
     MEMORY_STATUS
+}
+
+/// Says why words can't be meant.
+pub fn misused<E: ByteOut>(err: &mut E, misuse: Misuse) -> u8
+    ensures status { result ≡ 3 }
+    ensures text { GoesOut (E.told err.old) (E.told err.new) (E.has_failed err.new) (ended (misuse_text misuse)) }
+{
+    match misuse {
+        Misuse::BadKinds => warn(err, b"bad kinds\n"),
+        Misuse::TwoStandard => warn(err, b"only one input can be -\n"),
+    }
+    USAGE_STATUS
+}
+
+/// Says that the words are no text.
+pub fn not_text<E: ByteOut>(err: &mut E) -> u8
+    ensures status { result ≡ 3 }
+    ensures text { GoesOut (E.told err.old) (E.told err.new) (E.has_failed err.new) (ended (codes "error: the words are not all UTF-8")) }
+{
+    warn(err, b"error: the words are not all UTF-8\n");
+    USAGE_STATUS
 }
 
 // Writes a line of which it doesn't matter whether it comes through.

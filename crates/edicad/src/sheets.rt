@@ -1,34 +1,39 @@
-//! The files that a command names.
-ghost use Rattle.std.specs.Prelude.{◌≡◌, ℕ, List, Option, OnOk, IfOk, IfErr, IfSome, IsTrue};
+//! The sheets that a command names.
+ghost use Rattle.std.specs.Prelude.{◌≡◌, ◌≤◌, ℕ, List, Option, length, take, OnOk, IfOk, IfErr, IfSome, IsTrue};
+ghost use Rattle.std.specs.Bool.{MatchBool};
 ghost use Rattle.std.specs.Io.KnownBytes.{Appends};
 ghost use Rattle.edi_compare.specs.Bundle.{OfParts};
-ghost use Rattle.edi_compare.specs.Runs.{BeforeWriting, InputFault, IsCanonOf, IsSheetUnder, IsVerdictOf, WritesAll, WritesFirst};
+ghost use Rattle.edi_compare.specs.Runs.{BeforeWriting, InputFault, IsCanonOf, IsSheetUnder, IsVerdictOf, MatchFault, WritesAll, WritesFirst};
+ghost use Rattle.edicad.specs.Folders.{Goes};
 ghost use Rattle.edicad.specs.Outcome.{FaultHasNames};
-ghost use Rattle.edicad.specs.Requests.{usual_kinds};
-ghost use Rattle.edicad.specs.SheetRuns.{FileFault, OfFiles, OfPair, PairFileFault, SendsCanon, SentFirst};
+ghost use Rattle.edicad.specs.Outputs.{IsUnmade, IsWholeOrNew, Reaches, Stops};
+ghost use Rattle.edicad.specs.Requests.{is_standard_path, usual_kinds};
+ghost use Rattle.edicad.specs.SheetRuns.{CanonFault, FileFault, Gives, IsApart, IsInput, IsMissing, IsNoInput, Meets, OfCanon, OfFiles, OfPair, PairFileFault, inputs_of};
 
-use crate::system::Folder;
+use crate::folder::Folder;
+use crate::output;
 use crate::words::{PairFiles, SheetFiles};
 use edi_compare::{RunFault, Verdict, canon_of, run_bundle, run_check, run_compare};
-use edi_line::{ByteIn, ByteOut};
+use edi_line::ByteOut;
 use edi_schema::Kinds;
 use edi_write::{Written, put_all};
 use std::alloc::Global;
 
-/// The bundle that is read, to its canonical file.
-pub fn bundle<I: ByteIn, O: ByteOut>(
-    alloc: Global,
-    input: &mut I,
-    out: &mut O,
-) -> Result<(), RunFault>
-    ensures ok { OnOk result (IfSome (I.told input.old) (λ b. OfParts b (λ s d v. WritesAll usual_kinds s d v (O.told out.old) (O.told out.new)))) }
-    ensures err { IfErr result (InputFault usual_kinds (I.told input.old) (I.has_failed input.new)
-        (λ count. IsTrue (O.has_failed out.new) × IfSome (I.told input.old) (λ b. OfParts b (λ s d v.
-        WritesFirst usual_kinds s d v count (O.told out.old) (O.told out.new))))) }
+// The path that stands for a standard stream.
+const STANDARD: &str = "-";
+
+/// The bundle on standard input, to its canonical file.
+pub fn bundle<F: Folder, O: ByteOut>(alloc: Global, folder: &F, out: &mut O) -> Result<(), RunFault>
+    ensures ok { OnOk result ((told : Option (List ℕ)) × F.standard folder.now told × IfSome told (λ b. OfParts b (λ s d v. WritesAll usual_kinds s d v (O.told out.old) (O.told out.new)))) }
+    ensures err { IfErr result (λ e. (told : Option (List ℕ)) × (input : F.Reader) × F.standard folder.now told
+        × InputFault usual_kinds told (F.Reader.has_failed input)
+        (λ count. IsTrue (O.has_failed out.new) × IfSome told (λ b. OfParts b (λ s d v.
+        WritesFirst usual_kinds s d v count (O.told out.old) (O.told out.new)))) e) }
     ensures unwritten { IfErr result (λ e. BeforeWriting e (out.new ≡ out.old)) }
     ensures names { IfErr result (λ e. FaultHasNames e 2) }
 {
-    run_bundle(alloc, &Kinds::usual(), input, out)
+    let mut input = folder.input();
+    run_bundle(alloc, &Kinds::usual(), &mut input, out)
 }
 
 /// Whether the sheet of three files is accepted. All are opened before the first is read.
@@ -38,8 +43,8 @@ pub fn check<F: Folder>(
     kinds: &Kinds<'_>,
     files: &SheetFiles<'_>,
 ) -> Result<(), RunFault>
-    ensures ok { OnOk result (OfFiles (F.holds folder.now) files.now (IsSheetUnder kinds.now)) }
-    ensures err { IfErr result (FileFault (F.holds folder.now) kinds.now files.now (λ _. ⊥)) }
+    ensures ok { OnOk result (OfFiles (inputs_of F.Reader (F.holds folder.now) (F.closed folder.now) (F.standard folder.now) F.Reader.has_failed) files.now (IsSheetUnder kinds.now)) }
+    ensures err { IfErr result (FileFault (inputs_of F.Reader (F.holds folder.now) (F.closed folder.now) (F.standard folder.now) F.Reader.has_failed) kinds.now files.now (λ _. ⊥)) }
     ensures names { IfErr result (λ e. FaultHasNames e 4) }
 {
     let mut scd = opened(folder, files.scd, 1)?;
@@ -48,7 +53,8 @@ pub fn check<F: Folder>(
     run_check(alloc, kinds, &mut scd, &mut dic, &mut vec)
 }
 
-/// The sheet of three files, to a fourth, which is made or emptied once the sheet is accepted.
+/// The canonical file of the sheet of three files, to a path that is none of them. It is written once the sheet is
+/// accepted, and replaces a file whole or not at all.
 pub fn canon<F: Folder>(
     alloc: Global,
     folder: &mut F,
@@ -56,19 +62,42 @@ pub fn canon<F: Folder>(
     files: &SheetFiles<'_>,
     out: &str,
 ) -> Result<(), RunFault>
-    ensures ok { OnOk result (SendsCanon (F.holds folder.old) kinds.now files.now (λ c. (made : Option (List ℕ)) × (file : F.Writer)
-        × F.makes folder.old out.now made × Appends made (F.Writer.told file) c)) }
-    ensures err { IfErr result (FileFault (F.holds folder.old) kinds.now files.now (SentFirst (F.holds folder.old) kinds.now files.now)) }
+    ensures ok { OnOk result (IsNoInput (F.is_one folder.old) files.now out.now × OfCanon (inputs_of F.Reader (F.holds folder.old) (F.closed folder.old) (F.standard folder.old) F.Reader.has_failed) kinds.now files.now
+        (Reaches F.Sink (F.holds folder.new out.now) (F.sinks folder.old out.now) F.Sink.told)) }
+    ensures err { IfErr result (CanonFault (inputs_of F.Reader (F.holds folder.old) (F.closed folder.old) (F.standard folder.old) F.Reader.has_failed) (F.is_one folder.old) kinds.now files.now out.now
+        (λ count. OfCanon (inputs_of F.Reader (F.holds folder.old) (F.closed folder.old) (F.standard folder.old) F.Reader.has_failed) kinds.now files.now (Stops F.Sink (IsUnmade F.NewFile (F.unwritable folder.new out.now) F.NewFile.has_failed)
+        (F.sinks folder.old out.now) F.Sink.told F.Sink.has_failed count))) }
     ensures unmade { IfErr result (λ e. BeforeWriting e (folder.new ≡ folder.old)) }
+    ensures replaced { F.tells folder.old → Goes (F.moment folder.old) (F.moment folder.new) (F.left_since folder.old) (F.left_since folder.new)
+        (IsWholeOrNew out.now (F.moment folder.old) (F.left_since folder.old) (λ c. OfFiles (inputs_of F.Reader (F.holds folder.old) (F.closed folder.old) (F.standard folder.old) F.Reader.has_failed) files.now (λ s d v. IsCanonOf kinds.now s d v c))) }
     ensures names { IfErr result (λ e. FaultHasNames e 4) }
 {
-    let bytes = canon_bytes(alloc, folder, kinds, files)?;
-    match folder.make(out) {
-        Some(mut file) => match put_all(&mut file, &bytes) {
-            Ok(()) => Ok(()),
-            Err(written) => Err(RunFault::Write(written)),
-        },
-        None => Err(RunFault::Write(Written { count: 0 })),
+    if is_input(folder, files, out) {
+        return Err(RunFault::Write(Written { count: 0 }));
+    }
+    match canon_bytes(alloc, folder, kinds, files) {
+        Ok(bytes) => output::put(folder, out, &bytes),
+        Err(fault) => Err(fault),
+    }
+}
+
+/// The canonical file of the sheet of three files, to a writer, and nothing else.
+pub fn send<F: Folder, O: ByteOut>(
+    alloc: Global,
+    folder: &F,
+    kinds: &Kinds<'_>,
+    files: &SheetFiles<'_>,
+    out: &mut O,
+) -> Result<(), RunFault>
+    ensures ok { OnOk result (OfFiles (inputs_of F.Reader (F.holds folder.now) (F.closed folder.now) (F.standard folder.now) F.Reader.has_failed) files.now (λ s d v. WritesAll kinds.now s d v (O.told out.old) (O.told out.new))) }
+    ensures err { IfErr result (FileFault (inputs_of F.Reader (F.holds folder.now) (F.closed folder.now) (F.standard folder.now) F.Reader.has_failed) kinds.now files.now (λ count. IsTrue (O.has_failed out.new)
+        × OfFiles (inputs_of F.Reader (F.holds folder.now) (F.closed folder.now) (F.standard folder.now) F.Reader.has_failed) files.now (λ s d v. WritesFirst kinds.now s d v count (O.told out.old) (O.told out.new)))) }
+    ensures unwritten { IfErr result (λ e. BeforeWriting e (out.new ≡ out.old)) }
+    ensures names { IfErr result (λ e. FaultHasNames e 4) }
+{
+    match canon_bytes(alloc, folder, kinds, files) {
+        Ok(bytes) => sent(out, &bytes),
+        Err(fault) => Err(fault),
     }
 }
 
@@ -79,8 +108,8 @@ pub fn compare<F: Folder>(
     kinds: &Kinds<'_>,
     files: &PairFiles<'_>,
 ) -> Result<Verdict, RunFault>
-    ensures ok { IfOk result (λ verdict. OfPair (F.holds folder.now) files.now (λ s d a b. IsVerdictOf kinds.now s d a b verdict)) }
-    ensures err { IfErr result (PairFileFault (F.holds folder.now) kinds.now files.now) }
+    ensures ok { IfOk result (λ verdict. OfPair (inputs_of F.Reader (F.holds folder.now) (F.closed folder.now) (F.standard folder.now) F.Reader.has_failed) files.now (λ s d a b. IsVerdictOf kinds.now s d a b verdict)) }
+    ensures err { IfErr result (PairFileFault (inputs_of F.Reader (F.holds folder.now) (F.closed folder.now) (F.standard folder.now) F.Reader.has_failed) kinds.now files.now) }
     ensures names { IfErr result (λ e. FaultHasNames e 5) }
 {
     let mut scd = opened(folder, files.scd, 1)?;
@@ -90,6 +119,27 @@ pub fn compare<F: Folder>(
     run_compare(alloc, kinds, &mut scd, &mut dic, &mut first, &mut second)
 }
 
+/// Whether a path stands for a standard stream.
+pub fn is_standard(path: &str) -> bool
+    ensures { result ≡ is_standard_path path.now }
+{
+    path == STANDARD
+}
+
+// Writes all bytes.
+fn sent<O: ByteOut>(out: &mut O, bytes: &[u8]) -> Result<(), RunFault>
+    ensures ok { OnOk result (Appends (O.told out.old) (O.told out.new) bytes.now) }
+    ensures err { IfErr result (λ e. MatchFault e (λ _. ⊥) (λ _. ⊥) (λ _. ⊥) (λ _. ⊥) (λ _. ⊥)
+        (λ count. IsTrue (O.has_failed out.new) × (count ≤ length bytes.now) × Appends (O.told out.old) (O.told out.new) (take count bytes.now))) }
+    ensures unwritten { IfErr result (λ e. BeforeWriting e (out.new ≡ out.old)) }
+    ensures names { IfErr result (λ e. FaultHasNames e 4) }
+{
+    match put_all(out, bytes) {
+        Ok(()) => Ok(()),
+        Err(written) => Err(RunFault::Write(written)),
+    }
+}
+
 // The canonical file of the sheet of three files.
 fn canon_bytes<F: Folder>(
     alloc: Global,
@@ -97,8 +147,8 @@ fn canon_bytes<F: Folder>(
     kinds: &Kinds<'_>,
     files: &SheetFiles<'_>,
 ) -> Result<Vec<u8>, RunFault>
-    ensures ok { IfOk result (λ c. OfFiles (F.holds folder.now) files.now (λ s d v. IsCanonOf kinds.now s d v c.items)) }
-    ensures err { IfErr result (FileFault (F.holds folder.now) kinds.now files.now (λ _. ⊥)) }
+    ensures ok { IfOk result (λ c. OfFiles (inputs_of F.Reader (F.holds folder.now) (F.closed folder.now) (F.standard folder.now) F.Reader.has_failed) files.now (λ s d v. IsCanonOf kinds.now s d v c.items)) }
+    ensures err { IfErr result (FileFault (inputs_of F.Reader (F.holds folder.now) (F.closed folder.now) (F.standard folder.now) F.Reader.has_failed) kinds.now files.now (λ _. ⊥)) }
     ensures names { IfErr result (λ e. FaultHasNames e 4) }
 {
     let mut scd = opened(folder, files.scd, 1)?;
@@ -107,10 +157,33 @@ fn canon_bytes<F: Folder>(
     canon_of(alloc, kinds, &mut scd, &mut dic, &mut vec)
 }
 
-// A file that is there to read.
+// An input that is there to read.
 fn opened<F: Folder>(folder: &F, path: &str, input: u8) -> Result<F::Reader, RunFault>
-    ensures ok { IfOk result (λ file. F.holds folder.now path.now (F.Reader.told file)) }
-    ensures err { IfErr result (λ e. e ≡ RunFault.Read input) }
+    ensures ok { IfOk result (λ file. Gives (inputs_of F.Reader (F.holds folder.now) (F.closed folder.now) (F.standard folder.now) F.Reader.has_failed) path.now (F.Reader.told file)) }
+    ensures err { IfErr result (λ e. IsMissing (inputs_of F.Reader (F.holds folder.now) (F.closed folder.now) (F.standard folder.now) F.Reader.has_failed) path.now × (e ≡ RunFault.Read input)) }
 {
-    folder.open(path).ok_or(RunFault::Read { input })
+    if is_standard(path) {
+        return Ok(folder.input());
+    }
+    match folder.open(path) {
+        Some(file) => Ok(file),
+        None => Err(RunFault::Read { input }),
+    }
+}
+
+// Whether a path is that of an input, or leads to its file.
+fn is_input<F: Folder>(folder: &F, files: &SheetFiles<'_>, out: &str) -> bool
+    ensures { MatchBool result (IsInput (F.is_one folder.now) files.now out.now) (IsNoInput (F.is_one folder.now) files.now out.now) }
+{
+    meets(folder, files.scd, out) || meets(folder, files.dic, out) || meets(folder, files.vec, out)
+}
+
+// Whether the path of an input is this one, or leads to its file.
+fn meets<F: Folder>(folder: &F, path: &str, out: &str) -> bool
+    ensures { MatchBool result (Meets (F.is_one folder.now) out.now path.now) (IsApart (F.is_one folder.now) out.now path.now) }
+{
+    if is_standard(path) {
+        return false;
+    }
+    path == out || folder.is_one_file(path, out)
 }

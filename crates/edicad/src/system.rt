@@ -1,60 +1,33 @@
-//! The system's files and its stream of errors, as places to read from and to write to.
+//! The system's words and its stream of errors.
 //!
-//! What they hold can't be known, so nothing of it is claimed.
-ghost use Rattle.std.specs.Prelude.{◌≡◌, ℕ, List, Option, None, IfSome, ⊤, false};
+//! Which words it gives can't be known, so nothing of them is claimed.
+ghost use Rattle.std.specs.Prelude.{◌≡◌, ℕ, List, None, IfOk, map, string_bytes, ⊤, false};
 
-use edi_line::{ByteIn, ByteOut, FromRead, ToWrite};
-use std::fs;
-use std::rt::Files;
+use edi_line::ByteOut;
+use std::rt::Env;
+use std::{env, io};
 
-/// Where files are opened and made by their paths.
-pub trait Folder {
-    type Reader: ByteIn + Drop;
+/// Where the words of a command line come from, of which the first is the program's name.
+pub trait Words {
+    /// The words that are given.
+    ghost gives: { Self → List (List ℕ) → Type 0 };
 
-    type Writer: ByteOut + Drop;
-
-    /// What a file of this path may tell that it holds.
-    ghost holds: { Self → List ℕ → Option (List ℕ) → Type 0 };
-
-    /// What a file that was just made at this path may tell that it holds.
-    ghost makes: { Self → List ℕ → Option (List ℕ) → Type 0 };
-
-    /// The file of a path, from its first byte on, if it can be opened.
-    fn open(&self, path: &str) -> Option<Self::Reader>
-        ensures { IfSome result (λ file. holds self.now path.now (Self.Reader.told file)) };
-
-    /// The file of a path, made or emptied, if it can be.
-    fn make(&mut self, path: &str) -> Option<Self::Writer>
-        ensures { IfSome result (λ file. makes self.old path.now (Self.Writer.told file)) };
+    /// The words, if memory suffices and all are UTF-8.
+    fn words(&self) -> io::Result<Vec<String>>
+        ensures { IfOk result (λ words. gives self.now (map string_bytes words.items)) };
 }
 
-/// The files of the system.
+/// The words that the system gives.
 #[derive(Drop)]
-pub struct Disk<'a, R> {
-    pub files: &'a R,
+pub struct CommandLine<'a, R> {
+    pub rt: &'a R,
 }
 
-impl<R: Files> Folder for Disk<'_, R> {
-    type Reader = FromRead<R::File>;
+impl<R: Env + AllocGlobal> Words for CommandLine<'_, R> {
+    ghost gives = { λ _ _. ⊤ };
 
-    type Writer = ToWrite<R::File>;
-
-    ghost holds = { λ _ _ _. ⊤ };
-
-    ghost makes = { λ _ _ _. ⊤ };
-
-    fn open(&self, path: &str) -> Option<FromRead<R::File>> {
-        match fs::open(self.files, path) {
-            Ok(file) => Some(FromRead::new(file)),
-            Err(_) => None,
-        }
-    }
-
-    fn make(&mut self, path: &str) -> Option<ToWrite<R::File>> {
-        match fs::create(self.files, path) {
-            Ok(file) => Some(ToWrite::new(file)),
-            Err(_) => None,
-        }
+    fn words(&self) -> io::Result<Vec<String>> {
+        Ok(env::args(self.rt)?.collect(self.rt.alloc())?)
     }
 }
 

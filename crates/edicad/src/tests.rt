@@ -5,13 +5,14 @@ use crate::command::run_words;
 use crate::known::known_words_are_asked;
 use crate::outcome::{Outcome, line_of, status_of};
 use edi_compare::{Fault, RunFault, run_bundle};
-use edi_line::{FromRead, ScriptOut, ToWrite};
+use edi_line::{ByteIn, FromRead, ScriptOut, ToWrite};
 use edi_schema::{Kinds, SchemaFault, Source};
 use edi_write::Written;
 use std::alloc::AllocError;
-use std::fs;
+use std::io::Read;
 use std::process::Abort;
 use std::test::Fail;
+use std::{fs, io};
 
 // The file of classes of a schema.
 const CLASSES: &[u8] = b"\
@@ -153,6 +154,45 @@ fn tells_an_output_that_fails(rt: HostRuntime) -> Result<(), Fail> {
     }
 }
 
+// A reader that is interrupted once, and then at its end.
+#[derive(Drop)]
+struct Interrupted {
+    is_past: bool,
+}
+
+impl Read for Interrupted {
+    fn read(&mut self, _buf: &mut [u8]) -> io::Result<usize> {
+        if self.is_past {
+            return Ok(0);
+        }
+        self.is_past = true;
+        Err(io::Error::from(io::ErrorKind::Interrupted))
+    }
+}
+
+// An interrupted read is a failure, and for good.
+#[test]
+fn fails_where_a_read_is_interrupted(rt: HostRuntime) -> Result<(), Fail> {
+    let names: [&[u8]; 2] = [b"standard input", b"standard output"];
+    let mut buffer = [0u8; 4];
+    let mut reader = FromRead::new(Interrupted { is_past: false });
+    assert!(rt; reader.read(&mut buffer).is_none());
+    assert!(rt; reader.read(&mut buffer).is_none());
+    let mut source = FromRead::new(Interrupted { is_past: false });
+    let mut taken = Vec::new(rt.alloc());
+    let mut writer = ToWrite::new(&mut taken);
+    match run_bundle(rt.alloc(), &Kinds::usual(), &mut source, &mut writer) {
+        Ok(()) => is_told(&rt, &Outcome::Accepted, &names, b"", 4),
+        Err(fault) => is_told(
+            &rt,
+            &Outcome::Fault(fault),
+            &names,
+            b"cannot read standard input\n",
+            4,
+        ),
+    }
+}
+
 // The words of a command line, with the program's name.
 fn words(rt: &HostRuntime, line: &str) -> Result<Vec<String>, Fail> {
     let mut words = Vec::new(rt.alloc());
@@ -224,6 +264,13 @@ fn writes_an_accepted_sheet_alone(rt: HostRuntime) -> Result<(), Fail> {
         fs::read_to_string(&rt, "edicad_written/out")?.as_str(),
         CANON
     );
+    let input = format!(in rt.alloc(); "edicad canon {files} edicad_written/v")?;
+    assert_eq!(rt; status(&rt, &input)?, 4);
+    assert_eq!(rt;
+        fs::read_to_string(&rt, "edicad_written/v")?.as_str(),
+        SHEET
+    );
+    assert_eq!(rt; status(&rt, "edicad check - - edicad_written/v")?, 3);
     let nowhere = format!(in rt.alloc(); "edicad canon {files} edicad_written/none/out")?;
     assert_eq!(rt; status(&rt, &nowhere)?, 4);
     let folder = "edicad check edicad_written/s edicad_written/d edicad_written";

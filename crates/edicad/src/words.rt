@@ -1,19 +1,30 @@
 //! What the words of the command line ask for.
-ghost use Rattle.std.specs.Prelude.{◌≡◌, IfErr, IfOk, MatchOption, OnOk, [], map, option_map, string_bytes};
+ghost use Rattle.std.specs.Prelude.{◌≡◌, ◌↔◌, ◌<◌, ◌≤◌, IsTrue, IfErr, IfOk, MatchOption, OnOk, [], map, option_map, string_bytes};
 ghost use Rattle.clap.specs.Words.{HasKind, app_of, fault_of, found_of, kind_of, rows_of, rule_of, subcommand_of, subcommand_rows_of, with_rule};
 ghost use Rattle.edi_schema.specs.Roles.{KindCodes};
-ghost use Rattle.edicad.specs.Requests.{AreKindsIn, AreKindsOf, ArePairFiles, AreSheetFiles, IsAsked, IsOwn, Means, canon_command, check_command, compare_command, edicad, file_rule, kinds_rule, schema_command, status_of_kind, value_at};
+ghost use Rattle.edicad.specs.Requests.{AreKindsIn, AreKindsOf, ArePairFiles, AreSheetFiles, IsAsked, IsOwn, Means, canon_command, check_command, compare_command, edicad, file_rule, kinds_rule, schema_command, standard_at, standard_count, status_of_kind, value_at};
 
 use crate::report;
+use crate::sheets::is_standard;
 use crate::system::Errors;
 use clap::error::ErrorKind;
 use clap::{Arg, ArgMatches, Command, Error};
 use edi_schema::Kinds;
 use std::alloc::{AllocError, Global};
 
-const USAGE_STATUS: u8 = 3;
+const SHEET: &str = "The sheet, a file of type VEC";
 
-const SHEET: &str = "The sheet: nodes, arcs, faces, objects and links, as a file of type VEC";
+const VERSION: &str = "0.1.0";
+
+const STATUSES: &str = "\
+    A file named - is standard input, or standard output.\n\
+    \n\
+    Exit status: 0 accepted, or the same plan\n\
+    \x20            1 different plans\n\
+    \x20            2 refused\n\
+    \x20            3 wrong words\n\
+    \x20            4 a file can't be read or written\n\
+    \x20            5 out of memory";
 
 /// The files of a sheet: of classes, of words, and the sheet's own.
 #[derive(Clone, Copy, Debug)]
@@ -53,8 +64,19 @@ pub enum Request<'a> {
         kinds: Kinds<'a>,
         files: PairFiles<'a>,
     },
+    /// Nothing that can be meant.
+    Misused(Misuse),
     /// Nothing more: the words were answered on standard error, and this is the exit status.
     Answered(u8),
+}
+
+/// Why words in good form can't be meant.
+#[derive(Clone, Copy, Debug)]
+pub enum Misuse {
+    /// The codes of the kinds are not four codes, of which no two are equal.
+    BadKinds,
+    /// Standard input is to be read twice.
+    TwoStandard,
 }
 
 /// What the words ask for, of which the first is the program's name.
@@ -62,7 +84,7 @@ pub fn asked<'a, R: Eprint + AllocGlobal>(rt: &R, words: &'a [String]) -> Reques
     ensures { IsAsked (map string_bytes words.entry.now) result }
 {
     match parsed(rt.alloc(), words) {
-        Ok(matches) => meant(rt, &matches),
+        Ok(matches) => meant(&matches),
         Err(error) => Request::Answered(refused(rt, &error)),
     }
 }
@@ -81,9 +103,11 @@ fn command<'a>(alloc: Global) -> Result<Command<'a>, AllocError>
     ensures { IfOk result (λ c. app_of c ≡ edicad) }
 {
     Command::new(alloc, "edicad")
+        .version(VERSION)
         .about(
-            "Checks EDIGeO sheets of the cadastral plan, writes their canonical files, which are equal exactly if two sheets state the same plan, and compares two sheets. Without a subcommand, reads SCD, DIC and VEC one after the other from standard input, and writes the canonical file to standard output. Exit status: 0 accepted or the same, 1 different, 2 refused (the first broken rule is printed, with its line or record), 3 words that can't be read, 4 a file that can't be read or written, 5 out of memory.",
+            "Reads EDIGeO sheets of the French cadastral plan.\n\nWithout a command, it reads SCD, DIC and VEC one after the other from\nstandard input, and writes the canonical file to standard output.",
         )
+        .after_help(STATUSES)
         .subcommand(check(alloc)?)?
         .subcommand(canon(alloc)?)?
         .subcommand(compare(alloc)?)
@@ -94,7 +118,7 @@ fn check<'a>(alloc: Global) -> Result<Command<'a>, AllocError>
     ensures { IfOk result (λ c. app_of c ≡ check_command) }
 {
     let over_schema = over_schema(alloc, "check")?.about(
-        "Tells whether a sheet breaks no rule: prints accepted with status 0, or the first broken rule, with its line or record, with status 2. Other statuses: 3 words that can't be read, 4 a file that can't be read, 5 out of memory",
+        "Says whether a sheet is accepted, or which rule it breaks first",
     );
     with_file(alloc, over_schema, "VEC", SHEET)
 }
@@ -104,14 +128,14 @@ fn canon<'a>(alloc: Global) -> Result<Command<'a>, AllocError>
     ensures { IfOk result (λ c. app_of c ≡ canon_command) }
 {
     let over_schema = over_schema(alloc, "canon")?.about(
-        "Writes the canonical file of a sheet to OUT: the same plan, with its records renamed, turned and put in order. Prints accepted with status 0, or the first broken rule, with its line or record, with status 2; OUT is then left as it is. Other statuses: 3 words that can't be read, 4 a file that can't be read or written, 5 out of memory",
+        "Writes the canonical file of a sheet to OUT",
     );
     let over_sheet = with_file(alloc, over_schema, "VEC", SHEET)?;
     with_file(
         alloc,
         over_sheet,
         "OUT",
-        "Where the canonical file goes: made or emptied once the sheet is accepted",
+        "The canonical file, which replaces OUT whole or not at all",
     )
 }
 
@@ -120,19 +144,19 @@ fn compare<'a>(alloc: Global) -> Result<Command<'a>, AllocError>
     ensures { IfOk result (λ c. app_of c ≡ compare_command) }
 {
     let over_schema = over_schema(alloc, "compare")?.about(
-        "Tells whether two sheets state the same plan, up to the names of their records, the order of what has none and the direction of arcs. Prints same with status 0; different with status 1, and the first line in which their canonical files differ; or, with status 2, the first broken rule of A, or else of B, with its line or record. Other statuses: 3 words that can't be read, 4 a file that can't be read, 5 out of memory",
+        "Says whether two sheets state the same plan",
     );
     let over_sheet = with_file(
         alloc,
         over_schema,
         "A",
-        "The one sheet, as a file of type VEC",
+        "The first sheet, a file of type VEC",
     )?;
     with_file(
         alloc,
         over_sheet,
         "B",
-        "The other sheet, as a file of type VEC",
+        "The second sheet, a file of type VEC",
     )
 }
 
@@ -145,13 +169,13 @@ fn over_schema<'a>(alloc: Global, name: &'a str) -> Result<Command<'a>, AllocErr
         alloc,
         with_kinds,
         "SCD",
-        "The schema of the delivery: its classes, as a file of type SCD",
+        "The schema of the delivery, a file of type SCD",
     )?;
     with_file(
         alloc,
         with_scd,
         "DIC",
-        "The dictionary of the delivery, as a file of type DIC",
+        "The dictionary of the delivery, a file of type DIC",
     )
 }
 
@@ -181,13 +205,11 @@ fn kinds_option<'a>(alloc: Global) -> Arg<'a>
     Arg::new(alloc, "kinds")
         .long("kinds")
         .value_name("I,F,L,R")
-        .help(
-            "The KND codes of links to an arc's initial node, final node, left face and right face [usually IND,FND,LPO,RPO]",
-        )
+        .help("Codes of the kinds of link [default: IND,FND,LPO,RPO]")
 }
 
 // What words in good form ask for.
-fn meant<'a, R: Eprint>(rt: &R, matches: &ArgMatches<'a>) -> Request<'a>
+fn meant<'a>(matches: &ArgMatches<'a>) -> Request<'a>
     requires { IsOwn (subcommand_rows_of matches.now) }
     ensures { Means (subcommand_rows_of matches.now) result }
 {
@@ -195,9 +217,11 @@ fn meant<'a, R: Eprint>(rt: &R, matches: &ArgMatches<'a>) -> Request<'a>
         return Request::Bundle;
     };
     let Some(kinds) = kinds_of(given.get_str("kinds")) else {
-        let _ = rt.eprint("bad kinds\n");
-        return Request::Answered(USAGE_STATUS);
+        return Request::Misused(Misuse::BadKinds);
     };
+    if reads_input_twice(given) {
+        return Request::Misused(Misuse::TwoStandard);
+    }
     match name {
         "check" => Request::Check {
             kinds,
@@ -213,6 +237,26 @@ fn meant<'a, R: Eprint>(rt: &R, matches: &ArgMatches<'a>) -> Request<'a>
             files: pair_files(given),
         },
     }
+}
+
+// Whether more than one input is standard input.
+fn reads_input_twice(given: &ArgMatches<'_>) -> bool
+    ensures { IsTrue result ↔ (1 < standard_count (rows_of (found_of given.now))) }
+{
+    standard(given, "SCD")
+        + standard(given, "DIC")
+        + standard(given, "VEC")
+        + standard(given, "A")
+        + standard(given, "B")
+        > 1
+}
+
+// 1 where an argument names standard input, and else 0.
+fn standard(given: &ArgMatches<'_>, name: &str) -> u8
+    ensures value { result ≡ standard_at name.now (rows_of (found_of given.now)) }
+    ensures bound { result ≤ 1 }
+{
+    if is_standard(path(given, name)) { 1 } else { 0 }
 }
 
 // The files of a sheet, as the arguments name them.
@@ -282,5 +326,9 @@ fn refused<R: Eprint>(rt: &R, error: &Error) -> u8
         return report::out_of_memory(&mut Errors::new(rt));
     }
     let _ = rt.eprint(error);
-    if error.use_stderr() { USAGE_STATUS } else { 0 }
+    if error.use_stderr() {
+        report::USAGE_STATUS
+    } else {
+        0
+    }
 }

@@ -1,6 +1,6 @@
 use Rattle.std.proofs.Common.{◌≡◌, ◌≤◌, ◌++◌, ◌-◌, length, take, drop}
 use Rattle.std.specs.List.{concat}
-use Rattle.edi_line.specs.Lines.{lines_of}
+use Rattle.edi_line.specs.inner.Lines.{lines_of}
 use Rattle.edi_compare.specs.Bundle.{first_file, later_files}
 use Rattle.edi_compare.proofs.bundle.file_len.Given as goal
 

@@ -1,9 +1,9 @@
 use Rattle.std.proofs.Common.{[], ◌∷◌, ◌++◌, sym, ap, subst, arith, length, length-append}
 use Rattle.std.proofs.lemmas.List.{length_push}
 use Rattle.std.proofs.lemmas.Result.{err_from_is_err_and}
-use Rattle.edi_line.specs.Held.{Takes, Refuses}
-use Rattle.edi_line.specs.Feeding.{TakesFront, RefusesIn}
-use Rattle.edi_line.specs.Spelling.{reading_of}
+use Rattle.edi_line.specs.inner.Held.{Takes, Refuses}
+use Rattle.edi_line.specs.inner.Feeding.{TakesFront, RefusesIn}
+use Rattle.edi_line.specs.inner.Spelling.{reading_of}
 use Rattle.edi_line.proofs.Rules.{stands_more}
 use Rattle.edi_line.proofs.Feeds.{if_broken, front_more, refuses_first, refuses_more}
 use Rattle.edi_line.proofs.feed.take_ended.Goals as goal

@@ -1,7 +1,7 @@
 use Rattle.std.proofs.Common.{ℕ, ◌+◌, ◌<◌, ◌^◌, List, length}
 use Rattle.edi_line.specs.Spelling.{Reading}
-use Rattle.edi_line.specs.Held.{Stands}
-use Rattle.edi_line.specs.Feeding.{TakesFront, RefusesIn}
+use Rattle.edi_line.specs.inner.Held.{Stands}
+use Rattle.edi_line.specs.inner.Feeding.{TakesFront, RefusesIn}
 use Rattle.edi_line.specs.declared.reading.Reader.{Reader}
 use Rattle.edi_line.proofs.feed.take_ended.Given as goal
 

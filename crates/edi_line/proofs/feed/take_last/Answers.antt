@@ -1,10 +1,10 @@
 use Rattle.std.proofs.Common.{◌<◌, length, sym, ◌∙◌, subst, arith}
 use Rattle.std.proofs.lemmas.Bool.{eqb-false}
 use Rattle.std.proofs.lemmas.Result.{on_ok_weaker}
-use Rattle.edi_line.specs.Held.{Takes, Refuses}
-use Rattle.edi_line.specs.Feeding.{RefusesOne}
-use Rattle.edi_line.specs.Spelling.{reading_of}
-use Rattle.edi_line.specs.Zones.{readings_of}
+use Rattle.edi_line.specs.inner.Held.{Takes, Refuses}
+use Rattle.edi_line.specs.inner.Feeding.{RefusesOne}
+use Rattle.edi_line.specs.inner.Spelling.{reading_of}
+use Rattle.edi_line.specs.inner.Zones.{readings_of}
 use Rattle.edi_line.proofs.Feeds.{if_err, takes_last, refuses_last}
 use Rattle.edi_line.proofs.feed.take_last.Goals as goal
 

@@ -1,10 +1,10 @@
 use Rattle.std.proofs.Common.{◌≡◌, [], ◌∷◌, ◌++◌, sym, ap, ◌∙◌, subst}
 use Rattle.std.proofs.lemmas.List.{append_assoc}
 use Rattle.std.proofs.lemmas.Result.{err_from_is_err_and}
-use Rattle.edi_line.specs.Held.{Refuses}
-use Rattle.edi_line.specs.Feeding.{TakesFront, RefusesIn}
+use Rattle.edi_line.specs.inner.Held.{Refuses}
+use Rattle.edi_line.specs.inner.Feeding.{TakesFront, RefusesIn}
 use Rattle.edi_line.specs.Lines.{content_of}
-use Rattle.edi_line.specs.Spelling.{reading_of}
+use Rattle.edi_line.specs.inner.Spelling.{reading_of}
 use Rattle.edi_line.proofs.Rules.{stands_more}
 use Rattle.edi_line.proofs.Ends.{pending_ended}
 use Rattle.edi_line.proofs.Feeds.{if_broken, front_more, refuses_first, refuses_more}

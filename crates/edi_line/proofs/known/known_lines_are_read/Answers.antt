@@ -1,9 +1,10 @@
 use Rattle.std.proofs.Common.{codes, None, Err, [], ◌∷◌, refl, inl, lit≤}
-use Rattle.edi_line.specs.Spelling.{reading_of, has_head}
+use Rattle.edi_line.specs.inner.Spelling.{reading_of, has_head}
 use Rattle.edi_line.specs.Zones.{IsGroup, IsFileOf}
 use Rattle.edi_line.specs.Printing.{zone_text}
 use Rattle.edi_line.proofs.Cut.{lines_exist}
 use Rattle.edi_line.proofs.KnownFiles.{refused_as, unbroken_as, zones_as}
+use Rattle.edi_line.proofs.ZonesSaid.{zones_read}
 use Rattle.edi_line.proofs.known.known_lines_are_read.Goals as goal
 
 pub returns-clause-lines : goal.returns-clause-lines
@@ -23,7 +24,7 @@ returns-clause-remark c = zones_as _ _ refl refl
 pub returns-clause-faulty : goal.returns-clause-faulty
 unfolding reading_of has_head
 returns-clause-faulty c =
-    λ zones is. is.readable 101 1 (lit≤ tt)
+    λ zones is. (zones_read _ zones is).readable 101 1 (lit≤ tt)
     (record { before = []; line = Err 101; after = []; cut = refl; place_is = refl; breaks = inl refl })
 
 pub returns-clause-hand_made : goal.returns-clause-hand_made

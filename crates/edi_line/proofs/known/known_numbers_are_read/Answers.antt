@@ -1,7 +1,8 @@
 use Rattle.std.proofs.Common.{◌≡◌, List, ℕ, Option, Some, None, refl, sym, ◌∙◌}
 use Rattle.std.specs.Prelude.{ℤ}
 use Rattle.std.specs.Fmt.{digits}
-use Rattle.edi_line.specs.Number.{IsNumberText, number, whole_number, fraction_number, fraction_digits, size_text}
+use Rattle.edi_line.specs.Number.{IsNumberText, fraction_digits, size_text}
+use Rattle.edi_line.specs.inner.Number.{number, whole_number, fraction_number}
 use Rattle.edi_line.proofs.NumberRead.{number_is}
 use Rattle.edi_line.proofs.known.known_numbers_are_read.Goals as goal
 

@@ -2,8 +2,8 @@ use Rattle.std.proofs.Common.{◌≡◌, ◌∙◌, ◌∷◌, [], arith, sym, a
 use Rattle.std.proofs.lemmas.Bool.{eqb-true}
 use Rattle.std.proofs.lemmas.List.{nil_from_length}
 use Rattle.std.proofs.lemmas.Result.{err_from_is_err_and}
-use Rattle.edi_line.specs.Zones.{readings_of}
-use Rattle.edi_line.specs.Spelling.{reading_of}
+use Rattle.edi_line.specs.inner.Zones.{readings_of}
+use Rattle.edi_line.specs.inner.Spelling.{reading_of}
 use Rattle.edi_line.proofs.Passes.{taken, all_taken, readings_step, fault_refused, end_refused, end_sound, end_zones}
 use Rattle.edi_line.proofs.Shape.{end_shape, end_few}
 use Rattle.edi_line.proofs.reading.zones.Goals as goal
@@ -14,7 +14,7 @@ returns-in_err-take_line-clause-least c =
     let line = reading_of c.content.result.now in
     let next : readings_of c.loop-rest.rest.now ≡ line ∷ readings_of c.first_line.result.1.now =
     readings_step c.loop-rest.rest.now c.first_line.result.0.now c.first_line.result.1.now c.first_line.ensures.lines ∙ ap (λ x. reading_of x ∷ readings_of c.first_line.result.1.now) (sym c.content.ensures) in
-    rw (p.1, p.2) (fault_refused (readings_of c.args.bytes.now) c.loop-rest.reader line (readings_of c.first_line.result.1.now) c.in_err-take_line.field-0.0
+    rw (p.1, p.2) (fault_refused c.args.bytes.now c.loop-rest.reader line (readings_of c.first_line.result.1.now) c.in_err-take_line.field-0.0
     (record { stands = c.loop-rest.invariant.stands; left_is = c.loop-rest.invariant.left ∙ next }) c.in_err-take_line.ensures.broken)
 
 pub loop-rest-preserved : goal.loop-rest-preserved
@@ -34,7 +34,7 @@ pub returns-clause-sound : goal.returns-clause-sound
 returns-clause-sound c =
     let none : c.loop-rest.rest.now ≡ [] = nil_from_length c.loop-rest.rest.now (eqb-true _ _ (sym c.is_empty.ensures ∙ c.loop-rest-test.false)) in
     let s = all_taken (readings_of c.args.bytes.now) c.loop-rest.reader (record { stands = c.loop-rest.invariant.stands; left_is = c.loop-rest.invariant.left ∙ ap readings_of none }) in
-    end_sound (readings_of c.args.bytes.now) c.loop-rest.reader c.finish.result s c.finish.ensures.ok
+    end_sound c.args.bytes.now c.loop-rest.reader c.finish.result s c.finish.ensures.ok
 
 pub returns-clause-zones : goal.returns-clause-zones
 returns-clause-zones c =
@@ -58,4 +58,4 @@ pub returns-clause-least : goal.returns-clause-least
 returns-clause-least c =
     let none : c.loop-rest.rest.now ≡ [] = nil_from_length c.loop-rest.rest.now (eqb-true _ _ (sym c.is_empty.ensures ∙ c.loop-rest-test.false)) in
     let s = all_taken (readings_of c.args.bytes.now) c.loop-rest.reader (record { stands = c.loop-rest.invariant.stands; left_is = c.loop-rest.invariant.left ∙ ap readings_of none }) in
-    end_refused (readings_of c.args.bytes.now) c.loop-rest.reader c.finish.result s c.finish.ensures.broken
+    end_refused c.args.bytes.now c.loop-rest.reader c.finish.result s c.finish.ensures.broken

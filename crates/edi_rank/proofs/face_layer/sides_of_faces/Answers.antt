@@ -9,4 +9,4 @@ face_there : (p : Drawing) (places : List ℕ) (i : ℕ) → places ≡ places_o
 face_there p places i e h = subst (λ ks. get_or ks i 0 < length p.list) (sym e) (place_there Pfe p i (subst (λ ks. i < length ks) e h))
 
 pub bounds-sides-place : goal.bounds-sides-place
-bounds-sides-place c = omega (arith, c.requires, face_there c.args.plan.now c.deref-place-items.result.now c.loop-place.place-index c.loop-place.invariant.places c.loop-place-test.true)
+bounds-sides-place c = omega (arith, c.requires, face_there c.args.plan.now c.places-places.result.now c.loop-place.place-index c.loop-place.invariant.places c.loop-place-test.true)

@@ -6,6 +6,6 @@ use Rattle.edi_rank.proofs.face_layer.sides_of_faces.Given as goal
 
 abbrev pub invariant-loop-place : goal.invariant-loop-place
 invariant-loop-place l = record {
-  places : l.place-items ≡ places_of Pfe l.plan;
-  keys : l.keys.items ++ map (λ k. unwrap_or (get_or l.sides k None) no_side) (drop l.place-index l.place-items) ≡ map (λ k. unwrap_or (get_or l.sides k None) no_side) l.place-items;
+  places : l.places ≡ places_of Pfe l.plan;
+  keys : l.keys.items ++ map (λ k. unwrap_or (get_or l.sides k None) no_side) (drop l.place-index l.places) ≡ map (λ k. unwrap_or (get_or l.sides k None) no_side) l.places;
 }

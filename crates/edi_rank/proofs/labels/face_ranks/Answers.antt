@@ -23,7 +23,7 @@ returns-in-Ok c =
 pub unreachable-requires : goal.unreachable-requires
 unreachable-requires c =
     no_face_ties c.args.sound.now c.plan-plan.ensures.whole c.plan-plan.ensures.joined c.args.arcs.now
-    (ranks_each points_cmp points_total (λ m. get_or (forward_keys c.args.sound.now) m []) (length (places_of Par c.args.sound.now)) c.args.arcs.now c.requires) c.requires.all c.plan-plan.ensures.sound c.in-Err-Tie.field-0-0
+    (ranks_each points_cmp points_total (λ m. get_or (forward_keys c.args.sound.now) m []) (length (places_of Par c.args.sound.now)) c.args.arcs.now c.requires.ranking) c.requires.ranking.all c.plan-plan.ensures.sound c.in-Err-Tie.field-0-0
     (tie_by faces.cmp face_key_cmp face_order (λ m. get_or (face_keys c.args.sound.now c.args.arcs.now) m no_side) (length (places_of Pfe c.args.sound.now)) c.in-Err-Tie.field-0-0
     (subst (λ keys. IsTie faces.cmp (λ m. get_or keys m no_side) (length (places_of Pfe c.args.sound.now)) (Tie c.in-Err-Tie.field-0-0)) c.in_ok-layer.ensures
     (subst (λ n. IsTie faces.cmp (λ m. get_or c.in_ok-layer.layer m no_side) n (Tie c.in-Err-Tie.field-0-0)) (ap length c.in_ok-layer.ensures ∙ Rattle.std.proofs.lemmas.List.length-map (places_of Pfe c.args.sound.now) _)

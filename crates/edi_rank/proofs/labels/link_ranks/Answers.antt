@@ -12,11 +12,11 @@ returns-in-Ok c =
     let p = c.args.plan.now in
     let l : LinkSource = record { plan = p; classes = c.args.schema.now; turned = c.args.turned.now; numbers = c.args.numbers.now } in
     ranking_by derived_cmp placed_link_cmp placed_order (λ m. placed_link_key l (get_or (places_of Lnk p) m 0)) (length (places_of Lnk p)) c.in-Ok.ranks
-    (subst (λ (l : LinkSource). IsRanking derived_cmp (λ m. placed_link_key l (get_or (places_of Lnk l.plan) m 0)) (length (places_of Lnk l.plan)) c.in-Ok.ranks) c.in_ok-layer.ensures c.in-Ok.ensures.numbers)
+    (subst (λ (l : LinkSource). IsRanking derived_cmp (λ m. placed_link_key l (get_or (places_of Lnk l.plan) m 0)) (length (places_of Lnk l.plan)) c.in-Ok.ranks) c.of-layer.ensures c.in-Ok.ensures.numbers)
 
 pub unreachable-requires : goal.unreachable-requires
 unreachable-requires c =
-    let l = c.in_ok-layer.layer in
+    let l = c.of-layer.result in
     no_link_ties l c.in-Err-Tie.field-0-0
     (tie_by derived_cmp placed_link_cmp placed_order (λ m. placed_link_key l (get_or (places_of Lnk l.plan) m 0)) (length (places_of Lnk l.plan)) c.in-Err-Tie.field-0-0
     (subst (λ f. IsTie derived_cmp (λ m. placed_link_key l (get_or (places_of Lnk l.plan) m 0)) (length (places_of Lnk l.plan)) f) c.in-Err-Tie.field-0-is c.in-Err-Tie.ensures.tie)).0

@@ -1,36 +1,44 @@
-use Rattle.std.proofs.Common.{◌≡◌, ◌∙◌, ◌+◌, ◌<◌, cond, true, false, ap, sym, arith, length-set, length, subst, get_or}
-use Rattle.edi_plan.specs.Plans.{IsPlace, blank, same_kind}
-use Rattle.edi_rank.proofs.KindNumbers.{before, count_more, member_below, each_written, each_passed, others_kept}
+use Rattle.std.proofs.Common.{◌≡◌, ◌+◌, ◌<◌, ◌≤◌, ◌∙◌, ℕ, List, length, length-set, get_or, set, subst, sym, ap, arith}
+use Rattle.edi_plan.specs.Places.{places_of}
+use Rattle.edi_plan.proofs.PlaceLemmas.{place_there, places_few}
+use Rattle.edi_rank.proofs.KindNumbers.{WrittenTo, OthersStay, written_more, others_stay, each_member}
 use Rattle.edi_rank.proofs.numbering.number_kind.Goals as goal
-use Rattle.edi_rank.proofs.numbering.number_kind.Goals.{then-is_same_kind, else-is_same_kind}
 
 pub number-requires : goal.number-requires
-number-requires c =
-    let there : IsPlace c.args.plan.now c.loop-place.place = omega (arith, c.loop-place-test.true, c.len-place-end.ensures) in
-    let here = sym (c.is_same_kind.ensures ∙ ap (same_kind c.args.kind) c.kind.ensures) ∙ c.if-is_same_kind.true in
-    let below : c.loop-place.member < length (Rattle.edi_plan.specs.Places.places_of c.args.kind c.args.plan.now) =
-    subst (λ n. n < length (Rattle.edi_plan.specs.Places.places_of c.args.kind c.args.plan.now)) (sym c.loop-place.invariant.member) (member_below c.args.plan.now c.args.kind c.loop-place.place there here) in
-    omega (arith, c.requires.ranks, below)
+number-requires c = omega (arith, c.requires.ranks, ap length c.loop-place.invariant.places, c.loop-place.invariant.member, c.loop-place-test.true)
+
+pub overflow_add-member : goal.overflow_add-member
+overflow_add-member c = omega (arith, ap length c.loop-place.invariant.places, places_few c.args.kind c.args.plan.now, c.keeps.ensures.whole.few, c.loop-place.invariant.member, c.loop-place-test.true)
+
+pub index_mut-requires : goal.index_mut-requires
+index_mut-requires c =
+    let within = subst (λ ks. c.loop-place.place-index < length ks) c.loop-place.invariant.places c.loop-place-test.true in
+    omega (arith, c.loop-place.invariant.long, ap (λ ks. get_or ks c.loop-place.place-index 0) c.loop-place.invariant.places, place_there c.args.kind c.args.plan.now c.loop-place.place-index within)
 
 pub loop-place-preserved : goal.loop-place-preserved
 loop-place-preserved c =
     let p = c.args.plan.now in
     let kind = c.args.kind in
-    let loop = c.loop-place in
-    let there : IsPlace c.args.plan.now c.loop-place.place = omega (arith, c.loop-place-test.true, c.len-place-end.ensures) in
-    let more = count_more (λ r. same_kind kind r.kind) p.list loop.place blank there in
-    let is = sym (c.is_same_kind.ensures ∙ ap (same_kind c.args.kind) c.kind.ensures) in
-    elim c.if-is_same_kind.branch [
-      | then-is_same_kind w ↦ rw (w.numbers-is, w.member-is) (record {
-        long = length-set loop.numbers.items loop.place w.number.result ∙ loop.invariant.long;
-        member = ap (λ n. n + 1) loop.invariant.member ∙ sym (more ∙ ap (λ b. before p kind loop.place + cond b 1 0) (is ∙ w.if-is_same_kind.true));
-        each = each_written p kind c.args.ranks.now loop.numbers.items loop.invariant.long loop.place there loop.invariant.each w.number.result (w.number.ensures ∙ ap (λ m. get_or c.args.ranks.now m 0) loop.invariant.member);
-        others = others_kept p kind loop.numbers.items c.args.numbers.items loop.place w.number.result (is ∙ w.if-is_same_kind.true) loop.invariant.others;
-      })
-      | else-is_same_kind w ↦ rw (w.numbers-is, w.member-is) (record {
-        long = loop.invariant.long;
-        member = loop.invariant.member ∙ sym (more ∙ (ap (λ b. before p kind loop.place + cond b 1 0) (is ∙ w.if-is_same_kind.false) ∙ Rattle.std.proofs.Common.add-zero (before p kind loop.place)));
-        each = each_passed p kind c.args.ranks.now loop.numbers.items loop.invariant.long loop.place there loop.invariant.each (is ∙ w.if-is_same_kind.false);
-        others = loop.invariant.others;
-      })
-    ]
+    let n = c.loop-place.place-index in
+    let i = c.loop-place.invariant in
+    let old = c.loop-place.numbers.items in
+    let value = c.number.result in
+    let within = subst (λ ks. n < length ks) i.places c.loop-place-test.true in
+    let place = ap (λ ks. get_or ks n 0) i.places in
+    record {
+      places = i.places;
+      long = length-set old (get_or c.places-place-items.result.now n 0) value ∙ i.long;
+      member = ap (λ m. m + 1) i.member;
+      each = subst (λ k. WrittenTo p kind c.args.ranks.now (n + 1) (set old k value)) (sym place)
+          (written_more p kind old n value within c.args.ranks.now i.long (c.number.ensures ∙ ap (λ m. get_or c.args.ranks.now m 0) i.member) i.each);
+      others = subst (λ k. OthersStay p kind c.args.numbers.items (set old k value)) (sym place) (others_stay p kind old n value within c.args.numbers.items i.others);
+    }
+
+pub returns-clause-each : goal.returns-clause-each
+returns-clause-each c =
+    let i = c.loop-place.invariant in
+    let all : length (places_of c.args.kind c.args.plan.now) ≤ c.loop-place.place-index = subst (λ ks. length ks ≤ c.loop-place.place-index) i.places c.loop-place-test.false in
+    each_member c.args.plan.now c.args.kind c.args.ranks.now c.loop-place.numbers.items (λ m h. i.each m (omega (arith, h, all)))
+
+pub returns-clause-others : goal.returns-clause-others
+returns-clause-others c = c.loop-place.invariant.others

@@ -1,6 +1,6 @@
 use Rattle.std.proofs.Common.{◌∙◌, ◌∷◌, ◌+◌, sym, ap, take}
 use Rattle.std.proofs.lemmas.List.{take_rest}
-use Rattle.edi_record.specs.Texts.{parts}
+use Rattle.edi_record.specs.inner.Texts.{parts}
 use Rattle.edi_record.proofs.TextParts.{cut_at, cut_none}
 use Rattle.edi_record.proofs.pointer.cut.Goals as goal
 

@@ -2,9 +2,9 @@ use Rattle.std.proofs.Common.{◌≡◌, ◌∙◌, ◌∷◌, [], ◌+◌, drop
 use Rattle.std.proofs.lemmas.Slice.Eq.{bytes_eq-Decides}
 use Rattle.edi_line.specs.Entry.{entry, entries}
 use Rattle.edi_line.specs.Zones.{before_end, groups_of}
-use Rattle.edi_record.specs.RecordRules.{kind_in}
-use Rattle.edi_record.specs.RecordRefusal.{IsGroupRefusal}
-use Rattle.edi_record.specs.Kept.{KeepsRecord}
+use Rattle.edi_record.specs.inner.RecordRules.{kind_in}
+use Rattle.edi_record.specs.inner.RecordRefusal.{IsGroupRefusal}
+use Rattle.edi_record.specs.inner.Kept.{KeepsRecord}
 use Rattle.edi_record.proofs.GroupCuts.{head_kind, one_type, goes_on, stops, no_group}
 use Rattle.edi_record.proofs.Loops.{next_zone, no_zone}
 use Rattle.edi_record.proofs.RecordKept.{skipped}

@@ -1,7 +1,7 @@
 use Rattle.std.proofs.Common.{◌≡◌, ◌∷◌, ◌≤◌, drop}
 use Rattle.edi_line.specs.Entry.{entry, entries}
 use Rattle.edi_line.specs.Zones.{before_end, groups_of}
-use Rattle.edi_record.specs.Kept.{KeepsRecord}
+use Rattle.edi_record.specs.inner.Kept.{KeepsRecord}
 use Rattle.edi_record.proofs.stating.record_of.Given as goal
 
 abbrev pub invariant-loop-zone : goal.invariant-loop-zone

@@ -1,4 +1,4 @@
-use Rattle.edi_schema.proofs.Defined.{one_more, no_more, all_read}
+use Rattle.edi_schema.proofs.Defined.{no_more, all_read}
 use Rattle.edi_schema.proofs.definition.definitions.Goals as goal
 
 pub loop-rest-preserved : goal.loop-rest-preserved

@@ -1,13 +1,13 @@
-use Rattle.std.proofs.Common.{◌≡◌, ◌∙◌, ◌+◌, List, map, take, refl, sym, subst, arith, rules}
+use Rattle.std.proofs.Common.{◌≡◌, ◌∙◌, ◌+◌, map, take, refl, sym, subst, arith}
 use Rattle.std.specs.List.{IsDistinct}
 use Rattle.std.proofs.lemmas.Grind.{common_steps}
 use Rattle.edi_schema.specs.Classes.{is_name}
 use Rattle.edi_schema.specs.Drafts.{named, said}
-use Rattle.edi_schema.proofs.Distinct.{names_distinct, any_named, none_distinct, repeat_found, all_distinct}
+use Rattle.edi_schema.proofs.Distinct.{names_distinct, none_distinct, repeat_found, all_distinct}
 use Rattle.edi_schema.proofs.titles.titles.Goals as goal
 
 pub loop-place-init : goal.loop-place-init
-loop-place-init c = record { names = rw c.new-titles.ensures.empty refl; distinct = none_distinct }
+loop-place-init c = record { names = rw c.with_hasher-titles.ensures.empty refl; distinct = none_distinct }
 
 pub loop-place-preserved : goal.loop-place-preserved
 loop-place-preserved c =

@@ -14,8 +14,8 @@ returns c =
     let s = c.args.schema.now in
     let l = c.args.labels.now in
     let written = joined_parts (begin_zone ∷ map cse_zone (option_to_list (option_copied c.cse.result))) (flat_map (numbered_zones s l c.plan-plan.result.now) (old_places l)) end_zone
-    c.new-out.result.items c.write_begin.new.out.items c.write_records.new.out.items c.write_zone.new.out.items
-    c.new-out.ensures.items c.in_ok-write_begin.ensures c.in_ok-write_records.ensures c.in_ok-write_zone.ensures in
+    c.new-page.result.file.items c.write_begin.new.page.file.items c.write_records.new.page.file.items c.write.new.self.file.items
+    c.new-page.ensures c.in_ok-write_begin.ensures c.in_ok-write_records.ensures c.in_ok-write.ensures in
     written ∙ (ap (λ set. printed (begin_zone ∷ (map cse_zone (option_to_list set) ++ (flat_map (numbered_zones s l c.plan-plan.result.now) (old_places l) ++ end_zone ∷ [])))) c.cse.ensures
     ∙ (ap (λ (q : Drawing). printed (begin_zone ∷ (map cse_zone (option_to_list q.cse) ++ (flat_map (numbered_zones s l q) (old_places l) ++ end_zone ∷ [])))) p.plan
     ∙ sym (laid_out s c.args.sound.now l c.requires.labels p.whole)))

@@ -23,6 +23,6 @@ returns-after-others-lt1 c =
     let all : c.numbered_end.result ∷ rest ≡ ends_key p number (record_at p c.args.place).ends =
     ap (λ k. k ∷ rest) (c.numbered_end.ensures ∙ ap (λ (ns : List ℕ). numbered p (slice_index ns) c.origin-item.result) c.numbers.ensures)
     ∙ (ends_keyed p number order ends c.origin-item.result c.in-len1-up.len_at_least c.origin-item.is puts ∙ ap (ends_key p number) c.ends.ensures) in
-    subst (λ (xs : List ℕ). OnOk c.write_others.result (c.write_others.new.out.items ≡ xs))
-    (origin_first numbered_end_zones c.numbered_end.result rest (ends_key p number (record_at p c.args.place).ends) c.args.out.now.items c.write_end.new.out.items c.in_ok-write_end-in-len1-up.ensures all)
+    subst (λ (xs : List ℕ). OnOk c.write_others.result (c.write_others.new.page.file.items ≡ xs))
+    (origin_first numbered_end_zones c.numbered_end.result rest (ends_key p number (record_at p c.args.place).ends) c.args.page.now.file.items c.write_end.new.page.file.items c.in_ok-write_end-in-len1-up.ensures all)
     c.write_others.ensures

@@ -20,13 +20,13 @@ pub loop-index-preserved : goal.loop-index-preserved
 loop-index-preserved c =
     let p = c.args.plan.now in
     let long = length-ends_at c.args.order.now c.args.others.now c.requires.order in
-    ends_more numbered_end_zones (numbered p (number_of c.args.labels.now)) (ends_at c.args.order.now c.args.others.now) c.loop-index.index no_end c.args.out.now.items c.loop-index.out.items c.write_end.new.out.items
+    ends_more numbered_end_zones (numbered p (number_of c.args.labels.now)) (ends_at c.args.order.now c.args.others.now) c.loop-index.index no_end c.args.page.now.file.items c.loop-index.page.file.items c.write_end.new.page.file.items
     (omega (arith, long, c.loop-index-test.true)) c.loop-index.invariant
-    (c.in_ok-write_end.ensures ∙ ap (λ k. c.loop-index.out.items ++ printed (numbered_end_zones k))
+    (c.in_ok-write_end.ensures ∙ ap (λ k. c.loop-index.page.file.items ++ printed (numbered_end_zones k))
     (c.numbered_end.ensures ∙ ap₂ (λ (ns : List ℕ) (e : PlanEnd). numbered p (slice_index ns) e) c.numbers.ensures c.end_in_order-end.ensures))
 
 pub returns : goal.returns
 returns c =
     let long = length-ends_at c.args.order.now c.args.others.now c.requires.order in
-    c.loop-index.invariant ∙ ap (λ xs. c.args.out.now.items ++ printed (flat_map numbered_end_zones (map (numbered c.args.plan.now (number_of c.args.labels.now)) xs)))
+    c.loop-index.invariant ∙ ap (λ xs. c.args.page.now.file.items ++ printed (flat_map numbered_end_zones (map (numbered c.args.plan.now (number_of c.args.labels.now)) xs)))
     (take_whole (ends_at c.args.order.now c.args.others.now) c.loop-index.index (omega (arith, long, c.loop-index-test.false)))

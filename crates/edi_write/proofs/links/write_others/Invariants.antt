@@ -8,4 +8,4 @@ use Rattle.edi_write.specs.Numbered.{numbered_end_zones}
 use Rattle.edi_write.proofs.links.write_others.Given as goal
 
 abbrev pub invariant-loop-index : goal.invariant-loop-index
-invariant-loop-index l = l.out.items ≡ l.fn.out.items ++ printed (flat_map numbered_end_zones (map (numbered l.plan (number_of l.labels)) (take l.index (ends_at l.order l.others))))
+invariant-loop-index l = l.page.file.items ≡ l.fn.page.file.items ++ printed (flat_map numbered_end_zones (map (numbered l.plan (number_of l.labels)) (take l.index (ends_at l.order l.others))))

@@ -4,4 +4,4 @@ use Rattle.edi_record.specs.Layout.{point_zone}
 use Rattle.edi_write.proofs.records.write_backward.Given as goal
 
 abbrev pub invariant-loop-place : goal.invariant-loop-place
-invariant-loop-place l = l.out.items ++ printed (map point_zone (reverse (take l.place l.points))) ≡ l.fn.out.items ++ printed (map point_zone (reverse l.points))
+invariant-loop-place l = l.page.file.items ++ printed (map point_zone (reverse (take l.place l.points))) ≡ l.fn.page.file.items ++ printed (map point_zone (reverse l.points))

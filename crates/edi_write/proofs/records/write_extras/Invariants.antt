@@ -4,4 +4,4 @@ use Rattle.edi_record.specs.Layout.{extra_zone}
 use Rattle.edi_write.proofs.records.write_extras.Given as goal
 
 abbrev pub invariant-loop-extra : goal.invariant-loop-extra
-invariant-loop-extra l = l.out.items ≡ l.fn.out.items ++ printed (map extra_zone (take l.extra-index l.extras))
+invariant-loop-extra l = l.page.file.items ≡ l.fn.page.file.items ++ printed (map extra_zone (take l.extra-index l.extras))

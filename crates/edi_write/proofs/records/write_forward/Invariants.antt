@@ -4,4 +4,4 @@ use Rattle.edi_record.specs.Layout.{point_zone}
 use Rattle.edi_write.proofs.records.write_forward.Given as goal
 
 abbrev pub invariant-loop-point : goal.invariant-loop-point
-invariant-loop-point l = l.out.items ≡ l.fn.out.items ++ printed (map point_zone (take l.point-index l.points))
+invariant-loop-point l = l.page.file.items ≡ l.fn.page.file.items ++ printed (map point_zone (take l.point-index l.points))

@@ -5,4 +5,4 @@ use Rattle.edi_write.specs.Numbered.{numbered_zones}
 use Rattle.edi_write.proofs.records.write_kind.Given as goal
 
 abbrev pub invariant-loop-place : goal.invariant-loop-place
-invariant-loop-place l = l.out.items ≡ l.fn.out.items ++ printed (flat_map (numbered_zones l.schema l.labels l.plan) (take l.place-index l.places))
+invariant-loop-place l = l.page.file.items ≡ l.fn.page.file.items ++ printed (flat_map (numbered_zones l.schema l.labels l.plan) (take l.place-index l.places))

@@ -1,13 +1,33 @@
-use Rattle.std.proofs.Common.{◌≡◌, ℕ, List, [], ◌∷◌, codes, refl, subst, arith}
+use Rattle.std.proofs.Common.{ℕ, List, [], ◌∷◌, ◌≡◌, Option, IfSome, IsTrue, codes, refl, subst, sym, arith}
+use Rattle.edi_compare.specs.Bundle.{OfParts}
+use Rattle.edi_compare.specs.Runs.{InputFault, WritesFirst, seen}
 use Rattle.std.specs.Io.KnownBytes.{Appends}
 use Rattle.edicad.specs.Outcome.{ended, words_of_fault}
-use Rattle.edicad.proofs.Refusals.{bundle_status, told_two, unwritten}
+use Rattle.edicad.specs.Requests.{usual_kinds}
+use Rattle.edicad.specs.Statuses.{SaysRefusal}
+use Rattle.edicad.proofs.Refusals.{input_refused, means_fault, unwritten}
 use Rattle.edicad.proofs.command.bundle.Goals as goal
 
-pub returns-in-Err : goal.returns-in-Err
-returns-in-Err g c =
+pub returns-in-Err-clause-answer : goal.returns-in-Err-clause-answer
+returns-in-Err-clause-answer g c =
+    let told = c.told in
+    let before = g.O.ByteOut.told c.args.out.now in
+    let out = seen before (g.O.ByteOut.told told.new.out) (g.O.ByteOut.has_failed told.new.out) in
+    let err = seen (g.E.ByteOut.told c.args.err.now) (g.E.ByteOut.told told.new.err) (g.E.ByteOut.has_failed told.new.err) in
+    let s = told.result in
+    let e = c.in-Err.fault in
+    let h = c.in-Err.ensures.err in
+    let held : Option (List ℕ) = h.0 in
+    let failed = g.F.Reader.ByteIn.has_failed h.1 in
     let names : List (List ℕ) = codes "standard input" ∷ codes "standard output" ∷ [] in
-    bundle_status _ _ names _ _ _ c.in-Err.fault _ refl c.in-Err.ensures.err c.told.ensures.status
-    (λ two. let kept : c.bundle.new.out ≡ c.args.out.now = unwritten c.in-Err.fault _ c.in-Err.ensures.unwritten (told_two _ _ c.told.ensures.status two) in
-    subst (λ o. Appends (g.O.ByteOut.told o) (g.O.ByteOut.told c.told.new.out) (ended (words_of_fault c.in-Err.fault names))) kept
-    (c.told.ensures.answer (omega (arith, two))).0)
+    let W : g.row.O.Denot → ℕ → Type 0 = λ o n. IsTrue (g.O.ByteOut.has_failed o) × IfSome held (λ b. OfParts b (λ scd dic vec. WritesFirst usual_kinds scd dic vec n before (g.O.ByteOut.told o))) in
+    let means = means_fault _ (IfSome held (λ b. OfParts b (SaysRefusal out usual_kinds))) (InputFault usual_kinds held failed (W told.new.out)) names out err s e
+    (λ big four. subst (λ o. InputFault usual_kinds held failed (W o) e) (sym (told.ensures.fault big four).1) h.3)
+    (λ is two. input_refused out usual_kinds names refl held failed (W c.bundle.new.out) e h.3 is
+    (let kept : c.bundle.new.out ≡ c.args.out.now = unwritten e _ c.in-Err.ensures.unwritten is in
+    subst (λ o. Appends (g.O.ByteOut.told o) out.after (ended (words_of_fault e names))) kept (told.ensures.answer (omega (arith, two))).0))
+    told.ensures.status
+    (λ small four. (told.ensures.unwritten small four).0)
+    (λ big four. (told.ensures.fault big four).0)
+    (λ five. (told.ensures.memory five).0) in
+    (held, failed, h.2, (λ f. (h.1, f)), means)

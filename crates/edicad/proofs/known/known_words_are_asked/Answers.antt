@@ -14,6 +14,7 @@ returns c = record {
   no_canon_fault = refl;
   no_compare_fault = refl;
   help = refl;
+  version = refl;
   lacking = refl;
   unknown = refl;
 }

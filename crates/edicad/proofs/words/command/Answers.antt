@@ -1,17 +1,18 @@
 use Rattle.std.proofs.Common.{◌≡◌, ◌∙◌, ap, ap₂, codes}
 use Rattle.std.proofs.lemmas.Result.{IfOk-weaker}
 use Rattle.clap.specs.Words.{App, app_of, new_app, with_subcommand}
-use Rattle.edicad.specs.Requests.{canon_command, check_command}
+use Rattle.edicad.specs.Requests.{canon_command, check_command, versioned}
 use Rattle.edicad.proofs.Plain.{command_local}
 use Rattle.edicad.proofs.words.command.Goals as goal
 
 pub returns : goal.returns
 returns c =
-    let top_is : app_of c.about.result ≡ new_app (codes "edicad") = rw c.about.ensures c.new.ensures.app in
-    let with_check : app_of c.in_ok-subcommand.field-0 ≡ with_subcommand (new_app (codes "edicad")) check_command.top =
+    let top_is : app_of c.after_help.result ≡ versioned (new_app (codes "edicad")) =
+    rw (c.after_help.ensures, c.about.ensures, c.version.ensures) (ap versioned c.new.ensures.app) in
+    let with_check : app_of c.in_ok-subcommand.field-0 ≡ with_subcommand (versioned (new_app (codes "edicad"))) check_command.top =
     c.in_ok-subcommand.ensures.shape (command_local c.in_ok-check.field-0 (ap (λ (a : App). a.top.is_plain) c.in_ok-check.ensures))
     ∙ ap₂ with_subcommand top_is (ap (λ (a : App). a.top) c.in_ok-check.ensures) in
-    let with_canon : app_of c.in_ok-subcommand-2.field-0 ≡ with_subcommand (with_subcommand (new_app (codes "edicad")) check_command.top) canon_command.top =
+    let with_canon : app_of c.in_ok-subcommand-2.field-0 ≡ with_subcommand (with_subcommand (versioned (new_app (codes "edicad"))) check_command.top) canon_command.top =
     c.in_ok-subcommand-2.ensures.shape (command_local c.in_ok-canon.field-0 (ap (λ (a : App). a.top.is_plain) c.in_ok-canon.ensures))
     ∙ ap₂ with_subcommand with_check (ap (λ (a : App). a.top) c.in_ok-canon.ensures) in
     IfOk-weaker c.subcommand-3.result _ _

@@ -1,4 +1,4 @@
-use Rattle.std.proofs.Common.{◌≡◌, ◌∙◌, codes, Option, Some, None, option_map, is_some, refl, sym, ap, ap₂, subst, inl, inr}
+use Rattle.std.proofs.Common.{◌≡◌, ◌∙◌, codes, Option, Some, None, option_map, is_some, sym, ap, ap₂, subst, inl, inr}
 use Rattle.std.specs.Prelude.{unwrap_or}
 use Rattle.std.proofs.lemmas.Bool.{false≢true}
 use Rattle.clap.specs.Words.{found_of, rows_of}
@@ -13,17 +13,24 @@ pair_of both None x y e r = absurd (false≢true (sym (ap is_some e)))
 pair_of both (Some b) x y e r = ap₂ (λ s t. Some (s, t)) (sym (ap (λ o. unwrap_or o x) e)) (sym (ap (λ o. unwrap_or o y) r))
 
 pub returns-in_default-kinds_of : goal.returns-in_default-kinds_of
-returns-in_default-kinds_of g c =
+returns-in_default-kinds_of c =
     let text_is = c.get_str.ensures ∙ first_value-rows (found_of c.in-Some.given.now) _ in (
       c.in-Some.name.now,
       rows_of (found_of c.in-Some.given.now),
       pair_of _ _ _ _ c.in-Some.ensures.name c.in-Some.ensures.rows,
       (λ k are. c.in_default-kinds_of.ensures k (subst (λ t. AreKindsOf t k) (sym text_is) are)),
-      refl,
     )
 
+pub returns-then-reads_input_twice : goal.returns-then-reads_input_twice
+returns-then-reads_input_twice c = (
+  c.in-Some.name.now,
+  rows_of (found_of c.in-Some.given.now),
+  pair_of _ _ _ _ c.in-Some.ensures.name c.in-Some.ensures.rows,
+  c.reads_input_twice.ensures.0 c.if-reads_input_twice.true,
+)
+
 pub returns-in-check : goal.returns-in-check
-returns-in-check g c =
+returns-in-check c =
     let text_is = c.get_str.ensures ∙ first_value-rows (found_of c.in-Some.given.now) _ in
     let rows = rows_of (found_of c.in-Some.given.now) in (
       rows,
@@ -33,7 +40,7 @@ returns-in-check g c =
     )
 
 pub returns-in-canon : goal.returns-in-canon
-returns-in-canon g c =
+returns-in-canon c =
     let text_is = c.get_str.ensures ∙ first_value-rows (found_of c.in-Some.given.now) _ in
     let rows = rows_of (found_of c.in-Some.given.now) in (
       rows,
@@ -44,7 +51,7 @@ returns-in-canon g c =
     )
 
 pub returns-in_default-name : goal.returns-in_default-name
-returns-in_default-name g c =
+returns-in_default-name c =
     let text_is = c.get_str.ensures ∙ first_value-rows (found_of c.in-Some.given.now) _ in
     let rows = rows_of (found_of c.in-Some.given.now) in
     let met = pair_of _ _ _ _ c.in-Some.ensures.name c.in-Some.ensures.rows in

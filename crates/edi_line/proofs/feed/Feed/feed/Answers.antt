@@ -1,6 +1,8 @@
 use Rattle.std.proofs.Common.{◌≡◌, ◌++◌, Some, option_map, refl, sym, ap, ◌∙◌, subst, arith}
-use Rattle.edi_line.specs.Feeding.{StandsBy, HoldsFault, RefusesIn, fault_seen, refusal_seen}
-use Rattle.edi_line.proofs.Feeds.{if_broken, refused_still, held_by, stands_by, holds_room, piece_taken, piece_refused}
+use Rattle.edi_line.specs.Feeding.{StandsBy, HoldsFault, fault_seen}
+use Rattle.edi_line.specs.inner.Feeding.{RefusesIn, refusal_seen}
+use Rattle.edi_line.specs.inner.Zones.{readings_of}
+use Rattle.edi_line.proofs.Feeds.{held_stands, if_broken, refused_still, held_by, stands_by, holds_room, piece_taken, piece_refused}
 use Rattle.edi_line.specs.contracts.feed.Feed.{the_view}
 use Rattle.edi_line.proofs.feed.Feed.feed.Goals as goal
 
@@ -16,6 +18,14 @@ take_piece-requires-clause-room c =
     let none = ap (option_map refusal_seen) c.in_default.is in
     let is = c.requires (sym (ap (λ s. s.refused) c.self.view_is) ∙ none) in
     omega (arith, is.2, holds_room is.0 v (held_by is.0 v c.args.self.now c.self.view_is none is.1))
+
+pub take_piece-requires-clause-holds : goal.take_piece-requires-clause-holds
+take_piece-requires-clause-holds c =
+    let v = the_view c.self.inside in
+    let none = ap (option_map refusal_seen) c.in_default.is in
+    let is = c.requires (sym (ap (λ s. s.refused) c.self.view_is) ∙ none) in
+    let h = held_by is.0 v c.args.self.now c.self.view_is none is.1 in
+    (readings_of h.ended, held_stands is.0 v c.self.inside.reader (refl, refl, refl) h)
 
 pub returns-in-Ok-clause-takes : goal.returns-in-Ok-clause-takes
 returns-in-Ok-clause-takes c =

@@ -1,9 +1,10 @@
 use Rattle.std.proofs.Common.{◌≡◌, Some, option_map, refl, sym, ap, ◌∙◌, subst, arith}
 use Rattle.std.proofs.lemmas.Result.{err_from_is_err_and}
-use Rattle.edi_line.specs.Feeding.{StandsBy, RefusesOne, fault_seen, refusal_seen}
+use Rattle.edi_line.specs.Feeding.{StandsBy, fault_seen}
+use Rattle.edi_line.specs.inner.Feeding.{RefusesOne, refusal_seen}
 use Rattle.edi_line.specs.LineRules.{BreaksLineRule}
 use Rattle.edi_line.specs.Refusal.{IsLeastBroken}
-use Rattle.edi_line.specs.Zones.{readings_of}
+use Rattle.edi_line.specs.inner.Zones.{readings_of}
 use Rattle.edi_line.specs.contracts.feed.Feed.{the_view}
 use Rattle.edi_line.proofs.Passes.{end_refused, end_sound, end_zones}
 use Rattle.edi_line.proofs.Shape.{end_shape, end_few}
@@ -64,13 +65,13 @@ returns-clause-few c =
 pub returns-clause-sound : goal.returns-clause-sound
 returns-clause-sound c =
     let none = ap (option_map refusal_seen) c.in_default.is in
-    λ b h. end_sound (readings_of b) c.take_last.new.reader c.finish.result
+    λ b h. end_sound b c.take_last.new.reader c.finish.result
     (end_by b c.deref.result.now (the_view c.self.inside) c.args.self c.self.inside.reader c.take_last.new.reader (refl, refl, refl) c.self.view_is none c.deref.ensures.value c.in_ok-take_last.ensures.ok h)
     c.finish.ensures.ok
 
 pub returns-clause-least : goal.returns-clause-least
 returns-clause-least c =
     let none = ap (option_map refusal_seen) c.in_default.is in
-    λ b h. end_refused (readings_of b) c.take_last.new.reader c.finish.result
+    λ b h. end_refused b c.take_last.new.reader c.finish.result
     (end_by b c.deref.result.now (the_view c.self.inside) c.args.self c.self.inside.reader c.take_last.new.reader (refl, refl, refl) c.self.view_is none c.deref.ensures.value c.in_ok-take_last.ensures.ok h)
     c.finish.ensures.broken

@@ -1,12 +1,10 @@
-use Rattle.std.specs.Map.{lookup}
-use Rattle.edi_plan.specs.Names.{named}
+use Rattle.edi_plan.specs.Names.{named, place_in}
 use Rattle.edi_plan.specs.declared.names.RecordName.{RecordName}
-use Rattle.edi_plan.specs.contracts.names.RecordNamePartialEq.TheImpl.{ghosts as names}
 use Rattle.edi_plan.proofs.NameLemmas.{FirstTo, RepeatTo}
 use Rattle.edi_plan.proofs.names.Names.among.Given as goal
 
 abbrev pub invariant-loop-place : goal.invariant-loop-place
 invariant-loop-place l = record {
-  first : (q : RecordName) → FirstTo l.records l.place (named q) (lookup (names.eq q) l.places.entries);
+  first : (q : RecordName) → FirstTo l.records l.place (named q) (place_in l.places.entries q);
   repeat : RepeatTo l.records l.place l.repeat;
 }

@@ -47,7 +47,7 @@ kind_by_number-requires-4-clause-each c =
 pub kind_by_number-requires-5-clause-each : goal.kind_by_number-requires-5-clause-each
 kind_by_number-requires-5-clause-each c =
     let p = c.plan-plan.result.now in
-    let source : LinkSource = record { plan = p; classes = c.args.schema.now; turned = c.deref.result.now; numbers = c.deref-2.result.now } in
+    let source : LinkSource = record { plan = p; classes = c.args.schema.now; turned = c.deref-2.result.now; numbers = c.deref-3.result.now } in
     ranks_each placed_link_cmp placed_total (λ m. placed_link_key source (get_or (places_of Lnk p) m 0)) (length (places_of Lnk p)) c.in_ok-links.links c.in_ok-links.ensures
 
 pub returns-clause-labels : goal.returns-clause-labels
@@ -83,7 +83,7 @@ returns-clause-labels c =
     let by_face : IsFaceRanking p lower.arcs.now lower.faces = subst (λ q. IsFaceRanking q lower.arcs.now lower.faces) (sym is) c.in_ok-lower.ensures.faces in
     let source : LinkSource = record { plan = p; classes = s; turned = turned; numbers = unlinked } in
     let by_link : IsLinkRanking source c.in_ok-links.links = subst (λ (l : LinkSource). IsLinkRanking l c.in_ok-links.links)
-    (λ i. record { plan = p; classes = s; turned = c.deref.ensures.value i; numbers = c.deref-2.ensures.value i }) c.in_ok-links.ensures in
+    (λ i. record { plan = p; classes = s; turned = c.deref-2.ensures.value i; numbers = c.deref-3.ensures.value i }) c.in_ok-links.ensures in
     let by_object : IsObjectRanking (record { plan = p; numbers = unnamed }) objects_ranked = subst (λ (q : Drawing). IsObjectRanking (record { plan = q; numbers = unnamed }) objects_ranked) (sym is) c.in_ok-named.ensures.ranks in
     let numbering = c.number_kind-numbers.ensures in
     let named_each : (k : ℕ) → IsPlace p k → (record_at p k).kind ≡ Fea → get_or unlinked k 0 ≡ get_or objects_ranked (member_of p k) 0 =
@@ -181,16 +181,16 @@ pub name_objects-requires-clause-numbers : goal.name_objects-requires-clause-num
 name_objects-requires-clause-numbers c = c.in_ok-unnamed.ensures.length ∙ ap (λ (q : Drawing). length q.list) c.plan-plan.ensures.plan
 
 pub link_ranks-requires-clause-numbers : goal.link_ranks-requires-clause-numbers
-link_ranks-requires-clause-numbers c = ap length c.deref-2.ensures.value ∙ (c.in_ok-named.ensures.length ∙ ap (λ (q : Drawing). length q.list) (sym c.plan-plan.ensures.plan))
+link_ranks-requires-clause-numbers c = ap length c.deref-3.ensures.value ∙ (c.in_ok-named.ensures.length ∙ ap (λ (q : Drawing). length q.list) (sym c.plan-plan.ensures.plan))
 
 pub link_ranks-requires-clause-ordered : goal.link_ranks-requires-clause-ordered
-link_ranks-requires-clause-ordered c = ap length c.deref-3.ensures.value ∙ (c.in_ok-named.ensures.ordered ∙ ap (λ (q : Drawing). length q.list) (sym c.plan-plan.ensures.plan))
+link_ranks-requires-clause-ordered c = ap length c.deref-4.ensures.value ∙ (c.in_ok-named.ensures.ordered ∙ ap (λ (q : Drawing). length q.list) (sym c.plan-plan.ensures.plan))
 
 pub link_ranks-requires-clause-orders : goal.link_ranks-requires-clause-orders
 link_ranks-requires-clause-orders c =
     let p = c.plan-plan.result.now in
-    subst (λ (orders : List (List ℕ)). (k : ℕ) → IsPlace p k → OthersInOrder p (λ j. get_or c.deref-2.result.now j 0) orders k) (sym c.deref-3.ensures.value)
-    (subst (λ (numbers : List ℕ). (k : ℕ) → IsPlace p k → OthersInOrder p (λ j. get_or numbers j 0) c.in_ok-named.named.others.items k) (sym c.deref-2.ensures.value)
+    subst (λ (orders : List (List ℕ)). (k : ℕ) → IsPlace p k → OthersInOrder p (λ j. get_or c.deref-3.result.now j 0) orders k) (sym c.deref-4.ensures.value)
+    (subst (λ (numbers : List ℕ). (k : ℕ) → IsPlace p k → OthersInOrder p (λ j. get_or numbers j 0) c.in_ok-named.named.others.items k) (sym c.deref-3.ensures.value)
     (subst (λ (q : Drawing). (k : ℕ) → IsPlace q k → OthersInOrder q (λ j. get_or c.in_ok-named.named.numbers.items j 0) c.in_ok-named.named.others.items k) (sym c.plan-plan.ensures.plan) c.in_ok-named.ensures.others))
 
 pub number_kind-numbers-requires-clause-numbers : goal.number_kind-numbers-requires-clause-numbers

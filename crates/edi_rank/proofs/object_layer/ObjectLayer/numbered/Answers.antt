@@ -9,7 +9,7 @@ invariant_of-result c =
     let is = sym c.plan-plan.ensures.plan in
     let numbers = c.args.numbers.items in
     let orders = c.args.orders.items in (
-      c.in_ok-places.ensures,
+      c.places.ensures,
       subst (λ (q : Drawing). length numbers ≡ length q.list) is c.requires.numbers,
       c.in_ok-links.ensures.length,
       subst (λ (q : Drawing). (k : ℕ) → IsPlace q k → is_object (record_at q k).kind ≡ true → get_or numbers k 0 ≡ 0) is c.requires.objects,

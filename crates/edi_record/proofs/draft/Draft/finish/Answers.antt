@@ -2,9 +2,10 @@ use Rattle.std.proofs.Common.{◌≡◌, ◌∙◌, ◌∷◌, [], List, false, 
 use Rattle.std.proofs.lemmas.Bool.{or_from, or_left, or_right}
 use Rattle.edi_line.specs.Entry.{Entry}
 use Rattle.edi_record.specs.Records.{values}
-use Rattle.edi_record.specs.RecordRules.{kind_in, has_no_identifier, has_no_class, has_bad_point, has_bad_end, has_unknown_pointer}
-use Rattle.edi_record.specs.RecordRefusal.{IsGroupRefusal}
-use Rattle.edi_record.specs.Kept.{KeepsRecord}
+use Rattle.edi_record.specs.RecordRules.{has_no_identifier}
+use Rattle.edi_record.specs.inner.RecordRules.{kind_in, has_no_class, has_bad_point, has_bad_end, has_unknown_pointer}
+use Rattle.edi_record.specs.inner.RecordRefusal.{IsGroupRefusal}
+use Rattle.edi_record.specs.inner.Kept.{KeepsRecord}
 use Rattle.edi_record.proofs.Parts.{type_is}
 use Rattle.edi_record.proofs.RecordMade.{wrong_counts, no_201, least_205, least_206, least_207, least_208, none_broken_in, breach_least, err_kept}
 use Rattle.edi_record.proofs.draft.Draft.finish.Goals as goal

@@ -1,5 +1,5 @@
 use Rattle.std.proofs.Common.{refl, sym, subst, arith}
-use Rattle.edi_record.specs.Kept.{KeepsExtras}
+use Rattle.edi_record.specs.inner.Kept.{KeepsExtras}
 use Rattle.edi_record.proofs.draft.Draft.new.Goals as goal
 
 pub returns-clause-keeps : goal.returns-clause-keeps

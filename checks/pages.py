@@ -1,0 +1,20 @@
+#!/usr/bin/env python3
+"""Makes the pages of docs/ that are made from the sources: RULES.md, TRUSTED.md and CALLING.md.
+
+    checks/pages.py            writes them
+    checks/pages.py --check    fails if one isn't what it would write
+"""
+import os
+import subprocess
+import sys
+
+HERE = os.path.dirname(os.path.abspath(__file__))
+SCRIPTS = ["rules.py", "reach.py", "calling.py"]
+
+
+def main():
+    done = [subprocess.run([sys.executable, os.path.join(HERE, script), *sys.argv[1:]]) for script in SCRIPTS]
+    sys.exit(any(each.returncode for each in done))
+
+
+main()

@@ -1,0 +1,209 @@
+#!/usr/bin/env python3
+"""Writes docs/TRUSTED.md: every definition that the headline's contracts reach, file by file, from the headline down.
+
+    checks/reach.py            writes the page, and prints how much each contract reaches
+    checks/reach.py --check    fails if the page isn't what it would write
+
+A definition reaches those that it names, and a type of the code reaches the types of its fields. Read are the crates'
+specs/ (specs/inner/ too) and the structs and enums of their sources.
+"""
+import glob
+import os
+import re
+import sys
+from collections import namedtuple
+
+ROOT = os.path.dirname(os.path.dirname(os.path.abspath(__file__)))
+
+# What is claimed, and the definitions that the contract of its call cites.
+CLAIMS = [
+    ("canon", "the canonical file of a sheet, or its refusal",
+     [("edi_compare", "Headline", "IsFormOf"), ("edi_compare", "Refused", "IsRefusal")]),
+    ("compare", "a pairing of two sheets, or the first line that differs",
+     [("edi_compare", "Verdicts", "IsVerdict"), ("edi_compare", "Refused", "IsPairRefusal")]),
+    ("check_pairing", "whether a pairing carries one plan onto another",
+     [("edi_compare", "Pairings", "PairingCarries"), ("edi_compare", "Pairings", "HasClasses")]),
+]
+
+WORD = re.compile(r"[A-Za-z_][\w'-]*(?:\.[A-Za-z_][\w'-]*)*")
+DEFINITION = re.compile(r"\s*(?:(?:pub|abbrev|unfoldable) )*(record |data )?([A-Za-z_][\w'-]*)(?=[ :])")
+
+Definition = namedtuple("Definition", "crate module name comment lines path")
+
+
+def crates():
+    """Each crate with the names of what it stands on."""
+    with open(os.path.join(ROOT, "crates.txt"), encoding="utf-8") as file:
+        lines = [line.partition(":") for line in file if re.match(r"\w", line)]
+    return {name.split()[0]: low.split() for name, _, low in lines}
+
+
+class Module:
+    """A file of specs/: its definitions and the names that it imports."""
+
+    def __init__(self, crate, path):
+        self.crate = crate
+        self.path = os.path.relpath(path, ROOT)
+        self.name = os.path.relpath(path, os.path.join(ROOT, "crates", crate, "specs"))[:-5].replace("/", ".")
+        self.imports = {}
+        self.definitions = {}
+        with open(path, encoding="utf-8") as file:
+            self.read(file.read().split("\n"))
+
+    def read(self, lines):
+        current, comment, depth = None, [], 0
+        for line in lines:
+            text = line.strip()
+            if text.startswith("use ") or text.startswith("pub use "):
+                self.read_import(text)
+            elif text.startswith("--"):
+                comment.append(text[2:].strip())
+                continue
+            elif text.startswith("module "):
+                current = None
+            elif text:
+                start = self.definition_at(line, current, depth)
+                if start:
+                    depth = len(line) - len(line.lstrip())
+                    current = Definition(self.crate, self.name, start, " ".join(comment), [], self.path)
+                    self.definitions[start] = current
+                if current:
+                    current.lines.append(line)
+            comment = []
+
+    @staticmethod
+    def definition_at(line, current, depth):
+        """The name that a line begins to define, if it does: a clause of the current one begins none."""
+        start = DEFINITION.match(line)
+        if not start or not re.match(r"\s*(?:pub|abbrev|unfoldable|record|data|[\w'-]+ :)", line):
+            return None
+        inside = current and len(line) - len(line.lstrip()) > depth
+        if inside and not line.strip().startswith("abbrev"):
+            return None
+        if current and start[2] == current.name:
+            return None
+        return start[2]
+
+    def read_import(self, text):
+        parts = re.match(r"(?:pub )?use Rattle\.(\w+)\.specs\.([\w.]+?)(?:\.\{(.*)\})?(?: as (\w+))?$", text)
+        if not parts:
+            return
+        crate, module, names, alias = parts.groups()
+        if names is None:
+            self.imports[alias or module.split(".")[-1]] = (crate, module, None)
+            return
+        for name in filter(None, map(str.strip, names.split(","))):
+            own, _, other = name.partition(" as ")
+            self.imports[other or own] = (crate, module, own)
+
+
+class Base:
+    """All definitions and types of the repository."""
+
+    def __init__(self):
+        self.modules, self.types, self.crates = {}, {}, crates()
+        for crate in self.crates:
+            for path in glob.glob(os.path.join(ROOT, "crates", crate, "specs", "**", "*.antt"), recursive=True):
+                module = Module(crate, path)
+                self.modules[crate, module.name] = module
+            for path in glob.glob(os.path.join(ROOT, "crates", crate, "src", "*.rt")):
+                with open(path, encoding="utf-8") as file:
+                    self.read_types(crate, os.path.relpath(path, ROOT), file.read())
+
+    def read_types(self, crate, path, text):
+        for start in re.finditer(r"^(?:pub(?:\(crate\))? )?(?:struct|enum) (\w+)[^{;]*\{\n(.*?)^\}", text, re.M | re.S):
+            lines = [line for line in start[0].split("\n") if not line.strip().startswith(("//", "#"))]
+            self.types[crate, start[1]] = Definition(crate, "src", start[1], "", lines, path)
+
+    def find(self, crate, module, name):
+        if module.startswith("declared"):
+            names = [part for part in module.split(".") if part[0].isupper() and not part.startswith("The")]
+            return self.types.get((crate, names[-1])) if names else None
+        found = self.modules.get((crate, module))
+        if not found:
+            return None
+        if name in found.imports and name not in found.definitions:
+            return self.find(*found.imports[name])
+        return found.definitions.get(name)
+
+    def named_in(self, definition):
+        if definition.module == "src":
+            words = set(re.findall(r"\b[A-Z]\w+", "\n".join(definition.lines)))
+            near = [definition.crate, *self.crates[definition.crate]]
+            return [item for (crate, name), item in self.types.items() if crate in near and name in words and item != definition]
+        module = self.modules[definition.crate, definition.module]
+        found = []
+        for word in WORD.findall("\n".join(re.sub(r'"[^"]*"', "", line) for line in definition.lines)):
+            head, *rest = word.split(".")
+            if head in module.definitions and head != definition.name:
+                found.append(module.definitions[head])
+            elif head in module.imports:
+                crate, other, name = module.imports[head]
+                found.append(self.find(crate, other, name or (rest[0] if rest else "")))
+        return [item for item in found if item]
+
+    def reached(self, roots):
+        """What these definitions reach, in the order in which a reader meets it."""
+        seen, queue = {}, [self.find(*root) for root in roots]
+        for root, item in zip(roots, queue):
+            if item is None:
+                sys.exit(f"there is no definition {'.'.join(root)}")
+        while queue:
+            item = queue.pop(0)
+            if key_of(item) not in seen:
+                seen[key_of(item)] = item
+                queue += self.named_in(item)
+        return list(seen.values())
+
+
+def count(items):
+    specs = [item for item in items if item.module != "src"]
+    files = len({item.path for item in specs})
+    types = len(items) - len(specs)
+    lines = sum(len(item.lines) for item in specs)
+    return f"{len(specs)} definitions, {lines} lines in {files} files, and {types} types of the code"
+
+
+def page(base):
+    out = ["# What the claims rest on", "",
+           "Every definition that the contracts of three calls reach, file by file, from the claim down. Made by",
+           "`checks/reach.py`; the gate checks that it is current. [AUDIT.md](AUDIT.md) says how to read it.", ""]
+    told = set()
+    for call, what, roots in CLAIMS:
+        items = base.reached(roots)
+        out += [f"## `{call}`: {what}", "", f"It reaches {count(items)}.", ""]
+        by_file = {}
+        for item in items:
+            if key_of(item) not in told:
+                by_file.setdefault(item.path, []).append(item)
+        if told:
+            out += ["Beside what stands above:", ""]
+        for path, those in by_file.items():
+            out += [f"### {path}", ""]
+            out += [f"- `{item.name}`" + (f": {item.comment}" if item.comment else "") for item in those]
+            out.append("")
+        told.update(map(key_of, items))
+    return "\n".join(out).rstrip("\n") + "\n"
+
+
+def key_of(item):
+    return item.crate, item.module, item.name
+
+
+def main():
+    base = Base()
+    text = page(base)
+    path = os.path.join(ROOT, "docs/TRUSTED.md")
+    if "--check" in sys.argv[1:]:
+        with open(path, encoding="utf-8") as file:
+            current = file.read() == text
+        print("docs/TRUSTED.md is current" if current else "docs/TRUSTED.md is not current: run checks/reach.py")
+        sys.exit(not current)
+    with open(path, "w", encoding="utf-8") as file:
+        file.write(text)
+    for call, _, roots in CLAIMS:
+        print(f"{call}: {count(base.reached(roots))}")
+
+
+if __name__ == "__main__":
+    main()

@@ -1,0 +1,64 @@
+//! Files cut into zones, whole and in pieces.
+
+ghost use Rattle.std.specs.Prelude.{◌≡◌, ◌+◌, ◌^◌, ◌<◌, IfOk};
+
+use crate::case::Case;
+use crate::refusals;
+use anyhow::{Result, bail};
+use edi_line::{Feed, Zone, zones};
+use std::alloc::Global;
+
+/// The zones of a file, a line each, or its refusal.
+pub fn cut(alloc: Global, case: &Case<'_>) -> Result<String> {
+    let file = case.input(alloc, 0)?;
+    match zones(alloc, file.as_bytes()) {
+        Ok(zones) => zones_text(alloc, &zones),
+        Err(fault) => refusals::of_lines(alloc, fault),
+    }
+}
+
+/// What a feed answers to each piece, of which each is an input, and what it answers at the end: the zones, or the refusal.
+pub fn fed(alloc: Global, case: &Case<'_>) -> Result<String> {
+    let mut text = String::new(alloc);
+    let mut feed = Feed::new(alloc);
+    let mut length = 0usize;
+    for number in 0..case.len() {
+        let piece = case.input(alloc, number)?;
+        length = length_with(length, piece.len())?;
+        match feed.feed(piece.as_bytes()) {
+            Ok(()) => text.push_str("taken\n")?,
+            Err(fault) => text.push_str(refusals::of_lines(alloc, fault)?.as_str())?,
+        }
+    }
+    match feed.finish() {
+        Ok(zones) => text.push_str(zones_text(alloc, &zones)?.as_str())?,
+        Err(fault) => text.push_str(refusals::of_lines(alloc, fault)?.as_str())?,
+    }
+    Ok(text)
+}
+
+// The length with that of one more piece. Cases are far shorter than a feed may be.
+fn length_with(length: usize, more: usize) -> Result<usize>
+    ensures { IfOk result (λ sum. (sum ≡ length + more) × (sum < 2 ^ 32)) }
+{
+    match length.checked_add(more) {
+        Some(sum) if sum < 1 << 32 => Ok(sum),
+        _ => bail!("pieces of more than 4 GiB"),
+    }
+}
+
+// Each zone with its line, its head and its value.
+fn zones_text(alloc: Global, zones: &[Zone<'_>]) -> Result<String> {
+    let mut text = String::new(alloc);
+    for zone in zones {
+        let code = std::str::from_utf8(&zone.code)?;
+        let nature = char::from(zone.nature);
+        let format = char::from(zone.format);
+        let value = std::str::from_utf8(zone.value.as_slice())?;
+        text.push_str(format!(in alloc;
+            "{} {code}{nature}{format}:{value}\n",
+            zone.line
+        )?.as_str())?;
+    }
+    Ok(text)
+}

@@ -1,0 +1,7 @@
+-- What the public contracts do not reach: how the code goes about it, and what private contracts and proofs need.
+pub mod Number
+pub mod Spelling
+pub mod Lines
+pub mod Zones
+pub mod Held
+pub mod Feeding

@@ -1,0 +1,73 @@
+//! The places of the records of each type.
+
+ghost use Rattle.std.specs.Prelude.{◌≡◌, ◌≤◌, ◌∷◌, ◌++◌, [], length, if◌then◌else◌, IfOk, OnOk};
+ghost use Rattle.edi_record.specs.declared.record.Kind.{Kind as Kinds};
+ghost use Rattle.edi_plan.specs.Places.{listed, ArePlacesOf};
+ghost use Rattle.edi_plan.specs.Plans.{same_kind};
+
+use crate::record::PlanRecord;
+use edi_record::Kind;
+use std::alloc::{AllocError, Global};
+
+/// The places of the records of each type, in file order.
+#[derive(Drop)]
+pub(crate) struct Places {
+    nodes: Vec<u32>,
+    arcs: Vec<u32>,
+    faces: Vec<u32>,
+    objects: Vec<u32>,
+    links: Vec<u32>,
+}
+
+impl Places {
+    fn none(alloc: Global) -> Places
+        ensures { (kind : Kinds) → listed result kind ≡ [] }
+    {
+        Places {
+            nodes: Vec::new(alloc),
+            arcs: Vec::new(alloc),
+            faces: Vec::new(alloc),
+            objects: Vec::new(alloc),
+            links: Vec::new(alloc),
+        }
+    }
+
+    /// Adds the place of a record of a type.
+    fn add(&mut self, kind: Kind, place: u32) -> Result<(), AllocError>
+        ensures { OnOk result ((other : Kinds) → listed self.new other ≡ (if same_kind other kind then listed self.old other ++ place ∷ [] else listed self.old other)) }
+    {
+        match kind {
+            Kind::Pno => self.nodes.push(place)?,
+            Kind::Par => self.arcs.push(place)?,
+            Kind::Pfe => self.faces.push(place)?,
+            Kind::Fea => self.objects.push(place)?,
+            Kind::Lnk => self.links.push(place)?,
+        }
+        Ok(())
+    }
+
+    /// The places of these records, from 0.
+    pub(crate) fn among(alloc: Global, list: &[PlanRecord]) -> Result<Places, AllocError>
+        requires { length list.now ≤ 9999999 }
+        ensures { IfOk result (ArePlacesOf list.now) }
+    {
+        let mut places = Places::none(alloc);
+        for (place, record) in list.iter().enumerate() {
+            places.add(record.kind, place as u32)?;
+        }
+        Ok(places)
+    }
+
+    /// The places of the records of a type.
+    pub(crate) fn of(&self, kind: Kind) -> &[u32]
+        ensures { result.now ≡ listed self.now kind }
+    {
+        match kind {
+            Kind::Pno => &self.nodes,
+            Kind::Par => &self.arcs,
+            Kind::Pfe => &self.faces,
+            Kind::Fea => &self.objects,
+            Kind::Lnk => &self.links,
+        }
+    }
+}

@@ -1,0 +1,7 @@
+-- What the public contracts do not reach: how the code goes about it, and what private contracts and proofs need.
+pub mod Texts
+pub mod Records
+pub mod RecordRules
+pub mod Kept
+pub mod RecordRefusal
+pub mod Rows

@@ -1,7 +1,0 @@
-use Rattle.std.proofs.Common.{arith, ap, length}
-use Rattle.edi_record.specs.declared.record.Kind.TheVariants.{Par}
-use Rattle.edi_plan.proofs.PlaceLemmas.{places_few}
-use Rattle.edi_topo.proofs.arcs.PlanArcsLayer.len.Goals as goal
-
-pub overflow_cast-result : goal.overflow_cast-result
-overflow_cast-result c = omega (arith, c.len.ensures, ap length c.self.invariant, places_few Par c.self.inside.plan.now, c.keeps.ensures.whole.few)

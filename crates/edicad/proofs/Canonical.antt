@@ -1,0 +1,74 @@
+-- A canonical file that was made of three files.
+use Rattle.std.proofs.Common.{◌≡◌, ℕ, List, Option, Some, None, IfSome, inl, inr, sym, ◌∙◌, subst, ⊎_elim, Result, Ok, Err, OnOk}
+use Rattle.edi_schema.specs.Roles.{KindCodes}
+use Rattle.edi_compare.specs.Bundle.{OfParts}
+use Rattle.edi_compare.specs.declared.fault.RunFault.{RunFault}
+use Rattle.edi_compare.specs.declared.fault.RunFault.TheVariants.{Memory, Read, TooLong, Schema, First, Second, Write}
+use Rattle.edi_compare.specs.Runs.{IsCanonOf, MatchFault, TellFour, Told}
+use Rattle.edicad.specs.declared.words.PairFiles.{PairFiles}
+use Rattle.edicad.specs.declared.words.SheetFiles.{SheetFiles}
+use Rattle.edicad.specs.Folders.{Leavings}
+use Rattle.edicad.specs.Outputs.{IsWholeOrNew}
+use Rattle.edicad.specs.SheetRuns.{AreThere, FileFault, Inputs, OfCanon, OfFiles, OfPair}
+
+pub on_ok_map : {T E : Type 0} (r : Result T E) (P Q : Type 0) → (P → Q) → OnOk r P → OnOk r Q
+on_ok_map (Ok v) P Q f h = f h
+on_ok_map (Err e) P Q f h = tt
+
+told_map : (a b c : Option (List ℕ)) (P Q : List ℕ → List ℕ → List ℕ → Type 0) → ((s d v : List ℕ) → P s d v → Q s d v) → Told a b c P → Told a b c Q
+told_map None b c P Q f h = tt
+told_map (Some x) None c P Q f h = tt
+told_map (Some x) (Some y) None P Q f h = tt
+told_map (Some x) (Some y) (Some z) P Q f h = f x y z h
+
+-- what follows from a fact of three files holds of them
+pub files_map : (inputs : Inputs) (files : SheetFiles) (P Q : List ℕ → List ℕ → List ℕ → Type 0) → ((s d v : List ℕ) → P s d v → Q s d v)
+    → OfFiles inputs files P → OfFiles inputs files Q
+files_map inputs files P Q f h = (h.0, h.1, h.2, h.3, h.4, h.5, told_map h.0 h.1 h.2 P Q f h.6)
+
+pub parts_map : (told : Option (List ℕ)) (P Q : List ℕ → List ℕ → List ℕ → Type 0) → ((s d v : List ℕ) → P s d v → Q s d v)
+    → IfSome told (λ b. OfParts b P) → IfSome told (λ b. OfParts b Q)
+parts_map None P Q f h = tt
+parts_map (Some b) P Q f h = (h.0, h.1, h.2, h.3, f h.0 h.1 h.2 h.4)
+
+tell_four_map : (a b c d : Option (List ℕ)) (P Q : List ℕ → List ℕ → List ℕ → List ℕ → Type 0) → ((s t u v : List ℕ) → P s t u v → Q s t u v)
+    → TellFour a b c d P → TellFour a b c d Q
+tell_four_map a b c None P Q f h = tt
+tell_four_map a b c (Some w) P Q f h = told_map a b c _ _ (λ s t u. f s t u w) h
+
+-- what follows from a fact of four files holds of them
+pub pair_map : (inputs : Inputs) (files : PairFiles) (P Q : List ℕ → List ℕ → List ℕ → List ℕ → Type 0) → ((s d a b : List ℕ) → P s d a b → Q s d a b)
+    → OfPair inputs files P → OfPair inputs files Q
+pair_map inputs files P Q f h = (h.0, h.1, h.2, h.3, h.4, h.5, h.6, h.7, tell_four_map h.0 h.1 h.2 h.3 P Q f h.8)
+
+-- the files were there
+pub were_there : (inputs : Inputs) (files : SheetFiles) (P : List ℕ → List ℕ → List ℕ → Type 0) → OfFiles inputs files P → AreThere inputs files
+were_there inputs files P h = ((h.0, h.3), (h.1, h.4), (h.2, h.5))
+
+module _ (inputs : Inputs) (kinds : KindCodes) (files : SheetFiles) (items bytes : List ℕ) (is : bytes ≡ items)
+    (form : OfFiles inputs files (λ s d v. IsCanonOf kinds s d v items)) where
+  -- what holds of the bytes holds of the canonical file
+  pub of_canon : (P : List ℕ → Type 0) → P bytes → OfCanon inputs kinds files P
+  of_canon P h = files_map inputs files _ _ (λ s d v f. (items, f, subst P is h)) form
+
+  pub both_of_canon : (P Q : List ℕ → Type 0) → P bytes → Q bytes → OfFiles inputs files (λ s d v. (c : List ℕ) × IsCanonOf kinds s d v c × P c × Q c)
+  both_of_canon P Q h k = files_map inputs files _ _ (λ s d v f. (items, f, subst P is h, subst Q is k)) form
+
+  -- why they were not written is why there is no answer
+  pub put_fault : (W V : ℕ → Type 0) → ((n : ℕ) → W n → V n) → (e : RunFault) → MatchFault e (λ _. ⊥) (λ _. ⊥) (λ _. ⊥) (λ _. ⊥) (λ _. ⊥) W
+      → FileFault inputs kinds files V e
+  put_fault W V f (Memory e) h = inr (were_there inputs files _ form, tt)
+  put_fault W V f (Read n) h = absurd h
+  put_fault W V f (TooLong n) h = absurd h
+  put_fault W V f (Schema g) h = absurd h
+  put_fault W V f (First g) h = absurd h
+  put_fault W V f (Second g) h = absurd h
+  put_fault W V f (Write w) h = inr (were_there inputs files _ form, f w.count h)
+
+  -- whole bytes are the whole canonical file
+  pub whole : (out : List ℕ) (now : ℕ) (left : Leavings) (path : List ℕ) (c : Option (List ℕ)) → IsWholeOrNew out now left (λ b. b ≡ bytes) path c
+      → IsWholeOrNew out now left (λ b. OfFiles inputs files (λ s d v. IsCanonOf kinds s d v b)) path c
+  whole out now left path c h =
+      ⊎_elim
+      (λ w. inl (w.0, (w.1.0, subst (λ b. OfFiles inputs files (λ s d v. IsCanonOf kinds s d v b)) (sym (w.1.1 ∙ is)) form, w.1.2)))
+      (λ new. inr new) h

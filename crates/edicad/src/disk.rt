@@ -1,0 +1,291 @@
+//! The files of the system, and its standard input.
+//!
+//! What they hold can't be known, so nothing of it is claimed.
+ghost use Rattle.std.specs.Prelude.{[], None, ⊤};
+
+use crate::folder::{Draft, Folder, OutFault, Target};
+use edi_line::{ByteOut, FromRead, ToWrite};
+use std::alloc::AllocError;
+use std::fs::{OpenFile, OpenOptions};
+use std::io::{Input, Read, Write};
+use std::os::unix::fs::MetadataExt;
+use std::path::{Path, PathBuf};
+use std::rt::Files;
+use std::{fs, io};
+
+// How many names a draft tries: one for each run that goes on or was stopped.
+const MOST_DRAFTS: u32 = 1_000_000;
+
+/// The files of the system.
+#[derive(Drop)]
+pub struct Disk<'a, R, F> {
+    rt: &'a R,
+    // They take the places of standard streams that are closed, so that no file does. A folder can be neither read
+    // nor written to, so such a stream fails.
+    _streams: (Option<F>, Option<F>, Option<F>),
+}
+
+impl<'a, R: Files> Disk<'a, R, R::File> {
+    /// The files of the system, before any is opened.
+    pub fn new(rt: &'a R) -> Disk<'a, R, R::File> {
+        let first = fs::open(rt, "/").ok();
+        let second = fs::open(rt, "/").ok();
+        let third = fs::open(rt, "/").ok();
+        Disk {
+            rt,
+            _streams: (first, second, third),
+        }
+    }
+}
+
+/// What is read: a file, or standard input.
+#[derive(Drop)]
+pub enum Source<F, I> {
+    File(F),
+    Input(I),
+}
+
+impl<F: Read, I: Read> Read for Source<F, I> {
+    ghost remaining = { λ _. None };
+
+    fn read(&mut self, buf: &mut [u8]) -> io::Result<usize> {
+        match self {
+            Source::File(file) => file.read(buf),
+            Source::Input(input) => input.read(buf),
+        }
+    }
+}
+
+/// A device or a pipe, as a sink that claims nothing.
+#[derive(Drop)]
+pub struct Device<F> {
+    inner: ToWrite<F>,
+}
+
+impl<F: Write> ByteOut for Device<F> {
+    ghost told = { λ _. None };
+
+    ghost has_failed = { λ s. ⟦<ToWrite<F> as ByteOut>⟧.has_failed s.inner };
+
+    ghost writes = { λ _. 0 };
+
+    fn write(&mut self, bytes: &[u8]) -> Option<usize> {
+        self.inner.write(bytes)
+    }
+}
+
+/// A new file.
+#[derive(Drop)]
+pub struct NewFile<F> {
+    file: F,
+    failed: bool,
+}
+
+/// Where a new file is, and which one it is to replace.
+#[derive(Drop)]
+pub struct NewName {
+    name: PathBuf,
+    // The file that is replaced, where there is one: a link stays, and what it leads to is replaced.
+    replaced: Option<PathBuf>,
+}
+
+impl<F: Write> ByteOut for NewFile<F> {
+    ghost told = { λ _. None };
+
+    ghost has_failed = { λ s. s.failed };
+
+    ghost writes = { λ _. 0 };
+
+    fn write(&mut self, bytes: &[u8]) -> Option<usize> {
+        if self.failed {
+            return None;
+        }
+        match self.file.write(bytes) {
+            Ok(count) => {
+                self.failed = count == 0 && !bytes.is_empty();
+                Some(count)
+            }
+            Err(_) => {
+                self.failed = true;
+                None
+            }
+        }
+    }
+}
+
+impl<R: Files + Input + AllocGlobal> Folder for Disk<'_, R, R::File> {
+    type Reader = FromRead<Source<R::File, R::Reader>>;
+
+    type Sink = Device<R::File>;
+
+    type NewFile = NewFile<R::File>;
+
+    type NewName = NewName;
+
+    ghost holds = { λ _ _ _. ⊤ };
+
+    ghost closed = { λ _ _. ⊤ };
+
+    ghost standard = { λ _ _. ⊤ };
+
+    ghost is_one = { λ _ _ _ _. ⊤ };
+
+    ghost leads = { λ _ _ _. ⊤ };
+
+    ghost unwritable = { λ _ _. ⊤ };
+
+    ghost sinks = { λ _ _ _. ⊤ };
+
+    ghost tells = { λ _. ⊥ };
+
+    ghost moment = { λ _. 0 };
+
+    ghost left_since = { λ _ _ _ _. ⊥ };
+
+    ghost place = { λ _. [] };
+
+    fn open(&self, path: &str) -> Option<FromRead<Source<R::File, R::Reader>>> {
+        match fs::open(self.rt, path) {
+            Ok(file) => Some(FromRead::new(Source::File(file))),
+            Err(_) => None,
+        }
+    }
+
+    fn input(&self) -> FromRead<Source<R::File, R::Reader>> {
+        FromRead::new(Source::Input(self.rt.reader()))
+    }
+
+    fn is_one_file(&self, path: &str, other: &str) -> bool {
+        match (fs::metadata(self.rt, path), fs::metadata(self.rt, other)) {
+            (Ok(one), Ok(other)) => one.dev() == other.dev() && one.ino() == other.ino(),
+            _ => false,
+        }
+    }
+
+    fn target(&self, path: &str) -> Option<Target> {
+        match fs::metadata(self.rt, path) {
+            Ok(found) if found.is_file() => Some(Target::File),
+            Ok(found) if found.is_dir() => None,
+            Ok(_) => Some(Target::Stream),
+            Err(error) if error.kind() == io::ErrorKind::NotFound => Some(Target::File),
+            Err(_) => None,
+        }
+    }
+
+    fn sink(&self, path: &str) -> Option<Device<R::File>> {
+        match OpenOptions::new().write(true).open(self.rt, path) {
+            Ok(file) => Some(Device {
+                inner: ToWrite::new(file),
+            }),
+            Err(_) => None,
+        }
+    }
+
+    fn draft(&mut self, path: &str) -> Result<Draft<NewFile<R::File>, NewName>, OutFault> {
+        let replaced = replaced_file(self.rt, path)?;
+        let (file, name) = match &replaced {
+            Some(old) => new_file(self.rt, old.as_path())?,
+            None => new_file(self.rt, Path::new(path))?,
+        };
+        Ok(Draft {
+            file: NewFile {
+                file,
+                failed: false,
+            },
+            name: NewName { name, replaced },
+        })
+    }
+
+    fn publish(&mut self, file: NewFile<R::File>, name: NewName, path: &str) -> bool {
+        let NewName { name, replaced } = name;
+        let published = match (file.file.sync_all(), &replaced) {
+            (Ok(()), Some(old)) => fs::rename(self.rt, &name, old).is_ok(),
+            (Ok(()), None) => fs::rename(self.rt, &name, path).is_ok(),
+            (Err(_), _) => false,
+        };
+        if !published {
+            let _ = fs::remove_file(self.rt, &name);
+        }
+        published
+    }
+
+    fn discard(&mut self, name: NewName) {
+        let _ = fs::remove_file(self.rt, &name.name);
+    }
+}
+
+// Why the system refused.
+fn fault_of(error: io::Error) -> OutFault {
+    if error.kind() == io::ErrorKind::OutOfMemory {
+        OutFault::Memory(AllocError)
+    } else {
+        OutFault::Unwritable
+    }
+}
+
+// The file that a path leads to through links, if there is one. It must be one that may be written to, as it would be
+// if it were not replaced.
+fn replaced_file<R: Files + AllocGlobal>(rt: &R, path: &str) -> Result<Option<PathBuf>, OutFault> {
+    match fs::symlink_metadata(rt, path) {
+        Ok(_) => {}
+        Err(error) if error.kind() == io::ErrorKind::NotFound => return Ok(None),
+        Err(error) => return Err(fault_of(error)),
+    }
+    match OpenOptions::new().write(true).open(rt, path) {
+        Ok(_) => {}
+        Err(error) => return Err(fault_of(error)),
+    }
+    match fs::canonicalize(rt, path) {
+        Ok(real) => Ok(Some(real)),
+        Err(error) => Err(fault_of(error)),
+    }
+}
+
+// A new file in the folder of another, with the first name that is free, and with the permissions of the other.
+fn new_file<R: Files + AllocGlobal>(
+    rt: &R,
+    other: Path<'_>,
+) -> Result<(R::File, PathBuf), OutFault> {
+    for number in 0..MOST_DRAFTS {
+        let name = draft_name(rt, other, number)?;
+        match OpenOptions::new()
+            .write(true)
+            .create_new(true)
+            .open(rt, &name)
+        {
+            Ok(file) => return with_permissions(rt, file, name, other),
+            Err(error) if error.kind() == io::ErrorKind::AlreadyExists => {}
+            Err(error) => return Err(fault_of(error)),
+        }
+    }
+    Err(OutFault::Unwritable)
+}
+
+// The name of a draft, beside the file that it is to replace.
+fn draft_name<R: AllocGlobal>(rt: &R, other: Path<'_>, number: u32) -> Result<PathBuf, OutFault> {
+    match format!(in rt.alloc(); ".edicad-{number}.tmp") {
+        Ok(name) => match other.with_file_name(rt.alloc(), &name) {
+            Ok(path) => Ok(path),
+            Err(error) => Err(OutFault::Memory(error)),
+        },
+        Err(error) => Err(OutFault::Memory(error)),
+    }
+}
+
+// A new file with the permissions of the file that it is to replace, if there is one.
+fn with_permissions<R: Files>(
+    rt: &R,
+    file: R::File,
+    name: PathBuf,
+    other: Path<'_>,
+) -> Result<(R::File, PathBuf), OutFault> {
+    let same = match fs::metadata(rt, other) {
+        Ok(found) => file.set_permissions(found.permissions()).is_ok(),
+        Err(_) => true,
+    };
+    if same {
+        return Ok((file, name));
+    }
+    let _ = fs::remove_file(rt, &name);
+    Err(OutFault::Unwritable)
+}

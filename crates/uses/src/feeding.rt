@@ -1,0 +1,45 @@
+//! A file that comes from a stream, cut into zones as it comes.
+
+ghost use Rattle.std.specs.Prelude.{◌≡◌, IfOk, IfSome};
+ghost use Rattle.edi_line.specs.Entry.{entries};
+ghost use Rattle.edi_line.specs.LineRules.{IsZonesOf};
+
+use edi_line::{ByteIn, Feed, LineFault, Zone};
+use std::alloc::Global;
+
+/// Why a stream has no zones.
+#[derive(Debug, Drop)]
+pub enum StreamFault {
+    /// A line breaks a rule, or memory is wanting.
+    Line(LineFault),
+    /// The stream has failed, or goes on for too long.
+    Read,
+}
+
+/// The zones of what a stream holds, read in pieces of 4096 bytes and not kept whole.
+pub fn zones_of_stream<R: ByteIn>(
+    alloc: Global,
+    stream: &mut R,
+) -> Result<Vec<Zone<'static>>, StreamFault>
+    ensures { IfOk result (λ zones. IfSome (R.told stream.old) (λ bytes. IsZonesOf bytes (entries zones.items))) }
+{
+    let mut feed = Feed::new(alloc);
+    let mut buffer = [0u8; 4096];
+    for _turn in 0..u32::MAX {
+        match stream.read(&mut buffer) {
+            None => return Err(StreamFault::Read),
+            Some(0) => {
+                return match feed.finish() {
+                    Ok(zones) => Ok(zones),
+                    Err(fault) => Err(StreamFault::Line(fault)),
+                };
+            }
+            Some(count) => {
+                if let Err(fault) = feed.feed(&buffer[..count]) {
+                    return Err(StreamFault::Line(fault));
+                }
+            }
+        }
+    }
+    Err(StreamFault::Read)
+}

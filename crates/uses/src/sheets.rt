@@ -1,0 +1,108 @@
+//! Sheets under a schema that was loaded once.
+
+ghost use Rattle.std.specs.Prelude.{◌≡◌, ◌↔◌, ℕ, List, length, IfOk, IfErr, IsTrue, MatchOption};
+ghost use Rattle.std.specs.Io.KnownBytes.{Appends};
+ghost use Rattle.edi_schema.specs.SchemaRefusal.{IsGoodSchema, IsSchemaRefusal};
+ghost use Rattle.edi_plan.specs.Plans.{Drawing};
+ghost use Rattle.edi_compare.specs.Headline.{IsFormOf};
+ghost use Rattle.edi_compare.specs.PlanOfFile.{IsPlanOfFile, StateSame};
+ghost use Rattle.edi_compare.specs.Refused.{IsPairRefusal, IsRefusal};
+ghost use Rattle.uses.specs.Callers.{IfRefused, SomePairing, own_kinds};
+
+use edi_compare::{CompareFault, Fault, Pairing, Verdict, accept, canon, compare};
+use edi_line::ByteOut;
+use edi_schema::{Kinds, Schema, SchemaFault};
+use edi_write::{Written, put_all};
+use std::alloc::Global;
+
+/// How many records the plan of a sheet has.
+pub fn count_records(alloc: Global, schema: &Schema, sheet: &[u8]) -> Result<u32, Fault>
+    ensures count { IfOk result (λ count. (p : Drawing) × IsPlanOfFile schema.now sheet.now p × (count ≡ length p.list)) }
+    ensures refusal { IfErr result (IsRefusal schema.now sheet.now) }
+{
+    match accept(alloc, schema, sheet) {
+        Ok(accepted) => Ok(accepted.sound().plan().len()),
+        Err(fault) => Err(fault),
+    }
+}
+
+/// Why a canonical file was not written, or not to its end.
+#[derive(Debug, Drop)]
+pub enum Unwritten {
+    /// The sheet is refused, and nothing was written.
+    Refused(Fault),
+    /// The writer failed behind the first bytes of the file.
+    Failed(Written),
+}
+
+/// Writes the canonical file of a sheet.
+pub fn write_canonical<W: ByteOut>(
+    alloc: Global,
+    schema: &Schema,
+    sheet: &[u8],
+    writer: &mut W,
+) -> Result<(), Unwritten>
+    ensures written { IfOk result (λ _. (c : List ℕ) × IsFormOf schema.now sheet.now c × Appends (W.told writer.old) (W.told writer.new) c) }
+    ensures refusal { IfErr result (IfRefused (λ fault. (writer.new ≡ writer.old) × IsRefusal schema.now sheet.now fault)) }
+{
+    let file = match canon(alloc, schema, sheet) {
+        Ok(file) => file,
+        Err(fault) => return Err(Unwritten::Refused(fault)),
+    };
+    match put_all(writer, &file) {
+        Ok(()) => Ok(()),
+        Err(written) => Err(Unwritten::Failed(written)),
+    }
+}
+
+/// Whether two sheets state the same plan.
+pub fn is_same_plan(
+    alloc: Global,
+    schema: &Schema,
+    first: &[u8],
+    second: &[u8],
+) -> Result<bool, CompareFault>
+    ensures same { IfOk result (λ same. IsTrue same ↔ StateSame schema.now first.now second.now) }
+    ensures refusal { IfErr result (IsPairRefusal schema.now first.now second.now) }
+{
+    match compare(alloc, schema, first, second) {
+        Ok(Verdict::Same(_)) => Ok(true),
+        Ok(Verdict::Different { .. }) => Ok(false),
+        Err(fault) => Err(fault),
+    }
+}
+
+/// A pairing that carries the plan of the first sheet onto that of the second, or none where no pairing does.
+pub fn confirmed_pairing(
+    alloc: Global,
+    schema: &Schema,
+    first: &[u8],
+    second: &[u8],
+) -> Result<Option<Pairing>, CompareFault>
+    ensures pairing { IfOk result (λ found. MatchOption found (¬ (StateSame schema.now first.now second.now)) (SomePairing schema.now first.now second.now)) }
+    ensures refusal { IfErr result (IsPairRefusal schema.now first.now second.now) }
+{
+    match compare(alloc, schema, first, second) {
+        Ok(Verdict::Same(pairing)) => Ok(Some(pairing)),
+        Ok(Verdict::Different { .. }) => Ok(None),
+        Err(fault) => Err(fault),
+    }
+}
+
+/// A schema whose classes of the four kinds are known by their identifiers and not by their codes.
+pub fn schema_by_identifiers(alloc: Global, scd: &[u8], dic: &[u8]) -> Result<Schema, SchemaFault>
+    ensures schema { IfOk result (IsGoodSchema scd.now dic.now own_kinds) }
+    ensures refusal { IfErr result (IsSchemaRefusal scd.now dic.now own_kinds) }
+{
+    Schema::load(alloc, scd, dic, &kinds())
+}
+
+// The identifiers of the four classes.
+fn kinds() -> Kinds<'static>
+    ensures { result ≡ own_kinds }
+{
+    match Kinds::new(b"INI_id", b"FIN_id", b"GCH_id", b"DRT_id") {
+        Some(kinds) => kinds,
+        None => unreachable!(),
+    }
+}

@@ -1,0 +1,385 @@
+#!/usr/bin/env python3
+"""Runs the built program as its users do, and looks at what it writes, where, and with which status.
+
+    rt ci && python3 program/run.py        from the top; `rt ci`, or `rt run` in crates/edicad, leaves the program in
+                                           crates/edicad/out
+
+Its last line is `N passed, M failed`; the status is 1 where M isn't 0. cases.json has the sheets and their answers.
+"""
+import json
+import os
+import resource
+import shutil
+import signal
+import subprocess
+import sys
+import tempfile
+import time
+
+HERE = os.path.dirname(os.path.abspath(__file__))
+MADE = os.path.join(HERE, "..", "crates", "edicad", "out")
+NOBODY = 65534
+
+
+class Report:
+    """Counts what is as it should be."""
+
+    def __init__(self):
+        self.passed = 0
+        self.failed = 0
+
+    def check(self, name, found, wanted):
+        if found == wanted:
+            self.passed += 1
+        else:
+            self.failed += 1
+            print(f"FAILED {name}\n    found  {found!r}\n    wanted {wanted!r}")
+
+    def holds(self, name, fact):
+        self.check(name, bool(fact), True)
+
+
+class Room:
+    """A folder with the files of one sheet and its program."""
+
+    def __init__(self, report, program, folder, given):
+        self.report = report
+        self.program = program
+        self.folder = folder
+        self.given = given
+        self.write("s", given["schema"])
+        self.write("d", given["dictionary"])
+
+    def path(self, name):
+        return os.path.join(self.folder, name)
+
+    def write(self, name, text):
+        with open(self.path(name), "wb") as file:
+            file.write(text if isinstance(text, bytes) else text.encode("latin-1"))
+
+    def read(self, name):
+        if not os.path.exists(self.path(name)):
+            return None
+        with open(self.path(name), "rb") as file:
+            return file.read()
+
+    def run(self, words, source=b"", **how):
+        """Status, standard output and standard error."""
+        given = how.pop("stdin", None)
+        how.setdefault("stdout", subprocess.PIPE)
+        how.setdefault("stderr", subprocess.PIPE)
+        started = subprocess.Popen([self.program, *words], cwd=self.folder, stdin=subprocess.PIPE if given is None else given, **how)
+        out, err = started.communicate(source if given is None else None, timeout=120)
+        return started.returncode, out, err
+
+    def expect(self, name, words, wanted, source=b"", **how):
+        self.report.check(name, self.run(words, source, **how), wanted)
+
+
+def line(text):
+    return text.encode("latin-1") + b"\n"
+
+
+def status_of(answer):
+    return 2 if answer.startswith("refused") else 1 if answer.startswith("different") else 0
+
+
+def run_case(room, case):
+    """A sheet, or a pair, and its answer."""
+    answer, kinds = case["answer"], ["--kinds", case["kinds"]] if "kinds" in case else []
+    room.write("s", case.get("scd", room.given["schema"]))
+    room.write("d", case.get("dic", room.given["dictionary"]))
+    wanted = (status_of(answer), line(answer), b"")
+    if case["call"] == "bundle":
+        accepted = "canonical" in case
+        wanted = (0, case["canonical"].encode("latin-1"), b"") if accepted else wanted
+        room.expect(case["name"], [], wanted, case["stdin"].encode("latin-1"))
+    elif case["call"] == "compare":
+        room.write("a", case["a"])
+        room.write("b", case["b"])
+        room.expect(case["name"], ["compare", *kinds, "s", "d", "a", "b"], wanted)
+    else:
+        room.write("v", case["vec"])
+        room.expect(case["name"], ["check", *kinds, "s", "d", "v"], wanted)
+        if case["call"] == "canon":
+            room.write("o", "kept")
+            room.expect(case["name"], ["canon", *kinds, "s", "d", "v", "o"], wanted)
+            room.report.check(case["name"] + ": OUT", room.read("o"), case.get("canonical", "kept").encode("latin-1"))
+            os.remove(room.path("o"))
+    room.write("s", room.given["schema"])
+    room.write("d", room.given["dictionary"])
+
+
+def all_cases(room):
+    for case in room.given["cases"]:
+        run_case(room, case)
+    said = {word for case in room.given["cases"] for word in case["answer"].split() if word.isdigit()}
+    rules = [*range(101, 110), *range(201, 209), *range(301, 308), *range(401, 407), 501, 601, 602, 603, 604]
+    room.report.check("each rule has a case", [rule for rule in rules if str(rule) not in said], [])
+
+
+def most_records(room):
+    """One record more than a file may have."""
+    with open(room.path("many"), "wb") as file:
+        file.write(b"BOMT 01:X\n" + b"RTYSA03:PNO\n" * 10_000_000 + b"EOMT 00:\n")
+    room.expect("refused 110", ["check", "s", "d", "many"], (2, b"refused 110 line 10000001\n", b""))
+    os.remove(room.path("many"))
+
+
+def words(room):
+    """Commands with good and bad words."""
+    report = room.report
+    for bad in (["paint"], ["check"], ["check", "s"], ["check", "s", "d"], ["canon", "s", "d", "v"], ["compare", "s", "d", "v"],
+                ["check", "s", "d", "v", "v"], ["--paint"], ["check", "--paint", "s", "d", "v"], ["check", "--kinds"], ["help", "paint"]):
+        status, out, err = room.run(bad)
+        report.check(f"{bad}: status and output", (status, out), (3, b""))
+        report.holds(f"{bad}: says what is wrong", err.startswith(b"error: ") and err.endswith(b"\n"))
+    for asked in (["--help"], ["-h"], ["help"], ["help", "check"], ["check", "--help"], ["canon", "-h"], ["compare", "--help"]):
+        status, out, err = room.run(asked)
+        report.check(f"{asked}: status and output", (status, out), (0, b""))
+        report.holds(f"{asked}: has the usage", b"Usage: edicad" in err and err.endswith(b"\n"))
+        report.check(f"{asked}: lines of more than 80 columns", [it for it in err.decode().splitlines() if len(it) > 80], [])
+    status, out, err = room.run(["--version"])
+    report.check("--version", (status, out, err), (0, b"", b"edicad 0.1.0\n"))
+    for kinds in ("A,B,C", "A,B,C,D,E", "A,A,B,C", "A,,C,D", ""):
+        for command in (["check", "absent", "absent", "absent"], ["canon", "absent", "absent", "absent", "o"], ["compare", "absent", "absent", "absent", "absent"]):
+            room.expect(f"{command[0]} with the kinds {kinds!r}", [command[0], "--kinds", kinds, *command[1:]], (3, b"", b"bad kinds\n"))
+    for twice in (["check", "-", "-", "v"], ["check", "-", "d", "-"], ["canon", "s", "-", "-", "o"], ["compare", "s", "d", "-", "-"]):
+        room.expect(f"{twice}", twice, (3, b"", b"only one input can be -\n"))
+    status, out, err = room.run([b"\xff"])
+    report.check("words that are no text", (status, out, err), (3, b"", b"error: the words are not all UTF-8\n"))
+
+
+def files(room, sheet, canonical):
+    """Files that are missing, made, kept, and links."""
+    report = room.report
+    room.write("v", sheet)
+    for name, command in (("s", ["check", "x", "d", "v"]), ("d", ["check", "s", "x", "v"]), ("v", ["check", "s", "d", "x"]),
+                          ("first", ["compare", "s", "d", "x", "v"]), ("second", ["compare", "s", "d", "v", "x"]), ("canon", ["canon", "s", "d", "x", "o"])):
+        room.expect(f"a missing file, {name}", command, (4, b"", b"cannot read x\n"))
+    room.expect("the first missing file is named", ["check", "s", "x", "y"], (4, b"", b"cannot read x\n"))
+    room.expect("all are opened before one is read", ["check", ".", "d", "y"], (4, b"", b"cannot read y\n"))
+    room.expect("a folder can't be read", ["check", "s", "d", "."], (4, b"", b"cannot read .\n"))
+    report.check("no OUT of missing files", room.read("o"), None)
+    room.expect("OUT is made", ["canon", "s", "d", "v", "o"], (0, b"accepted\n", b""))
+    report.check("OUT that is made", room.read("o"), canonical)
+    room.write("o", "kept" * 10000)
+    os.chmod(room.path("o"), 0o640)
+    room.expect("OUT is replaced", ["canon", "s", "d", "v", "o"], (0, b"accepted\n", b""))
+    report.check("OUT that is replaced", room.read("o"), canonical)
+    report.check("the permissions of OUT", os.stat(room.path("o")).st_mode & 0o777, 0o640)
+    os.mkdir(room.path("folder"))
+    room.expect("OUT in a folder", ["canon", "s", "d", "v", "folder/o"], (0, b"accepted\n", b""))
+    report.check("OUT in a folder: bytes", room.read("folder/o"), canonical)
+    room.expect("OUT is a folder", ["canon", "s", "d", "v", "folder"], (4, b"", b"cannot write folder\n"))
+    room.expect("OUT in no folder", ["canon", "s", "d", "v", "none/o"], (4, b"", b"cannot write none/o\n"))
+    for name in ("s", "d", "v"):
+        before = room.read(name)
+        for out in (name, "./" + name, "folder/../" + name):
+            room.expect(f"OUT is the input {out}", ["canon", "s", "d", "v", out], (4, b"", line("cannot write " + out)))
+        os.symlink(name, room.path("to_" + name))
+        os.link(room.path(name), room.path("also_" + name))
+        for out in ("to_" + name, "also_" + name):
+            room.expect(f"OUT is a link to an input, {out}", ["canon", "s", "d", "v", out], (4, b"", line("cannot write " + out)))
+        room.expect(f"OUT is an input that is named by a link, {name}", ["canon", "to_s", "to_d" if name != "s" else "d", "to_v" if name == "v" else "v", name]
+                    if name != "s" else ["canon", "to_s", "d", "v", "s"], (4, b"", line("cannot write " + name)))
+        report.check(f"the input {name} stays", room.read(name), before)
+        room.expect("an OUT that is an input is refused before a file is opened", ["canon", "absent", "absent", name, name], (4, b"", line("cannot write " + name)))
+    room.write("far", "old")
+    os.symlink("far", room.path("near"))
+    room.expect("OUT is a link", ["canon", "s", "d", "v", "near"], (0, b"accepted\n", b""))
+    report.check("a link stays, and its file is replaced", (os.path.islink(room.path("near")), room.read("far")), (True, canonical))
+    os.symlink("nowhere", room.path("broken"))
+    room.expect("OUT is a link to nothing", ["canon", "s", "d", "v", "broken"], (4, b"", b"cannot write broken\n"))
+    room.write(".edicad-0.tmp", "left behind")
+    room.expect("what a stopped run left is no hindrance", ["canon", "s", "d", "v", "o2"], (0, b"accepted\n", b""))
+    report.check("OUT beside what a stopped run left", (room.read("o2"), room.read(".edicad-0.tmp")), (canonical, b"left behind"))
+    os.remove(room.path(".edicad-0.tmp"))
+    report.check("no draft stays", drafts(room.folder), [])
+
+
+def drafts(folder):
+    return [name for name in os.listdir(folder) if name.startswith(".edicad")]
+
+
+def standard_streams(room, sheet, canonical):
+    """Standard input and output by `-`, closed and full streams, devices and pipes."""
+    report = room.report
+    room.write("v", sheet)
+    schema, dictionary = room.read("s"), room.read("d")
+    room.expect("the sheet on standard input", ["check", "s", "d", "-"], (0, b"accepted\n", b""), sheet)
+    room.expect("the schema on standard input", ["check", "-", "d", "v"], (0, b"accepted\n", b""), schema)
+    room.expect("the dictionary on standard input", ["check", "s", "-", "v"], (0, b"accepted\n", b""), dictionary)
+    room.expect("one of two sheets on standard input", ["compare", "s", "d", "-", "v"], (0, b"same\n", b""), sheet)
+    room.expect("the canonical file to standard output", ["canon", "s", "d", "v", "-"], (0, canonical, b""))
+    room.expect("from standard input to standard output", ["canon", "s", "d", "-", "-"], (0, canonical, b""), sheet)
+    room.expect("a refused sheet has its line there", ["canon", "s", "d", "-", "-"], (2, b"refused 106 line 1\n", b""))
+    report.check("no file of the name -", room.read("-"), None)
+    room.expect("a file of the name -", ["canon", "s", "d", "v", "./-"], (0, b"accepted\n", b""))
+    report.check("the file of the name -", room.read("-"), canonical)
+    room.expect("a file of the name - is read", ["check", "s", "d", "./-"], (0, b"accepted\n", b""))
+    os.remove(room.path("-"))
+    bundle = schema + dictionary + sheet
+    room.expect("the bundle", [], (0, canonical, b""), bundle)
+    with open("/dev/full", "wb") as full:
+        room.expect("the bundle to a full output", [], (4, None, b"cannot write standard output\n"), bundle, stdout=full)
+        room.expect("the canonical file to a full output", ["canon", "s", "d", "v", "-"], (4, None, b"cannot write standard output\n"), stdout=full)
+        report.check("accepted to a full output", room.run(["check", "s", "d", "v"], stdout=full)[0], 4)
+        report.check("refused to a full output", room.run(["check", "s", "d", "s"], stdout=full)[0], 4)
+        report.check("different to a full output", room.run(["compare", "s", "d", "v", "v"], stdout=full)[0], 4)
+        report.check("errors to a full stream", room.run(["check", "s", "d", "x"], stderr=full)[0], 4)
+    report.check("a closed output", room.run(["check", "s", "d", "v"], preexec_fn=lambda: os.close(1))[0], 4)
+    report.check("a closed stream of errors", room.run(["check", "s", "d", "x"], preexec_fn=lambda: os.close(2))[0], 4)
+    room.expect("a closed input", ["check", "s", "d", "-"], (4, b"", b"cannot read standard input\n"), preexec_fn=lambda: os.close(0))
+    room.expect("a closed input of the bundle", [], (4, b"", b"cannot read standard input\n"), preexec_fn=lambda: os.close(0))
+    room.expect("OUT is a full device", ["canon", "s", "d", "v", "/dev/full"], (4, b"", b"cannot write /dev/full\n"))
+    room.expect("OUT is a device", ["canon", "s", "d", "v", "/dev/null"], (0, b"accepted\n", b""))
+    report.holds("a device stays", not os.path.isfile("/dev/null"))
+    os.mkfifo(room.path("pipe"))
+    reader = subprocess.Popen(["cat", room.path("pipe")], stdout=subprocess.PIPE)
+    room.expect("OUT is a pipe", ["canon", "s", "d", "v", "pipe"], (0, b"accepted\n", b""))
+    report.check("a pipe gets the bytes", reader.communicate(timeout=20)[0], canonical)
+    report.check("no draft of a stream", drafts(room.folder), [])
+
+
+def nobody():
+    """From here on, as a user who may do little."""
+    if os.geteuid() == 0:
+        os.setgroups([])
+        os.setgid(NOBODY)
+        os.setuid(NOBODY)
+
+
+def hostile_folders(room, sheet):
+    """A folder that can't be written to, a file that can't be, a file system without space, and a limit on files."""
+    report = room.report
+    room.write("v", sheet)
+    os.mkdir(room.path("locked"))
+    room.write("locked/o", "old")
+    os.chmod(room.path("locked/o"), 0o666)
+    os.chmod(room.path("locked"), 0o555)
+    room.expect("OUT in a folder that is read-only", ["canon", "s", "d", "v", "locked/o"], (4, b"", b"cannot write locked/o\n"), preexec_fn=nobody)
+    room.expect("a new OUT in a folder that is read-only", ["canon", "s", "d", "v", "locked/new"], (4, b"", b"cannot write locked/new\n"), preexec_fn=nobody)
+    report.check("a folder that is read-only", (sorted(os.listdir(room.path("locked"))), room.read("locked/o")), (["o"], b"old"))
+    os.chmod(room.path("locked"), 0o755)
+    os.mkdir(room.path("open"))
+    os.chmod(room.path("open"), 0o777)
+    room.write("open/o", "old")
+    os.chmod(room.path("open/o"), 0o444)
+    room.expect("OUT is read-only", ["canon", "s", "d", "v", "open/o"], (4, b"", b"cannot write open/o\n"), preexec_fn=nobody)
+    report.check("OUT that is read-only", (os.listdir(room.path("open")), room.read("open/o")), (["o"], b"old"))
+
+    def limited():
+        signal.signal(signal.SIGXFSZ, signal.SIG_IGN)
+        resource.setrlimit(resource.RLIMIT_FSIZE, (40, 40))
+
+    room.write("o", "old")
+    room.expect("a file that can't grow", ["canon", "s", "d", "v", "o"], (4, b"", b"cannot write o\n"), preexec_fn=limited)
+    report.check("OUT where a file can't grow", (room.read("o"), drafts(room.folder)), (b"old", []))
+    full_disk(room, sheet)
+
+
+def full_disk(room, sheet):
+    """A small file system that is full, where one can be mounted."""
+    report = room.report
+    disk = room.path("disk")
+    os.mkdir(disk)
+    mounted = subprocess.run(["mount", "-t", "tmpfs", "-o", "size=1m", "tmpfs", disk], capture_output=True).returncode == 0
+    if not mounted:
+        print("note: no file system could be mounted, so none was filled")
+        return
+    try:
+        room.write("disk/o", "old")
+        file = os.open(os.path.join(disk, "fill"), os.O_WRONLY | os.O_CREAT)
+        try:
+            while os.write(file, b"x" * 4096):
+                pass
+        except OSError:
+            pass
+        os.close(file)
+        room.expect("OUT on a full disk", ["canon", "s", "d", "v", "disk/o"], (4, b"", b"cannot write disk/o\n"))
+        report.check("OUT of a full disk", (room.read("disk/o"), sorted(os.listdir(disk))), (b"old", ["fill", "o"]))
+    finally:
+        subprocess.run(["umount", disk], check=True)
+
+
+def nodes(count):
+    """A sheet of so many nodes."""
+    lines = ["BOMT 01:X\n"]
+    for number in range(count):
+        lines.append(f"RTYSA03:PNO\nRIDSA07:{number:07}\nSCPCP22:EDAB01;SeSD;PGE;NOD_id\nCORCC10:{number:07};0;\n")
+    return "".join(lines + ["EOMT 00:\n"])
+
+
+def kills(room, moments):
+    """A run over a large sheet, killed at many moments: OUT has its old bytes or all the new ones."""
+    report = room.report
+    room.write("large", nodes(60_000))
+    started = time.monotonic()
+    room.expect("a large sheet", ["canon", "s", "d", "large", "whole"], (0, b"accepted\n", b""))
+    took = time.monotonic() - started
+    whole = room.read("whole")
+    found = {"old": 0, "whole": 0, "other": 0}
+    absent = {"absent": 0, "whole": 0, "other": 0}
+    for moment in range(moments):
+        for counts, name in ((found, "old"), (absent, "absent")):
+            if name == "old":
+                room.write("o", "old")
+            elif os.path.exists(room.path("o")):
+                os.remove(room.path("o"))
+            run = subprocess.Popen([room.program, "canon", "s", "d", "large", "o"], cwd=room.folder, stdout=subprocess.DEVNULL)
+            # from where the file is read to where the run has ended
+            time.sleep(took * (0.3 + 1.7 * moment / moments))
+            run.kill()
+            run.wait()
+            left = room.read("o")
+            counts[name if left == (b"old" if name == "old" else None) else "whole" if left == whole else "other"] += 1
+    report.check("killed runs that leave another OUT", (found["other"], absent["other"]), (0, 0))
+    report.holds("killed runs of both outcomes", found["old"] and found["whole"])
+    others = sorted(name for name in os.listdir(room.folder) if not name.startswith(".edicad"))
+    report.check("killed runs leave the other files", others, sorted(["s", "d", "large", "whole", *(["o"] if os.path.exists(room.path("o")) else [])]))
+    left = len(drafts(room.folder))
+    room.expect("a run after killed ones", ["canon", "s", "d", "large", "o"], (0, b"accepted\n", b""))
+    report.check("a run after killed ones: OUT", room.read("o") == whole, True)
+    print(f"{moments} kills over an old OUT: {found}; {moments} over none: {absent}; {left} drafts were left behind")
+
+
+def in_room(report, program, given, work, *more):
+    folder = tempfile.mkdtemp(prefix="edicad-")
+    os.chmod(folder, 0o755)
+    try:
+        work(Room(report, program, folder, given), *more)
+    finally:
+        shutil.rmtree(folder, ignore_errors=True)
+
+
+def main():
+    with open(os.path.join(HERE, "cases.json"), encoding="utf-8") as file:
+        given = json.load(file)
+    sheet = next(it for it in given["cases"] if it["name"] == "canon: accepted, 1")
+    bytes_of = lambda name: sheet[name].encode("latin-1")
+    report = Report()
+    programs = [os.path.join(MADE, name) for name in ("edicad", "edicad.by-rattle")]
+    programs = [it for it in programs if os.path.isfile(it)]
+    report.holds("the program was built", programs)
+    for number, made in enumerate(programs):
+        # where nobody may run it
+        place = tempfile.mkdtemp(prefix="edicad-bin-")
+        os.chmod(place, 0o755)
+        program = shutil.copy(made, os.path.join(place, "edicad"))
+        os.chmod(program, 0o755)
+        in_room(report, program, given, all_cases)
+        in_room(report, program, given, words)
+        in_room(report, program, given, files, bytes_of("vec"), bytes_of("canonical"))
+        in_room(report, program, given, standard_streams, bytes_of("vec"), bytes_of("canonical"))
+        in_room(report, program, given, hostile_folders, bytes_of("vec"))
+        if number == 0:
+            in_room(report, program, given, most_records)
+            in_room(report, program, given, kills, 50)
+        shutil.rmtree(place)
+    print(f"{report.passed} passed, {report.failed} failed")
+    return 1 if report.failed else 0
+
+
+if __name__ == "__main__":
+    sys.exit(main())
