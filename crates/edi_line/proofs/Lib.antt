@@ -7,6 +7,8 @@ pub mod Rules
 pub mod Passes
 pub mod Ends
 pub mod Feeds
+pub mod Stretches
+pub mod HandedOn
 pub mod Pieces
 pub mod Shape
 pub mod DeviceLemmas

@@ -1,31 +1,32 @@
 -- A reader on its way through the lines of a file.
 use Rattle.std.proofs.Common.{◌≡◌, ℕ, ◌+◌, true, false, Some, Result, Ok, Err, List, [], ◌∷◌, ◌++◌, length, take, drop, map, sym, ap, ◌∙◌, subst, arith, IfOk, IfErr, OnOk, Vec, Global}
 use Rattle.std.proofs.lemmas.List.{append-nil, append_assoc, length_push, take-append-drop, length-take-le, length-drop, take_at, drop_at}
-use Rattle.edi_line.specs.Entry.{entries}
+use Rattle.edi_line.specs.Entry.{Entry, entries}
 use Rattle.edi_line.specs.Lines.{content_of}
 use Rattle.edi_line.specs.inner.Lines.{lines_of}
 use Rattle.edi_line.specs.Spelling.{Reading}
 use Rattle.edi_line.specs.inner.Spelling.{reading_of}
 use Rattle.edi_line.specs.inner.Zones.{readings_of, parts_after}
+use Rattle.edi_line.specs.Feeding.{seen_in}
 use Rattle.edi_line.specs.LineRules.{BreaksIn, BreaksLineRule, IsZonesOf}
 use Rattle.edi_line.specs.Refusal.{IsLeastBroken, IsUnbroken, IfBroken}
-use Rattle.edi_line.specs.inner.Held.{rule_of, closed, zoned, Takes, Stands}
+use Rattle.edi_line.specs.inner.Held.{rule_of, no_zones, closed, zoned_after, zoned, Takes, Stands}
 use Rattle.edi_line.specs.declared.fault.LineFault.{LineFault}
 use Rattle.edi_line.specs.declared.fault.LineFault.TheVariants as fault
 use Rattle.edi_line.specs.declared.reading.Reader.{Reader}
 use Rattle.edi_line.specs.declared.zone.Zone.{Zone}
 use Rattle.edi_line.proofs.Readings.{least_said, unbroken_said}
 use Rattle.edi_line.proofs.ZonesSaid.{zones_said}
-use Rattle.edi_line.proofs.Rules.{stands_more, refused_here, refused_at_end, sound_at_end, closed_zones}
+use Rattle.edi_line.proofs.Rules.{IsFaultless, stands_more, refused_here, refused_at_end, sound_at_end, closed_zones}
 
 -- the lines up to the next one, that one, and those behind it
-record Next (lines : List Reading) (n : ℕ) (line : Reading) (after : List Reading) : Type 0 where
-  whole : lines ≡ take n lines ++ line ∷ after
-  long : length (take n lines) ≡ n
-  more : take (n + 1) lines ≡ take n lines ++ line ∷ []
-  rest : drop (n + 1) lines ≡ after
+pub record Next (lines : List Reading) (n : ℕ) (line : Reading) (after : List Reading) : Type 0 where
+  pub whole : lines ≡ take n lines ++ line ∷ after
+  pub long : length (take n lines) ≡ n
+  pub more : take (n + 1) lines ≡ take n lines ++ line ∷ []
+  pub rest : drop (n + 1) lines ≡ after
 
-next_of : (lines : List Reading) (n : ℕ) (line : Reading) (after : List Reading) → drop n lines ≡ line ∷ after → Next lines n line after
+pub next_of : (lines : List Reading) (n : ℕ) (line : Reading) (after : List Reading) → drop n lines ≡ line ∷ after → Next lines n line after
 next_of lines n line after e =
     let whole : lines ≡ take n lines ++ line ∷ after = sym (take-append-drop n lines) ∙ ap (λ xs. take n lines ++ xs) e in
     let left = length-drop n lines in
@@ -53,33 +54,40 @@ taken lines old new line after at t =
       left_is = ap (λ n. drop n lines) t.counted ∙ next.rest;
     }
 
-pub refused : (lines : List Reading) (old : Reader) (line : Reading) (after : List Reading) (rule place : ℕ) → IsAt lines old (line ∷ after) → place ≡ old.line + 1 → rule_of old.order line ≡ Some rule → IsLeastBroken (BreaksIn lines) rule place
-refused lines old line after rule place at place_is e =
-    let next = next_of lines old.line line after at.left_is in
-    refused_here lines (take old.line lines) line after rule place next.whole at.stands.sound (omega (arith, place_is, next.long)) (ap (λ o. rule_of o line) (sym at.stands.order) ∙ e)
+pub refused : (lines : List Reading) (old : Reader) (line : Reading) (after : List Reading) (rule place : ℕ) → IsFaultless (take old.line lines) → old.order ≡ seen_in (take old.line lines) → drop old.line lines ≡ line ∷ after
+    → place ≡ old.line + 1 → rule_of old.order line ≡ Some rule → IsLeastBroken (BreaksIn lines) rule place
+refused lines old line after rule place sound order left place_is e =
+    let next = next_of lines old.line line after left in
+    refused_here lines (take old.line lines) line after rule place next.whole sound (omega (arith, place_is, next.long)) (ap (λ o. rule_of o line) (sym order) ∙ e)
 
 -- a reader that has gone through all lines
+pub taken_all : (lines : List Reading) (n : ℕ) → drop n lines ≡ [] → take n lines ≡ lines
+taken_all lines n none = sym (append-nil (take n lines)) ∙ ap (λ xs. take n lines ++ xs) (sym none) ∙ take-append-drop n lines
+
 pub all_taken : (lines : List Reading) (r : Reader) → IsAt lines r [] → Stands lines r
-all_taken lines r at =
-    let all : take r.line lines ≡ lines = sym (append-nil (take r.line lines)) ∙ ap (λ xs. take r.line lines ++ xs) (sym at.left_is) ∙ take-append-drop r.line lines in
-    subst (λ done. Stands done r) all at.stands
+all_taken lines r at = subst (λ done. Stands done r) (taken_all lines r.line at.left_is) at.stands
 
 pub readings_step : (bytes line after : List ℕ) → lines_of bytes ≡ line ∷ lines_of after → readings_of bytes ≡ reading_of (content_of line) ∷ readings_of after
 readings_step bytes line after e = ap (λ lines. map reading_of (map content_of lines)) e
 
 -- a fault that is of a line
+pub refusal_of_line : (bytes : List ℕ) (old : Reader) (line : Reading) (after : List Reading) (f : LineFault) → IsFaultless (take old.line (readings_of bytes)) → old.order ≡ seen_in (take old.line (readings_of bytes))
+    → drop old.line (readings_of bytes) ≡ line ∷ after → IfBroken (λ rule at. (at ≡ old.line + 1) × (rule_of old.order line ≡ Some rule)) f → IfBroken (IsLeastBroken (BreaksLineRule bytes)) f
+refusal_of_line bytes old line after (fault.Memory e) sound order left h = tt
+refusal_of_line bytes old line after (fault.Broken rule place) sound order left h = least_said bytes rule place (refused (readings_of bytes) old line after rule place sound order left h.0 h.1)
+
 pub fault_refused : (bytes : List ℕ) (old : Reader) (line : Reading) (after : List Reading) (f : LineFault) → IsAt (readings_of bytes) old (line ∷ after)
     → IfBroken (λ rule at. (at ≡ old.line + 1) × (rule_of old.order line ≡ Some rule)) f → IfBroken (IsLeastBroken (BreaksLineRule bytes)) f
-fault_refused bytes old line after (fault.Memory e) at h = tt
-fault_refused bytes old line after (fault.Broken rule place) at h = least_said bytes rule place (refused (readings_of bytes) old line after rule place at h.0 h.1)
+fault_refused bytes old line after f at h = refusal_of_line bytes old line after f at.stands.sound at.stands.order at.left_is h
 
-abbrev EndFault : Reader → ℕ → ℕ → Type 0
+abbrev pub EndFault : Reader → ℕ → ℕ → Type 0
 EndFault r rule at = (rule ≡ 106) × (at ≡ r.line + 1) × (r.order.eom ≡ false)
 
-fault_at_end : (bytes : List ℕ) (r : Reader) (f : LineFault) → Stands (readings_of bytes) r → IfBroken (EndFault r) f → IfBroken (IsLeastBroken (BreaksLineRule bytes)) f
-fault_at_end bytes r (fault.Memory e) s h = tt
-fault_at_end bytes r (fault.Broken rule place) s h =
-    least_said bytes rule place (refused_at_end (readings_of bytes) rule place s.sound (ap (λ o. o.eom) (sym s.order) ∙ h.2) h.0 (omega (arith, h.1, s.counted)))
+pub refusal_of_end : (bytes : List ℕ) (r : Reader) (f : LineFault) → IsFaultless (readings_of bytes) → r.order ≡ seen_in (readings_of bytes) → r.line ≡ length (readings_of bytes)
+    → IfBroken (EndFault r) f → IfBroken (IsLeastBroken (BreaksLineRule bytes)) f
+refusal_of_end bytes r (fault.Memory e) sound order counted h = tt
+refusal_of_end bytes r (fault.Broken rule place) sound order counted h =
+    least_said bytes rule place (refused_at_end (readings_of bytes) rule place sound (ap (λ o. o.eom) (sym order) ∙ h.2) h.0 (omega (arith, h.1, counted)))
 
 abbrev Zones : Type 0
 Zones = Result (Vec Zone Global) LineFault
@@ -90,17 +98,24 @@ EndsWell r result = IfOk result (λ zones. (entries zones.items ≡ closed (zone
 pub end_refused : (bytes : List ℕ) (r : Reader) (result : Zones) → Stands (readings_of bytes) r
     → IfErr result (IfBroken (EndFault r)) → IfErr result (IfBroken (IsLeastBroken (BreaksLineRule bytes)))
 end_refused bytes r (Ok zones) s h = tt
-end_refused bytes r (Err f) s h = fault_at_end bytes r f s h
+end_refused bytes r (Err f) s h = refusal_of_end bytes r f s.sound s.order s.counted h
+
+pub unbroken_at_end : (bytes : List ℕ) → IsFaultless (readings_of bytes) → (seen_in (readings_of bytes)).eom ≡ true → IsUnbroken (BreaksLineRule bytes)
+unbroken_at_end bytes sound eom = unbroken_said bytes (sound_at_end (readings_of bytes) sound eom)
 
 pub end_sound : (bytes : List ℕ) (r : Reader) (result : Zones) → Stands (readings_of bytes) r
     → EndsWell r result → OnOk result (IsUnbroken (BreaksLineRule bytes))
-end_sound bytes r (Ok zones) s h = unbroken_said bytes (sound_at_end (readings_of bytes) s.sound (ap (λ o. o.eom) (sym s.order) ∙ h.1))
+end_sound bytes r (Ok zones) s h = unbroken_at_end bytes s.sound (ap (λ o. o.eom) (sym s.order) ∙ h.1)
 end_sound bytes r (Err f) s h = tt
+
+-- the zones of lines that break no rule
+pub zones_of_all : (bytes : List ℕ) (zones : List Entry) → IsFaultless (readings_of bytes) → zones ≡ closed (zoned_after no_zones (parts_after 0 (readings_of bytes))) → IsZonesOf bytes zones
+zones_of_all bytes zones sound e = zones_said bytes zones (record {
+  readable = λ rule place own broken. sound rule place broken;
+  is = e ∙ closed_zones (parts_after 0 (readings_of bytes));
+})
 
 pub end_zones : (bytes : List ℕ) (r : Reader) (result : Zones) → Stands (readings_of bytes) r
     → EndsWell r result → IfOk result (λ zones. IsZonesOf bytes (entries zones.items))
-end_zones bytes r (Ok zones) s h = zones_said bytes (entries zones.items) (record {
-  readable = λ rule place own broken. s.sound rule place broken;
-  is = h.0 ∙ ap closed s.zones ∙ closed_zones (parts_after 0 (readings_of bytes));
-})
+end_zones bytes r (Ok zones) s h = zones_of_all bytes (entries zones.items) s.sound (h.0 ∙ ap closed s.zones)
 end_zones bytes r (Err f) s h = tt

@@ -195,11 +195,16 @@ sound_more done line sound none rule place h = along (push_is_cut done line h.be
         let right = length-append h.before (h.line ∷ h.after) in
         omega arith
 
+-- the zones that lines say, and then one line more
+pub zones_more : (done : List Reading) (line : Reading) (n : ℕ) (old new : Zoned) → n ≡ length done → old ≡ zoned_after no_zones (parts_after 0 done) → new ≡ step (part_of (n + 1) line) old → new ≡ zoned_after no_zones (parts_after 0 (done ++ line ∷ []))
+zones_more done line n old new counted held stepped =
+    stepped ∙ ap (step (part_of (n + 1) line)) held ∙ sym (zoned_push no_zones (parts_after 0 done) (part_of (n + 1) line)) ∙ ap (λ k. zoned_after no_zones (parts_after 0 done ++ part_of k line ∷ [])) (let e : n + 1 ≡ suc (0 + length done) = omega (arith, counted) in e) ∙ ap (zoned_after no_zones) (sym (parts_push 0 done line))
+
 pub stands_more : (done : List Reading) (line : Reading) (old new : Reader) → Stands done old → Takes old line new → Stands (done ++ line ∷ []) new
 stands_more done line old new s t = record {
   counted = omega (arith, t.counted, s.counted, length_push done line);
   order = t.order ∙ ap (λ o. noted o line) s.order ∙ noted_seen done line;
-  zones = t.zones ∙ ap (step (part_of (old.line + 1) line)) s.zones ∙ sym (zoned_push no_zones (parts_after 0 done) (part_of (old.line + 1) line)) ∙ ap (λ k. zoned_after no_zones (parts_after 0 done ++ part_of k line ∷ [])) (let e : old.line + 1 ≡ suc (0 + length done) = omega (arith, s.counted) in e) ∙ ap (zoned_after no_zones) (sym (parts_push 0 done line));
+  zones = zones_more done line old.line (zoned old) (zoned new) s.counted s.zones t.zones;
   sound = λ rule place h. sound_more done line s.sound (sym (ap (λ o. rule_of o line) s.order) ∙ t.no_rule) rule place h;
 }
 

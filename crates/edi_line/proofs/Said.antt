@@ -1,7 +1,7 @@
 -- The codes of kinds of lines, and the groups of the zones of a file.
 use Rattle.std.proofs.Common.{◌≡◌, ℕ, Bool, true, false, ◌||◌, cond, Option, Some, None, List, [], ◌∷◌, ◌++◌, filter, option_to_list, IfSome, bytes_eq, codes, refl, sym, ap, ◌∙◌}
 use Rattle.std.specs.List.{flat_map, AllByRecursion}
-use Rattle.std.proofs.lemmas.List.{append_assoc}
+use Rattle.std.proofs.lemmas.List.{append_assoc, append-nil}
 use Rattle.std.proofs.lemmas.Slice.Eq.{bytes_eq-Decides}
 use Rattle.edi_line.specs.Entry.{Entry, has_code, first}
 use Rattle.edi_line.specs.Zones.{IsGroup, IsFileOf, begins_group, ends_group, before_end, groups_of, charset_of}
@@ -158,3 +158,18 @@ file_said zones charset groups f =
       ap charset_of f.joined ∙ rw no_set found.0,
       ap groups_of f.joined ∙ rw no_group (found.1 ∙ (all_groups groups f.tail f.groups_are f.tail_is).0),
     )
+
+-- the character set stands in front of the first record
+pub charset_in_front : (zones : List Entry) (charset : Option Entry) (groups : List (List Entry)) → IsFileOf zones charset groups → charset_of (before_end zones) ≡ charset_of zones
+charset_in_front zones charset groups f =
+    let is = code_bom f.head.code f.head_is in
+    let no_set : has_code (codes "CSE") f.head ≡ false = ap (λ c. bytes_eq c (codes "CSE")) is in
+    let no_end : ends_group f.head ≡ false = ap (λ c. bytes_eq c (codes "RTY") || bytes_eq c (codes "EOM")) is in
+    let body = flat_map (λ g. g) groups ++ f.tail ∷ [] in
+    let front = in_front charset body f.charset_is (all_groups groups f.tail f.groups_are f.tail_is).1 in
+    let cut : before_end zones ≡ f.head ∷ option_to_list charset = ap before_end f.joined ∙ rw no_end (ap (λ t. f.head ∷ t) front) in
+    ap charset_of cut ∙ rw no_set (ap (λ t. first (charsets t)) (sym (append-nil (option_to_list charset))) ∙ (behind_charset charset [] f.charset_is refl).0) ∙ sym (file_said zones charset groups f).0
+  where
+    in_front : (set : Option Entry) (rest : List Entry) → IfSome set (λ z. kind_of z.code ≡ Cse) → before_end rest ≡ [] → before_end (option_to_list set ++ rest) ≡ option_to_list set
+    in_front None rest h end = end
+    in_front (Some z) rest h end = let no_end : ends_group z ≡ false = ap (λ c. bytes_eq c (codes "RTY") || bytes_eq c (codes "EOM")) (code_cse z.code h) in rw no_end (ap (λ t. z ∷ t) end)

@@ -9,7 +9,7 @@ use Rattle.edi_line.specs.Zones.{IsGroup, HasShape, begins_group, groups_of}
 use Rattle.edi_line.specs.inner.Zones.{part_by, parts_after, continuation, with_more, entry_of, whole_zones}
 use Rattle.edi_line.specs.LineKinds.{kind_of, is_inner, is_zone, is_rty}
 use Rattle.edi_line.specs.LineRules.{BreaksAt}
-use Rattle.edi_line.specs.inner.Held.{kind_tests, rule_of, rule_of_kind, noted, noted_kind, closed, zoned, Stands}
+use Rattle.edi_line.specs.inner.Held.{kind_tests, rule_of, rule_of_kind, noted, noted_kind, no_zones, closed, zoned_after, zoned, Stands}
 use Rattle.edi_line.specs.Feeding.{seen_in}
 use Rattle.edi_line.specs.declared.order.ZoneKind.{ZoneKind}
 use Rattle.edi_line.specs.declared.order.ZoneKind.TheVariants.{Bom, Cse, Rty, Eom, Next, Remark, Other}
@@ -19,7 +19,7 @@ use Rattle.edi_line.specs.declared.reading.Reader.{Reader}
 use Rattle.edi_line.specs.declared.zone.Zone.{Zone}
 use Rattle.edi_line.proofs.FirstBroken.{none_broken}
 use Rattle.edi_line.proofs.Said.{code_bom, code_cse, code_rty, code_eom, code_inner}
-use Rattle.edi_line.proofs.Rules.{noted_seen, rule_broken, closed_zones}
+use Rattle.edi_line.proofs.Rules.{IsFaultless, noted_seen, rule_broken, closed_zones}
 
 -- no line breaks a rule, and an end comes
 abbrev IsGood : Order → List Reading → Type 0
@@ -254,11 +254,14 @@ shape_of started r n (Ok (Some s) ∷ lines) good = here (λ st m more. shape_of
 abbrev Zones : Type 0
 Zones = Result (Vec Zone Global) LineFault
 
+-- the zones of lines that break no rule, and of which one is an end
+pub shape_of_all : (lines : List Reading) (zones : List Entry) → IsFaultless lines → (seen_in lines).eom ≡ true → zones ≡ closed (zoned_after no_zones (parts_after 0 lines)) → HasShape zones
+shape_of_all lines zones sound eom e =
+    subst HasShape (sym (e ∙ closed_zones (parts_after 0 lines))) (shape_of false 0 0 lines (good_from [] lines sound eom))
+
 pub end_shape : (lines : List Reading) (r : Reader) (result : Zones) → Stands lines r
     → IfOk result (λ zones. (entries zones.items ≡ closed (zoned r)) × (r.order.eom ≡ true)) → IfOk result (λ zones. HasShape (entries zones.items))
-end_shape lines r (Ok zones) s h =
-    subst HasShape (sym (h.0 ∙ ap closed s.zones ∙ closed_zones (parts_after 0 lines)))
-    (shape_of false 0 0 lines (good_from [] lines s.sound (ap (λ o. o.eom) (sym s.order) ∙ h.1)))
+end_shape lines r (Ok zones) s h = shape_of_all lines (entries zones.items) s.sound (ap (λ o. o.eom) (sym s.order) ∙ h.1) (h.0 ∙ ap closed s.zones)
 end_shape lines r (Err f) s h = tt
 
 -- ---- how many records there are
@@ -310,9 +313,12 @@ few_groups seen n (Ok (Some s) ∷ lines) few good = here (λ o less more. few_g
         let rest = more (noted_kind seen Rty) room g.1 in
         omega (arith, rest, one_more_group (whole_zone n s lines) (zones_after (suc n) lines) (begins_as Rty (whole_zone n s lines) e))
 
+pub few_of_all : (lines : List Reading) (zones : List Entry) → IsFaultless lines → (seen_in lines).eom ≡ true → zones ≡ closed (zoned_after no_zones (parts_after 0 lines)) → length (groups_of zones) ≤ 9999999
+few_of_all lines zones sound eom e =
+    subst (λ zs. length (groups_of zs) ≤ 9999999) (sym (e ∙ closed_zones (parts_after 0 lines)))
+    (let few : 0 + length (groups_of (zones_after 0 lines)) ≤ 9999999 = few_groups (seen_in []) 0 lines (lit≤ tt) (good_from [] lines sound eom) in omega (arith, few))
+
 pub end_few : (lines : List Reading) (r : Reader) (result : Zones) → Stands lines r
     → IfOk result (λ zones. (entries zones.items ≡ closed (zoned r)) × (r.order.eom ≡ true)) → IfOk result (λ zones. length (groups_of (entries zones.items)) ≤ 9999999)
-end_few lines r (Ok zones) s h =
-    subst (λ zs. length (groups_of zs) ≤ 9999999) (sym (h.0 ∙ ap closed s.zones ∙ closed_zones (parts_after 0 lines)))
-    (let few : 0 + length (groups_of (zones_after 0 lines)) ≤ 9999999 = few_groups (seen_in []) 0 lines (lit≤ tt) (good_from [] lines s.sound (ap (λ o. o.eom) (sym s.order) ∙ h.1)) in omega (arith, few))
+end_few lines r (Ok zones) s h = few_of_all lines (entries zones.items) s.sound (ap (λ o. o.eom) (sym s.order) ∙ h.1) (h.0 ∙ ap closed s.zones)
 end_few lines r (Err f) s h = tt

@@ -5,3 +5,4 @@ pub mod Lines
 pub mod Zones
 pub mod Held
 pub mod Feeding
+pub mod Groups

@@ -4,6 +4,7 @@
 pub mod device;
 pub mod fault;
 pub mod feed;
+pub mod groups;
 mod known;
 pub mod lent;
 mod lines;
@@ -20,6 +21,7 @@ pub mod zone;
 pub use device::{ByteIn, ByteOut, FromRead, ToWrite};
 pub use fault::LineFault;
 pub use feed::{Feed, zones_of_pieces};
+pub use groups::{GroupOut, read_groups};
 pub use known::{known_lines_are_read, known_numbers_are_read};
 pub use lent::{Lent, LentEach};
 pub use lines::lines_are_unique;

@@ -3,7 +3,8 @@
 ghost use Rattle.std.specs.Prelude.{Option, Some, None, true, false, ◌≡◌, ℕ, List, ◌+◌, ◌^◌, ◌<◌, ◌≤◌, [], ◌∷◌, ◌++◌, length, map, OnOk, IfOk, IfErr, option_map};
 ghost use Rattle.edi_line.specs.Bytes.{most_records};
 ghost use Rattle.edi_line.specs.Entry.{Entry, entry, entries};
-ghost use Rattle.edi_line.specs.Zones.{HasShape, IsFileOf, IsZonesIn, groups_of, charset_of};
+ghost use Rattle.edi_line.specs.Zones.{HasShape, IsFileOf, IsZonesIn, groups_of, charset_of, ends_group as zone_ends_group};
+ghost use Rattle.edi_line.specs.inner.Groups.{has_group};
 ghost use Rattle.edi_line.specs.inner.Zones.{with_more, part_by};
 ghost use Rattle.edi_line.specs.LineKinds.{kind_of as kind_in};
 ghost use Rattle.edi_line.specs.LineRules.{BreaksLineRule, IsZonesOf};
@@ -45,7 +46,7 @@ impl<'a> Reader<'a> {
     }
 
     /// Takes the content of the next line, whose value a zone that begins there is lent.
-    fn take_line(&mut self, alloc: Global, content: &'a [u8]) -> Result<(), LineFault>
+    pub(crate) fn take_line(&mut self, alloc: Global, content: &'a [u8]) -> Result<(), LineFault>
         requires line { self.old.line + 1 < 2 ^ 64 }
         requires records { self.old.order.records ≤ self.old.line }
         ensures ok { OnOk result (Takes self.old (reading_of content.now) self.new) }
@@ -183,6 +184,32 @@ impl<'a> Reader<'a> {
         Ok(())
     }
 
+    /// Whether zones are done, and the next record or the end has begun.
+    pub(crate) fn has_group(&self) -> bool
+        ensures { result ≡ has_group (zoned self.now) }
+    {
+        match &self.open_zone {
+            Some(zone) => ends_group(zone) && !self.zones.is_empty(),
+            None => false,
+        }
+    }
+
+    /// The zones that are done.
+    pub(crate) fn done(&self) -> &[Zone<'a>]
+        ensures { entries result.now ≡ (zoned self.now).done }
+    {
+        &self.zones
+    }
+
+    /// Lets the zones go that are done.
+    pub(crate) fn let_go(&mut self)
+        ensures line { self.new.line ≡ self.old.line }
+        ensures order { self.new.order ≡ self.old.order }
+        ensures zones { zoned self.new ≡ record { done = []; open_zone = (zoned self.old).open_zone } }
+    {
+        self.zones.clear();
+    }
+
     /// All lines have come.
     pub(crate) fn finish(mut self) -> Result<Vec<Zone<'a>>, LineFault>
         requires { self.line + 1 < 2 ^ 64 }
@@ -199,6 +226,13 @@ impl<'a> Reader<'a> {
         let Reader { zones, .. } = self;
         Ok(zones)
     }
+}
+
+/// Whether a zone begins the next record or is the end.
+fn ends_group(zone: &Zone<'_>) -> bool
+    ensures { result ≡ zone_ends_group (entry zone.now) }
+{
+    zone.code == *b"RTY" || zone.code == *b"EOM"
 }
 
 /// The zones of a file in the order of its lines, without remarks: BOM, then CSE or nothing, then
