@@ -1,5 +1,5 @@
 -- The records of the groups, one after the other.
-use Rattle.std.proofs.Common.{◌≡◌, ℕ, suc, ◌+◌, ◌<◌, ◌≤◌, ◌⊎◌, inl, inr, Bool, true, false, List, [], ◌∷◌, ◌++◌, length, Some, None, refl, sym, ap, ◌∙◌, subst, arith, length-append}
+use Rattle.std.proofs.Common.{◌≡◌, ℕ, suc, drop, ◌+◌, ◌<◌, ◌≤◌, ◌⊎◌, inl, inr, Bool, true, false, List, [], ◌∷◌, ◌++◌, length, Option, Some, None, is_some, refl, sym, ap, ◌∙◌, subst, arith, length-append}
 use Rattle.std.specs.List.{AllByRecursion, AllZip, list_all}
 use Rattle.std.proofs.lemmas.Bool.{and_parts, and_from}
 use Rattle.std.proofs.lemmas.List.{append-nil, append_assoc}
@@ -12,15 +12,18 @@ use Rattle.edi_line.proofs.Rules.{AreApart, two_cuts}
 use Rattle.edi_record.specs.Shapes.{is_in_shape}
 use Rattle.edi_record.specs.inner.Records.{ReadsAs}
 use Rattle.edi_record.specs.inner.RecordRules.{record_tests, FailsTest}
+use Rattle.edi_record.specs.inner.Lists.{IsSound, IsListOf, IsRefused, IsMadeOf}
 use Rattle.edi_record.specs.RecordRefusal.{IsRecordRefusal}
+use Rattle.edi_record.specs.RecordRules.{BreaksRecordRule}
+use Rattle.edi_record.proofs.RulesSaid.{records_unbroken, refusal_said}
 use Rattle.edi_record.specs.inner.RecordRefusal.{IsGroupRefusal, fault_at}
 use Rattle.edi_record.specs.declared.fault.GroupFault.{GroupFault}
 use Rattle.edi_record.specs.declared.fault.GroupFault.TheVariants.{Memory as GroupMemory, Broken as GroupBroken}
 use Rattle.edi_record.specs.declared.fault.RecordFault.{RecordFault}
+use Rattle.edi_record.specs.declared.fault.RecordFault.TheVariants.{Memory, Broken}
+use Rattle.edi_line.specs.Groups.{IsHandedOut, IsOneRecord}
+use Rattle.edi_line.proofs.Stretches.{inner_whole}
 use Rattle.edi_record.specs.declared.record.Record.{Record}
-
-abbrev pub IsSound : List Entry → Type 0
-IsSound group = first_broken (record_tests group) ≡ None
 
 -- the groups before these zones state the records, and break no rule
 pub record SoFar (zones rest : List Entry) (list : List Record) : Type 0 where
@@ -33,23 +36,23 @@ pub record SoFar (zones rest : List Entry) (list : List Record) : Type 0 where
 pub none_done : (zones : List Entry) → SoFar zones zones []
 none_done zones = record { done = []; cut = refl; states = tt; sound = tt; shape = refl }
 
-zip_push : (gs : List (List Entry)) (rs : List Record) (g : List Entry) (r : Record) → AllZip ReadsAs gs rs → ReadsAs g r → AllZip ReadsAs (gs ++ g ∷ []) (rs ++ r ∷ [])
+pub zip_push : (gs : List (List Entry)) (rs : List Record) (g : List Entry) (r : Record) → AllZip ReadsAs gs rs → ReadsAs g r → AllZip ReadsAs (gs ++ g ∷ []) (rs ++ r ∷ [])
 zip_push [] [] g r h k = (k, tt)
 zip_push [] (y ∷ rs) g r h k = absurd h
 zip_push (x ∷ gs) [] g r h k = absurd h
 zip_push (x ∷ gs) (y ∷ rs) g r h k = (h.0, zip_push gs rs g r h.1 k)
 
-zip_length : (gs : List (List Entry)) (rs : List Record) → AllZip ReadsAs gs rs → length gs ≡ length rs
+pub zip_length : (gs : List (List Entry)) (rs : List Record) → AllZip ReadsAs gs rs → length gs ≡ length rs
 zip_length [] [] h = refl
 zip_length [] (y ∷ rs) h = absurd h
 zip_length (x ∷ gs) [] h = absurd h
 zip_length (x ∷ gs) (y ∷ rs) h = ap suc (zip_length gs rs h.1)
 
-sound_push : (gs : List (List Entry)) (g : List Entry) → AllByRecursion IsSound gs → IsSound g → AllByRecursion IsSound (gs ++ g ∷ [])
+pub sound_push : (gs : List (List Entry)) (g : List Entry) → AllByRecursion IsSound gs → IsSound g → AllByRecursion IsSound (gs ++ g ∷ [])
 sound_push [] g h k = (k, tt)
 sound_push (x ∷ gs) g h k = (h.0, sound_push gs g h.1 k)
 
-shape_push : (rs : List Record) (r : Record) → list_all is_in_shape rs ≡ true → is_in_shape r ≡ true → list_all is_in_shape (rs ++ r ∷ []) ≡ true
+pub shape_push : (rs : List Record) (r : Record) → list_all is_in_shape rs ≡ true → is_in_shape r ≡ true → list_all is_in_shape (rs ++ r ∷ []) ≡ true
 shape_push [] r h k = rw k refl
 shape_push (x ∷ rs) r h k = let parts = and_parts (is_in_shape x) (list_all is_in_shape rs) h in and_from (is_in_shape x) (list_all is_in_shape (rs ++ r ∷ [])) parts.0 (shape_push rs r parts.1 k)
 
@@ -105,24 +108,33 @@ all_unbroken zones rest list h e rule place b = sound_unbroken h.done h.sound b.
 
 -- ---- a group that breaks a rule
 
-pub refused : (zones rest : List Entry) (list : List Record) (z : Entry) (zs : List Entry) (rule place : ℕ) → SoFar zones rest list → rest ≡ z ∷ zs → begins_group z ≡ true → place ≡ length list + 1
-    → first_broken (record_tests (z ∷ before_end zs)) ≡ Some rule → IsLeastBroken (FailsTest zones) rule place
-refused zones rest list z zs rule place h e b place_is broken =
-    let found = first_is_least (record_tests (z ∷ before_end zs)) rule refl broken in
-    let count = zip_length h.done list h.states in
-    let cut : groups_of zones ≡ h.done ++ (z ∷ before_end zs) ∷ groups_of zs = h.cut ∙ ap (λ t. h.done ++ groups_of t) e ∙ ap (λ t. h.done ++ t) (group_here z zs b) in
+-- the first group that breaks a rule
+pub least_of : (zones : List Entry) (rule place : ℕ) → IsRefused (groups_of zones) rule place → IsLeastBroken (FailsTest zones) rule place
+least_of zones rule place h =
+    let found = first_is_least (record_tests h.group) rule refl h.broken in
     record {
-      is = record { before = h.done; group = z ∷ before_end zs; after = groups_of zs; cut = cut; place_is = omega (arith, place_is, count); breaks = found.breaks };
-      least = λ r p k. go r p k found.least (two_cuts h.done (z ∷ before_end zs) (groups_of zs) k.before k.group k.after (sym cut ∙ k.cut));
+      is = record { before = h.before; group = h.group; after = h.after; cut = h.cut; place_is = h.place_is; breaks = found.breaks };
+      least = λ r p k. go r p k found.least (two_cuts h.before h.group h.after k.before k.group k.after (sym h.cut ∙ k.cut));
     }
   where
-    go : (r p : ℕ) (k : FailsTest zones r p) → ((q : ℕ) → Breaks (record_tests (z ∷ before_end zs)) q → rule ≤ q) → AreApart h.done (z ∷ before_end zs) k.before k.group → (place < p) ⊎ ((place ≡ p) × (rule ≤ r))
-    go r p k least (inl (gs, same)) = absurd (sound_unbroken h.done h.sound k.before k.group gs r same k.breaks)
+    go : (r p : ℕ) (k : FailsTest zones r p) → ((q : ℕ) → Breaks (record_tests h.group) q → rule ≤ q) → AreApart h.before h.group k.before k.group → (place < p) ⊎ ((place ≡ p) × (rule ≤ r))
+    go r p k least (inl (gs, same)) = absurd (sound_unbroken h.before h.sound k.before k.group gs r same k.breaks)
     go r p k least (inr (inl (same, at))) =
         let long = ap length same in
-        let count = zip_length h.done list h.states in
-        inr (omega (arith, k.place_is, place_is, long, count), least r (subst (λ g. Breaks (record_tests g) r) (sym at) k.breaks))
-    go r p k least (inr (inr short)) = let count = zip_length h.done list h.states in inl (omega (arith, k.place_is, place_is, short, count))
+        inr (omega (arith, k.place_is, h.place_is, long), least r (subst (λ g. Breaks (record_tests g) r) (sym at) k.breaks))
+    go r p k least (inr (inr short)) = inl (omega (arith, k.place_is, h.place_is, short))
+
+pub refused : (zones rest : List Entry) (list : List Record) (z : Entry) (zs : List Entry) (rule place : ℕ) → SoFar zones rest list → rest ≡ z ∷ zs → begins_group z ≡ true → place ≡ length list + 1
+    → first_broken (record_tests (z ∷ before_end zs)) ≡ Some rule → IsLeastBroken (FailsTest zones) rule place
+refused zones rest list z zs rule place h e b place_is broken = least_of zones rule place (record {
+  before = h.done;
+  group = z ∷ before_end zs;
+  after = groups_of zs;
+  cut = h.cut ∙ ap (λ t. h.done ++ groups_of t) e ∙ ap (λ t. h.done ++ t) (group_here z zs b);
+  sound = h.sound;
+  broken = broken;
+  place_is = omega (arith, place_is, zip_length h.done list h.states);
+})
 
 -- there is room for one more
 pub few_so_far : (zones rest : List Entry) (list : List Record) (z : Entry) (zs : List Entry) → SoFar zones rest list → rest ≡ z ∷ zs → begins_group z ≡ true → length (groups_of zones) ≤ 9999999 → length list + 1 ≤ 9999999
@@ -149,3 +161,86 @@ groups_few (z ∷ zs) = go (begins_group (entry z)) refl (groups_few zs)
     go : (b : Bool) → begins_group (entry z) ≡ b → length (groups_of (entries zs)) ≤ length zs → length (groups_of (entries (z ∷ zs))) ≤ suc (length zs)
     go true e more = rw e (omega (arith, more))
     go false e more = rw e (omega (arith, more))
+
+-- ---- groups one after the other
+
+-- a group that states the next record
+pub list_more : (groups : List (List Entry)) (list new : List Record) (group : List Entry) (r : Record) → IsListOf groups list → ReadsAs group r → is_in_shape r ≡ true → IsSound group → new ≡ list ++ r ∷ [] → IsListOf (groups ++ group ∷ []) new
+list_more groups list new group r h states shape sound pushed = subst (IsListOf (groups ++ group ∷ [])) (sym pushed) (record {
+  states = zip_push groups list group r h.states states;
+  sound = sound_push groups group h.sound sound;
+  shape = shape_push list r h.shape shape;
+})
+
+-- a group that breaks a rule
+pub list_refused : (groups : List (List Entry)) (list : List Record) (group : List Entry) (rule place : ℕ) → IsListOf groups list → first_broken (record_tests group) ≡ Some rule → place ≡ length list + 1 → IsRefused (groups ++ group ∷ []) rule place
+list_refused groups list group rule place h broken place_is = record {
+  before = groups;
+  group = group;
+  after = [];
+  cut = refl;
+  sound = h.sound;
+  broken = broken;
+  place_is = omega (arith, place_is, zip_length groups list h.states);
+}
+
+pub rule_of_fault : (zones group : List Entry) (fault : GroupFault) (rule : ℕ) → zones ≡ group → fault ≡ GroupBroken rule → IsGroupRefusal zones fault → first_broken (record_tests group) ≡ Some rule
+rule_of_fault zones group fault rule same is h = subst (λ g. first_broken (record_tests g) ≡ Some rule) same (subst (IsGroupRefusal zones) is h)
+
+-- what comes behind a broken rule changes nothing
+made_still : (groups : List (List Entry)) (group : List Entry) (list : List Record) (fault : RecordFault) → IsMadeOf groups list (Some fault) → IsMadeOf (groups ++ group ∷ []) list (Some fault)
+made_still groups group list (Memory e) h = tt
+made_still groups group list (Broken rule at) h = record {
+  before = h.before;
+  group = h.group;
+  after = h.after ++ group ∷ [];
+  cut = ap (λ gs. gs ++ group ∷ []) h.cut ∙ append_assoc h.before (h.group ∷ h.after) (group ∷ []);
+  sound = h.sound;
+  broken = h.broken;
+  place_is = h.place_is;
+}
+
+pub made_past : (groups : List (List Entry)) (group : List Entry) (list : List Record) (fault : Option RecordFault) → is_some fault ≡ true → IsMadeOf groups list fault → IsMadeOf (groups ++ group ∷ []) list fault
+made_past groups group list None e h = absurd (cc)
+made_past groups group list (Some fault) e h = made_still groups group list fault h
+
+-- no rule is broken so far
+pub made_list : (groups : List (List Entry)) (list : List Record) (fault : Option RecordFault) → is_some fault ≡ false → IsMadeOf groups list fault → IsListOf groups list
+made_list groups list None e h = h
+made_list groups list (Some fault) e h = absurd (cc)
+
+pub made_more : (groups : List (List Entry)) (list : List Record) (fault : Option RecordFault) → is_some fault ≡ false → IsListOf groups list → IsMadeOf groups list fault
+made_more groups list None e h = h
+made_more groups list (Some fault) e h = absurd (cc)
+
+-- the zones of one record are its group
+pub one_record : (group : List Entry) (z : Entry) (zs : List Entry) → IsOneRecord group → group ≡ z ∷ zs → (begins_group z ≡ true) × (z ∷ before_end zs ≡ group)
+one_record group z zs h e =
+    let same : h.head ∷ h.rest ≡ z ∷ zs = sym h.joined ∙ e in
+    let heads : h.head ≡ z = ap (λ l. first_or z l) same in
+    let rests : h.rest ≡ zs = ap (drop 1) same in
+    (ap begins_group (sym heads) ∙ h.leads, ap (λ t. z ∷ t) (ap before_end (sym rests) ∙ inner_whole h.rest h.whole ∙ rests) ∙ sym e)
+  where
+    first_or : Entry → List Entry → Entry
+    first_or d [] = d
+    first_or d (x ∷ xs) = x
+
+-- ---- the sheet of a file
+
+pub made_of_file : (bytes : List ℕ) (charset : Option (List ℕ)) (first list : List Record) (fault found : Option RecordFault)
+    (h : IsHandedOut bytes charset (λ groups. IsMadeOf groups first None) (λ groups. IsMadeOf groups list fault)) → first ≡ [] → fault ≡ found → IsMadeOf (groups_of h.zones) list found
+made_of_file bytes charset first list fault found h none is =
+    subst (IsMadeOf (groups_of h.zones) list) is (h.handed [] (subst (IsListOf []) (sym none) (record { states = tt; sound = tt; shape = refl })))
+
+pub file_unbroken : (zones : List Entry) (list : List Record) → IsListOf (groups_of zones) list → IsUnbroken (BreaksRecordRule zones)
+file_unbroken zones list h = records_unbroken zones (λ rule place b. sound_unbroken (groups_of zones) h.sound b.before b.group b.after rule b.cut b.breaks)
+
+made_refusal : (zones : List Entry) (list : List Record) (fault : RecordFault) → IsMadeOf (groups_of zones) list (Some fault) → IsRecordRefusal (FailsTest zones) fault
+made_refusal zones list (Memory e) h = tt
+made_refusal zones list (Broken rule at) h = least_of zones rule at h
+
+pub file_refusal : (zones : List Entry) (list : List Record) (fault : RecordFault) → IsMadeOf (groups_of zones) list (Some fault) → IsRecordRefusal (BreaksRecordRule zones) fault
+file_refusal zones list fault h = refusal_said zones fault (made_refusal zones list fault h)
+
+pub made_few : (groups : List (List Entry)) (list : List Record) → IsListOf groups list → length groups ≤ 9999999 → length list ≤ 9999999
+made_few groups list h few = let count = zip_length groups list h.states in omega (arith, count, few)

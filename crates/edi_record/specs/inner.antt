@@ -5,3 +5,4 @@ pub mod RecordRules
 pub mod Kept
 pub mod RecordRefusal
 pub mod Rows
+pub mod Lists

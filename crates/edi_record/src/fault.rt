@@ -3,8 +3,10 @@
 ghost use Rattle.std.specs.Prelude.{◌≡◌, alloc_error};
 ghost use Rattle.edi_record.specs.declared.fault.RecordFault.TheVariants.{Memory};
 ghost use Rattle.edi_record.specs.declared.fault.GroupFault.TheVariants.{Memory as GroupMemory};
+ghost use Rattle.edi_record.specs.declared.fault.SheetFault.TheVariants.{Line};
 ghost use Rattle.edi_record.specs.inner.RecordRefusal.{fault_at};
 
+use edi_line::LineFault;
 use std::alloc::{AllocError, AllocFailed};
 use thiserror::Error;
 
@@ -15,6 +17,17 @@ pub enum RecordFault {
     Memory(AllocError),
     #[error("rule {rule} is broken at record {at}")]
     Broken { rule: u16, at: u64 },
+}
+
+/// Why a file states no sheet.
+#[derive(Debug, Drop, Error)]
+pub enum SheetFault {
+    /// One of the rules 101 to 110, or want of memory.
+    #[error(transparent)]
+    Line(LineFault),
+    /// One of the rules 201 to 208.
+    #[error(transparent)]
+    Record(RecordFault),
 }
 
 /// Why the zones of one record state none: want of memory, or the least rule that they break.
@@ -65,5 +78,13 @@ impl<T: Drop> From<AllocFailed<T>> for RecordFault {
 
     fn from(_fault: AllocFailed<T>) -> RecordFault {
         RecordFault::Memory(AllocError)
+    }
+}
+
+impl From<LineFault> for SheetFault {
+    ghost from_gives = { λ f e. e ≡ Line f };
+
+    fn from(fault: LineFault) -> SheetFault {
+        SheetFault::Line(fault)
     }
 }

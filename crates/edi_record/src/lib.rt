@@ -9,6 +9,7 @@ mod extras;
 pub mod fault;
 pub mod groups;
 pub mod laws;
+pub mod list;
 pub mod name;
 mod only;
 pub mod pointer;
@@ -19,8 +20,9 @@ mod role;
 pub mod sheet;
 mod stating;
 
-pub use fault::RecordFault;
+pub use fault::{RecordFault, SheetFault};
 pub use groups::{first_value, group_here, lacks_identifier};
+pub use list::read_sheet;
 pub use name::Name;
 pub use pointer::{Pointer, texts_are_unique};
 pub use reading::{
