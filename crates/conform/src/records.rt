@@ -6,19 +6,42 @@ use crate::case::Case;
 use crate::refusals;
 use anyhow::Result;
 use edi_line::zones;
-use edi_record::{Attribute, End, Extra, Kind, Name, Point, Record, Value, records};
+use edi_record::{
+    Attribute, End, Extra, Kind, Name, Point, Record, SheetFault, Value, read_sheet, records,
+};
 use std::alloc::Global;
 
 /// The records of a file: of each its type, identifier, class, points, ends, attributes and extras; or the refusal.
+/// The file is read by its zones and once more line by line, and a second answer that differs is told too.
 pub fn stated(alloc: Global, case: &Case<'_>) -> Result<String> {
     let file = case.input(alloc, 0)?;
-    let zones = match zones(alloc, file.as_bytes()) {
+    let mut text = by_zones(alloc, file.as_bytes())?;
+    let by_lines = by_lines(alloc, file.as_bytes())?;
+    if text != by_lines {
+        text.push_str("and line by line\n")?;
+        text.push_str(by_lines.as_str())?;
+    }
+    Ok(text)
+}
+
+// The records that the list of all zones states.
+fn by_zones(alloc: Global, file: &[u8]) -> Result<String> {
+    let zones = match zones(alloc, file) {
         Ok(zones) => zones,
         Err(fault) => return refusals::of_lines(alloc, fault),
     };
     match records(alloc, &zones) {
         Ok(sheet) => records_text(alloc, sheet.list.as_slice()),
         Err(fault) => refusals::of_records(alloc, fault),
+    }
+}
+
+// The records that are made while the lines are read.
+fn by_lines(alloc: Global, file: &[u8]) -> Result<String> {
+    match read_sheet(alloc, file) {
+        Ok(sheet) => records_text(alloc, sheet.list.as_slice()),
+        Err(SheetFault::Line(fault)) => refusals::of_lines(alloc, fault),
+        Err(SheetFault::Record(fault)) => refusals::of_records(alloc, fault),
     }
 }
 

@@ -6,11 +6,13 @@ use Rattle.edi_line.specs.LineRules.{BreaksLineRule, IsZonesOf}
 use Rattle.edi_line.specs.Refusal.{IsLineRefusal}
 use Rattle.edi_line.specs.declared.fault.LineFault.{LineFault}
 use Rattle.edi_line.specs.declared.fault.LineFault.TheVariants as line
-use Rattle.edi_record.specs.RecordRefusal.{IsRecordRefusal}
+use Rattle.edi_record.specs.RecordRefusal.{IsRecordRefusal, IsSheetRefusal}
 use Rattle.edi_record.specs.RecordRules.{BreaksRecordRule}
 use Rattle.edi_record.specs.declared.sheet.Sheet.{Sheet}
 use Rattle.edi_record.specs.declared.fault.RecordFault.{RecordFault}
 use Rattle.edi_record.specs.declared.fault.RecordFault.TheVariants as record_
+use Rattle.edi_record.specs.declared.fault.SheetFault.{SheetFault}
+use Rattle.edi_record.specs.declared.fault.SheetFault.TheVariants as file
 use Rattle.edi_schema.specs.Classes.{Classes}
 use Rattle.edi_plan.specs.Plans.{Drawing}
 use Rattle.edi_plan.specs.ReferenceRefusal.{IsReferenceRefusal}
@@ -25,7 +27,7 @@ use Rattle.edi_rank.specs.Alike.{BreaksObjectRule}
 use Rattle.edi_rank.specs.RankRefusal.{IsRankRefusal}
 use Rattle.edi_rank.specs.declared.fault.RankFault.{RankFault}
 use Rattle.edi_rank.specs.declared.fault.RankFault.TheVariants as rank
-use Rattle.edi_compare.specs.Faults.{of_line, of_record, of_reference, of_topology, of_rank, of_first, of_second}
+use Rattle.edi_compare.specs.Faults.{of_line, of_record, of_sheet, of_reference, of_topology, of_rank, of_first, of_second}
 use Rattle.edi_compare.specs.PlanOfFile.{IsSheetOf, IsPlanOfFile}
 use Rattle.edi_compare.specs.Refused.{IsRefusal, IsPairRefusal}
 use Rattle.edi_compare.specs.Rules.{LinesHold, RecordsHold, ReferencesHold, TopologyHolds, IsAccepted}
@@ -46,6 +48,10 @@ module _ (s : Classes) (b : List ℕ) where
   pub record_fault : LinesHold s b → (zones : List Entry) → IsZonesOf b zones → (f : RecordFault) → IsRecordRefusal (BreaksRecordRule zones) f → IsRefusal s b (of_record f)
   record_fault lines zones are (record_.Memory e) h = tt
   record_fault lines zones are (record_.Broken rule at) h = record_refusal s b rule at lines zones are h
+
+  pub sheet_fault : (f : SheetFault) → IsSheetRefusal b f → IsRefusal s b (of_sheet f)
+  sheet_fault (file.Line f) h = line_fault f h
+  sheet_fault (file.Record f) h = record_fault h.0 h.1.0 h.1.1 f h.1.2
 
   pub reference_fault : RecordsHold s b → (sheet : Sheet) → IsSheetOf b sheet → (f : RefFault) → IsReferenceRefusal (BreaksReferenceRule s sheet.list) f → IsRefusal s b (of_reference f)
   reference_fault records sheet states (reference.Memory e) h = tt

@@ -3,6 +3,8 @@ use Rattle.edi_line.specs.declared.fault.LineFault.{LineFault}
 use Rattle.edi_line.specs.declared.fault.LineFault.TheVariants as line
 use Rattle.edi_record.specs.declared.fault.RecordFault.{RecordFault}
 use Rattle.edi_record.specs.declared.fault.RecordFault.TheVariants as record_
+use Rattle.edi_record.specs.declared.fault.SheetFault.{SheetFault}
+use Rattle.edi_record.specs.declared.fault.SheetFault.TheVariants as sheet
 use Rattle.edi_plan.specs.declared.fault.RefFault.{RefFault}
 use Rattle.edi_plan.specs.declared.fault.RefFault.TheVariants as reference
 use Rattle.edi_topo.specs.declared.fault.TopoFault.{TopoFault}
@@ -21,6 +23,10 @@ of_line (line.Broken rule at) = Line rule at
 abbrev pub of_record : RecordFault → Fault
 of_record (record_.Memory e) = Memory e
 of_record (record_.Broken rule at) = Entry rule at
+
+abbrev pub of_sheet : SheetFault → Fault
+of_sheet (sheet.Line fault) = of_line fault
+of_sheet (sheet.Record fault) = of_record fault
 
 abbrev pub of_reference : RefFault → Fault
 of_reference (reference.Memory e) = Memory e
