@@ -4,6 +4,7 @@
 mod command;
 mod disk;
 mod folder;
+mod hashes;
 #[cfg(test)]
 mod known;
 mod outcome;
