@@ -1,9 +1,9 @@
 -- One sheet after the other is answered.
-use Rattle.std.proofs.Common.{◌≡◌, ◌⊎◌, ℕ, zero, suc, ◌+◌, ◌<◌, ◌≤◌, Bool, true, false, List, [], ◌∷◌, ◌++◌, Option, Some, None, IsTrue, Bor, map, length, take, drop, get_or, refl, inl, inr, sym, ◌∙◌, ap, subst, arith, append_assoc, append-nil, add-one, ltb-true, ltb-false}
+use Rattle.std.proofs.Common.{◌≡◌, ℕ, zero, suc, ◌+◌, ◌<◌, ◌≤◌, Bool, true, false, List, [], ◌∷◌, ◌++◌, Option, Some, None, IsTrue, Bor, map, length, take, drop, get_or, refl, inl, inr, sym, ◌∙◌, ap, subst, arith, append_assoc, append-nil, add-one, ltb-true, ltb-false}
 use Rattle.std.specs.Prelude.{codes, flat_map, max, cond, nat_lt, ◌==◌}
 use Rattle.std.specs.Ordering.{is_lt, nat_cmp, ord_max}
 use Rattle.std.specs.declared.cmp.Ordering.TheVariants.{Less, Equal, Greater}
-use Rattle.std.specs.List.{AllZip, fold}
+use Rattle.std.specs.List.{AllZip}
 use Rattle.std.specs.Io.KnownBytes.{Appends}
 use Rattle.std.proofs.lemmas.List.Sums.{fold-append}
 use Rattle.edi_schema.specs.Classes.{Classes}
@@ -12,7 +12,7 @@ use Rattle.edi_schema.specs.declared.fault.SchemaFault.{SchemaFault as SchemaRef
 use Rattle.edi_compare.specs.Runs.{RefusesSchema, Seen, TellBoth, seen}
 use Rattle.edi_compare.specs.declared.fault.RunFault.{RunFault}
 use Rattle.edi_compare.specs.declared.fault.RunFault.TheVariants.{Memory, Read, TooLong, Schema, First, Second, Write}
-use Rattle.edicad.specs.Hashes.{AreAnswered, IsCutOff, IsStep, RefusesFiles, SchemaFault, Step, StepsOn, StopsAt, digest_line, said_err, said_out, worst_of}
+use Rattle.edicad.specs.Hashes.{AreAnswered, IsCutOff, IsStep, RefusesFiles, SchemaFault, Step, StepsOn, StopsAt, worst_of}
 use Rattle.edicad.specs.Outcome.{ended, schema_text, status_of_fault, words_of_fault}
 use Rattle.edicad.specs.SheetRuns.{Inputs}
 use Rattle.edicad.specs.Statuses.{GoesOut, IsSheetStatus, Says}

@@ -1,5 +1,5 @@
 -- The digests of sheets.
-use Rattle.std.specs.Prelude.{◌≡◌, ◌≢◌, ◌⊎◌, ◌≤◌, ◌++◌, ◌==◌, ◌||◌, ℕ, Bool, max, List, [], ◌∷◌, Option, IfSome, IsTrue, codes, flat_map, length, map, take, if◌then◌else◌}
+use Rattle.std.specs.Prelude.{◌≡◌, ◌≢◌, ◌⊎◌, ◌≤◌, ◌++◌, ◌==◌, ◌||◌, ℕ, Bool, max, List, [], ◌∷◌, Option, IfSome, IsTrue, codes, flat_map, map, take, if◌then◌else◌}
 use Rattle.std.specs.List.{AllZip, fold, list_any}
 use Rattle.std.proofs.Common.{Result, Ok, Err}
 use Rattle.hex.specs.Hex.{encode_lower}

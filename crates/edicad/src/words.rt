@@ -179,7 +179,7 @@ fn hash<'a>(alloc: Global) -> Result<Command<'a>, AllocError>
     ensures { IfOk result (λ c. app_of c ≡ hash_command) }
 {
     let over_schema = over_schema(alloc, "hash")?.about(
-        "Gives the SHA-256 digest of each sheet's canonical file, as sha256sum does",
+        "Gives the SHA-256 digest of each sheet's canonical file",
     );
     over_schema.arg(sheets_argument(alloc))
 }

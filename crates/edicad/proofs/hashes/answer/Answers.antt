@@ -14,7 +14,7 @@ returns-in-Ok-put_all-clause-ok g c =
       inl (c.in-Ok.digest, c.in-Ok.ensures, refl),
       refl,
       subst (Appends (g.O.ByteOut.told c.args.out.now) (g.O.ByteOut.told c.put_all.new.writer)) line c.in-Ok-put_all.ensures.ok,
-      inl (appends_nothing _),
+      inl (appends_nothing (g.E.ByteOut.told c.args.err.now)),
     )
 
 pub returns-in-Ok-clause-ok : goal.returns-in-Ok-clause-ok
@@ -22,7 +22,7 @@ returns-in-Ok-clause-ok g c = (
   record { out = []; err = ended (codes "out of memory"); status = 5 },
   inr (inr refl),
   sym c.out_of_memory.ensures.status,
-  appends_nothing _,
+  appends_nothing (g.O.ByteOut.told c.args.out.now),
   c.out_of_memory.ensures.text,
 )
 
@@ -32,9 +32,9 @@ returns-clause-ok g c = elim c.tell_fault.ensures.told [
     record { out = []; err = fault_line c.in-Err.fault c.args.path.now; status = status_of_fault c.in-Err.fault },
     inr (inl (c.in-Err.fault, c.in-Err.ensures, refl)),
     sym h.0,
-    appends_nothing _,
+    appends_nothing (g.O.ByteOut.told c.args.out.now),
     subst (GoesOut (g.E.ByteOut.told c.args.err.now) (g.E.ByteOut.told c.tell_fault.new.err) (g.E.ByteOut.has_failed c.tell_fault.new.err))
         (ap (fault_line c.in-Err.fault) c.as_bytes-in-Err.ensures.value) h.1,
   )
-  | inr h ↦ (record { out = []; err = ended (codes "out of memory"); status = 5 }, inr (inr refl), sym h.0, appends_nothing _, h.1)
+  | inr h ↦ (record { out = []; err = ended (codes "out of memory"); status = 5 }, inr (inr refl), sym h.0, appends_nothing (g.O.ByteOut.told c.args.out.now), h.1)
 ]

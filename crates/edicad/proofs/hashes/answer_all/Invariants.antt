@@ -1,4 +1,4 @@
-use Rattle.std.proofs.Common.{map, take}
+use Rattle.std.proofs.Common.{take}
 use Rattle.edi_compare.specs.Runs.{seen}
 use Rattle.edicad.specs.Hashes.{AreAnswered}
 use Rattle.edicad.specs.SheetRuns.{inputs_of}

@@ -1,4 +1,4 @@
-use Rattle.std.proofs.Common.{ℕ, List, [], ◌∷◌, ◌≤◌, ◌≡◌, codes, refl, inl, inr, subst, arith, map, Bor}
+use Rattle.std.proofs.Common.{ℕ, List, [], ◌∷◌, ◌≤◌, ◌≡◌, codes, inl, inr, subst, arith, map, Bor}
 use Rattle.edi_compare.specs.Runs.{seen}
 use Rattle.edicad.specs.Hashes.{AnswersAll, RefusesFiles, SchemaFault, schema_names_of}
 use Rattle.edicad.specs.Outcome.{ended, schema_text, status_of_fault, words_of_fault}
