@@ -6,7 +6,8 @@
 
 For N = 1, 2, .. until a run meets no refusal, growth N of a run is refused. Each run must give the answer that it gives
 with ample memory, or `out of memory` with status 5 and nothing on standard output. OUT is then not there or whole: the
-line that tells that the sheet was accepted needs memory too. Anything else is a fault.
+line that tells that the sheet was accepted needs memory too. `hash` says of each sheet by itself that memory ran out.
+Anything else is a fault.
 """
 import os
 import subprocess
@@ -37,7 +38,21 @@ def run(words, library, number, out):
     return (done.returncode, done.stdout, done.stderr, written), met
 
 
-def sweep(name, words, library, out):
+def lacks_memory(answer, wanted):
+    """Nothing went out, for want of memory, and OUT is not there or whole."""
+    return answer[:3] == (5, b"", b"out of memory\n") and answer[3] in (None, wanted[3])
+
+
+def lacks_lines(answer, wanted):
+    """Each digest's line went out, or there was no memory for its sheet, which is said; or there was none for the schema."""
+    status, out, err, _ = answer
+    said, lines = err.splitlines(), out.splitlines()
+    left = [it for it in wanted[1].splitlines() if it in lines]
+    told = all(it == b"out of memory" or it.endswith(b": out of memory") for it in said)
+    return lacks_memory(answer, wanted) or status == 5 and told and left == lines and len(said) + len(lines) == len(wanted[1].splitlines())
+
+
+def sweep(name, words, library, out, lacks=lacks_memory):
     wanted, _ = run(words, library, 0, out)
     memory = same = 0
     number = 1
@@ -48,7 +63,7 @@ def sweep(name, words, library, out):
                 print(f"{name}: {number - 1} growths refused in turn, {memory} answered out of memory, {same} as with ample memory")
                 return
             same += 1
-        elif met and answer[:3] == (5, b"", b"out of memory\n") and answer[3] in (None, wanted[3]):
+        elif met and lacks(answer, wanted):
             memory += 1
         else:
             sys.exit(f"{name}: growth {number} gives {answer}")
@@ -66,6 +81,7 @@ def main():
         sweep("canon", ["canon", *files, out], library, out)
         pair = [os.path.join(PARCEL, name) for name in ("schema.scd", "dictionary.dic", "sheet.vec", "same_plan.vec")]
         sweep("compare", ["compare", *pair], library, out)
+        sweep("hash", ["hash", *pair], library, out, lacks_lines)
 
 
 main()

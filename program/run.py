@@ -6,8 +6,11 @@
 
 Its last line is `N passed, M failed`; the status is 1 where M isn't 0. cases.json has the sheets and their answers.
 """
+import hashlib
 import json
 import os
+import pty
+import re
 import resource
 import shutil
 import signal
@@ -84,8 +87,25 @@ def status_of(answer):
     return 2 if answer.startswith("refused") else 1 if answer.startswith("different") else 0
 
 
+def run_hash(room, case):
+    """Sheets by their names, with the lines on both streams."""
+    for name, text in case["files"].items():
+        room.write(name, text)
+    wanted = (case["status"], case["out"].encode("latin-1"), case["err"].encode("latin-1"))
+    room.expect(case["name"], ["hash", "s", "d", *case["names"]], wanted, case.get("stdin", "").encode("latin-1"))
+    for name in case["files"]:
+        os.remove(room.path(name))
+
+
+def digest_of(text):
+    return hashlib.sha256(text.encode("latin-1") if isinstance(text, str) else text).hexdigest().encode()
+
+
 def run_case(room, case):
     """A sheet, or a pair, and its answer."""
+    if case["call"] == "hash":
+        run_hash(room, case)
+        return
     answer, kinds = case["answer"], ["--kinds", case["kinds"]] if "kinds" in case else []
     room.write("s", case.get("scd", room.given["schema"]))
     room.write("d", case.get("dic", room.given["dictionary"]))
@@ -106,6 +126,9 @@ def run_case(room, case):
             room.expect(case["name"], ["canon", *kinds, "s", "d", "v", "o"], wanted)
             room.report.check(case["name"] + ": OUT", room.read("o"), case.get("canonical", "kept").encode("latin-1"))
             os.remove(room.path("o"))
+            hashed = (0, digest_of(case["canonical"]) + b"  v\n", b"") if "canonical" in case else None
+            schema = (2, line(answer), b"") if answer.startswith(("refused scd", "refused dic", "refused kinds")) else None
+            room.expect(case["name"] + ": hash", ["hash", *kinds, "s", "d", "v"], hashed or schema or (2, b"", line("v: " + answer)))
     room.write("s", room.given["schema"])
     room.write("d", room.given["dictionary"])
 
@@ -113,7 +136,7 @@ def run_case(room, case):
 def all_cases(room):
     for case in room.given["cases"]:
         run_case(room, case)
-    said = {word for case in room.given["cases"] for word in case["answer"].split() if word.isdigit()}
+    said = {word for case in room.given["cases"] for word in case.get("answer", "").split() if word.isdigit()}
     rules = [*range(101, 110), *range(201, 209), *range(301, 308), *range(401, 407), 501, 601, 602, 603, 604]
     room.report.check("each rule has a case", [rule for rule in rules if str(rule) not in said], [])
 
@@ -130,11 +153,11 @@ def words(room):
     """Commands with good and bad words."""
     report = room.report
     for bad in (["paint"], ["check"], ["check", "s"], ["check", "s", "d"], ["canon", "s", "d", "v"], ["compare", "s", "d", "v"],
-                ["check", "s", "d", "v", "v"], ["--paint"], ["check", "--paint", "s", "d", "v"], ["check", "--kinds"], ["help", "paint"]):
+                ["hash", "s", "d"], ["check", "s", "d", "v", "v"], ["--paint"], ["check", "--paint", "s", "d", "v"], ["check", "--kinds"], ["help", "paint"]):
         status, out, err = room.run(bad)
         report.check(f"{bad}: status and output", (status, out), (3, b""))
         report.holds(f"{bad}: says what is wrong", err.startswith(b"error: ") and err.endswith(b"\n"))
-    for asked in (["--help"], ["-h"], ["help"], ["help", "check"], ["check", "--help"], ["canon", "-h"], ["compare", "--help"]):
+    for asked in (["--help"], ["-h"], ["help"], ["help", "check"], ["check", "--help"], ["canon", "-h"], ["compare", "--help"], ["hash", "--help"]):
         status, out, err = room.run(asked)
         report.check(f"{asked}: status and output", (status, out), (0, b""))
         report.holds(f"{asked}: has the usage", b"Usage: edicad" in err and err.endswith(b"\n"))
@@ -142,9 +165,10 @@ def words(room):
     status, out, err = room.run(["--version"])
     report.check("--version", (status, out, err), (0, b"", b"edicad 0.1.0\n"))
     for kinds in ("A,B,C", "A,B,C,D,E", "A,A,B,C", "A,,C,D", ""):
-        for command in (["check", "absent", "absent", "absent"], ["canon", "absent", "absent", "absent", "o"], ["compare", "absent", "absent", "absent", "absent"]):
+        for command in (["check", "absent", "absent", "absent"], ["canon", "absent", "absent", "absent", "o"], ["compare", "absent", "absent", "absent", "absent"], ["hash", "absent", "absent", "absent"]):
             room.expect(f"{command[0]} with the kinds {kinds!r}", [command[0], "--kinds", kinds, *command[1:]], (3, b"", b"bad kinds\n"))
-    for twice in (["check", "-", "-", "v"], ["check", "-", "d", "-"], ["canon", "s", "-", "-", "o"], ["compare", "s", "d", "-", "-"]):
+    for twice in (["check", "-", "-", "v"], ["check", "-", "d", "-"], ["canon", "s", "-", "-", "o"], ["compare", "s", "d", "-", "-"],
+                  ["hash", "s", "d", "-", "v", "-"], ["hash", "s", "-", "v", "-"]):
         room.expect(f"{twice}", twice, (3, b"", b"only one input can be -\n"))
     status, out, err = room.run([b"\xff"])
     report.check("words that are no text", (status, out, err), (3, b"", b"error: the words are not all UTF-8\n"))
@@ -240,6 +264,55 @@ def standard_streams(room, sheet, canonical):
     room.expect("OUT is a pipe", ["canon", "s", "d", "v", "pipe"], (0, b"accepted\n", b""))
     report.check("a pipe gets the bytes", reader.communicate(timeout=20)[0], canonical)
     report.check("no draft of a stream", drafts(room.folder), [])
+
+
+def hashes(room, sheet, canonical):
+    """Digests of many sheets: what is refused before a sheet is opened, full streams, and the greatest status."""
+    report = room.report
+    room.write("v", sheet)
+    room.write("w", canonical)
+    room.write("bad", b"")
+    one = digest_of(canonical)
+    both = one + b"  v\n" + one + b"  w\n"
+    room.expect("a sheet and its canonical file have one digest", ["hash", "s", "d", "v", "w"], (0, both, b""))
+    checked = subprocess.run(["sha256sum", "-c"], cwd=room.folder, input=one + b"  w\n", capture_output=True).stdout
+    report.check("sha256sum -c takes the line of a canonical file", checked, b"w: OK\n")
+    room.expect("the first missing file of a schema", ["hash", "x", "y", "v"], (4, b"", b"cannot read x\n"))
+    room.expect("the second missing file of a schema", ["hash", "s", "y", "v"], (4, b"", b"cannot read y\n"))
+    room.expect("a refused schema", ["hash", "bad", "d", "x"], (2, b"refused scd 106 line 1\n", b""))
+    room.expect("the greatest status", ["hash", "s", "d", "x", "bad", "v"], (4, one + b"  v\n", b"x: cannot read\nbad: refused 106 line 1\n"))
+    room.expect("a folder among the sheets", ["hash", "s", "d", ".", "v"], (4, one + b"  v\n", b".: cannot read\n"))
+    room.expect("the schema on standard input", ["hash", "-", "d", "v", "w"], (0, both, b""), room.read("s"))
+    room.expect("a closed input", ["hash", "s", "d", "-", "v"], (4, one + b"  v\n", b"-: cannot read\n"), preexec_fn=lambda: os.close(0))
+    many = ["v"] * 3000
+    room.expect("many sheets", ["hash", "s", "d", *many], (0, (one + b"  v\n") * 3000, b""))
+    with open("/dev/full", "wb") as full:
+        room.expect("digests to a full output", ["hash", "s", "d", "x", "v", "bad"], (4, None, b"x: cannot read\ncannot write standard output\n"), stdout=full)
+        report.check("faults to a full stream", room.run(["hash", "s", "d", "bad", "v"], stderr=full)[:2], (2, one + b"  v\n"))
+        report.check("a refused schema to a full output", room.run(["hash", "bad", "d", "v"], stdout=full)[0], 4)
+    report.check("a closed output", room.run(["hash", "s", "d", "v"], preexec_fn=lambda: os.close(1))[0], 4)
+
+
+def terminal(room):
+    """Without words on a terminal, a line says what is awaited."""
+    awaited = b"reading SCD, DIC and VEC from the terminal, one after the other; edicad --help says more\n"
+    for words, wanted in (([], (2, b"refused scd 106 line 1\n", awaited)), (["check", "s", "d", "-"], (2, b"refused 106 line 1\n", b""))):
+        master, slave = pty.openpty()
+        os.write(master, b"\x04")
+        room.report.check(f"{words} on a terminal that gives nothing", room.run(words, stdin=slave), wanted)
+        os.close(slave)
+        os.close(master)
+    room.report.check("no words on a device", room.run([], stdin=subprocess.DEVNULL), (2, b"refused scd 106 line 1\n", b""))
+
+
+def manual(room):
+    """The manual page has the usage lines that the program prints."""
+    with open(os.path.join(HERE, "..", "docs", "edicad.1"), encoding="utf-8") as file:
+        page = [re.sub(r"\\f[BIR]|\\&", "", it).replace("\\-", "-").strip() for it in file]
+    for words in (["--help"], ["check", "--help"], ["canon", "--help"], ["compare", "--help"], ["hash", "--help"]):
+        usage = [it[len("Usage: "):] for it in room.run(words)[2].decode().splitlines() if it.startswith("Usage: ")]
+        room.report.check(f"{words}: its usage is on the manual page", [it for it in usage if it not in page], [])
+        room.report.check(f"{words}: one line of usage", len(usage), 1)
 
 
 def nobody():
@@ -372,6 +445,9 @@ def main():
         in_room(report, program, given, words)
         in_room(report, program, given, files, bytes_of("vec"), bytes_of("canonical"))
         in_room(report, program, given, standard_streams, bytes_of("vec"), bytes_of("canonical"))
+        in_room(report, program, given, hashes, bytes_of("vec"), bytes_of("canonical"))
+        in_room(report, program, given, manual)
+        in_room(report, program, given, terminal)
         in_room(report, program, given, hostile_folders, bytes_of("vec"))
         if number == 0:
             in_room(report, program, given, most_records)

@@ -1,5 +1,5 @@
 -- The rules of a sheet, phase by phase: the least of the first broken phase is the least of all.
-use Rattle.std.proofs.Common.{◌≡◌, ◌∙◌, sym, subst, ℕ, ◌<◌, ◌≤◌, ◌⊎◌, inl, inr, List, [], ◌∷◌, ◌++◌, map, Err, arith}
+use Rattle.std.proofs.Common.{◌≡◌, ◌∙◌, subst, ℕ, ◌<◌, ◌≤◌, ◌⊎◌, inl, inr, List, [], ◌∷◌, ◌++◌, map, Err, arith}
 use Rattle.edi_line.specs.Entry.{Entry}
 use Rattle.edi_line.specs.LineRules.{BreaksIn, BreaksLineRule, line_tests, IsZonesOf}
 use Rattle.edi_line.specs.Refusal.{IsUnbroken, IsLeastBroken, Breaks as BreaksTest}

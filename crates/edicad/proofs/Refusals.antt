@@ -85,7 +85,7 @@ module _ (out : Seen) (kinds : KindCodes) (names : List (List ℕ)) (two_sheets 
   pair_refused inputs files (Write w) (inr h) two line = absurd h.1
 
 -- the status of a fault
-abbrev IsFaultStatus : ℕ → Type 0
+abbrev pub IsFaultStatus : ℕ → Type 0
 IsFaultStatus s = (s ≡ 2) ⊎ ((s ≡ 4) ⊎ (s ≡ 5))
 
 schema_status : (f : SchemaFault) → IsFaultStatus (status_of_schema f)
@@ -99,7 +99,7 @@ sheet_status (sheet.Memory e) = inr (inr refl)
 sheet_status (sheet.Line rule at) = inl refl
 sheet_status (sheet.Entry rule at) = inl refl
 
-fault_status : (e : RunFault) → IsFaultStatus (status_of_fault e)
+pub fault_status : (e : RunFault) → IsFaultStatus (status_of_fault e)
 fault_status (Memory e) = inr (inr refl)
 fault_status (Read n) = inr (inl refl)
 fault_status (TooLong n) = inr (inl refl)
@@ -108,7 +108,7 @@ fault_status (First f) = sheet_status f
 fault_status (Second f) = sheet_status f
 fault_status (Write w) = inr (inl refl)
 
-told_fault : (status s : ℕ) → IsFaultStatus status → IsToldAs status s → IsFaultStatus s
+pub told_fault : (status s : ℕ) → IsFaultStatus status → IsToldAs status s → IsFaultStatus s
 told_fault status s h (inl e) = subst IsFaultStatus (sym e) h
 told_fault status s h (inr (inl e)) = inr (inr e)
 told_fault status s h (inr (inr e)) = inr (inl e.1)

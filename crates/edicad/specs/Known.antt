@@ -2,7 +2,7 @@
 use Rattle.std.specs.Prelude.{◌==◌, List, [], ◌∷◌, Option, map, option_map, codes}
 use Rattle.std.specs.List.{slice_split}
 use Rattle.clap.specs.Words.{Text, first_of, subcommand_of}
-use Rattle.edicad.specs.Requests.{edicad}
+use Rattle.edicad.specs.Requests.{edicad, values_at}
 
 -- the words of a line, parted by spaces (32)
 abbrev pub words_in : Text → List Text
@@ -15,3 +15,7 @@ values_of line = option_map (λ met. (
   map (λ id. first_of id met.1)
       (codes "kinds" ∷ codes "SCD" ∷ codes "DIC" ∷ codes "VEC" ∷ codes "OUT" ∷ codes "A" ∷ codes "B" ∷ []),
 )) (subcommand_of edicad (words_in line))
+
+-- the subcommand of a line, with the values of its last argument VEC
+abbrev pub sheets_of : Text → Option (Text × List Text)
+sheets_of line = option_map (λ met. (met.0, values_at (codes "VEC") met.1)) (subcommand_of edicad (words_in line))

@@ -76,6 +76,16 @@ words_of_fault (First f) names = sheet_text (first_text (length names)) f
 words_of_fault (Second f) names = sheet_text (codes "second ") f
 words_of_fault (Write w) names = codes "cannot write " ++ name_at names (length names - 1)
 
+-- what is wrong with a sheet, where its name stands before it
+abbrev pub sheet_fault_text : RunFault → List ℕ
+sheet_fault_text (Memory e) = codes "out of memory"
+sheet_fault_text (Read input) = codes "cannot read"
+sheet_fault_text (TooLong input) = codes "too long"
+sheet_fault_text (Schema f) = schema_text f
+sheet_fault_text (First f) = sheet_text [] f
+sheet_fault_text (Second f) = sheet_text [] f
+sheet_fault_text (Write w) = codes "cannot write"
+
 abbrev pub words_for : Outcome → List (List ℕ) → List ℕ
 words_for Accepted names = codes "accepted"
 words_for Same names = codes "same"

@@ -1,6 +1,5 @@
 -- The exit statuses.
 use Rattle.std.specs.Prelude.{◌≡◌, ◌⊎◌, ◌<◌, ◌++◌, ℕ, Bool, List, [], ◌∷◌, Option, IfSome, IsTrue, codes, if◌then◌else◌}
-use Rattle.std.specs.Bool.{MatchBool}
 use Rattle.std.specs.Fmt.{decimal}
 use Rattle.std.specs.Io.KnownBytes.{Appends}
 use Rattle.edi_schema.specs.Roles.{KindCodes}
@@ -12,14 +11,14 @@ use Rattle.edi_compare.specs.declared.pairing.Verdict.TheVariants.{Same, Differe
 use Rattle.edi_compare.specs.Bundle.{OfParts}
 use Rattle.edi_compare.specs.Runs.{InputFault, IsSheetUnder, IsVerdictOf, RefusesSchema, RefusesSecond, RefusesSheet, Seen, WritesAll, WritesFirst}
 use Rattle.edicad.specs.Outcome.{ended, schema_text, sheet_text, status_of_fault, words_of_fault}
-use Rattle.edicad.specs.Requests.{IsAsked, is_standard_path, misuse_text, usual_kinds}
+use Rattle.edicad.specs.Requests.{IsAsked, is_standard_path, usual_kinds}
 use Rattle.edicad.specs.SheetRuns.{AreFourThere, AreThere, CanonFault, FileFault, FirstMissing, FirstOfFourMissing, Inputs, IsInput, OfCanon, OfFiles, OfPair, PairFileFault}
 use Rattle.edicad.specs.declared.words.PairFiles.{PairFiles}
 use Rattle.edicad.specs.declared.words.SheetFiles.{SheetFiles}
 use Rattle.edicad.specs.declared.words.Request.{Request}
-use Rattle.edicad.specs.declared.words.Request.TheVariants.{Bundle, Check, Canon, Compare, Misused, Answered}
+use Rattle.edicad.specs.declared.words.Request.TheVariants.{Bundle, Check, Canon, Compare, Hash, Misused, Answered}
 
--- of a run over a sheet: accepted, refused, not read or not written, out of memory
+-- of a run over sheets, each for itself: accepted, refused, not read or not written, out of memory
 abbrev pub IsSheetStatus : ℕ → Type 0
 IsSheetStatus s = (s ≡ 0) ⊎ ((s ≡ 2) ⊎ ((s ≡ 4) ⊎ (s ≡ 5)))
 
@@ -33,6 +32,7 @@ IsStatusOf Bundle s = IsSheetStatus s
 IsStatusOf (Check kinds files) s = IsSheetStatus s
 IsStatusOf (Canon kinds files out) s = IsSheetStatus s
 IsStatusOf (Compare kinds files) s = IsPairStatus s
+IsStatusOf (Hash kinds files) s = IsSheetStatus s
 IsStatusOf (Misused misuse) s = s ≡ 3
 IsStatusOf (Answered status) s = s ≡ status
 
@@ -136,17 +136,6 @@ pub record IsCompareStatus (inputs : Inputs) (out err : Seen) (kinds : KindCodes
   pub means : MeansStatus
       (((pairing : Pairing) × OfPair inputs files (λ scd dic a b. IsVerdictOf kinds scd dic a b (Same pairing))) × Says out (ended (codes "same")))
       (OfPair inputs files (SaysPairRefusal out kinds)) (PairFileFault inputs kinds files) (pair_names_of files) out err s
-
--- The status of what was asked for, over what is known of the inputs, which bytes were put where, and what the two streams
--- have before and after.
-abbrev pub IsAnswered : Inputs → (List ℕ → List ℕ → Bool → Type 0) → (List ℕ → List ℕ → Type 0) → (List ℕ → ℕ → List ℕ → Type 0) → Seen → Seen → Request → ℕ → Type 0
-IsAnswered inputs is_one Puts Stops out err Bundle s = IsBundleStatus inputs out err s
-IsAnswered inputs is_one Puts Stops out err (Check kinds files) s = IsFileStatus inputs out err kinds files s
-IsAnswered inputs is_one Puts Stops out err (Canon kinds files path) s = MatchBool (is_standard_path path.now) (IsSendStatus inputs out err kinds files s)
-    (IsCanonStatus inputs is_one out err kinds files path.now (Puts path.now) (Stops path.now) s)
-IsAnswered inputs is_one Puts Stops out err (Compare kinds files) s = IsCompareStatus inputs out err kinds files s
-IsAnswered inputs is_one Puts Stops out err (Misused misuse) s = (s ≡ 3) × Warns err (ended (misuse_text misuse))
-IsAnswered inputs is_one Puts Stops out err (Answered status) s = s ≡ status
 
 -- the status once the line was printed: that of the outcome, 5 without memory for the line, 4 where it can't be printed
 abbrev pub IsToldAs : ℕ → ℕ → Type 0

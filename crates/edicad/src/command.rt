@@ -1,16 +1,19 @@
 //! What the program does with its words.
 ghost use Rattle.std.specs.Prelude.{◌≡◌, ◌⊎◌, ℕ, List, Option, map, string_bytes, codes};
 ghost use Rattle.edi_compare.specs.Runs.{seen};
+ghost use Rattle.edicad.specs.Answered.{IsAnswered};
 ghost use Rattle.edicad.specs.Outcome.{ended, outcome_for};
 ghost use Rattle.edicad.specs.Outputs.{IsUnmade, Reaches, Stops};
 ghost use Rattle.edicad.specs.Requests.{IsAsked};
 ghost use Rattle.edicad.specs.SheetRuns.{inputs_of};
-ghost use Rattle.edicad.specs.Statuses.{HasStatus, IsAnswered, IsBundleStatus, IsCanonStatus, IsCompareStatus, IsFileStatus, IsPairStatus, IsSendStatus, IsSheetStatus, IsStatus, IsStatusOf, Warns, input_name};
+ghost use Rattle.edicad.specs.Statuses.{HasStatus, IsBundleStatus, IsCanonStatus, IsCompareStatus, IsFileStatus, IsPairStatus, IsSendStatus, IsSheetStatus, IsStatus, IsStatusOf, Warns};
 ghost use Rattle.edicad.specs.declared.words.Request.{Request};
 
 use crate::disk::Disk;
 use crate::folder::Folder;
+use crate::hashes::hash;
 use crate::outcome::Outcome;
+use crate::report::input_name;
 use crate::sheets::is_standard;
 use crate::system::{CommandLine, Errors, Words};
 use crate::words::{PairFiles, Request, SheetFiles, asked};
@@ -108,6 +111,7 @@ pub fn answered<F: Folder, O: ByteOut, E: ByteOut>(
             }
         }
         Request::Compare { kinds, files } => compare(alloc, folder, &kinds, &files, out, err),
+        Request::Hash { kinds, files } => hash(alloc, folder, &kinds, &files, out, err),
         Request::Misused(misuse) => report::misused(err, misuse),
         Request::Answered(status) => status,
     }
@@ -231,17 +235,6 @@ fn compare<F: Folder, O: ByteOut, E: ByteOut>(
     ];
     let outcome = outcome_of(sheets::compare(alloc, folder, kinds, files));
     report::told(alloc, out, err, &outcome, &names)
-}
-
-// The name of an input in a line.
-fn input_name(path: &str) -> &[u8]
-    ensures { result.now ≡ input_name path.now }
-{
-    if is_standard(path) {
-        b"standard input"
-    } else {
-        path.as_bytes()
-    }
 }
 
 // What a comparison came to.

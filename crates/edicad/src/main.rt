@@ -4,6 +4,7 @@
 mod command;
 mod disk;
 mod folder;
+mod hashes;
 #[cfg(test)]
 mod known;
 mod outcome;
@@ -13,10 +14,25 @@ mod sheets;
 mod system;
 mod words;
 
+use std::env;
+use std::io::IsTerminal;
 use std::process::ExitCode;
 
 fn main(rt: HostRuntime) -> ExitCode {
+    if awaits_bundle(&rt) {
+        let _ = rt.eprintln(
+            "reading SCD, DIC and VEC from the terminal, one after the other; edicad --help says more",
+        );
+    }
     ExitCode::from(command::run(&rt))
+}
+
+// Whether there are no words, and what is typed is read.
+fn awaits_bundle(rt: &HostRuntime) -> bool {
+    match env::args(rt) {
+        Ok(mut words) => words.nth(1).is_none() && rt.stdin().is_terminal(),
+        Err(_) => false,
+    }
 }
 
 #[cfg(test)]

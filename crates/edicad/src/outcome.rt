@@ -1,7 +1,7 @@
 //! What a run came to, its line and its status.
 ghost use Rattle.std.specs.Prelude.{◌≡◌, ◌<◌, length, ◌∷◌, ◌++◌, [], codes, IfOk};
 ghost use Rattle.std.specs.Fmt.{decimal};
-ghost use Rattle.edicad.specs.Outcome.{HasNames, ended, first_text, line_for, name_at, schema_text, sheet_text, source_text, status_for, status_of_schema, status_of_sheet, texts};
+ghost use Rattle.edicad.specs.Outcome.{HasNames, ended, first_text, line_for, name_at, schema_text, sheet_fault_text, sheet_text, source_text, status_for, status_of_fault, status_of_schema, status_of_sheet, texts};
 
 use edi_compare::{Fault, RunFault};
 use edi_schema::{SchemaFault, Source};
@@ -27,10 +27,19 @@ pub fn status_of(outcome: &Outcome) -> u8
     match outcome {
         Outcome::Accepted | Outcome::Same => 0,
         Outcome::Different(_) => 1,
-        Outcome::Fault(RunFault::Memory(_)) => 5,
-        Outcome::Fault(RunFault::Schema(fault)) => schema_status(fault),
-        Outcome::Fault(RunFault::First(fault) | RunFault::Second(fault)) => sheet_status(fault),
-        Outcome::Fault(RunFault::Read { .. } | RunFault::TooLong { .. } | RunFault::Write(_)) => 4,
+        Outcome::Fault(fault) => status_of_fault(fault),
+    }
+}
+
+/// The exit status of a fault: 2 refused, 4 not read or not written, 5 out of memory.
+pub fn status_of_fault(fault: &RunFault) -> u8
+    ensures { result ≡ status_of_fault fault.now }
+{
+    match fault {
+        RunFault::Memory(_) => 5,
+        RunFault::Schema(fault) => schema_status(fault),
+        RunFault::First(fault) | RunFault::Second(fault) => sheet_status(fault),
+        RunFault::Read { .. } | RunFault::TooLong { .. } | RunFault::Write(_) => 4,
     }
 }
 
@@ -78,6 +87,20 @@ pub fn line_of(alloc: Global, outcome: &Outcome, names: &[&[u8]]) -> Result<Vec<
         Outcome::Fault(RunFault::Write(_)) => {
             named(alloc, b"cannot write ", name_of(names, names.len() - 1))
         }
+    }
+}
+
+/// What is wrong with a sheet whose name stands before it, ended by a line feed.
+pub fn line_of_sheet(alloc: Global, fault: &RunFault) -> Result<Vec<u8>, AllocError>
+    ensures { IfOk result (λ line. line.items ≡ ended (sheet_fault_text fault.now)) }
+{
+    match fault {
+        RunFault::Memory(_) => named(alloc, b"out of memory", b""),
+        RunFault::Read { .. } => named(alloc, b"cannot read", b""),
+        RunFault::TooLong { .. } => named(alloc, b"too long", b""),
+        RunFault::Schema(fault) => schema_line(alloc, fault),
+        RunFault::First(fault) | RunFault::Second(fault) => sheet_line(alloc, b"", fault),
+        RunFault::Write(_) => named(alloc, b"cannot write", b""),
     }
 }
 

@@ -3,9 +3,10 @@ ghost use Rattle.std.specs.Prelude.{◌≡◌, ◌<◌, ◌≤◌, IsTrue, codes
 ghost use Rattle.std.specs.Io.KnownBytes.{Appends};
 ghost use Rattle.edicad.specs.Outcome.{HasNames, ended, line_for, status_for};
 ghost use Rattle.edicad.specs.Requests.{misuse_text};
-ghost use Rattle.edicad.specs.Statuses.{GoesOut, IsToldAs};
+ghost use Rattle.edicad.specs.Statuses.{GoesOut, IsToldAs, input_name};
 
 use crate::outcome::{Outcome, line_of, status_of};
+use crate::sheets::is_standard;
 use crate::words::Misuse;
 use edi_line::ByteOut;
 use edi_write::put_all;
@@ -55,9 +56,20 @@ pub fn told<O: ByteOut, E: ByteOut>(
 pub fn out_of_memory<E: ByteOut>(err: &mut E) -> u8
     ensures status { result ≡ 5 }
     ensures text { GoesOut (E.told err.old) (E.told err.new) (E.has_failed err.new) (ended (codes "out of memory")) }
+    ensures stays { IsTrue (E.has_failed err.old) → IsTrue (E.has_failed err.new) }
 {
     warn(err, b"out of memory\n");
     MEMORY_STATUS
+}
+
+/// Says that standard output has failed.
+pub fn unwritten<E: ByteOut>(err: &mut E) -> u8
+    ensures status { result ≡ 4 }
+    ensures text { GoesOut (E.told err.old) (E.told err.new) (E.has_failed err.new) (ended (codes "cannot write standard output")) }
+    ensures stays { IsTrue (E.has_failed err.old) → IsTrue (E.has_failed err.new) }
+{
+    warn(err, b"cannot write standard output\n");
+    WRITE_STATUS
 }
 
 /// Says why words can't be meant.
@@ -81,9 +93,21 @@ pub fn not_text<E: ByteOut>(err: &mut E) -> u8
     USAGE_STATUS
 }
 
-// Writes a line of which it doesn't matter whether it comes through.
-fn warn<E: ByteOut>(err: &mut E, line: &[u8])
-    ensures { GoesOut (E.told err.old) (E.told err.new) (E.has_failed err.new) line.now }
+/// The name of an input in a line.
+pub fn input_name(path: &str) -> &[u8]
+    ensures { result.now ≡ input_name path.now }
+{
+    if is_standard(path) {
+        b"standard input"
+    } else {
+        path.as_bytes()
+    }
+}
+
+/// Writes a line of which it doesn't matter whether it comes through.
+pub fn warn<E: ByteOut>(err: &mut E, line: &[u8])
+    ensures text { GoesOut (E.told err.old) (E.told err.new) (E.has_failed err.new) line.now }
+    ensures stays { IsTrue (E.has_failed err.old) → IsTrue (E.has_failed err.new) }
 {
     let _ = put_all(err, line);
 }

@@ -157,8 +157,8 @@ fn canon_bytes<F: Folder>(
     canon_of(alloc, kinds, &mut scd, &mut dic, &mut vec)
 }
 
-// An input that is there to read.
-fn opened<F: Folder>(folder: &F, path: &str, input: u8) -> Result<F::Reader, RunFault>
+/// An input that is there to read.
+pub fn opened<F: Folder>(folder: &F, path: &str, input: u8) -> Result<F::Reader, RunFault>
     ensures ok { IfOk result (λ file. Gives (inputs_of F.Reader (F.holds folder.now) (F.closed folder.now) (F.standard folder.now) F.Reader.has_failed) path.now (F.Reader.told file)) }
     ensures err { IfErr result (λ e. IsMissing (inputs_of F.Reader (F.holds folder.now) (F.closed folder.now) (F.standard folder.now) F.Reader.has_failed) path.now × (e ≡ RunFault.Read input)) }
 {

@@ -1,8 +1,8 @@
 //! What the words of the command line ask for.
-ghost use Rattle.std.specs.Prelude.{◌≡◌, ◌↔◌, ◌<◌, ◌≤◌, IsTrue, IfErr, IfOk, MatchOption, OnOk, [], map, option_map, string_bytes};
+ghost use Rattle.std.specs.Prelude.{◌≡◌, ◌↔◌, ◌<◌, ◌≤◌, ◌^◌, IsTrue, IfErr, IfOk, MatchOption, OnOk, [], codes, length, map, option_map, string_bytes};
 ghost use Rattle.clap.specs.Words.{HasKind, app_of, fault_of, found_of, kind_of, rows_of, rule_of, subcommand_of, subcommand_rows_of, with_rule};
 ghost use Rattle.edi_schema.specs.Roles.{KindCodes};
-ghost use Rattle.edicad.specs.Requests.{AreKindsIn, AreKindsOf, ArePairFiles, AreSheetFiles, IsAsked, IsOwn, Means, canon_command, check_command, compare_command, edicad, file_rule, kinds_rule, schema_command, standard_at, standard_count, status_of_kind, value_at};
+ghost use Rattle.edicad.specs.Requests.{AreKindsIn, AreKindsOf, AreManyFiles, ArePairFiles, AreSheetFiles, IsAsked, IsOwn, Means, canon_command, check_command, compare_command, edicad, file_rule, files_rule, hash_command, kinds_rule, schema_command, standard_at, standard_count, standard_in, status_of_kind, value_at, values_at};
 
 use crate::report;
 use crate::sheets::is_standard;
@@ -43,6 +43,14 @@ pub struct PairFiles<'a> {
     pub second: &'a str,
 }
 
+/// The files of a schema, and sheets under it.
+#[derive(Debug, Drop)]
+pub struct ManyFiles<'a> {
+    pub scd: &'a str,
+    pub dic: &'a str,
+    pub sheets: Vec<&'a str>,
+}
+
 /// What is asked for.
 #[derive(Debug, Drop)]
 pub enum Request<'a> {
@@ -64,6 +72,11 @@ pub enum Request<'a> {
         kinds: Kinds<'a>,
         files: PairFiles<'a>,
     },
+    /// The digests of the canonical files of sheets.
+    Hash {
+        kinds: Kinds<'a>,
+        files: ManyFiles<'a>,
+    },
     /// Nothing that can be meant.
     Misused(Misuse),
     /// Nothing more: the words were answered on standard error, and this is the exit status.
@@ -84,7 +97,7 @@ pub fn asked<'a, R: Eprint + AllocGlobal>(rt: &R, words: &'a [String]) -> Reques
     ensures { IsAsked (map string_bytes words.entry.now) result }
 {
     match parsed(rt.alloc(), words) {
-        Ok(matches) => meant(&matches),
+        Ok(matches) => meant(rt, &matches),
         Err(error) => Request::Answered(refused(rt, &error)),
     }
 }
@@ -110,7 +123,8 @@ fn command<'a>(alloc: Global) -> Result<Command<'a>, AllocError>
         .after_help(STATUSES)
         .subcommand(check(alloc)?)?
         .subcommand(canon(alloc)?)?
-        .subcommand(compare(alloc)?)
+        .subcommand(compare(alloc)?)?
+        .subcommand(hash(alloc)?)
 }
 
 // The subcommand that checks a sheet.
@@ -160,6 +174,16 @@ fn compare<'a>(alloc: Global) -> Result<Command<'a>, AllocError>
     )
 }
 
+// The subcommand that gives the digests of sheets.
+fn hash<'a>(alloc: Global) -> Result<Command<'a>, AllocError>
+    ensures { IfOk result (λ c. app_of c ≡ hash_command) }
+{
+    let over_schema = over_schema(alloc, "hash")?.about(
+        "Gives the SHA-256 digest of each sheet's canonical file",
+    );
+    over_schema.arg(sheets_argument(alloc))
+}
+
 // A subcommand over the files of a schema.
 fn over_schema<'a>(alloc: Global, name: &'a str) -> Result<Command<'a>, AllocError>
     ensures { IfOk result (λ c. app_of c ≡ schema_command name.entry.now) }
@@ -198,6 +222,13 @@ fn file<'a>(alloc: Global, id: &'a str, help: &'a str) -> Arg<'a>
     Arg::new(alloc, id).required(true).help(help)
 }
 
+// Sheets, of which at least one has to be named.
+fn sheets_argument<'a>(alloc: Global) -> Arg<'a>
+    ensures { rule_of result ≡ files_rule (codes "VEC") }
+{
+    file(alloc, "VEC", "The sheets, files of type VEC").num_args(1..)
+}
+
 // The option with the codes of the kinds.
 fn kinds_option<'a>(alloc: Global) -> Arg<'a>
     ensures { rule_of result ≡ kinds_rule }
@@ -209,7 +240,7 @@ fn kinds_option<'a>(alloc: Global) -> Arg<'a>
 }
 
 // What words in good form ask for.
-fn meant<'a>(matches: &ArgMatches<'a>) -> Request<'a>
+fn meant<'a, R: Eprint + AllocGlobal>(rt: &R, matches: &ArgMatches<'a>) -> Request<'a>
     requires { IsOwn (subcommand_rows_of matches.now) }
     ensures { Means (subcommand_rows_of matches.now) result }
 {
@@ -232,9 +263,13 @@ fn meant<'a>(matches: &ArgMatches<'a>) -> Request<'a>
             files: sheet_files(given),
             out: path(given, "OUT"),
         },
-        _ => Request::Compare {
+        "compare" => Request::Compare {
             kinds,
             files: pair_files(given),
+        },
+        _ => match many_files(rt.alloc(), given) {
+            Ok(files) => Request::Hash { kinds, files },
+            Err(_) => Request::Answered(report::out_of_memory(&mut Errors::new(rt))),
         },
     }
 }
@@ -251,12 +286,29 @@ fn reads_input_twice(given: &ArgMatches<'_>) -> bool
         > 1
 }
 
-// 1 where an argument names standard input, and else 0.
-fn standard(given: &ArgMatches<'_>, name: &str) -> u8
+// How often an argument names standard input.
+fn standard(given: &ArgMatches<'_>, name: &str) -> usize
     ensures value { result ≡ standard_at name.now (rows_of (found_of given.now)) }
-    ensures bound { result ≤ 1 }
+    ensures bound { result < 2 ^ 60 }
 {
-    if is_standard(path(given, name)) { 1 } else { 0 }
+    match given.get_strs(name) {
+        Some(paths) => count_standard(paths),
+        None => 0,
+    }
+}
+
+// How many of the paths stand for standard input.
+fn count_standard(paths: &[&str]) -> usize
+    ensures value { result ≡ standard_in (map (λ p. p.now) paths.now) }
+    ensures bound { result ≤ length paths.now }
+{
+    let mut count = 0;
+    for path in paths {
+        if is_standard(path) {
+            count += 1;
+        }
+    }
+    count
 }
 
 // The files of a sheet, as the arguments name them.
@@ -279,6 +331,27 @@ fn pair_files<'a>(given: &ArgMatches<'a>) -> PairFiles<'a>
         dic: path(given, "DIC"),
         first: path(given, "A"),
         second: path(given, "B"),
+    }
+}
+
+// The files of a schema and of sheets, as the arguments name them.
+fn many_files<'a>(alloc: Global, given: &ArgMatches<'a>) -> Result<ManyFiles<'a>, AllocError>
+    ensures { IfOk result (AreManyFiles (rows_of (found_of given.now))) }
+{
+    Ok(ManyFiles {
+        scd: path(given, "SCD"),
+        dic: path(given, "DIC"),
+        sheets: paths(alloc, given, "VEC")?,
+    })
+}
+
+// The values of an argument.
+fn paths<'a>(alloc: Global, given: &ArgMatches<'a>, name: &str) -> Result<Vec<&'a str>, AllocError>
+    ensures { IfOk result (λ paths. map (λ p. p.now) paths.items ≡ values_at name.now (rows_of (found_of given.now))) }
+{
+    match given.get_strs(name) {
+        Some(paths) => Vec::from_slice(alloc, paths),
+        None => Ok(Vec::new(alloc)),
     }
 }
 

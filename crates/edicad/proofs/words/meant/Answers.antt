@@ -13,7 +13,7 @@ pair_of both None x y e r = absurd (false≢true (sym (ap is_some e)))
 pair_of both (Some b) x y e r = ap₂ (λ s t. Some (s, t)) (sym (ap (λ o. unwrap_or o x) e)) (sym (ap (λ o. unwrap_or o y) r))
 
 pub returns-in_default-kinds_of : goal.returns-in_default-kinds_of
-returns-in_default-kinds_of c =
+returns-in_default-kinds_of g c =
     let text_is = c.get_str.ensures ∙ first_value-rows (found_of c.in-Some.given.now) _ in (
       c.in-Some.name.now,
       rows_of (found_of c.in-Some.given.now),
@@ -22,7 +22,7 @@ returns-in_default-kinds_of c =
     )
 
 pub returns-then-reads_input_twice : goal.returns-then-reads_input_twice
-returns-then-reads_input_twice c = (
+returns-then-reads_input_twice g c = (
   c.in-Some.name.now,
   rows_of (found_of c.in-Some.given.now),
   pair_of _ _ _ _ c.in-Some.ensures.name c.in-Some.ensures.rows,
@@ -30,7 +30,7 @@ returns-then-reads_input_twice c = (
 )
 
 pub returns-in-check : goal.returns-in-check
-returns-in-check c =
+returns-in-check g c =
     let text_is = c.get_str.ensures ∙ first_value-rows (found_of c.in-Some.given.now) _ in
     let rows = rows_of (found_of c.in-Some.given.now) in (
       rows,
@@ -40,7 +40,7 @@ returns-in-check c =
     )
 
 pub returns-in-canon : goal.returns-in-canon
-returns-in-canon c =
+returns-in-canon g c =
     let text_is = c.get_str.ensures ∙ first_value-rows (found_of c.in-Some.given.now) _ in
     let rows = rows_of (found_of c.in-Some.given.now) in (
       rows,
@@ -50,19 +50,30 @@ returns-in-canon c =
       c.path.ensures,
     )
 
-pub returns-in_default-name : goal.returns-in_default-name
-returns-in_default-name c =
+pub returns-in-compare : goal.returns-in-compare
+returns-in-compare g c =
+    let text_is = c.get_str.ensures ∙ first_value-rows (found_of c.in-Some.given.now) _ in
+    let rows = rows_of (found_of c.in-Some.given.now) in (
+      rows,
+      pair_of _ _ _ _ c.in-Some.ensures.name c.in-Some.ensures.rows ∙ ap (λ name. Some (name, rows)) c.in-compare.is,
+      subst (λ t. AreKindsOf t c.in-Some-kinds_of.kinds) text_is c.in-Some-kinds_of.ensures,
+      c.pair_files.ensures,
+    )
+
+pub returns-in-Ok : goal.returns-in-Ok
+returns-in-Ok g c =
     let text_is = c.get_str.ensures ∙ first_value-rows (found_of c.in-Some.given.now) _ in
     let rows = rows_of (found_of c.in-Some.given.now) in
     let met = pair_of _ _ _ _ c.in-Some.ensures.name c.in-Some.ensures.rows in
     let own = subst IsOwn met c.requires in
-    let name_is : c.in-Some.name.now ≡ codes "compare" = elim own [
+    let name_is : c.in-Some.name.now ≡ codes "hash" = elim own [
       | inl e ↦ absurd (c.in_default-name.not-check e)
       | inr (inl e) ↦ absurd (c.in_default-name.not-canon e)
-      | inr (inr e) ↦ e
+      | inr (inr (inl e)) ↦ absurd (c.in_default-name.not-compare e)
+      | inr (inr (inr e)) ↦ e
     ] in (
       rows,
       met ∙ ap (λ name. Some (name, rows)) name_is,
       subst (λ t. AreKindsOf t c.in-Some-kinds_of.kinds) text_is c.in-Some-kinds_of.ensures,
-      c.pair_files.ensures,
+      c.in-Ok.ensures,
     )

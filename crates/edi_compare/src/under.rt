@@ -1,0 +1,59 @@
+//! Runs over many sheets of one schema, which is loaded once.
+ghost use Rattle.std.specs.Prelude.{◌≡◌, IfErr, IfOk, IfSome, OnOk};
+ghost use Rattle.edi_schema.specs.SchemaRefusal.{IsGoodSchema};
+ghost use Rattle.edi_compare.specs.Headline.{IsFormOf};
+ghost use Rattle.edi_compare.specs.Runs.{AfterReading, IsRead, TellBoth, seen};
+ghost use Rattle.edi_compare.specs.Under.{SchemaFilesFault, UnderFault, UnderSchema};
+
+use crate::canonical::canon;
+use crate::fault::{Fault, RunFault};
+use crate::runs::{load_or_fault, read_input};
+use edi_line::ByteIn;
+use edi_schema::{Kinds, Schema};
+use std::alloc::Global;
+
+/// Reads two files, and gives their schema.
+pub fn schema_of<S: ByteIn, D: ByteIn>(
+    alloc: Global,
+    kinds: &Kinds<'_>,
+    scd: &mut S,
+    dic: &mut D,
+) -> Result<Schema, RunFault>
+    ensures ok { IfOk result (λ schema. TellBoth (S.told scd.old) (D.told dic.old) (λ s d. IsGoodSchema s d kinds.now schema)) }
+    ensures read { OnOk result (IsRead (seen (S.told scd.old) (S.told scd.new) (S.has_failed scd.new)) × IsRead (seen (D.told dic.old) (D.told dic.new) (D.has_failed dic.new))) }
+    ensures err { IfErr result (SchemaFilesFault kinds.now (seen (S.told scd.old) (S.told scd.new) (S.has_failed scd.new))
+        (seen (D.told dic.old) (D.told dic.new) (D.has_failed dic.new)) (dic.new ≡ dic.old)) }
+    ensures after { IfErr result (λ e. AfterReading e (IsRead (seen (S.told scd.old) (S.told scd.new) (S.has_failed scd.new))
+        × IsRead (seen (D.told dic.old) (D.told dic.new) (D.has_failed dic.new)))) }
+{
+    let scd = read_input(alloc, scd, 1)?;
+    let dic = read_input(alloc, dic, 2)?;
+    load_or_fault(alloc, kinds, &scd, &dic)
+}
+
+/// Reads a sheet, which is the third input, and gives its canonical file under a schema.
+pub fn canon_under<V: ByteIn>(
+    alloc: Global,
+    schema: &Schema,
+    vec: &mut V,
+) -> Result<Vec<u8>, RunFault>
+    ensures ok { IfOk result (λ c. IfSome (V.told vec.old) (λ v. IsFormOf schema.now v c.items)) }
+    ensures read { OnOk result (IsRead (seen (V.told vec.old) (V.told vec.new) (V.has_failed vec.new))) }
+    ensures err { IfErr result (UnderFault schema.now (seen (V.told vec.old) (V.told vec.new) (V.has_failed vec.new))) }
+    ensures after { IfErr result (λ e. AfterReading e (IsRead (seen (V.told vec.old) (V.told vec.new) (V.has_failed vec.new)))) }
+{
+    let vec = read_input(alloc, vec, 3)?;
+    form_or_fault(alloc, schema, &vec)
+}
+
+// The canonical file of a sheet, with its refusal as a run's.
+fn form_or_fault(alloc: Global, schema: &Schema, vec: &[u8]) -> Result<Vec<u8>, RunFault>
+    ensures ok { IfOk result (λ c. IsFormOf schema.now vec.now c.items) }
+    ensures err { IfErr result (UnderSchema schema.now vec.now) }
+{
+    match canon(alloc, schema, vec) {
+        Ok(bytes) => Ok(bytes),
+        Err(Fault::Memory(error)) => Err(RunFault::Memory(error)),
+        Err(fault) => Err(RunFault::First(fault)),
+    }
+}

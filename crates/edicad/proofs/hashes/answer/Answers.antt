@@ -1,0 +1,40 @@
+use Rattle.std.proofs.Common.{◌≡◌, ◌∙◌, [], refl, inl, inr, sym, ap, subst, codes}
+use Rattle.std.specs.Io.KnownBytes.{Appends}
+use Rattle.edicad.specs.Hashes.{digest_line, fault_line}
+use Rattle.edicad.specs.Outcome.{ended, status_of_fault}
+use Rattle.edicad.specs.Statuses.{GoesOut}
+use Rattle.edicad.proofs.Answering.{appends_nothing}
+use Rattle.edicad.proofs.hashes.answer.Goals as goal
+
+pub returns-in-Ok-put_all-clause-ok : goal.returns-in-Ok-put_all-clause-ok
+returns-in-Ok-put_all-clause-ok g c =
+    let line : c.deref.result.now ≡ digest_line c.in-Ok.digest c.args.path.now =
+    c.deref.ensures.value ∙ (c.in-Ok-line_of_digest.ensures ∙ ap (digest_line c.in-Ok.digest) c.as_bytes.ensures.value) in (
+      record { out = digest_line c.in-Ok.digest c.args.path.now; err = []; status = 0 },
+      inl (c.in-Ok.digest, c.in-Ok.ensures, refl),
+      refl,
+      subst (Appends (g.O.ByteOut.told c.args.out.now) (g.O.ByteOut.told c.put_all.new.writer)) line c.in-Ok-put_all.ensures.ok,
+      inl (appends_nothing (g.E.ByteOut.told c.args.err.now)),
+    )
+
+pub returns-in-Ok-clause-ok : goal.returns-in-Ok-clause-ok
+returns-in-Ok-clause-ok g c = (
+  record { out = []; err = ended (codes "out of memory"); status = 5 },
+  inr (inr refl),
+  sym c.out_of_memory.ensures.status,
+  appends_nothing (g.O.ByteOut.told c.args.out.now),
+  c.out_of_memory.ensures.text,
+)
+
+pub returns-clause-ok : goal.returns-clause-ok
+returns-clause-ok g c = elim c.tell_fault.ensures.told [
+  | inl h ↦ (
+    record { out = []; err = fault_line c.in-Err.fault c.args.path.now; status = status_of_fault c.in-Err.fault },
+    inr (inl (c.in-Err.fault, c.in-Err.ensures, refl)),
+    sym h.0,
+    appends_nothing (g.O.ByteOut.told c.args.out.now),
+    subst (GoesOut (g.E.ByteOut.told c.args.err.now) (g.E.ByteOut.told c.tell_fault.new.err) (g.E.ByteOut.has_failed c.tell_fault.new.err))
+        (ap (fault_line c.in-Err.fault) c.as_bytes-in-Err.ensures.value) h.1,
+  )
+  | inr h ↦ (record { out = []; err = ended (codes "out of memory"); status = 5 }, inr (inr refl), sym h.0, appends_nothing (g.O.ByteOut.told c.args.out.now), h.1)
+]

@@ -1,0 +1,41 @@
+use Rattle.std.proofs.Common.{ℕ, List, [], ◌∷◌, ◌≤◌, ◌≡◌, codes, inl, inr, subst, arith, map, Bor}
+use Rattle.edi_compare.specs.Runs.{seen}
+use Rattle.edicad.specs.Hashes.{AnswersAll, RefusesFiles, SchemaFault, schema_names_of}
+use Rattle.edicad.specs.Outcome.{ended, schema_text, status_of_fault, words_of_fault}
+use Rattle.edicad.specs.SheetRuns.{inputs_of}
+use Rattle.edicad.specs.Statuses.{Says, Warns}
+use Rattle.edicad.proofs.Answering.{schema_refused}
+use Rattle.edicad.proofs.Refusals.{means_fault}
+use Rattle.edicad.proofs.hashes.hash.Goals as goal
+
+pub returns-in-Ok-clause-answer : goal.returns-in-Ok-clause-answer
+returns-in-Ok-clause-answer g c =
+    let inputs = inputs_of g.row.F-Reader.Denot (g.F.Folder.holds c.args.folder.now) (g.F.Folder.closed c.args.folder.now) (g.F.Folder.standard c.args.folder.now) g.F.Reader.ByteIn.has_failed in
+    let out = seen (g.O.ByteOut.told c.args.out.now) (g.O.ByteOut.told c.answer_all.new.out) (g.O.ByteOut.has_failed c.answer_all.new.out) in
+    let err = seen (g.E.ByteOut.told c.args.err.now) (g.E.ByteOut.told c.answer_all.new.err) (g.E.ByteOut.has_failed c.answer_all.new.err) in
+    inl (
+      c.in-Ok.schema,
+      c.in-Ok.ensures.ok,
+      subst (λ (sheets : List (Bor (List ℕ))). AnswersAll inputs c.in-Ok.schema out err (map (λ (p : Bor (List ℕ)). p.now) sheets) c.answer_all.result) c.deref.ensures.value c.answer_all.ensures.answer,
+    )
+
+pub returns-in-Err-clause-answer : goal.returns-in-Err-clause-answer
+returns-in-Err-clause-answer g c =
+    let inputs = inputs_of g.row.F-Reader.Denot (g.F.Folder.holds c.args.folder.now) (g.F.Folder.closed c.args.folder.now) (g.F.Folder.standard c.args.folder.now) g.F.Reader.ByteIn.has_failed in
+    let told = c.told in
+    let out = seen (g.O.ByteOut.told c.args.out.now) (g.O.ByteOut.told told.new.out) (g.O.ByteOut.has_failed told.new.out) in
+    let err = seen (g.E.ByteOut.told c.args.err.now) (g.E.ByteOut.told told.new.err) (g.E.ByteOut.has_failed told.new.err) in
+    let s = told.result in
+    let e = c.in-Err.fault in
+    let kinds = c.args.kinds.now in
+    let files = c.args.files.now in
+    let given : List (List ℕ) = c.input_name.result.now ∷ c.input_name-in-Err.result.now ∷ codes "standard output" ∷ [] in
+    let names = schema_names_of files in
+    let are : given ≡ names = cc (c.input_name.ensures, c.input_name-in-Err.ensures) in
+    inr (means_fault _ (RefusesFiles inputs kinds files (λ f. Says out (ended (schema_text f)))) (SchemaFault inputs kinds files) names out err s e (λ big four. c.in-Err.ensures.err)
+    (λ is two. schema_refused inputs kinds files out names e c.in-Err.ensures.err is
+    (subst (λ n. Says out (ended (words_of_fault e n))) are (told.ensures.answer (omega (arith, two))).0))
+    told.ensures.status
+    (λ small four. (told.ensures.unwritten small four).0)
+    (subst (λ n. 3 ≤ status_of_fault e → s ≡ 4 → Warns err (ended (words_of_fault e n))) are (λ big four. (told.ensures.fault big four).0))
+    (λ five. (told.ensures.memory five).0))

@@ -1,0 +1,159 @@
+-- The digests of sheets.
+use Rattle.std.specs.Prelude.{◌≡◌, ◌≢◌, ◌⊎◌, ◌≤◌, ◌++◌, ◌==◌, ◌||◌, ℕ, Bool, max, List, [], ◌∷◌, Option, IfSome, IsTrue, codes, flat_map, map, take, if◌then◌else◌}
+use Rattle.std.specs.List.{AllZip, fold, list_any}
+use Rattle.std.proofs.Common.{Result, Ok, Err}
+use Rattle.hex.specs.Hex.{encode_lower}
+use Rattle.sha2.specs.Sha256.{sha256}
+use Rattle.edi_schema.specs.Classes.{Classes, IsSchema}
+use Rattle.edi_schema.specs.Roles.{KindCodes}
+use Rattle.edi_schema.specs.SchemaRefusal.{IsGoodSchema}
+use Rattle.edi_schema.specs.declared.fault.SchemaFault.{SchemaFault as SchemaRefusal}
+use Rattle.edi_compare.specs.Headline.{IsFormOf}
+use Rattle.edi_compare.specs.PlanOfFile.{StateSame}
+use Rattle.edi_compare.specs.Refused.{IsProper, IsRefusal}
+use Rattle.edi_compare.specs.Runs.{MatchFault, RefusesSchema, Seen, TellBoth}
+use Rattle.edi_compare.specs.Under.{OfTwo}
+use Rattle.edi_compare.specs.declared.fault.RunFault.{RunFault}
+use Rattle.edi_compare.specs.declared.fault.RunFault.TheVariants.{Read}
+use Rattle.edicad.specs.Outcome.{ended, schema_text, sheet_fault_text, status_of_fault}
+use Rattle.edicad.specs.SheetRuns.{Gives, HoldsTooMuch, Inputs, IsMissing, IsThere}
+use Rattle.edicad.specs.Statuses.{MeansStatus, Says, Warns, input_name}
+use Rattle.edicad.specs.declared.words.ManyFiles.{ManyFiles}
+
+-- the digest of the canonical file of the sheet b
+abbrev pub IsDigestOf : Classes → List ℕ → List ℕ → Type 0
+IsDigestOf s b digest = (c : List ℕ) × IsFormOf s b c × (digest ≡ sha256 c)
+
+-- sheets of one plan have one digest
+abbrev pub OnePlanOneDigest : Type 0
+OnePlanOneDigest = (s : Classes) (a b x y : List ℕ) → IsSchema s → IsDigestOf s a x → IsDigestOf s b y → StateSame s a b → x ≡ y
+
+-- sheets with one digest state one plan, or two files share their SHA-256
+abbrev pub OneDigestOnePlan : Type 0
+OneDigestOnePlan = (s : Classes) (a b x y : List ℕ) → IsSchema s → IsDigestOf s a x → IsDigestOf s b y → x ≡ y
+    → StateSame s a b ⊎ ((c d : List ℕ) × (c ≢ d) × (sha256 c ≡ sha256 d))
+
+-- Why the sheet of a path has no digest: it can't be opened; or it was, and fails, is too long or is refused.
+abbrev pub HashFault : Inputs → Classes → List ℕ → RunFault → Type 0
+HashFault inputs s path e =
+    (IsMissing inputs path × (e ≡ Read 3))
+    ⊎ (IsThere inputs path × MatchFault e
+    (λ n. (n ≡ 3) × inputs.failed)
+    (λ n. (n ≡ 3) × HoldsTooMuch inputs path)
+    (λ _. ⊥)
+    (λ f. (told : Option (List ℕ)) × Gives inputs path told × IfSome told (λ b. IsProper f × IsRefusal s b f))
+    (λ _. ⊥) (λ _. ⊥))
+
+-- what came of the sheet of a path: the digest of its canonical file, or why it has none
+abbrev pub IsAnswerOf : Inputs → Classes → List ℕ → Result (List ℕ) RunFault → Type 0
+IsAnswerOf inputs s path (Ok digest) = (told : Option (List ℕ)) × Gives inputs path told × IfSome told (λ b. IsDigestOf s b digest)
+IsAnswerOf inputs s path (Err e) = HashFault inputs s path e
+
+-- a backslash (92), a line feed (10) or a carriage return (13), which a line shows by an escape
+abbrev pub is_escaped : ℕ → Bool
+is_escaped x = (x == 92) || ((x == 10) || (x == 13))
+
+-- a byte as a line shows it: \\, \n and \r stand for those three
+abbrev pub shown_byte : ℕ → List ℕ
+shown_byte x = if x == 92 then 92 ∷ 92 ∷ [] else if x == 10 then 92 ∷ 110 ∷ [] else if x == 13 then 92 ∷ 114 ∷ [] else x ∷ []
+
+abbrev pub shown : List ℕ → List ℕ
+shown name = flat_map shown_byte name
+
+-- a backslash before a line whose name has an escape
+abbrev pub mark_of : List ℕ → List ℕ
+mark_of name = if list_any is_escaped name then 92 ∷ [] else []
+
+-- the digits of the digest, two spaces and the name
+abbrev pub digest_line : List ℕ → List ℕ → List ℕ
+digest_line digest name = mark_of name ++ encode_lower digest ++ codes "  " ++ shown name ++ 10 ∷ []
+
+-- the name, and what is wrong with its sheet
+abbrev pub fault_line : RunFault → List ℕ → List ℕ
+fault_line e name = mark_of name ++ shown name ++ codes ": " ++ ended (sheet_fault_text e)
+
+-- what a sheet adds to the output and to the errors, and its status
+pub record Step : Type 0 where
+  pub out : List ℕ
+  pub err : List ℕ
+  pub status : ℕ
+
+-- What a sheet adds: its digest's line, or its fault's line on errors; without memory for the line, words that say so.
+abbrev pub IsStep : Inputs → Classes → List ℕ → Step → Type 0
+IsStep inputs s path step =
+    ((digest : List ℕ) × IsAnswerOf inputs s path (Ok digest) × (step ≡ record { out = digest_line digest path; err = []; status = 0 }))
+    ⊎ (((e : RunFault) × IsAnswerOf inputs s path (Err e) × (step ≡ record { out = []; err = fault_line e path; status = status_of_fault e }))
+    ⊎ (step ≡ record { out = []; err = ended (codes "out of memory"); status = 5 }))
+
+-- the streams got what a sheet adds, and this is its status
+abbrev pub StepsOn : Inputs → Classes → List ℕ → Seen → Seen → ℕ → Type 0
+StepsOn inputs s path out err status =
+    (step : Step) × IsStep inputs s path step × (step.status ≡ status) × Says out step.out × Warns err step.err
+
+-- the output failed in the line of the sheet of a path, of which so many bytes went out
+abbrev pub StopsAt : Inputs → Classes → List ℕ → Seen → Type 0
+StopsAt inputs s path out = (digest : List ℕ) × IsAnswerOf inputs s path (Ok digest) × IsTrue out.failed
+    × ((count : ℕ) × Says out (take count (digest_line digest path)))
+
+-- the greatest status
+abbrev pub worst_of : List Step → ℕ
+worst_of steps = fold (λ worst (step : Step). max worst step.status) 0 steps
+
+-- what all sheets add, in order
+abbrev pub said_out : List Step → List ℕ
+said_out steps = flat_map (λ (step : Step). step.out) steps
+
+abbrev pub said_err : List Step → List ℕ
+said_err steps = flat_map (λ (step : Step). step.err) steps
+
+-- Each sheet was answered, in order: the streams got what the sheets add, and the status is the greatest of theirs.
+abbrev pub AreAnswered : Inputs → Classes → Seen → Seen → List (List ℕ) → ℕ → Type 0
+AreAnswered inputs s out err paths status =
+    (steps : List Step) × AllZip (IsStep inputs s) paths steps × Says out (said_out steps) × Warns err (said_err steps) × (status ≡ worst_of steps)
+
+-- Each sheet before that of a path was answered, and the output failed in the line of that one.
+abbrev pub IsCutOff : Inputs → Classes → Seen → Seen → List (List ℕ) → ℕ → Type 0
+IsCutOff inputs s out err paths status =
+    (done : List (List ℕ)) × (path : List ℕ) × (more : List (List ℕ)) × (steps : List Step) × (digest : List ℕ) × (count : ℕ)
+    × (paths ≡ done ++ path ∷ more) × AllZip (IsStep inputs s) done steps × IsAnswerOf inputs s path (Ok digest)
+    × Says out (said_out steps ++ take count (digest_line digest path)) × IsTrue out.failed
+    × Warns err (said_err steps ++ ended (codes "cannot write standard output")) × (status ≡ 4)
+
+abbrev pub AnswersAll : Inputs → Classes → Seen → Seen → List (List ℕ) → ℕ → Type 0
+AnswersAll inputs s out err paths status = AreAnswered inputs s out err paths status ⊎ IsCutOff inputs s out err paths status
+
+-- the schema of the two files, where they tell what they hold
+abbrev pub GivesSchema : Inputs → KindCodes → ManyFiles → Classes → Type 0
+GivesSchema inputs kinds files s = (scd dic : Option (List ℕ)) × Gives inputs files.scd.now scd × Gives inputs files.dic.now dic
+    × TellBoth scd dic (λ a b. IsGoodSchema a b kinds s)
+
+-- the path of an input of two
+abbrev pub schema_path_at : ManyFiles → ℕ → List ℕ
+schema_path_at files n = if n == 1 then files.scd.now else files.dic.now
+
+-- the two files of the schema, where they tell what they hold, are refused
+abbrev pub RefusesFiles : Inputs → KindCodes → ManyFiles → (SchemaRefusal → Type 0) → Type 0
+RefusesFiles inputs kinds files P = (scd dic : Option (List ℕ)) × Gives inputs files.scd.now scd × Gives inputs files.dic.now dic
+    × TellBoth scd dic (λ a b. (f : SchemaRefusal) × RefusesSchema kinds a b f × P f)
+
+-- Why there is no schema. One of the two files is missing; or both were opened, and one failed or is too long, or the
+-- schema is refused.
+abbrev pub SchemaFault : Inputs → KindCodes → ManyFiles → RunFault → Type 0
+SchemaFault inputs kinds files e =
+    ((n : ℕ) × OfTwo n (IsThere inputs files.scd.now) (IsMissing inputs files.scd.now) (IsMissing inputs files.dic.now) × (e ≡ Read n))
+    ⊎ (IsThere inputs files.scd.now × IsThere inputs files.dic.now × MatchFault e
+    (λ n. (1 ≤ n) × (n ≤ 2) × inputs.failed)
+    (λ n. (1 ≤ n) × (n ≤ 2) × HoldsTooMuch inputs (schema_path_at files n))
+    (λ f. RefusesFiles inputs kinds files (λ g. g ≡ f))
+    (λ _. ⊥) (λ _. ⊥) (λ _. ⊥))
+
+-- the names of the two files, and of the output
+abbrev pub schema_names_of : ManyFiles → List (List ℕ)
+schema_names_of files = input_name files.scd.now ∷ input_name files.dic.now ∷ codes "standard output" ∷ []
+
+-- The status of a run over many sheets. The schema is loaded, and each sheet was answered under it or the output failed; or
+-- there is no schema, which is said as of one sheet, and no sheet is opened.
+abbrev pub IsHashStatus : Inputs → Seen → Seen → KindCodes → ManyFiles → ℕ → Type 0
+IsHashStatus inputs out err kinds files status =
+    ((s : Classes) × GivesSchema inputs kinds files s × AnswersAll inputs s out err (map (λ p. p.now) files.sheets.items) status)
+    ⊎ MeansStatus ⊥ (RefusesFiles inputs kinds files (λ f. Says out (ended (schema_text f)))) (SchemaFault inputs kinds files) (schema_names_of files) out err status

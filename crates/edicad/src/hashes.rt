@@ -1,0 +1,213 @@
+//! The digests of the canonical files of many sheets.
+ghost use Rattle.std.specs.Prelude.{◌≡◌, ◌⊎◌, IfErr, IfOk, IsTrue, codes, map};
+ghost use Rattle.std.specs.List.{list_any};
+ghost use Rattle.edi_compare.specs.Runs.{seen};
+ghost use Rattle.edicad.specs.Hashes.{AnswersAll, GivesSchema, IsAnswerOf, IsHashStatus, SchemaFault, StepsOn, StopsAt, digest_line, fault_line, is_escaped, mark_of, shown};
+ghost use Rattle.edicad.specs.Outcome.{FaultHasNames, ended, status_of_fault};
+ghost use Rattle.edicad.specs.SheetRuns.{inputs_of};
+ghost use Rattle.edicad.specs.Statuses.{GoesOut, IsSheetStatus};
+
+use crate::folder::Folder;
+use crate::outcome::{Outcome, line_of_sheet, status_of_fault};
+use crate::report;
+use crate::report::input_name;
+use crate::sheets::opened;
+use crate::words::ManyFiles;
+use edi_compare::{RunFault, canon_under, schema_of};
+use edi_line::ByteOut;
+use edi_schema::{Kinds, Schema};
+use edi_write::{Written, put_all};
+use sha2::{Digest, Sha256};
+use std::alloc::{AllocError, Global};
+
+/// Writes a line for each sheet, in order: the digest of its canonical file and its name to `out`, or its name and why
+/// it has none to `err`. Gives the greatest of their statuses, or 4 as soon as `out` fails. The schema is loaded once,
+/// and a refused one is told as by `check`, before any sheet is opened.
+pub fn hash<F: Folder, O: ByteOut, E: ByteOut>(
+    alloc: Global,
+    folder: &F,
+    kinds: &Kinds<'_>,
+    files: &ManyFiles<'_>,
+    out: &mut O,
+    err: &mut E,
+) -> u8
+    ensures status { IsSheetStatus result }
+    ensures answer { IsHashStatus (inputs_of F.Reader (F.holds folder.now) (F.closed folder.now) (F.standard folder.now) F.Reader.has_failed) (seen (O.told out.old) (O.told out.new) (O.has_failed out.new)) (seen (E.told err.old) (E.told err.new) (E.has_failed err.new)) kinds.now files.now result }
+{
+    match loaded(alloc, folder, kinds, files) {
+        Ok(schema) => answer_all(alloc, folder, &schema, &files.sheets, out, err),
+        Err(fault) => report::told(
+            alloc,
+            out,
+            err,
+            &Outcome::Fault(fault),
+            &[
+                input_name(files.scd),
+                input_name(files.dic),
+                b"standard output",
+            ],
+        ),
+    }
+}
+
+// The schema of two files. Both are opened before the first is read.
+fn loaded<F: Folder>(
+    alloc: Global,
+    folder: &F,
+    kinds: &Kinds<'_>,
+    files: &ManyFiles<'_>,
+) -> Result<Schema, RunFault>
+    ensures ok { IfOk result (GivesSchema (inputs_of F.Reader (F.holds folder.now) (F.closed folder.now) (F.standard folder.now) F.Reader.has_failed) kinds.now files.now) }
+    ensures err { IfErr result (SchemaFault (inputs_of F.Reader (F.holds folder.now) (F.closed folder.now) (F.standard folder.now) F.Reader.has_failed) kinds.now files.now) }
+    ensures names { IfErr result (λ e. FaultHasNames e 3) }
+{
+    let mut scd = opened(folder, files.scd, 1)?;
+    let mut dic = opened(folder, files.dic, 2)?;
+    schema_of(alloc, kinds, &mut scd, &mut dic)
+}
+
+// Answers each sheet in order, and gives the greatest status.
+fn answer_all<F: Folder, O: ByteOut, E: ByteOut>(
+    alloc: Global,
+    folder: &F,
+    schema: &Schema,
+    sheets: &[&str],
+    out: &mut O,
+    err: &mut E,
+) -> u8
+    ensures status { IsSheetStatus result }
+    ensures answer { AnswersAll (inputs_of F.Reader (F.holds folder.now) (F.closed folder.now) (F.standard folder.now) F.Reader.has_failed) schema.now (seen (O.told out.old) (O.told out.new) (O.has_failed out.new)) (seen (E.told err.old) (E.told err.new) (E.has_failed err.new)) (map (λ p. p.now) sheets.now) result }
+{
+    let mut worst = 0;
+    for path in sheets {
+        match answer(alloc, folder, schema, path, out, err) {
+            Ok(status) => worst = worst.max(status),
+            Err(_) => return report::unwritten(err),
+        }
+    }
+    worst
+}
+
+// Answers a sheet, and gives its status, unless its line can't be written.
+fn answer<F: Folder, O: ByteOut, E: ByteOut>(
+    alloc: Global,
+    folder: &F,
+    schema: &Schema,
+    path: &str,
+    out: &mut O,
+    err: &mut E,
+) -> Result<u8, Written>
+    ensures status { IfOk result IsSheetStatus }
+    ensures ok { IfOk result (StepsOn (inputs_of F.Reader (F.holds folder.now) (F.closed folder.now) (F.standard folder.now) F.Reader.has_failed) schema.now path.now (seen (O.told out.old) (O.told out.new) (O.has_failed out.new)) (seen (E.told err.old) (E.told err.new) (E.has_failed err.new))) }
+    ensures err { IfErr result (λ w. StopsAt (inputs_of F.Reader (F.holds folder.now) (F.closed folder.now) (F.standard folder.now) F.Reader.has_failed) schema.now path.now (seen (O.told out.old) (O.told out.new) (O.has_failed out.new)) × (err.new ≡ err.old)) }
+    ensures stays { IsTrue (E.has_failed err.old) → IsTrue (E.has_failed err.new) }
+{
+    match digest_of(alloc, folder, schema, path) {
+        Ok(digest) => match line_of_digest(alloc, &digest, path.as_bytes()) {
+            Ok(line) => match put_all(out, &line) {
+                Ok(()) => Ok(0),
+                Err(written) => Err(written),
+            },
+            Err(_) => Ok(report::out_of_memory(err)),
+        },
+        Err(fault) => Ok(tell_fault(alloc, &fault, path.as_bytes(), err)),
+    }
+}
+
+// Says why a sheet has no digest, and gives its status.
+fn tell_fault<E: ByteOut>(alloc: Global, fault: &RunFault, name: &[u8], err: &mut E) -> u8
+    ensures told { ((result ≡ status_of_fault fault.now) × GoesOut (E.told err.old) (E.told err.new) (E.has_failed err.new) (fault_line fault.now name.now))
+        ⊎ ((result ≡ 5) × GoesOut (E.told err.old) (E.told err.new) (E.has_failed err.new) (ended (codes "out of memory"))) }
+    ensures stays { IsTrue (E.has_failed err.old) → IsTrue (E.has_failed err.new) }
+{
+    match line_of_fault(alloc, fault, name) {
+        Ok(line) => {
+            report::warn(err, &line);
+            status_of_fault(fault)
+        }
+        Err(_) => report::out_of_memory(err),
+    }
+}
+
+// The digest of the canonical file of the sheet of a path.
+fn digest_of<F: Folder>(
+    alloc: Global,
+    folder: &F,
+    schema: &Schema,
+    path: &str,
+) -> Result<[u8; 32], RunFault>
+    ensures { IsAnswerOf (inputs_of F.Reader (F.holds folder.now) (F.closed folder.now) (F.standard folder.now) F.Reader.has_failed) schema.now path.now result }
+{
+    let mut sheet = opened(folder, path, 3)?;
+    let canonical = canon_under(alloc, schema, &mut sheet)?;
+    Ok(Sha256::digest(&canonical))
+}
+
+// The line of a digest: a backslash where the name has an escape, the digits, two spaces and the name.
+fn line_of_digest(alloc: Global, digest: &[u8], name: &[u8]) -> Result<Vec<u8>, AllocError>
+    ensures { IfOk result (λ line. line.items ≡ digest_line digest.now name.now) }
+{
+    let mut line = marked(alloc, name)?;
+    line.extend_from_slice(hex::encode(alloc, digest)?.as_bytes())?;
+    line.extend_from_slice(b"  ")?;
+    line.extend_from_slice(&shown(alloc, name)?)?;
+    line.push(b'\n')?;
+    Ok(line)
+}
+
+// The line of a fault: a backslash where the name has an escape, the name, and what is wrong with its sheet.
+fn line_of_fault(alloc: Global, fault: &RunFault, name: &[u8]) -> Result<Vec<u8>, AllocError>
+    ensures { IfOk result (λ line. line.items ≡ fault_line fault.now name.now) }
+{
+    let mut line = marked(alloc, name)?;
+    line.extend_from_slice(&shown(alloc, name)?)?;
+    line.extend_from_slice(b": ")?;
+    line.extend_from_slice(&line_of_sheet(alloc, fault)?)?;
+    Ok(line)
+}
+
+// A backslash where the name has an escape, and else nothing.
+fn marked(alloc: Global, name: &[u8]) -> Result<Vec<u8>, AllocError>
+    ensures { IfOk result (λ mark. mark.items ≡ mark_of name.now) }
+{
+    if has_escape(name) {
+        Vec::from_slice(alloc, b"\\")
+    } else {
+        Ok(Vec::new(alloc))
+    }
+}
+
+// Whether a line shows a byte of the name by an escape.
+fn has_escape(name: &[u8]) -> bool
+    ensures { result ≡ list_any is_escaped name.now }
+{
+    for byte in name {
+        if is_escaped(*byte) {
+            return true;
+        }
+    }
+    false
+}
+
+// Whether a line shows a byte by an escape.
+fn is_escaped(byte: u8) -> bool
+    ensures { result ≡ is_escaped byte }
+{
+    matches!(byte, b'\\' | b'\n' | b'\r')
+}
+
+// A name with its escapes.
+fn shown(alloc: Global, name: &[u8]) -> Result<Vec<u8>, AllocError>
+    ensures { IfOk result (λ text. text.items ≡ shown name.now) }
+{
+    let mut text = Vec::with_capacity(alloc, name.len())?;
+    for byte in name {
+        match *byte {
+            b'\\' => text.extend_from_slice(b"\\\\")?,
+            b'\n' => text.extend_from_slice(b"\\n")?,
+            b'\r' => text.extend_from_slice(b"\\r")?,
+            other => text.push(other)?,
+        }
+    }
+    Ok(text)
+}
