@@ -1,5 +1,5 @@
 -- The headline over files.
-use Rattle.std.proofs.Common.{◌≡◌, ◌↔◌, ℕ, suc, ◌≤◌, List, [], ◌∷◌, length, refl, sym, ap, subst, arith}
+use Rattle.std.proofs.Common.{◌≡◌, ◌↔◌, ℕ, suc, ◌≤◌, List, [], ◌∷◌, length, refl, ap, subst, arith}
 use Rattle.std.specs.List.{AllZip}
 use Rattle.std.proofs.lemmas.List.Sorted.{length_permutation}
 use Rattle.edi_line.proofs.Said.{file_said}
@@ -42,8 +42,7 @@ module _ (scd dic : List ℕ) (kinds : KindCodes) (s : Classes) (good : IsGoodSc
 pub files_decide : (kinds : KindCodes) (scd dic a b c d : List ℕ) → IsCanonOf kinds scd dic a c → IsCanonOf kinds scd dic b d → (c ≡ d) ↔ IsSameUnder kinds scd dic a b
 files_decide kinds scd dic a b c d f g =
     let one = subst (λ t. IsFormOf t b d) (schemas_one scd dic kinds g.0 f.0 g.1 f.1) g.2 in
-    let both = equal_files scd dic kinds f.0 f.1 a b c d f.2 one in
-    (
+    let both = equal_files scd dic kinds f.0 f.1 a b c d f.2 one in (
       λ e. (f.0, f.1, both.0 e),
       λ h. both.1 (subst (λ t. StateSame t a b) (schemas_one scd dic kinds h.0 f.0 h.1 f.1) h.2),
     )

@@ -5,12 +5,13 @@ ghost use Rattle.edi_compare.specs.Headline.{IsFormOf};
 ghost use Rattle.edi_compare.specs.Runs.{AfterReading, IsRead, TellBoth, seen};
 ghost use Rattle.edi_compare.specs.Under.{SchemaFilesFault, UnderFault, UnderSchema};
 
-use crate::canonical::canon;
+use crate::canonical::canon_from;
 use crate::fault::{Fault, RunFault};
 use crate::runs::{load_or_fault, read_input};
 use edi_line::ByteIn;
 use edi_schema::{Kinds, Schema};
 use std::alloc::Global;
+use std::borrow::CowSlice;
 
 /// Reads two files, and gives their schema.
 pub fn schema_of<S: ByteIn, D: ByteIn>(
@@ -43,15 +44,15 @@ pub fn canon_under<V: ByteIn>(
     ensures after { IfErr result (λ e. AfterReading e (IsRead (seen (V.told vec.old) (V.told vec.new) (V.has_failed vec.new)))) }
 {
     let vec = read_input(alloc, vec, 3)?;
-    form_or_fault(alloc, schema, &vec)
+    form_or_fault(alloc, schema, vec)
 }
 
 // The canonical file of a sheet, with its refusal as a run's.
-fn form_or_fault(alloc: Global, schema: &Schema, vec: &[u8]) -> Result<Vec<u8>, RunFault>
-    ensures ok { IfOk result (λ c. IsFormOf schema.now vec.now c.items) }
-    ensures err { IfErr result (UnderSchema schema.now vec.now) }
+fn form_or_fault(alloc: Global, schema: &Schema, vec: Vec<u8>) -> Result<Vec<u8>, RunFault>
+    ensures ok { IfOk result (λ c. IsFormOf schema.now vec.items c.items) }
+    ensures err { IfErr result (UnderSchema schema.now vec.items) }
 {
-    match canon(alloc, schema, vec) {
+    match canon_from(alloc, schema, CowSlice::Owned(vec)) {
         Ok(bytes) => Ok(bytes),
         Err(Fault::Memory(error)) => Err(RunFault::Memory(error)),
         Err(fault) => Err(RunFault::First(fault)),

@@ -1,5 +1,9 @@
+use Rattle.std.proofs.Common.{subst}
+use Rattle.std.specs.Cow.{cow_slice_items}
+use Rattle.edi_record.specs.RecordRefusal.{IsSheetRefusal}
 use Rattle.edi_compare.specs.Faults.{of_sheet}
 use Rattle.edi_compare.specs.Refused.{IsRefusal}
+use Rattle.edi_compare.specs.Rules.{RecordsHold}
 use Rattle.edi_schema.specs.Classes.{Classes}
 use Rattle.edi_compare.proofs.Refusals.{err_kept, sheet_fault}
 use Rattle.edi_compare.proofs.accepted.sheet_of.Goals as goal
@@ -7,4 +11,9 @@ use Rattle.edi_compare.proofs.accepted.sheet_of.Goals as goal
 pub returns-in_err-sheet-clause-refusal : goal.returns-in_err-sheet-clause-refusal
 returns-in_err-sheet-clause-refusal c =
     let f = c.in_err-sheet.field-0.0 in
-    err_kept _ (of_sheet f) (λ fault. (s : Classes) → IsRefusal s c.args.bytes.now fault) c.from_residual.ensures.1 (λ s. sheet_fault s c.args.bytes.now f c.in_err-sheet.ensures.refusal)
+    let b = cow_slice_items c.args.bytes in
+    err_kept _ (of_sheet f) (λ fault. (s : Classes) → IsRefusal s b fault) c.from_residual.ensures.1
+    (λ s. sheet_fault s b f (subst (λ bytes. IsSheetRefusal bytes f) c.as_slice.ensures.value c.in_err-sheet.ensures.refusal))
+
+pub returns-clause-held : goal.returns-clause-held
+returns-clause-held c s = subst (RecordsHold s) c.as_slice.ensures.value (c.in_ok-sheet.ensures.lines, c.in_ok-sheet.ensures.records)

@@ -5,13 +5,13 @@ use Rattle.edi_compare.proofs.runs.run_check.Goals as goal
 pub returns-clause-ok : goal.returns-clause-ok
 returns-clause-ok g c =
     told_on c.accept_or_fault.result (g.S.ByteIn.told c.args.scd.now) (g.D.ByteIn.told c.args.dic.now) (g.V.ByteIn.told c.args.vec.now)
-    c.deref.result.now c.deref-2.result.now c.deref-3.result.now (IsSheetUnder c.args.kinds.now)
+    c.deref.result.now c.deref-2.result.now c.in_ok-vec.vec.items (IsSheetUnder c.args.kinds.now)
     (through _ _ _ c.deref.ensures.value c.in_ok-scd.ensures.all) (through _ _ _ c.deref-2.ensures.value c.in_ok-dic.ensures.all)
-    (through _ _ _ c.deref-3.ensures.value c.in_ok-vec.ensures.all) c.accept_or_fault.ensures.ok
+    c.in_ok-vec.ensures.all c.accept_or_fault.ensures.ok
 
 pub returns-clause-err : goal.returns-clause-err
 returns-clause-err g c =
     told_err c.args.kinds.now c.accept_or_fault.result (g.S.ByteIn.told c.args.scd.now) (g.D.ByteIn.told c.args.dic.now) (g.V.ByteIn.told c.args.vec.now)
-    c.deref.result.now c.deref-2.result.now c.deref-3.result.now _ _ _
+    c.deref.result.now c.deref-2.result.now c.in_ok-vec.vec.items _ _ _
     (through _ _ _ c.deref.ensures.value c.in_ok-scd.ensures.all) (through _ _ _ c.deref-2.ensures.value c.in_ok-dic.ensures.all)
-    (through _ _ _ c.deref-3.ensures.value c.in_ok-vec.ensures.all) c.accept_or_fault.ensures.err
+    c.in_ok-vec.ensures.all c.accept_or_fault.ensures.err
