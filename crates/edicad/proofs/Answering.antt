@@ -12,7 +12,7 @@ use Rattle.edi_schema.specs.declared.fault.SchemaFault.{SchemaFault as SchemaRef
 use Rattle.edi_compare.specs.Runs.{RefusesSchema, Seen, TellBoth, seen}
 use Rattle.edi_compare.specs.declared.fault.RunFault.{RunFault}
 use Rattle.edi_compare.specs.declared.fault.RunFault.TheVariants.{Memory, Read, TooLong, Schema, First, Second, Write}
-use Rattle.edicad.specs.Hashes.{AreAnswered, IsCutOff, IsStep, RefusesFiles, SchemaFault, Step, StepsOn, StopsAt, worst_of}
+use Rattle.edicad.specs.Hashes.{AreAnswered, IsCutOff, IsStep, RefusesFiles, SchemaFault, Step, StepsOn, StopsAt, TriesSchema, worst_of}
 use Rattle.edicad.specs.Outcome.{ended, schema_text, status_of_fault, words_of_fault}
 use Rattle.edicad.specs.SheetRuns.{Inputs}
 use Rattle.edicad.specs.Statuses.{GoesOut, IsSheetStatus, Says}
@@ -152,3 +152,8 @@ picked a b false false less rest = omega (arith, rest refl)
 -- the greater of two numbers
 pub ord_max_is : (a b : ℕ) → ord_max nat_cmp a b ≡ max a b
 ord_max_is a b = picked a b (nat_lt b a) (b == a) (ltb-true b a) (ltb-false b a)
+
+-- the files of the schema were tried
+pub schema_tried : (inputs : Inputs) (kinds : KindCodes) (files : ManyFiles) (e : RunFault) → SchemaFault inputs kinds files e → TriesSchema inputs files
+schema_tried inputs kinds files e (inl missing) = inr (missing.0, missing.1)
+schema_tried inputs kinds files e (inr h) = inl (h.0, h.1)

@@ -83,7 +83,7 @@ abbrev pub IsStep : Inputs → Classes → List ℕ → Step → Type 0
 IsStep inputs s path step =
     ((digest : List ℕ) × IsAnswerOf inputs s path (Ok digest) × (step ≡ record { out = digest_line digest path; err = []; status = 0 }))
     ⊎ (((e : RunFault) × IsAnswerOf inputs s path (Err e) × (step ≡ record { out = []; err = fault_line e path; status = status_of_fault e }))
-    ⊎ (step ≡ record { out = []; err = ended (codes "out of memory"); status = 5 }))
+    ⊎ ((answer : Result (List ℕ) RunFault) × IsAnswerOf inputs s path answer × (step ≡ record { out = []; err = ended (codes "out of memory"); status = 5 })))
 
 -- the streams got what a sheet adds, and this is its status
 abbrev pub StepsOn : Inputs → Classes → List ℕ → Seen → Seen → ℕ → Type 0
@@ -147,13 +147,19 @@ SchemaFault inputs kinds files e =
     (λ f. RefusesFiles inputs kinds files (λ g. g ≡ f))
     (λ _. ⊥) (λ _. ⊥) (λ _. ⊥))
 
+-- both files of the schema were opened, or one is missing
+abbrev pub TriesSchema : Inputs → ManyFiles → Type 0
+TriesSchema inputs files = (IsThere inputs files.scd.now × IsThere inputs files.dic.now)
+    ⊎ ((n : ℕ) × OfTwo n (IsThere inputs files.scd.now) (IsMissing inputs files.scd.now) (IsMissing inputs files.dic.now))
+
 -- the names of the two files, and of the output
 abbrev pub schema_names_of : ManyFiles → List (List ℕ)
 schema_names_of files = input_name files.scd.now ∷ input_name files.dic.now ∷ codes "standard output" ∷ []
 
 -- The status of a run over many sheets. The schema is loaded, and each sheet was answered under it or the output failed; or
--- there is no schema, which is said as of one sheet, and no sheet is opened.
+-- there is none, which is said as by a check. No status comes before the files were opened.
 abbrev pub IsHashStatus : Inputs → Seen → Seen → KindCodes → ManyFiles → ℕ → Type 0
 IsHashStatus inputs out err kinds files status =
     ((s : Classes) × GivesSchema inputs kinds files s × AnswersAll inputs s out err (map (λ p. p.now) files.sheets.items) status)
-    ⊎ MeansStatus ⊥ (RefusesFiles inputs kinds files (λ f. Says out (ended (schema_text f)))) (SchemaFault inputs kinds files) (schema_names_of files) out err status
+    ⊎ (TriesSchema inputs files
+    × MeansStatus ⊥ (RefusesFiles inputs kinds files (λ f. Says out (ended (schema_text f)))) (SchemaFault inputs kinds files) (schema_names_of files) out err status)

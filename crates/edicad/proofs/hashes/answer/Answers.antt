@@ -1,4 +1,4 @@
-use Rattle.std.proofs.Common.{◌≡◌, ◌∙◌, [], refl, inl, inr, sym, ap, subst, codes}
+use Rattle.std.proofs.Common.{◌≡◌, ◌∙◌, [], refl, inl, inr, sym, ap, subst, codes, Ok, Err}
 use Rattle.std.specs.Io.KnownBytes.{Appends}
 use Rattle.edicad.specs.Hashes.{digest_line, fault_line}
 use Rattle.edicad.specs.Outcome.{ended, status_of_fault}
@@ -20,7 +20,7 @@ returns-in-Ok-put_all-clause-ok g c =
 pub returns-in-Ok-clause-ok : goal.returns-in-Ok-clause-ok
 returns-in-Ok-clause-ok g c = (
   record { out = []; err = ended (codes "out of memory"); status = 5 },
-  inr (inr refl),
+  inr (inr (Ok c.in-Ok.digest, c.in-Ok.ensures, refl)),
   sym c.out_of_memory.ensures.status,
   appends_nothing (g.O.ByteOut.told c.args.out.now),
   c.out_of_memory.ensures.text,
@@ -36,5 +36,5 @@ returns-clause-ok g c = elim c.tell_fault.ensures.told [
     subst (GoesOut (g.E.ByteOut.told c.args.err.now) (g.E.ByteOut.told c.tell_fault.new.err) (g.E.ByteOut.has_failed c.tell_fault.new.err))
         (ap (fault_line c.in-Err.fault) c.as_bytes-in-Err.ensures.value) h.1,
   )
-  | inr h ↦ (record { out = []; err = ended (codes "out of memory"); status = 5 }, inr (inr refl), sym h.0, appends_nothing (g.O.ByteOut.told c.args.out.now), h.1)
+  | inr h ↦ (record { out = []; err = ended (codes "out of memory"); status = 5 }, inr (inr (Err c.in-Err.fault, c.in-Err.ensures, refl)), sym h.0, appends_nothing (g.O.ByteOut.told c.args.out.now), h.1)
 ]

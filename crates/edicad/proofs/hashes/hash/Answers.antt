@@ -4,7 +4,7 @@ use Rattle.edicad.specs.Hashes.{AnswersAll, RefusesFiles, SchemaFault, schema_na
 use Rattle.edicad.specs.Outcome.{ended, schema_text, status_of_fault, words_of_fault}
 use Rattle.edicad.specs.SheetRuns.{inputs_of}
 use Rattle.edicad.specs.Statuses.{Says, Warns}
-use Rattle.edicad.proofs.Answering.{schema_refused}
+use Rattle.edicad.proofs.Answering.{schema_refused, schema_tried}
 use Rattle.edicad.proofs.Refusals.{means_fault}
 use Rattle.edicad.proofs.hashes.hash.Goals as goal
 
@@ -32,10 +32,13 @@ returns-in-Err-clause-answer g c =
     let given : List (List ℕ) = c.input_name.result.now ∷ c.input_name-in-Err.result.now ∷ codes "standard output" ∷ [] in
     let names = schema_names_of files in
     let are : given ≡ names = cc (c.input_name.ensures, c.input_name-in-Err.ensures) in
-    inr (means_fault _ (RefusesFiles inputs kinds files (λ f. Says out (ended (schema_text f)))) (SchemaFault inputs kinds files) names out err s e (λ big four. c.in-Err.ensures.err)
-    (λ is two. schema_refused inputs kinds files out names e c.in-Err.ensures.err is
-    (subst (λ n. Says out (ended (words_of_fault e n))) are (told.ensures.answer (omega (arith, two))).0))
-    told.ensures.status
-    (λ small four. (told.ensures.unwritten small four).0)
-    (subst (λ n. 3 ≤ status_of_fault e → s ≡ 4 → Warns err (ended (words_of_fault e n))) are (λ big four. (told.ensures.fault big four).0))
-    (λ five. (told.ensures.memory five).0))
+    inr (
+      schema_tried inputs kinds files e c.in-Err.ensures.err,
+      means_fault _ (RefusesFiles inputs kinds files (λ f. Says out (ended (schema_text f)))) (SchemaFault inputs kinds files) names out err s e (λ big four. c.in-Err.ensures.err)
+          (λ is two. schema_refused inputs kinds files out names e c.in-Err.ensures.err is
+          (subst (λ n. Says out (ended (words_of_fault e n))) are (told.ensures.answer (omega (arith, two))).0))
+          told.ensures.status
+          (λ small four. (told.ensures.unwritten small four).0)
+          (subst (λ n. 3 ≤ status_of_fault e → s ≡ 4 → Warns err (ended (words_of_fault e n))) are (λ big four. (told.ensures.fault big four).0))
+          (λ five. (told.ensures.memory five).0),
+    )
