@@ -1,1 +1,4 @@
+pub mod Leasts
+pub mod Names
+pub mod PlaceCounts
 pub mod RuleTexts

@@ -1,5 +1,5 @@
 -- Where the records of a file stand.
-use Rattle.std.specs.Prelude.{◌≡◌, ℕ, suc, List, [], ◌∷◌, Option, None, Some, MatchOption, codes, slice_get}
+use Rattle.std.specs.Prelude.{◌≡◌, ℕ, suc, List, [], ◌∷◌, Option, Some, MatchOption, codes, slice_get}
 use Rattle.edi_line.specs.Entry.{Entry, first}
 use Rattle.edi_line.specs.Zones.{groups_of}
 use Rattle.edi_record.specs.Records.{values}

@@ -1,10 +1,14 @@
 //! What refusals speak of: records with their lines and identifiers, rules in words, and earlier records.
 #![tactic(auto)]
 
+pub mod counts;
+pub mod partner;
 pub mod site;
 pub mod text;
 mod texts;
 
+pub use counts::count_of;
+pub use partner::{alike_node, first_link, namesake, same_arc};
 pub use site::{RecordSite, record_site, site_among};
 pub use text::{RuleText, rule_text};
 
