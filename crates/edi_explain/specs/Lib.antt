@@ -1,3 +1,4 @@
 pub mod Sites
 pub mod Rules
 pub mod Partners
+pub mod Extents

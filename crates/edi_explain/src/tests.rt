@@ -1,6 +1,7 @@
 //! Sites of known records, texts of the rules, and earlier records.
 use crate::{
-    RecordSite, alike_node, count_of, first_link, namesake, record_site, rule_text, same_arc,
+    Extent, RecordSite, Span, alike_node, count_of, extent_of, first_link, namesake, record_site,
+    rule_text, same_arc,
 };
 use edi_line::{LineFault, zones};
 use edi_plan::Plan;
@@ -189,5 +190,27 @@ fn records_are_counted_by_type(rt: HostRuntime) -> Result<(), Fail> {
     assert_eq!(rt; count_of(&plan, Kind::Pno), 4);
     assert_eq!(rt; count_of(&plan, Kind::Par), 3);
     assert_eq!(rt; count_of(&plan, Kind::Pfe), 0);
+    Ok(())
+}
+
+// A node and an arc, whose coordinates are on both sides of 0.
+const SPREAD: &[u8] = b"BOMT 12:EDAB01T1.VEC\n\
+RTYSA03:PNO\nRIDSA01:1\nSCPCP22:EDAB01;SeSD;PGE;NOD_id\nCORCC05:-5;2;\n\
+RTYSA03:PAR\nRIDSA01:2\nSCPCP22:EDAB01;SeSD;PGE;ARC_id\nCORCC07:3;-1.5;\nCORCC04:4;8;\n\
+EOMT 00:\n";
+
+const NOTHING: &[u8] = b"BOMT 12:EDAB01T1.VEC\nEOMT 00:\n";
+
+fn millionths(span: Span) -> (i64, i64) {
+    (span.least.millionths(), span.greatest.millionths())
+}
+
+#[test]
+fn coordinates_are_spanned(rt: HostRuntime) -> Result<(), Fail> {
+    let alloc = rt.alloc();
+    let Extent { x, y } = extent_of(&plan(alloc, SPREAD)?).ok_or("no points")?;
+    assert_eq!(rt; millionths(x), (-5_000_000, 4_000_000));
+    assert_eq!(rt; millionths(y), (-1_500_000, 8_000_000));
+    assert!(rt; extent_of(&plan(alloc, NOTHING)?).is_none());
     Ok(())
 }
