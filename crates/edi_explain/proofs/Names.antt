@@ -4,7 +4,7 @@ use Rattle.edi_record.specs.declared.record.Record.{Record}
 use Rattle.edi_plan.specs.PlanOf.{own_name}
 use Rattle.edi_explain.specs.Partners.{SharesName}
 
-pub same_some : {a b : Record} → Some a ≡ Some b → a ≡ b
+pub same_some : {X : Type 0} {a b : X} → Some a ≡ Some b → a ≡ b
 same_some e = cc
 
 module _ (list : List Record) (place m : ℕ) (q r : Record) (less : m < place) (there : slice_get list m ≡ Some q) (here : slice_get list place ≡ Some r) where

@@ -27,7 +27,7 @@ pub struct RecordSite {
 }
 
 /// The zones of the record at this place, counted from 0.
-fn group_of<'a, 'b>(zones: &'b [Zone<'a>], place: u64) -> Option<&'b [Zone<'a>]>
+pub(crate) fn group_of<'a, 'b>(zones: &'b [Zone<'a>], place: u64) -> Option<&'b [Zone<'a>]>
     ensures { option_map (λ g. entries g.now) result ≡ slice_get (groups_of (entries zones.now)) place }
 {
     let mut left = place;

@@ -1,7 +1,7 @@
 //! Sites of known records, texts of the rules, and earlier records.
 use crate::{
     Extent, RecordSite, Span, alike_node, count_of, extent_of, first_link, namesake, record_site,
-    rule_text, same_arc,
+    row_namesake, rule_text, same_arc,
 };
 use edi_line::{LineFault, zones};
 use edi_plan::Plan;
@@ -212,5 +212,31 @@ fn coordinates_are_spanned(rt: HostRuntime) -> Result<(), Fail> {
     assert_eq!(rt; millionths(x), (-5_000_000, 4_000_000));
     assert_eq!(rt; millionths(y), (-1_500_000, 8_000_000));
     assert!(rt; extent_of(&plan(alloc, NOTHING)?).is_none());
+    Ok(())
+}
+
+// Records 2 and 5 have the name of record 1, and records 3 and 4 its type or its identifier.
+const ROWS: &[u8] = b"BOMT 12:EDAB01SE.SCD\n\
+RTYSA03:PGE\nRIDSA01:1\nRTYSA03:PGE\nRIDSA01:1\nRTYSA03:PGE\nRIDSA01:2\nRTYSA03:OBJ\nRIDSA01:1\n\
+RTYSA03:PGE\nRIDSA01:1\nRTYSA03:PGE\nEOMT 00:\n";
+
+#[test]
+fn namesakes_in_a_schema_are_found(rt: HostRuntime) -> Result<(), Fail> {
+    let zones = match zones(rt.alloc(), ROWS) {
+        Ok(zones) => zones,
+        Err(_) => return Err("a line is broken".into()),
+    };
+    let wanted = [
+        (0, None),
+        (1, Some(0)),
+        (2, None),
+        (3, None),
+        (4, Some(0)),
+        (5, None),
+        (6, None),
+    ];
+    for (place, earlier) in wanted {
+        assert_eq!(rt; row_namesake(&zones, place), earlier);
+    }
     Ok(())
 }
