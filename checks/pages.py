@@ -1,5 +1,6 @@
 #!/usr/bin/env python3
-"""Makes the pages of docs/ that are made from the sources: RULES.md, TRUSTED.md and CALLING.md.
+"""Makes the pages of docs/ that are made from the sources: RULES.md, TRUSTED.md and CALLING.md; and compares the
+sentences of the rules in the code with docs/FORMAT.md.
 
     checks/pages.py            writes them
     checks/pages.py --check    fails if one isn't what it would write
@@ -9,7 +10,7 @@ import subprocess
 import sys
 
 HERE = os.path.dirname(os.path.abspath(__file__))
-SCRIPTS = ["rules.py", "reach.py", "calling.py"]
+SCRIPTS = ["rules.py", "texts.py", "reach.py", "calling.py"]
 
 
 def main():

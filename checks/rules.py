@@ -6,7 +6,8 @@
 
 A rule's sentence is that of the tables of docs/FORMAT.md. Its definition is the one in a crate's specs/
 (specs/inner/ aside) that a comment `-- RULE: ..` stands above or in, or that has a test of
-that number (202 is the test of an identifier, which schemas share). Its code is the sources that name its number. Its cases are those in
+that number (202 is the test of an identifier, which schemas share). Its code is the sources that name its number (edi_explain aside, which
+explains the rules). Its cases are those in
 crates/conform/data that want its refusal.
 """
 import glob
@@ -62,7 +63,7 @@ def code():
     """For each rule the sources that name its number outside comments, contracts and tests."""
     found = {}
     for path in paths("crates/edi_*/src/*.rt"):
-        if re.search(r"tests?\.rt$|_cases\.rt$|known\.rt$", path):
+        if re.search(r"tests?\.rt$|_cases\.rt$|known\.rt$", path) or path.startswith("crates/edi_explain/"):
             continue
         for line in read(path).split("\n"):
             text = re.sub(r"//.*", "", line)

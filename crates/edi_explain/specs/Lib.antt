@@ -1,0 +1,5 @@
+pub mod Sites
+pub mod Rules
+pub mod Partners
+pub mod Extents
+pub mod RowPartners

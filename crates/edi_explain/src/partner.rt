@@ -1,0 +1,123 @@
+//! The earlier records that rules speak of.
+
+ghost use Rattle.std.specs.Prelude.{◌≡◌, ◌↔◌, ◌<◌, IsTrue, IfOk, length, slice_get, Some};
+ghost use Rattle.edi_record.specs.declared.record.Kind.TheVariants.{Pno};
+ghost use Rattle.edi_plan.specs.PlanOf.{own_name};
+ghost use Rattle.edi_plan.specs.Plans.{IsPlace, record_at};
+ghost use Rattle.edi_topo.specs.NodeKeys.{node_key};
+ghost use Rattle.edi_topo.specs.TopologyRules.{AreAlikeNodes};
+ghost use Rattle.edi_explain.specs.Partners.{HasEnd, IsAlikeNode, IsLeastIfAny, SharesName, SharesPoints};
+
+use edi_plan::Plan;
+use edi_record::{Kind, Record};
+use edi_topo::node_key::compare_nodes;
+use edi_topo::{ForwardPoints, NodeKey, node_key_at};
+use std::alloc::{AllocError, Global};
+
+/// Whether two records have one type and identifier.
+fn have_one_name(record: &Record, other: &Record) -> bool
+    ensures { IsTrue result ↔ (own_name record.now ≡ own_name other.now) }
+{
+    record.kind == other.kind && record.rid == other.rid
+}
+
+/// The first record with the type and the identifier of the one at a place, if it comes before that
+/// one: rule 301. Places are counted from 0, in file order.
+pub fn namesake(records: &[Record], place: usize) -> Option<usize>
+    requires { place < length records.now }
+    ensures { IsLeastIfAny (SharesName records.now place) result }
+{
+    for earlier in 0..place {
+        if have_one_name(&records[earlier], &records[place]) {
+            return Some(earlier);
+        }
+    }
+    None
+}
+
+fn has_end(record: &Record) -> bool
+    ensures { IsTrue result ↔ (0 < length record.now.ends) }
+{
+    !record.ends.as_slice().is_empty()
+}
+
+/// The record with the first end of all links, if it comes before the one at a place: rule 304.
+/// Places are counted from 0, in file order.
+pub fn first_link(records: &[Record], place: usize) -> Option<usize>
+    requires { place < length records.now }
+    ensures { IsLeastIfAny (HasEnd records.now place) result }
+{
+    for earlier in 0..place {
+        if has_end(&records[earlier]) {
+            return Some(earlier);
+        }
+    }
+    None
+}
+
+/// Whether the record at a place is a node alike the one with this key.
+fn is_alike_node(
+    alloc: Global,
+    plan: &Plan,
+    key: &NodeKey<'_>,
+    place: u32,
+    earlier: u32,
+) -> Result<bool, AllocError>
+    requires place { IsPlace plan.now place }
+    requires earlier { IsPlace plan.now earlier }
+    requires node { (record_at plan.now place).kind ≡ Pno }
+    requires key { key.now ≡ node_key (record_at plan.now place) }
+    ensures { IfOk result (λ answer. IsTrue answer ↔ AreAlikeNodes plan.now earlier place) }
+{
+    plan.keeps();
+    if plan.kind(earlier) != Kind::Pno {
+        return Ok(false);
+    }
+    let other = node_key_at(alloc, plan, earlier)?;
+    Ok(compare_nodes(&other, key).is_eq())
+}
+
+/// The first node with the position, the class, the attributes and the extras of the node at a place,
+/// if it comes before that one: rule 403. `None` also where the record isn't a node.
+pub fn alike_node(alloc: Global, plan: &Plan, place: u32) -> Result<Option<u32>, AllocError>
+    requires { IsPlace plan.now place }
+    ensures { IfOk result (IsLeastIfAny (IsAlikeNode plan.now place)) }
+{
+    if plan.kind(place) != Kind::Pno {
+        return Ok(None);
+    }
+    let key = node_key_at(alloc, plan, place)?;
+    for earlier in 0..place {
+        if is_alike_node(alloc, plan, &key, place, earlier)? {
+            return Ok(Some(earlier));
+        }
+    }
+    Ok(None)
+}
+
+/// Whether both records are arcs and have the same points, in either direction.
+fn share_points(plan: &Plan, place: u32, earlier: u32) -> bool
+    requires place { IsPlace plan.now place }
+    requires earlier { earlier < place }
+    ensures { IsTrue result ↔ SharesPoints plan.now place earlier }
+{
+    if plan.kind(place) != Kind::Par || plan.kind(earlier) != Kind::Par {
+        return false;
+    }
+    let points = ForwardPoints::of(plan.points(place));
+    ForwardPoints::of(plan.points(earlier)).cmp(&points).is_eq()
+}
+
+/// The first arc with the points of the arc at a place, in either direction, if it comes before that
+/// one: rule 405. `None` also where the record isn't an arc.
+pub fn same_arc(plan: &Plan, place: u32) -> Option<u32>
+    requires { IsPlace plan.now place }
+    ensures { IsLeastIfAny (SharesPoints plan.now place) result }
+{
+    for earlier in 0..place {
+        if share_points(plan, place, earlier) {
+            return Some(earlier);
+        }
+    }
+    None
+}

@@ -1,0 +1,48 @@
+//! Rules in words.
+
+ghost use Rattle.std.specs.Prelude.{map};
+ghost use Rattle.edi_explain.specs.Rules.{IsTextIfAny, rules};
+
+use crate::texts::{of_lines, of_objects, of_records, of_references, of_schemas, of_topology};
+
+/// A rule in words.
+#[derive(Clone, Copy, Debug)]
+pub struct RuleText {
+    /// Its number, 101 to 604.
+    pub rule: u16,
+    /// Where it is broken, as the tables of docs/FORMAT.md say it.
+    pub sentence: &'static str,
+    /// Why there is such a rule.
+    pub reason: &'static str,
+    /// What usually breaks it.
+    pub cause: &'static str,
+    /// What to do about it.
+    pub remedy: &'static str,
+}
+
+/// The text of a rule among these.
+fn text_among(texts: &[RuleText], rule: u16) -> Option<RuleText>
+    ensures { IsTextIfAny (map (λ text. text.rule) texts.now) rule result }
+{
+    let mut rest = texts;
+    while let [text, behind @ ..] = rest {
+        if text.rule == rule {
+            return Some(*text);
+        }
+        rest = behind;
+    }
+    None
+}
+
+/// A rule in words, or `None` where no rule has this number (docs/FORMAT.md, "Schemas" and "The
+/// rules of a sheet").
+pub fn rule_text(rule: u16) -> Option<RuleText>
+    ensures { IsTextIfAny rules rule result }
+{
+    text_among(of_lines(), rule)
+        .or(text_among(of_records(), rule))
+        .or(text_among(of_references(), rule))
+        .or(text_among(of_topology(), rule))
+        .or(text_among(of_objects(), rule))
+        .or(text_among(of_schemas(), rule))
+}

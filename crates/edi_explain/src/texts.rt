@@ -1,0 +1,55 @@
+//! The texts of the rules, by phases.
+
+ghost use Rattle.std.specs.Prelude.{◌≡◌, map};
+ghost use Rattle.edi_explain.specs.Rules.{line_rules, object_rules, record_rules, reference_rules, schema_rules, topology_rules};
+
+mod lines;
+mod objects;
+mod records;
+mod references;
+mod schemas;
+mod topology;
+
+use crate::text::RuleText;
+
+/// 101 to 110.
+pub(crate) fn of_lines() -> &'static [RuleText]
+    ensures { map (λ text. text.rule) result.now ≡ line_rules }
+{
+    &lines::LINES
+}
+
+/// 201 to 208.
+pub(crate) fn of_records() -> &'static [RuleText]
+    ensures { map (λ text. text.rule) result.now ≡ record_rules }
+{
+    &records::RECORDS
+}
+
+/// 301 to 307.
+pub(crate) fn of_references() -> &'static [RuleText]
+    ensures { map (λ text. text.rule) result.now ≡ reference_rules }
+{
+    &references::REFERENCES
+}
+
+/// 401 to 406.
+pub(crate) fn of_topology() -> &'static [RuleText]
+    ensures { map (λ text. text.rule) result.now ≡ topology_rules }
+{
+    &topology::TOPOLOGY
+}
+
+/// 501.
+pub(crate) fn of_objects() -> &'static [RuleText]
+    ensures { map (λ text. text.rule) result.now ≡ object_rules }
+{
+    &objects::OBJECTS
+}
+
+/// 601 to 604.
+pub(crate) fn of_schemas() -> &'static [RuleText]
+    ensures { map (λ text. text.rule) result.now ≡ schema_rules }
+{
+    &schemas::SCHEMAS
+}
