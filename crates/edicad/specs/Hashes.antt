@@ -28,10 +28,10 @@ IsDigestOf s b digest = (c : List ℕ) × IsFormOf s b c × (digest ≡ sha256 c
 abbrev pub OnePlanOneDigest : Type 0
 OnePlanOneDigest = (s : Classes) (a b x y : List ℕ) → IsSchema s → IsDigestOf s a x → IsDigestOf s b y → StateSame s a b → x ≡ y
 
--- sheets with one digest state one plan, or two files share their SHA-256
+-- sheets with one digest state one plan, or their canonical files are two and share their SHA-256
 abbrev pub OneDigestOnePlan : Type 0
 OneDigestOnePlan = (s : Classes) (a b x y : List ℕ) → IsSchema s → IsDigestOf s a x → IsDigestOf s b y → x ≡ y
-    → StateSame s a b ⊎ ((c d : List ℕ) × (c ≢ d) × (sha256 c ≡ sha256 d))
+    → StateSame s a b ⊎ ((c d : List ℕ) × IsFormOf s a c × IsFormOf s b d × (c ≢ d) × (sha256 c ≡ sha256 d))
 
 -- Why the sheet of a path has no digest: it can't be opened; or it was, and fails, is too long or is refused.
 abbrev pub HashFault : Inputs → Classes → List ℕ → RunFault → Type 0

@@ -30,7 +30,8 @@ pub fn known_words_are_asked()
     ensures unknown { fault_of edicad (words_in (codes "edicad paint")) ≡ UnknownArgument ∷ InvalidSubcommand ∷ [] }
 {}
 
-/// Sheets of one plan have one digest, and sheets with one digest state one plan unless two files share a SHA-256.
+/// Sheets of one plan have one digest, and sheets with one digest state one plan unless their canonical files are two that
+/// share a SHA-256.
 pub fn digests_tell_plans()
     ensures one_plan { OnePlanOneDigest }
     ensures one_digest { OneDigestOnePlan }

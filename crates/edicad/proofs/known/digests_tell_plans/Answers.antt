@@ -17,5 +17,5 @@ returns-clause-one_plan c = λ s a b x y good h k same.
 pub returns-clause-one_digest : goal.returns-clause-one_digest
 returns-clause-one_digest c = λ s a b x y good h k is. elim (one_or_not h.0 k.0 (bytes_eq h.0 k.0) refl) [
   | inl e ↦ inl ((c.equal_exactly_if_same.ensures s a b h.0 k.0 good h.1.accepted k.1.accepted h.1.canonical h.1.same k.1.canonical k.1.same).0 e)
-  | inr n ↦ inr (h.0, k.0, n, sym h.2 ∙ (is ∙ k.2))
+  | inr n ↦ inr (h.0, k.0, h.1, k.1, n, sym h.2 ∙ (is ∙ k.2))
 ]
