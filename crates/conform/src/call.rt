@@ -7,7 +7,12 @@ use anyhow::{Result, bail};
 use std::alloc::Global;
 
 /// What a call answers to a case.
-pub fn answer(alloc: Global, call: &str, setting: &Setting<'_>, case: &Case<'_>) -> Result<String> {
+pub(crate) fn answer(
+    alloc: Global,
+    call: &str,
+    setting: &Setting<'_>,
+    case: &Case<'_>,
+) -> Result<String> {
     match call {
         "numbers" => numbers::numbers(alloc, case),
         "zones" => lines::cut(alloc, case),

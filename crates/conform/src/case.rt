@@ -19,7 +19,7 @@ pub struct Case<'a> {
 
 impl<'a> Case<'a> {
     /// The case of a block.
-    pub fn read(block: &'a str) -> Result<Case<'a>> {
+    pub(crate) fn read(block: &'a str) -> Result<Case<'a>> {
         let (title, rest) = block.split_once("\n").context("a case without a title")?;
         let (inputs, wanted) = rest
             .split_once("->\n")
@@ -32,7 +32,7 @@ impl<'a> Case<'a> {
     }
 
     /// How many inputs there are: none where the case has no lines of input.
-    pub fn len(&self) -> usize {
+    pub(crate) fn len(&self) -> usize {
         if self.inputs.is_empty() {
             0
         } else {
@@ -41,7 +41,7 @@ impl<'a> Case<'a> {
     }
 
     /// The input of this number, from 0, as it stands.
-    pub fn text(&self, number: usize) -> Result<&'a str> {
+    pub(crate) fn text(&self, number: usize) -> Result<&'a str> {
         self.inputs
             .split("==\n")
             .nth(number)
@@ -49,7 +49,7 @@ impl<'a> Case<'a> {
     }
 
     /// The input of this number, from 0, with its joined lines joined.
-    pub fn input(&self, alloc: Global, number: usize) -> Result<String> {
+    pub(crate) fn input(&self, alloc: Global, number: usize) -> Result<String> {
         Ok(self.text(number)?.replace(alloc, "\\\n", "")?)
     }
 }
@@ -64,7 +64,7 @@ pub struct CaseFile<'a> {
 
 impl<'a> CaseFile<'a> {
     /// The call that a file names, what its cases share, and its cases.
-    pub fn read(text: &'a str) -> Result<CaseFile<'a>> {
+    pub(crate) fn read(text: &'a str) -> Result<CaseFile<'a>> {
         let (head, cases) = text.split_once("--\n").context("no case")?;
         let shared = Case::read(head)?;
         Ok(CaseFile {
@@ -75,7 +75,7 @@ impl<'a> CaseFile<'a> {
     }
 
     /// What the cases of the file share: a schema file, a dictionary and the codes of the four kinds, where it names them.
-    pub fn setting(&self, alloc: Global) -> Result<Setting<'a>> {
+    pub(crate) fn setting(&self, alloc: Global) -> Result<Setting<'a>> {
         let codes = self.shared.wanted.trim_end();
         Ok(Setting {
             scd: self.shared.text(1).unwrap_or(""),

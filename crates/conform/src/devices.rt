@@ -11,7 +11,7 @@ use std::alloc::Global;
 
 /// What `read_all` answers. The first input is three numbers: the bytes that a read gives at most, the read that fails
 /// (0: none) and the limit; and `endless` where the second input, the bytes, begins again at its end.
-pub fn read(alloc: Global, case: &Case<'_>) -> Result<String> {
+pub(crate) fn read(alloc: Global, case: &Case<'_>) -> Result<String> {
     let mut words = case.text(0)?.split_whitespace();
     let piece = words
         .next()
@@ -34,7 +34,7 @@ pub fn read(alloc: Global, case: &Case<'_>) -> Result<String> {
 
 /// What `put_all` answers, and what went out. The first input is three numbers: the room of the writer, the bytes that a
 /// write takes at most, and the write that fails (0: none). The second input is the bytes.
-pub fn write(alloc: Global, case: &Case<'_>) -> Result<String> {
+pub(crate) fn write(alloc: Global, case: &Case<'_>) -> Result<String> {
     let mut words = case.text(0)?.split_whitespace();
     let room = words.next().context("a room")?.parse::<usize>()?;
     let piece = words
@@ -116,7 +116,11 @@ fn unread(fault: Option<RunFault>) -> Result<Option<u8>> {
 
 /// Whether each run over the files of a sheet stops at each read that fails: it names that input, reads no later one and
 /// writes nothing.
-pub fn failing_reads(alloc: Global, setting: &Setting<'_>, case: &Case<'_>) -> Result<String> {
+pub(crate) fn failing_reads(
+    alloc: Global,
+    setting: &Setting<'_>,
+    case: &Case<'_>,
+) -> Result<String> {
     let sheet = case.input(alloc, 0)?;
     let scd = setting.scd.as_bytes();
     let dic = setting.dic.as_bytes();
@@ -163,7 +167,11 @@ fn stopped(ran: &Ran, place: usize, read: u64) -> bool {
 }
 
 /// Whether a writer that takes one byte a call, and fails at each call in turn, gets the bytes of the calls before.
-pub fn failing_writes(alloc: Global, setting: &Setting<'_>, case: &Case<'_>) -> Result<String> {
+pub(crate) fn failing_writes(
+    alloc: Global,
+    setting: &Setting<'_>,
+    case: &Case<'_>,
+) -> Result<String> {
     let sheet = case.input(alloc, 0)?;
     let file = written(alloc, setting, sheet.as_bytes(), 0)?;
     for taken in 0..file.out().len() {

@@ -35,7 +35,7 @@ impl Layer for Known {
 }
 
 /// The numbers of three members with these keys, or the least member that ties with an earlier one.
-pub fn of_keys(alloc: Global, case: &Case<'_>) -> Result<String> {
+pub(crate) fn of_keys(alloc: Global, case: &Case<'_>) -> Result<String> {
     let mut words = case.text(0)?.split_whitespace();
     let mut keys = [0u32; 3];
     for key in &mut keys {
@@ -63,7 +63,7 @@ fn numbers_text(alloc: Global, ranks: Ranks) -> Result<String> {
 }
 
 /// The numbers of the nodes, arcs, faces and objects of an accepted sheet, a line each.
-pub fn of_sheet(alloc: Global, setting: &Setting<'_>, case: &Case<'_>) -> Result<String> {
+pub(crate) fn of_sheet(alloc: Global, setting: &Setting<'_>, case: &Case<'_>) -> Result<String> {
     let schema = setting.schema(alloc)?;
     let sheet = case.input(alloc, 0)?;
     match accept(alloc, &schema, sheet.as_bytes()) {

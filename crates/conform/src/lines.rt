@@ -9,7 +9,7 @@ use edi_line::{Feed, Zone, zones};
 use std::alloc::Global;
 
 /// The zones of a file, a line each, or its refusal.
-pub fn cut(alloc: Global, case: &Case<'_>) -> Result<String> {
+pub(crate) fn cut(alloc: Global, case: &Case<'_>) -> Result<String> {
     let file = case.input(alloc, 0)?;
     match zones(alloc, file.as_bytes()) {
         Ok(zones) => zones_text(alloc, &zones),
@@ -18,7 +18,7 @@ pub fn cut(alloc: Global, case: &Case<'_>) -> Result<String> {
 }
 
 /// What a feed answers to each piece, of which each is an input, and what it answers at the end: the zones, or the refusal.
-pub fn fed(alloc: Global, case: &Case<'_>) -> Result<String> {
+pub(crate) fn fed(alloc: Global, case: &Case<'_>) -> Result<String> {
     let mut text = String::new(alloc);
     let mut feed = Feed::new(alloc);
     let mut length = 0usize;

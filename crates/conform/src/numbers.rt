@@ -6,7 +6,7 @@ use edi_line::Num;
 use std::alloc::Global;
 
 /// Of each line of the input: the millionths of the number that it spells, its plain and its signed spelling, or `none`.
-pub fn numbers(alloc: Global, case: &Case<'_>) -> Result<String> {
+pub(crate) fn numbers(alloc: Global, case: &Case<'_>) -> Result<String> {
     let mut text = String::new(alloc);
     for line in case.text(0)?.split_terminator("\n") {
         match Num::read(line.as_bytes()) {

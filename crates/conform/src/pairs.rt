@@ -13,7 +13,7 @@ use edi_schema::Schema;
 use std::alloc::Global;
 
 /// What `compare` answers of two sheets, which `run_compare` has to answer too. A pairing that is found has to carry.
-pub fn compared(alloc: Global, setting: &Setting<'_>, case: &Case<'_>) -> Result<String> {
+pub(crate) fn compared(alloc: Global, setting: &Setting<'_>, case: &Case<'_>) -> Result<String> {
     let schema = setting.schema(alloc)?;
     let first = case.input(alloc, 0)?;
     let second = case.input(alloc, 1)?;
@@ -63,7 +63,7 @@ fn run(alloc: Global, setting: &Setting<'_>, first: &[u8], second: &[u8]) -> Res
 
 /// The pairing that `compare` finds: the record of the second sheet, from 1, that each record of the first goes to, with
 /// an `r` behind it where that is an arc to reverse.
-pub fn paired(alloc: Global, setting: &Setting<'_>, case: &Case<'_>) -> Result<String> {
+pub(crate) fn paired(alloc: Global, setting: &Setting<'_>, case: &Case<'_>) -> Result<String> {
     let schema = setting.schema(alloc)?;
     let first = case.input(alloc, 0)?;
     let second = case.input(alloc, 1)?;
@@ -86,7 +86,7 @@ fn pairing_text(alloc: Global, pairing: &Pairing) -> Result<String> {
 }
 
 /// What `check_pairing` answers of two sheets and a pairing, which is written as `paired` writes it.
-pub fn checked(alloc: Global, setting: &Setting<'_>, case: &Case<'_>) -> Result<String> {
+pub(crate) fn checked(alloc: Global, setting: &Setting<'_>, case: &Case<'_>) -> Result<String> {
     let schema = setting.schema(alloc)?;
     let first = case.input(alloc, 0)?;
     let second = case.input(alloc, 1)?;

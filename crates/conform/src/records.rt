@@ -13,7 +13,7 @@ use std::alloc::Global;
 
 /// The records of a file: of each its type, identifier, class, points, ends, attributes and extras; or the refusal.
 /// The file is read by its zones and once more line by line, and a second answer that differs is told too.
-pub fn stated(alloc: Global, case: &Case<'_>) -> Result<String> {
+pub(crate) fn stated(alloc: Global, case: &Case<'_>) -> Result<String> {
     let file = case.input(alloc, 0)?;
     let mut text = by_zones(alloc, file.as_bytes())?;
     let by_lines = by_lines(alloc, file.as_bytes())?;

@@ -22,7 +22,7 @@ fn refused(alloc: Global, which: &str, rule: u16, place: Place) -> Result<String
 }
 
 /// Of a file's lines.
-pub fn of_lines(alloc: Global, fault: LineFault) -> Result<String> {
+pub(crate) fn of_lines(alloc: Global, fault: LineFault) -> Result<String> {
     match fault {
         LineFault::Memory(fault) => Err(fault.into()),
         LineFault::Broken { rule, at } => Ok(refused(alloc, "", rule, Place::Line(at))?),
@@ -30,7 +30,7 @@ pub fn of_lines(alloc: Global, fault: LineFault) -> Result<String> {
 }
 
 /// Of a sheet's records.
-pub fn of_records(alloc: Global, fault: RecordFault) -> Result<String> {
+pub(crate) fn of_records(alloc: Global, fault: RecordFault) -> Result<String> {
     match fault {
         RecordFault::Memory(fault) => Err(fault.into()),
         RecordFault::Broken { rule, at } => Ok(refused(alloc, "", rule, Place::Record(at))?),
@@ -38,7 +38,7 @@ pub fn of_records(alloc: Global, fault: RecordFault) -> Result<String> {
 }
 
 /// Of a sheet, which is named where it is one of two.
-pub fn of_sheet(alloc: Global, which: &str, fault: Fault) -> Result<String> {
+pub(crate) fn of_sheet(alloc: Global, which: &str, fault: Fault) -> Result<String> {
     match fault {
         Fault::Memory(fault) => Err(fault.into()),
         Fault::Line { rule, at } => Ok(refused(alloc, which, rule, Place::Line(at))?),
@@ -54,7 +54,7 @@ fn name_of(file: Source) -> &'static str {
 }
 
 /// Of a schema.
-pub fn of_schema(alloc: Global, fault: SchemaFault) -> Result<String> {
+pub(crate) fn of_schema(alloc: Global, fault: SchemaFault) -> Result<String> {
     match fault {
         SchemaFault::Memory(fault) => Err(fault.into()),
         SchemaFault::Line { file, rule, at } => {
@@ -68,7 +68,7 @@ pub fn of_schema(alloc: Global, fault: SchemaFault) -> Result<String> {
 }
 
 /// Of two sheets.
-pub fn of_pair(alloc: Global, fault: CompareFault) -> Result<String> {
+pub(crate) fn of_pair(alloc: Global, fault: CompareFault) -> Result<String> {
     match fault {
         CompareFault::Memory(fault) => Err(fault.into()),
         CompareFault::First(fault) => of_sheet(alloc, "first ", fault),
@@ -77,7 +77,7 @@ pub fn of_pair(alloc: Global, fault: CompareFault) -> Result<String> {
 }
 
 /// Of a run over readers. The first of two sheets is named by `first`; it has no name where it is the only one.
-pub fn of_run(alloc: Global, first: &str, fault: RunFault) -> Result<String> {
+pub(crate) fn of_run(alloc: Global, first: &str, fault: RunFault) -> Result<String> {
     match fault {
         RunFault::Memory(fault) => Err(fault.into()),
         RunFault::Read { input } => Ok(format!(in alloc; "input {input} cannot be read\n")?),

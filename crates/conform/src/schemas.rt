@@ -13,7 +13,7 @@ use std::alloc::Global;
 
 /// What the schema of a schema file, a dictionary and four codes says of the classes that begin the lines of the wanted
 /// answer: `TYPE;IDENTIFIER ROLE PARTNER LETTER number`, or `text` last, or `none` behind the name. Classes rise by name.
-pub fn stated(alloc: Global, setting: &Setting<'_>, case: &Case<'_>) -> Result<String> {
+pub(crate) fn stated(alloc: Global, setting: &Setting<'_>, case: &Case<'_>) -> Result<String> {
     let scd = case.input(alloc, 0)?;
     let dic = case.input(alloc, 1)?;
     match Schema::load(alloc, scd.as_bytes(), dic.as_bytes(), &setting.kinds) {
@@ -95,7 +95,7 @@ fn partner_text(alloc: Global, schema: &Schema, class: ClassRef) -> Result<Strin
 }
 
 /// Whether four codes, parted by commas, are kinds: `taken`, or `bad kinds`.
-pub fn kinds(alloc: Global, case: &Case<'_>) -> Result<String> {
+pub(crate) fn kinds(alloc: Global, case: &Case<'_>) -> Result<String> {
     let codes = case.text(0)?.trim_end();
     let answer = if are_kinds(codes) {
         "taken\n"

@@ -14,7 +14,7 @@ pub struct Setting<'a> {
 
 impl Setting<'_> {
     /// The schema of these files. A case that isn't about schemas has one that is accepted.
-    pub fn schema(&self, alloc: Global) -> Result<Schema> {
+    pub(crate) fn schema(&self, alloc: Global) -> Result<Schema> {
         match Schema::load(alloc, self.scd.as_bytes(), self.dic.as_bytes(), &self.kinds) {
             Ok(schema) => Ok(schema),
             Err(fault) => Err(fault.into()),
@@ -23,7 +23,7 @@ impl Setting<'_> {
 }
 
 /// The kinds of four codes parted by commas, or the usual ones where no code is named.
-pub fn kinds_of(codes: &str) -> Result<Kinds<'_>> {
+pub(crate) fn kinds_of(codes: &str) -> Result<Kinds<'_>> {
     if codes.is_empty() {
         return Ok(Kinds::usual());
     }

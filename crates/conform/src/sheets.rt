@@ -10,7 +10,7 @@ use edi_schema::{Kinds, Schema};
 use std::alloc::Global;
 
 /// The canonical file of a sheet, or its refusal; or the first call that answers something else.
-pub fn canonical(alloc: Global, setting: &Setting<'_>, case: &Case<'_>) -> Result<String> {
+pub(crate) fn canonical(alloc: Global, setting: &Setting<'_>, case: &Case<'_>) -> Result<String> {
     let schema = setting.schema(alloc)?;
     let sheet = case.input(alloc, 0)?;
     let answer = canonical_of(alloc, &schema, sheet.as_bytes())?;
@@ -160,7 +160,7 @@ fn bundled(alloc: Global, setting: &Setting<'_>, sheet: &[u8]) -> Result<String>
 }
 
 /// What `run_bundle` writes of a bundle.
-pub fn of_bundle(alloc: Global, setting: &Setting<'_>, case: &Case<'_>) -> Result<String> {
+pub(crate) fn of_bundle(alloc: Global, setting: &Setting<'_>, case: &Case<'_>) -> Result<String> {
     run_over(alloc, &setting.kinds, case.input(alloc, 0)?.as_bytes())
 }
 
@@ -183,7 +183,7 @@ fn text_written(alloc: Global, run: Result<(), RunFault>, out: &ScriptOut) -> Re
 
 /// Whether each cut of a sheet is refused where it lies: inside a line by 101 or 102 at that line, between two lines by
 /// 106, one line past the last. Only the last line feed may be missing.
-pub fn cuts(alloc: Global, setting: &Setting<'_>, case: &Case<'_>) -> Result<String> {
+pub(crate) fn cuts(alloc: Global, setting: &Setting<'_>, case: &Case<'_>) -> Result<String> {
     let schema = setting.schema(alloc)?;
     let sheet = case.input(alloc, 0)?;
     let mut line = 1u64;
