@@ -121,7 +121,7 @@ module _ (s : Classes) (b c : List ℕ) (f : IsLayoutOf s b c) (keeps : IsSchema
   printable =
       let held = records_hold s b f.accepted in
       let read = sheet_read b f.states.1.0 f.states.0 short f.states.1.1 held.0 f.states.1.2 (held.1 f.states.1.0 f.states.1.1) in
-      written_printable s f.states.0 p q under.paired (kinds_printable s keeps) read f.states.2 same under'.whole
+      written_printable s f.states.0 p q (kinds_printable s keeps) read f.states.2 same under'.whole
 
   types : HasAttributeClasses s q
   types = attribute_classes s f.states.0 p q (references_hold s b f.accepted f.states.0 f.states.1) f.states.2 same

@@ -6,3 +6,4 @@ pub mod Zones
 pub mod Held
 pub mod Feeding
 pub mod Groups
+pub mod Texts

@@ -1,32 +1,46 @@
 //! A byte string that owns its memory.
 
-ghost use Rattle.std.specs.Prelude.{◌≡◌, nat_eq, refl, IfOk, Some};
+ghost use Rattle.std.specs.Prelude.{◌≡◌, ◌≤◌, nat_eq, refl, length, IfOk, Some};
 ghost use Rattle.std.specs.Ordering.{nat_cmp};
 ghost use Rattle.std.specs.Cmp.{partial_equiv_from_equiv};
 ghost use Rattle.std.specs.Cmp.Lexicographic.{pointwise, slice_cmp, nat_list_eq_equiv, nat_list_cmp_total, texts_ties, texts_po};
 ghost use Rattle.std.specs.Hash as fed;
 ghost use Rattle.std.specs.Hash.{items_Alike};
 ghost use Rattle.edi_line.specs.Texts.{bytes_alike};
+ghost use Rattle.edi_line.specs.inner.Texts.{bytes_in, IsWithin};
 
-use smallvec::SmallVec;
 use std::alloc::{AllocError, Global};
 use std::cmp::Ordering;
 use std::hash::{Hash, Hasher};
 use std::marker::Model;
 
+/// How many bytes a short text has at most.
+const SHORT: usize = 14;
+
+/// Where the bytes of a text lie. It has 16 bytes itself, since a sheet's records consist of texts for the most part.
+#[derive(Debug, Drop)]
+enum Bytes {
+    Short { len: u8, bytes: [u8; SHORT] },
+    Long(Box<Vec<u8>>),
+}
+
 /// A byte string that owns its memory, compared, ordered and hashed as its bytes in their order.
-/// Up to 16 bytes lie in the value itself. Contracts see the list of the bytes alone.
+/// Up to 14 bytes lie in the value itself. Contracts see the list of the bytes alone.
 #[derive(Debug, Drop)]
 pub struct Text {
-    bytes: SmallVec<u8, 16>,
+    alloc: Global,
+    bytes: Bytes,
 }
 
 impl Model for Text {
     ghost use Rattle.std.specs.Prelude.{List, ℕ};
+    ghost use Rattle.edi_line.specs.inner.Texts.{bytes_in, IsWithin};
 
     ghost Value = { List ℕ };
 
-    ghost view = { λ t. t.bytes.items };
+    ghost view = { λ t. bytes_in t.bytes };
+
+    ghost invariant = { λ t. IsWithin t.bytes };
 }
 
 impl Text {
@@ -34,16 +48,36 @@ impl Text {
     pub fn from_slice(alloc: Global, bytes: &[u8]) -> Result<Text, AllocError>
         ensures { IfOk result (λ t. t ≡ bytes.now) }
     {
-        Ok(Text {
-            bytes: SmallVec::from_slice(alloc, bytes)?,
-        })
+        let bytes = if bytes.len() <= SHORT {
+            short(bytes)
+        } else {
+            Bytes::Long(Box::new(alloc, Vec::from_slice(alloc, bytes)?)?)
+        };
+        Ok(Text { alloc, bytes })
     }
 
     /// The bytes, lent.
     pub fn as_slice(&self) -> &[u8]
         ensures { result.now ≡ self.now }
     {
-        self.bytes.as_slice()
+        match &self.bytes {
+            Bytes::Short { len, bytes } => &bytes[..usize::from(*len)],
+            Bytes::Long(bytes) => bytes.as_slice(),
+        }
+    }
+}
+
+/// The bytes in the value itself.
+fn short(text: &[u8]) -> Bytes
+    requires { length text.now ≤ 14 }
+    ensures value { bytes_in result ≡ text.now }
+    ensures within { IsWithin result }
+{
+    let mut bytes = [0; SHORT];
+    bytes[..text.len()].copy_from_slice(text);
+    Bytes::Short {
+        len: text.len() as u8,
+        bytes,
     }
 }
 
@@ -99,6 +133,6 @@ impl Clone for Text {
     ghost is_clone = { λ t copy. copy ≡ t };
 
     fn clone(&self) -> Result<Text, AllocError> {
-        Text::from_slice(*self.bytes.allocator(), self.as_slice())
+        Text::from_slice(self.alloc, self.as_slice())
     }
 }

@@ -1,19 +1,21 @@
 -- The schema of two files that break no rule keeps what each schema keeps.
 use Rattle.std.proofs.Common.{◌≡◌, ◌≢◌, ℕ, zero, suc, ◌+◌, ◌-◌, ◌<◌, ◌≤◌, Bool, true, false, cond, List, [], ◌∷◌, length, Option, Some, None, slice_get, count_by, refl, sym, ap, ◌∙◌, subst, arith, true≢false, ◌⊎◌, inl, inr}
-use Rattle.std.specs.List.{AllZip, list_all}
-use Rattle.std.proofs.lemmas.List.Sorted.{sum_by-IsPermutation}
+use Rattle.std.specs.List.{AllZip, list_any}
+use Rattle.std.proofs.lemmas.List.Sorted.{sum_by-IsPermutation, list_any-IsPermutation}
 use Rattle.edi_record.specs.declared.name.Name.{Name}
 use Rattle.edi_record.specs.Records.{values, first}
+use Rattle.edi_record.specs.Texts.{is_semicolon}
 use Rattle.edi_schema.specs.declared.role.Role.{Role}
 use Rattle.edi_schema.specs.declared.role.Role.TheVariants.{Plain}
 use Rattle.edi_schema.specs.declared.class.Class.{Class}
 use Rattle.edi_schema.specs.Roles.{KindCodes, is_plain, exchanged}
 use Rattle.edi_schema.specs.Classes.{Classes, IsSchema, has_role, is_pointable}
+use Rattle.edi_schema.specs.Places.{ArePointable}
 use Rattle.edi_schema.specs.SchemaOf.{StatesClass}
 use Rattle.edi_schema.specs.SchemaRules.{HasRole}
 use Rattle.edi_schema.specs.SchemaRefusal.{IsGoodSchema}
 use Rattle.edi_schema.proofs.Letters.{all_letters}
-use Rattle.edi_schema.proofs.Pointable.{one_fails, not_all, by_unpointable}
+use Rattle.edi_schema.proofs.Pointable.{any_at, some_pass, by_pointable, makes_pointable}
 use Rattle.edi_schema.proofs.ReadNames.{group_lines, all_readable}
 use Rattle.edi_schema.proofs.Paired.{one_role, itself, twice, still_kind, count-cons, is_counted, found_at}
 
@@ -109,22 +111,38 @@ module _ (scd dic : List ℕ) (kinds : KindCodes) (s : Classes) (good : IsGoodSc
           absurd (omega (arith, e, subst (λ r. 0 < count_by (has_role r) s) (twice role) back))
       go (suc m) (suc n) e f = omega (arith, e, f, one role kind, one (exchanged role) other_kind)
 
-  -- a stated class that no pointer can name breaks the rule of the kinds
-  unpointable_there : (k : ℕ) (e : Name × Class) → slice_get stated k ≡ Some e → is_pointable e ≡ false → ⊥
-  unpointable_there k e h not_pointable =
-      let group = zip_at (StatesClass kinds good.is.words) good.classes stated good.is.each_class k e h in
-      let place : suc k - 1 ≡ k = omega arith in
-      let kind = by_unpointable e not_pointable in
-      good.kinds_hold (inr (inr (suc k, e.1.role, (group.0, e.0, (omega arith, rw place group.1), group.2.named, sym group.2.role, not_plain e.1.role kind.0), kind.1)))
-
-  pointable : list_all is_pointable s ≡ true
-  pointable = go (list_all is_pointable s) refl
+  -- a pointer can name a class of a kind alone where one can name its partner
+  apart : (role : Role) → is_plain role ≡ false → list_any (is_pointable role) s ≡ true → list_any (is_pointable (exchanged role)) s ≡ false → ⊥
+  unfolding stated_role
+  apart role kind named none =
+      let found = any_at (is_pointable role) stated (list_any-IsPermutation (is_pointable role) stated s good.is.same ∙ named) in
+      let parts = by_pointable role found.1 found.3 in
+      let here = is_counted (has_role role) stated found.0 found.1 found.2 parts.0 in
+      let there = other_there role kind (omega (arith, counts role, here)) in
+      let other = found_at (has_role (exchanged role)) stated (omega (arith, counts (exchanged role), there)) in
+      go found.0 found.1 found.2 parts.0 parts.1 other.0 other.1 other.3 other.4 (list_any is_semicolon other.1.0.rty) refl
     where
-      go : (b : Bool) → list_all is_pointable s ≡ b → b ≡ true
-      go true e = refl
-      go false e =
-          let found = one_fails is_pointable stated (not_all is_pointable stated s good.is.same e) in
-          absurd (unpointable_there found.0 found.1 found.2 found.3)
+      other_kind : is_plain (exchanged role) ≡ false
+      other_kind = still_kind role ∙ kind
+
+      go : (m : ℕ) (e : Name × Class) → slice_get stated m ≡ Some e → has_role role e ≡ true → list_any is_semicolon e.0.rty ≡ false
+          → (k : ℕ) (f : Name × Class) → slice_get stated k ≡ Some f → has_role (exchanged role) f ≡ true → (b : Bool) → list_any is_semicolon f.0.rty ≡ b → ⊥
+      go m e h own free k f g other false i =
+          let passes = some_pass (is_pointable (exchanged role)) stated k f g (makes_pointable (exchanged role) f other i) in
+          true≢false (sym passes ∙ (list_any-IsPermutation (is_pointable (exchanged role)) stated s good.is.same ∙ none))
+      go m e h own free k f g other true i =
+          let again : has_role (exchanged (exchanged role)) e ≡ true = ap (λ r. has_role r e) (twice role) ∙ own in
+          good.kinds_hold (inr (inr (suc k, suc m, exchanged role, stated_role (exchanged role) other_kind k f g other,
+              stated_role (exchanged (exchanged role)) (still_kind (exchanged role) ∙ other_kind) m e h again, i, free)))
+
+  pointable : ArePointable s
+  pointable role kind = go (list_any (is_pointable role) s) (list_any (is_pointable (exchanged role)) s) refl refl
+    where
+      go : (b c : Bool) → list_any (is_pointable role) s ≡ b → list_any (is_pointable (exchanged role)) s ≡ c → b ≡ c
+      go true true e f = refl
+      go false false e f = refl
+      go true false e f = absurd (apart role kind e f)
+      go false true e f = absurd (apart (exchanged role) (still_kind role ∙ kind) f (ap (λ r. list_any (is_pointable r) s) (twice role) ∙ e))
 
   pub keeps : length s ≤ 9999999 → IsSchema s
   keeps few = record {

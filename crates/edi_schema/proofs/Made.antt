@@ -1,10 +1,10 @@
 -- The schema that records state, against the steps over what is read of them.
 use Rattle.std.proofs.Common.{◌≡◌, ◌≢◌, ℕ, suc, ◌+◌, ◌-◌, ◌<◌, Bool, true, false, cond, List, [], ◌∷◌, map, drop, Option, Some, None, option_map, slice_get, count_by, codes, refl, sym, ap, ◌∙◌, subst, arith, true≢false, inl, inr}
 use Rattle.std.specs.Prelude.{find}
-use Rattle.std.specs.List.{AllByRecursion, AllZip, list_all, list_any}
+use Rattle.std.specs.List.{AllByRecursion, AllZip, list_any}
 use Rattle.std.specs.Map.{lookup}
 use Rattle.std.proofs.lemmas.Option.{same_Some, none-some}
-use Rattle.std.proofs.lemmas.List.Sorted.{sum_by-IsPermutation, IsPermutation-sym}
+use Rattle.std.proofs.lemmas.List.Sorted.{sum_by-IsPermutation, list_any-IsPermutation}
 use Rattle.edi_line.specs.Entry.{Entry}
 use Rattle.edi_record.specs.declared.name.Name.{Name}
 use Rattle.edi_record.specs.Records.{values, first}
@@ -23,9 +23,9 @@ use Rattle.edi_schema.specs.declared.role.Role.TheVariants.{Plain}
 use Rattle.edi_schema.proofs.Led.{IsLed}
 use Rattle.edi_schema.proofs.StepsHold.{own_name, word_named, named_class}
 use Rattle.edi_schema.proofs.Ordered.{all_at}
-use Rattle.edi_schema.proofs.Paired.{one_role, itself, still_kind, count-cons, is_counted, one_place, found_at}
+use Rattle.edi_schema.proofs.Paired.{one_role, itself, twice, still_kind, count-cons, is_counted, one_place, found_at}
 use Rattle.edi_schema.proofs.Good.{not_plain, zip_at, zip_back}
-use Rattle.edi_schema.proofs.Pointable.{each_passes, still_all, not_all, one_fails, by_pointable, by_unpointable}
+use Rattle.edi_schema.proofs.Pointable.{any_at, some_pass, by_pointable, makes_pointable, is_the_one}
 
 -- ---- words
 
@@ -109,18 +109,21 @@ module _ (cs ws : List (List Entry)) (cs_led : AllByRecursion IsLed cs) (ws_led 
   counts : (role : Role) → count_by (has_role role) s ≡ count_by (has_role role) are.stated
   counts role = sum_by-IsPermutation (λ e. cond (has_role role e) 1 0) are.stated s are.same
 
+  stated_any : (test : Name × Class → Bool) → list_any test are.stated ≡ list_any test s
+  stated_any test = list_any-IsPermutation test are.stated s are.same
+
   role_here : (k : ℕ) (role : Role) (p : Name × Class) → is_plain role ≡ false → slice_get are.stated k ≡ Some p → has_role role p ≡ true → HasRole cs ws kinds (suc k) role
   role_here k role p kind h passes =
       let g = zip_at Stated cs are.stated each_class k p h in
       let place : suc k - 1 ≡ k = omega arith in
       (g.0, p.0, (omega arith, ap (slice_get cs) place ∙ g.1), g.2.named, sym g.2.role ∙ sym (one_role role p.1.role passes), not_plain role kind)
 
-  class_here : (m : ℕ) (role : Role) → HasRole cs ws kinds m role → (p : Name × Class) × (slice_get are.stated (m - 1) ≡ Some p) × (has_role role p ≡ true)
+  class_here : (m : ℕ) (role : Role) → (h : HasRole cs ws kinds m role) → (p : Name × Class) × (slice_get are.stated (m - 1) ≡ Some p) × (has_role role p ≡ true) × (h.1.rty ≡ p.0.rty)
   class_here m role h =
       let p = zip_back Stated cs are.stated each_class (m - 1) h.0 h.2.1 in
       let rid : h.1.rid ≡ p.0.0.rid = same_Some _ _ (sym h.3.rid ∙ p.2.named.rid) in
       let role_is : p.0.1.role ≡ role = p.2.role ∙ (ap (λ r. role_by kinds (first (values (codes "KND") h.0)) r) (sym rid) ∙ h.4) in
-      (p.0, p.1, ap (same_role role) role_is ∙ itself role)
+      (p.0, p.1, ap (same_role role) role_is ∙ itself role, same_Some _ _ (sym h.3.rty ∙ p.2.named.rty))
 
   kind_of_role : (role : Role) → role ≢ Plain → is_plain role ≡ false
   kind_of_role Rattle.edi_schema.specs.declared.role.Role.TheVariants.Initial h = refl
@@ -143,14 +146,15 @@ module _ (cs ws : List (List Entry)) (cs_led : AllByRecursion IsLed cs) (ws_led 
       let other = found_at (has_role (exchanged b.1)) are.stated (omega (arith, some_here, counts b.1, counts (exchanged b.1), m.both b.1 kind)) in
       b.3 (suc other.0) (role_here other.0 (exchanged b.1) other.1 (still_kind b.1 ∙ kind) other.3 other.4)
   kinds_hold m (inr (inr b)) =
-      let one = zip_back Stated cs are.stated each_class (b.0 - 1) b.2.0 b.2.2.1 in
-      let named = one.2.named in
-      let rid : b.2.1.rid ≡ one.0.0.rid = same_Some _ _ (sym b.2.3.rid ∙ named.rid) in
-      let rty : b.2.1.rty ≡ one.0.0.rty = same_Some _ _ (sym b.2.3.rty ∙ named.rty) in
-      let role_is : one.0.1.role ≡ b.1 = one.2.role ∙ (ap (λ r. role_by kinds (first (values (codes "KND") b.2.0)) r) (sym rid) ∙ b.2.4) in
-      let kind : is_plain one.0.1.role ≡ false = ap is_plain role_is ∙ kind_of_role b.1 b.2.5 in
-      let pointable = all_at (λ e. is_pointable e ≡ true) are.stated (each_passes is_pointable are.stated (still_all is_pointable s are.stated (IsPermutation-sym are.stated s are.same) m.pointable)) (b.0 - 1) one.0 one.1 in
-      true≢false (sym b.3 ∙ (ap (list_any is_semicolon) rty ∙ by_pointable one.0 pointable kind))
+      let one = class_here b.0 b.2 b.3 in
+      let two = class_here b.1 (exchanged b.2) b.4 in
+      let kind = kind_of_role b.2 b.3.5 in
+      let free : list_any is_semicolon two.0.0.rty ≡ false = ap (list_any is_semicolon) (sym two.3) ∙ b.6 in
+      let other = some_pass (is_pointable (exchanged b.2)) are.stated (b.1 - 1) two.0 two.1 (makes_pointable (exchanged b.2) two.0 two.2 free) in
+      let named = stated_any (is_pointable b.2) ∙ (m.pointable b.2 kind ∙ (sym (stated_any (is_pointable (exchanged b.2))) ∙ other)) in
+      let few = m.one b.2 kind in
+      let none = is_the_one are.stated b.2 (omega (arith, few, counts b.2)) named (b.0 - 1) one.0 one.1 one.2 in
+      true≢false (sym b.5 ∙ (ap (list_any is_semicolon) one.3 ∙ none))
 
   two_places : {X : Type 0} (test : X → Bool) (xs : List X) → 1 < count_by test xs → (i k : ℕ) × (x y : X) × (i < k) × (slice_get xs i ≡ Some x) × (slice_get xs k ≡ Some y) × (test x ≡ true) × (test y ≡ true)
   two_places test [] more = absurd (omega arith)
@@ -167,17 +171,39 @@ module _ (cs ws : List (List Entry)) (cs_led : AllByRecursion IsLed cs) (ws_led 
           let two = rest (omega (arith, total, more)) in
           (suc two.0, suc two.1, two.2, two.3, omega (arith, two.4), two.5, two.6, two.7, two.8)
 
-  semicolon_here : (k : ℕ) (p : Name × Class) → slice_get are.stated k ≡ Some p → is_pointable p ≡ false → BreaksKinds cs ws kinds
-  semicolon_here k p h not_pointable =
-      let g = zip_at Stated cs are.stated each_class k p h in
-      let place : suc k - 1 ≡ k = omega arith in
-      let kind = by_unpointable p not_pointable in
-      inr (inr (suc k, p.1.role, (g.0, p.0, (omega arith, ap (slice_get cs) place ∙ g.1), g.2.named, sym g.2.role, not_plain p.1.role kind.0), kind.1))
+  -- a class of a kind that no pointer can name, where one can name its partner
+  semicolon_here : (role : Role) → is_plain role ≡ false → (m k : ℕ) (e f : Name × Class) → slice_get are.stated m ≡ Some e → is_pointable role e ≡ true
+      → slice_get are.stated k ≡ Some f → has_role (exchanged role) f ≡ true → list_any is_semicolon f.0.rty ≡ true → BreaksKinds cs ws kinds
+  unfolding role_here
+  semicolon_here role kind m k e f h pointed g other holds =
+      let parts = by_pointable role e pointed in
+      let other_kind = still_kind role ∙ kind in
+      let again : has_role (exchanged (exchanged role)) e ≡ true = ap (λ r. has_role r e) (twice role) ∙ parts.0 in
+      inr (inr (suc k, suc m, exchanged role, role_here k (exchanged role) f other_kind g other,
+          role_here m (exchanged (exchanged role)) e (still_kind (exchanged role) ∙ other_kind) h again, holds, parts.1))
+
+  unnamed : (role : Role) → is_plain role ≡ false → (m : ℕ) (e : Name × Class) → slice_get are.stated m ≡ Some e → is_pointable role e ≡ true
+      → list_any (is_pointable (exchanged role)) are.stated ≡ false → BreaksKinds cs ws kinds
+  unnamed role kind m e h pointed lacks = go (list_any (has_role (exchanged role)) are.stated) refl
+    where
+      with_class : (k : ℕ) (f : Name × Class) → slice_get are.stated k ≡ Some f → has_role (exchanged role) f ≡ true → (b : Bool) → list_any is_semicolon f.0.rty ≡ b → BreaksKinds cs ws kinds
+      with_class k f g other true i = semicolon_here role kind m k e f h pointed g other i
+      with_class k f g other false i =
+          absurd (true≢false (sym (some_pass (is_pointable (exchanged role)) are.stated k f g (makes_pointable (exchanged role) f other i)) ∙ lacks))
+
+      go : (b : Bool) → list_any (has_role (exchanged role)) are.stated ≡ b → BreaksKinds cs ws kinds
+      go true i =
+          let found = any_at (has_role (exchanged role)) are.stated i in
+          with_class found.0 found.1 found.2 found.3 (list_any is_semicolon found.1.0.rty) refl
+      go false i =
+          inr (inl (suc m, role, role_here m role e kind h (by_pointable role e pointed).0,
+              λ n there. let class = class_here n (exchanged role) there in
+              true≢false (sym (some_pass (has_role (exchanged role)) are.stated (n - 1) class.0 class.1 class.2) ∙ i)))
 
   pub kinds_break : AreUnmatched s → BreaksKinds cs ws kinds
-  kinds_break (inr not_pointable) =
-      let found = one_fails is_pointable are.stated (not_all is_pointable are.stated s are.same not_pointable) in
-      semicolon_here found.0 found.1 found.2 found.3
+  kinds_break (inr (role, kind, named, lacks)) =
+      let found = any_at (is_pointable role) are.stated (stated_any (is_pointable role) ∙ named) in
+      unnamed role kind found.0 found.1 found.2 found.3 (stated_any (is_pointable (exchanged role)) ∙ lacks)
   kinds_break (inl (role, kind, inl many)) =
       let two = two_places (has_role role) are.stated (omega (arith, many, counts role)) in
       inl (suc two.0, suc two.1, role, omega (arith, two.4), role_here two.0 role two.2 kind two.5 two.7, role_here two.1 role two.3 kind two.6 two.8)

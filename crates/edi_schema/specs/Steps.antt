@@ -1,11 +1,11 @@
 -- The steps of a schema's rules, one at a time.
 use Rattle.std.specs.Prelude.{◌≡◌, ◌⊎◌, ℕ, ◌+◌, ◌≤◌, true, false, List, Option, Some, None, slice_get, take, map, position, count_by, IsPermutation}
-use Rattle.std.specs.List.{list_any, list_all, IsDistinct}
+use Rattle.std.specs.List.{list_any, IsDistinct}
 use Rattle.std.specs.Map.{keys_of}
 use Rattle.edi_record.specs.declared.name.Name.{Name}
 use Rattle.edi_schema.specs.Roles.{KindCodes, is_plain, exchanged}
-use Rattle.edi_schema.specs.Classes.{Classes, is_name, name_cmp, has_role, is_pointable}
-use Rattle.edi_schema.specs.Places.{AreUnpaired}
+use Rattle.edi_schema.specs.Classes.{Classes, is_name, name_cmp, has_role}
+use Rattle.edi_schema.specs.Places.{AreUnpaired, ArePointable, AreUnpointable}
 use Rattle.edi_schema.specs.Sorted.{AlwaysRises}
 use Rattle.edi_schema.specs.Drafts.{Said, class_in}
 use Rattle.edi_schema.specs.declared.role.Role.{Role}
@@ -35,15 +35,15 @@ IfKinds P (Line file rule at) = ⊥
 IfKinds P (Entry file rule at) = ⊥
 IfKinds P Kinds = P
 
--- a kind has one class at most, that a pointer can name, and one if the kind that it is exchanged with has
+-- a kind has one class at most, and one if the kind that it is exchanged with has; a pointer can name both or none
 pub record AreMatched (s : Classes) : Type 0 where
   pub one : (role : Role) → is_plain role ≡ false → count_by (has_role role) s ≤ 1
   pub both : (role : Role) → is_plain role ≡ false → count_by (has_role role) s ≡ count_by (has_role (exchanged role)) s
-  pub pointable : list_all is_pointable s ≡ true
+  pub pointable : ArePointable s
 
--- a kind has two classes, or one alone, or one that no pointer can name
+-- a kind has two classes, or one alone, or one that a pointer can name where none can name its partner
 abbrev pub AreUnmatched : Classes → Type 0
-AreUnmatched s = AreUnpaired s ⊎ (list_all is_pointable s ≡ false)
+AreUnmatched s = AreUnpaired s ⊎ AreUnpointable s
 
 -- the first record without exactly one identifier in form
 pub record IsFirstUnidentified (records : List Said) (at : ℕ) : Type 0 where

@@ -1,10 +1,11 @@
 //! The classes of the four kinds: rule 604.
 
 ghost use Rattle.std.specs.Prelude.{◌≡◌, ◌<◌, ◌≤◌, ◌^◌, true, false, map, length, MatchOption};
-ghost use Rattle.std.specs.List.{list_all};
+ghost use Rattle.std.specs.Bool.{MatchBool};
+ghost use Rattle.std.specs.List.{list_any};
 ghost use Rattle.edi_schema.specs.Classes.{is_pointable as pointable};
 ghost use Rattle.edi_schema.specs.Drafts.{drafted};
-ghost use Rattle.edi_schema.specs.Places.{are_alike as alike, are_paired, ArePlaces, AreUnpaired};
+ghost use Rattle.edi_schema.specs.Places.{are_alike as alike, are_paired, ArePlaces, ArePointable, AreUnpaired, AreUnpointable};
 ghost use Rattle.edi_schema.specs.declared.role.Role.{Role};
 
 use crate::by_role::ByRole;
@@ -22,18 +23,26 @@ fn are_alike(one: Option<u32>, other: Option<u32>) -> bool
     }
 }
 
-/// Whether a class is of none of the four kinds, or has a type without a semicolon.
-fn is_pointable(class: &Draft<'_>) -> bool
-    ensures { result ≡ pointable (drafted class.now) }
+/// Whether a class has a role, and a type without a semicolon.
+fn is_pointable(class: &Draft<'_>, role: Role) -> bool
+    ensures { result ≡ pointable role (drafted class.now) }
 {
-    class.class.role == Role::Plain || !class.title.rty.contains(&b';')
+    class.class.role == role && !class.title.rty.contains(&b';')
 }
 
-/// Whether a pointer can name each class of the four kinds.
-pub(crate) fn are_pointable(classes: &[Draft<'_>]) -> bool
-    ensures { result ≡ list_all pointable (map drafted classes.now) }
+/// Whether a pointer can name a class of a role.
+fn is_named(classes: &[Draft<'_>], role: Role) -> bool
+    ensures { result ≡ list_any (pointable role) (map drafted classes.now) }
 {
-    classes.iter().all(is_pointable)
+    classes.iter().any(|class| is_pointable(class, role))
+}
+
+/// Whether, of each kind, a pointer can name a class if one can name a class of its partner's kind.
+pub(crate) fn are_pointable(classes: &[Draft<'_>]) -> bool
+    ensures { MatchBool result (ArePointable (map drafted classes.now)) (AreUnpointable (map drafted classes.now)) }
+{
+    is_named(classes, Role::Initial) == is_named(classes, Role::Final)
+        && is_named(classes, Role::Left) == is_named(classes, Role::Right)
 }
 
 /// Whether each kind has a place if the kind that it is exchanged with has.

@@ -91,7 +91,8 @@ impl Schema {
     /// 601 (not exactly one identifier in form) of the classes, then of the dictionary; 602 (the name of an earlier
     /// record) of the classes, then of the dictionary; 603 (the DIP of a class names no record of the dictionary),
     /// each by the least record from 1; then 604 (two classes of one of the four kinds, or a class of a kind without
-    /// one of the other of its pair, or a class of a kind whose type holds a semicolon, so that no pointer can name it).
+    /// one of the other of its pair, or a class of a kind whose type holds a semicolon, so that no pointer can name
+    /// it, while its partner's holds none).
     /// `Memory` comes at any step and says nothing of the files.
     pub fn load(
         alloc: Global,

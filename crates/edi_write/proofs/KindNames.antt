@@ -1,20 +1,29 @@
--- The names of the classes of the four kinds can be printed.
-use Rattle.std.proofs.Common.{◌≡◌, zero, suc, true, true≢false, [], ◌∷◌}
-use Rattle.std.specs.List.{AllByRecursion, list_all}
-use Rattle.std.proofs.lemmas.Bool.{and_parts}
+-- Where the name of a class of a kind can be printed, so can that of its partner.
+use Rattle.std.proofs.Common.{◌≡◌, ℕ, false, Some, unwrap_or, slice_get, sym, ap, subst, ◌∙◌}
+use Rattle.std.specs.Map.{keys_of}
+use Rattle.std.proofs.lemmas.List.Folds.{list_any_none}
+use Rattle.std.proofs.lemmas.Option.{slice_get-map}
+use Rattle.edi_record.specs.Texts.{is_semicolon}
 use Rattle.edi_record.specs.declared.name.Name.{Name}
-use Rattle.edi_schema.specs.Classes.{Classes, IsSchema, IsReadName, is_pointable}
+use Rattle.edi_schema.specs.Classes.{Classes, IsSchema, IsReadName, partner_of, role_of}
+use Rattle.edi_schema.specs.Roles.{is_plain}
 use Rattle.edi_schema.specs.declared.class.Class.{Class}
-use Rattle.edi_schema.proofs.Pointable.{by_pointable}
+use Rattle.edi_schema.proofs.Ordered.{all_at}
+use Rattle.edi_schema.proofs.Paired.{there}
+use Rattle.edi_schema.proofs.Pointable.{partner_named}
 use Rattle.edi_schema.proofs.ReadNames.{whole_text}
-use Rattle.edi_write.specs.Written.{HasPrintableKinds}
+use Rattle.edi_write.specs.Layout.{name_of, no_name}
+use Rattle.edi_write.specs.Written.{HasPrintableKinds, IsPrintableName}
 
-printable : (s : Classes) → AllByRecursion (λ (e : Name × Class). IsReadName e.0) s → list_all is_pointable s ≡ true → HasPrintableKinds s
-printable [] read all class h = absurd (true≢false h)
-printable (e ∷ es) read all zero h =
-    let types = whole_text e.0.rty (by_pointable e (and_parts (is_pointable e) (list_all is_pointable es) all).0 h) in
-    (record { rty = types; rid = read.0.2 }, record { rty = read.0.0; rid = read.0.1 })
-printable (e ∷ es) read all (suc class) h = printable es read.1 (and_parts (is_pointable e) (list_all is_pointable es) all).1 class h
+name_there : (s : Classes) (c : ℕ) (e : Name × Class) → slice_get s c ≡ Some e → name_of s c ≡ e.0
+name_there s c e h = rw (slice_get-map (λ (x : Name × Class). x.0) s c, h) refl
 
 pub kinds_printable : (s : Classes) → IsSchema s → HasPrintableKinds s
-kinds_printable s keeps = printable s keeps.readable keeps.pointable
+kinds_printable s keeps c kind prints =
+    let here = there s c kind in
+    let name : name_of s c ≡ here.0.0 = name_there s c here.0 here.1 in
+    let free = list_any_none is_semicolon here.0.0.rty (subst IsPrintableName name prints).0.rty in
+    let found = partner_named s keeps c here.0 kind here.1 free in
+    let read : IsReadName found.0.0 = all_at (λ (x : Name × Class). IsReadName x.0) s keeps.readable (partner_of s c) found.0 found.1 in
+    subst IsPrintableName (sym (name_there s (partner_of s c) found.0 found.1))
+        (record { rty = whole_text found.0.0.rty found.2; rid = read.2 }, record { rty = read.0; rid = read.1 })

@@ -42,10 +42,9 @@ use Rattle.edi_record.specs.declared.record.Attribute.{Attribute}
 use Rattle.edi_record.specs.declared.record.Record.{Record}
 use Rattle.edi_record.specs.declared.record.Value.TheVariants.{Number, Bytes}
 use Rattle.edi_record.specs.declared.sheet.Sheet.{Sheet}
-use Rattle.edi_schema.specs.Classes.{IsLetter, Classes, IsSchema, IsPaired, is_name, partner_of, place_of, role_of}
-use Rattle.edi_schema.specs.Roles.{exchanged, is_plain}
+use Rattle.edi_schema.specs.Classes.{IsLetter, Classes, IsSchema, is_name, partner_of, place_of, role_of}
+use Rattle.edi_schema.specs.Roles.{is_plain}
 use Rattle.edi_schema.specs.declared.role.Role.{Role}
-use Rattle.edi_schema.specs.declared.role.Role.TheVariants.{Initial, Final, Left, Right, Plain}
 use Rattle.edi_schema.proofs.Names.{same_name}
 use Rattle.edi_record.proofs.Printable.{sheet_printable}
 use Rattle.edi_record.proofs.SheetStated.{sheet_again}
@@ -73,7 +72,7 @@ use Rattle.edi_write.specs.Layout.{name_of, no_name, identifier, kind_letter, la
 use Rattle.edi_write.proofs.Naming.{number_few}
 use Rattle.edi_write.proofs.WrittenRecords.{none_there, written_at, written_count, written_layout, written_plan}
 use Rattle.edi_write.proofs.WrittenReferences.{written_references}
-use Rattle.edi_write.specs.Written.{letters, written_attribute, written_end, written_record, written_records, HasAttributeClasses, HasPrintableKinds, CanBePrinted}
+use Rattle.edi_write.specs.Written.{letters, written_attribute, written_end, written_record, written_records, HasAttributeClasses, HasPrintableKinds, IsPrintableName, CanBePrinted}
 
 -- ---- the name of a class that was read
 
@@ -222,26 +221,13 @@ lines_written s (a ∷ xs) all = (all.0.1, lines_written s xs all.1)
 abbrev CanPrint : Record → Type 0
 CanPrint r = IsRecord r × IsLineRecord r × KeepsRules r
 
--- a name that can be printed
-abbrev PrintsName : Name → Type 0
-PrintsName n = IsName n × IsLineName n
-
-still_kind : (r : Role) → is_plain (exchanged r) ≡ is_plain r
-still_kind Initial = refl
-still_kind Final = refl
-still_kind Left = refl
-still_kind Right = refl
-still_kind Plain = refl
-
 -- the class after the turns: that which was read, or its partner
-class_prints : (s : Classes) → IsPaired s → HasPrintableKinds s → (turned : ℕ → Bool) (x : PlanRecord) → x.role ≡ role_of s x.class → PrintsName (name_of s x.class) → PrintsName (name_of s (class_after (partner_of s) turned x))
-class_prints s paired kinds turned x role prints = go (is_plain x.role) (has_turned_arc turned x) refl
+class_prints : (s : Classes) → HasPrintableKinds s → (turned : ℕ → Bool) (x : PlanRecord) → x.role ≡ role_of s x.class → IsPrintableName (name_of s x.class) → IsPrintableName (name_of s (class_after (partner_of s) turned x))
+class_prints s kinds turned x role prints = go (is_plain x.role) (has_turned_arc turned x) refl
   where
-    go : (a t : Bool) → is_plain x.role ≡ a → PrintsName (name_of s (cond a x.class (cond t (partner_of s x.class) x.class)))
+    go : (a t : Bool) → is_plain x.role ≡ a → IsPrintableName (name_of s (cond a x.class (cond t (partner_of s x.class) x.class)))
     go true t e = prints
-    go false true e =
-        let kind : is_plain (role_of s x.class) ≡ false = ap is_plain (sym role) ∙ e in
-        kinds (partner_of s x.class) (ap is_plain (paired.exchanges x.class kind) ∙ (still_kind (role_of s x.class) ∙ kind))
+    go false true e = kinds x.class (ap is_plain (sym role) ∙ e) prints
     go false false e = prints
 
 points_directed : (P : Point → Type 0) (t : Bool) (ps : List Point) → AllByRecursion P ps → AllByRecursion P (directed t ps)
@@ -262,7 +248,7 @@ no_ends s q Pfe es may none = ap (map (written_end s q)) (none_there es may)
 no_ends s q Fea es may none = ap (map (written_end s q)) (none_there es may)
 no_ends s q Lnk es may none = absurd (true≢false none)
 
-module _ (s : Classes) (paired : IsPaired s) (kinds : HasPrintableKinds s) (q : Drawing) (whole : IsWhole q) where
+module _ (s : Classes) (kinds : HasPrintableKinds s) (q : Drawing) (whole : IsWhole q) where
   -- the record y is the record x, which r states, carried to the place k
   carried_printable : (list : List Record) (r : Record) (x : PlanRecord) (to : ℕ → ℕ) (turned : ℕ → Bool) (i k : ℕ) → IsRecord r → IsLineRecord r → KeepsRules r
       → StatesPlanRecord s list r x → IsPlace q k → CarriesRecord s to turned i x (record_at q k) → CanPrint (written_record s q (number_in s q k) (record_at q k))
@@ -309,9 +295,9 @@ module _ (s : Classes) (paired : IsPaired s) (kinds : HasPrintableKinds s) (q : 
       role : x.role ≡ role_of s x.class
       role = same_Some x.role (role_of s x.class) (sym states.role ∙ role_there s r.scp x.class states.class)
 
-      prints : PrintsName (name_of s y.class)
-      prints = subst (λ class. PrintsName (name_of s class)) (sym c.class)
-          (class_prints s paired kinds turned x role (subst PrintsName (sym (name_is s r.scp x.class states.class)) (is.class, line.class)))
+      prints : IsPrintableName (name_of s y.class)
+      prints = subst (λ class. IsPrintableName (name_of s class)) (sym c.class)
+          (class_prints s kinds turned x role (subst IsPrintableName (sym (name_is s r.scp x.class states.class)) (is.class, line.class)))
 
       points : AllByRecursion IsPoint y.points
       points = subst (AllByRecursion IsPoint) (sym c.points) (points_directed IsPoint (turned i) x.points (subst (AllByRecursion IsPoint) (sym states.points) is.points))
@@ -347,12 +333,12 @@ module _ (s : Classes) (paired : IsPaired s) (kinds : HasPrintableKinds s) (q : 
           let f = zip_length (StatesPlanEnd list) r.ends x.ends states.ends in
           omega (arith, a, b, d, f, h)
 
-pub record_printable : (s : Classes) (list : List Record) (r : Record) (p q : Drawing) (to : ℕ → ℕ) (turned : ℕ → Bool) (k : ℕ) → IsPaired s → HasPrintableKinds s → IsRecord r → IsLineRecord r → KeepsRules r
+pub record_printable : (s : Classes) (list : List Record) (r : Record) (p q : Drawing) (to : ℕ → ℕ) (turned : ℕ → Bool) (k : ℕ) → HasPrintableKinds s → IsRecord r → IsLineRecord r → KeepsRules r
     → StatesPlanRecord s list r (record_at p k) → Carries s to turned p q → IsWhole q → IsPlace p k
     → IsRecord (written_record s q (number_in s q (to k)) (record_at q (to k))) × IsLineRecord (written_record s q (number_in s q (to k)) (record_at q (to k)))
     × KeepsRules (written_record s q (number_in s q (to k)) (record_at q (to k)))
-record_printable s list r p q to turned k paired kinds is line keeps states c whole there =
-    carried_printable s paired kinds q whole list r (record_at p k) to turned k (to k) is line keeps states (c.places.within k there) (c.each k there)
+record_printable s list r p q to turned k kinds is line keeps states c whole there =
+    carried_printable s kinds q whole list r (record_at p k) to turned k (to k) is line keeps states (c.places.within k there) (c.each k there)
 
 -- ---- the sheet that is written
 
@@ -367,9 +353,9 @@ each_of : {X : Type 0} (P Q : X → Type 0) → ((x : X) → P x → Q x) → (x
 each_of P Q f [] all = tt
 each_of P Q f (x ∷ xs) all = (f x all.0, each_of P Q f xs all.1)
 
-pub written_printable : (s : Classes) (sheet : Sheet) (p q : Drawing) → IsPaired s → HasPrintableKinds s → IsPrintableSheet sheet → IsPlanOf s sheet p → Same s p q → IsWhole q
+pub written_printable : (s : Classes) (sheet : Sheet) (p q : Drawing) → HasPrintableKinds s → IsPrintableSheet sheet → IsPlanOf s sheet p → Same s p q → IsWhole q
     → CanBePrinted q.cse (written_records s q)
-written_printable s sheet p q paired kinds printable plan same whole = record {
+written_printable s sheet p q kinds printable plan same whole = record {
   set = subst (λ c. IfSome c IsOneLine) (sym (c.cse ∙ plan.set)) printable.cse;
   records = each_of CanPrint IsRecord (λ r h. h.0) (written_records s q) all;
   lines = each_of CanPrint IsLineRecord (λ r h. h.1) (written_records s q) all;
@@ -382,7 +368,7 @@ written_printable s sheet p q paired kinds printable plan same whole = record {
     at_new : (i : ℕ) → IsPlace p i → CanPrint (written_record s q (number_in s q (same.0 i)) (record_at q (same.0 i)))
     at_new i h =
         let d = zip_at (StatesPlanRecord s sheet.list) sheet.list p.list plan.each i blank h in
-        record_printable s sheet.list d.0 p q same.0 same.1 i paired kinds
+        record_printable s sheet.list d.0 p q same.0 same.1 i kinds
         (at_place IsRecord sheet.list i d.0 d.1 printable.records) (at_place IsLineRecord sheet.list i d.0 d.1 printable.lines) (at_place KeepsRules sheet.list i d.0 d.1 printable.rules)
         d.2 c whole h
 

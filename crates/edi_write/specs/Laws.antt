@@ -48,7 +48,7 @@ WrittenKeepsReferences =
 -- Where a record that was read can be printed, so can what is written of it on a plan that a renaming carries it onto, if the classes of the four kinds can.
 abbrev pub WrittenRecordIsPrintable : Type 0
 WrittenRecordIsPrintable =
-    (s : Classes) (list : List Record) (r : Record) (p q : Drawing) (to : ℕ → ℕ) (turned : ℕ → Bool) (k : ℕ) → IsPaired s → HasPrintableKinds s → IsRecord r → IsLineRecord r → KeepsRules r
+    (s : Classes) (list : List Record) (r : Record) (p q : Drawing) (to : ℕ → ℕ) (turned : ℕ → Bool) (k : ℕ) → HasPrintableKinds s → IsRecord r → IsLineRecord r → KeepsRules r
     → StatesPlanRecord s list r (record_at p k) → Carries s to turned p q → IsWhole q → IsPlace p k
     → IsRecord (written_record s q (number_in s q (to k)) (record_at q (to k))) × IsLineRecord (written_record s q (number_in s q (to k)) (record_at q (to k)))
     × KeepsRules (written_record s q (number_in s q (to k)) (record_at q (to k)))
@@ -56,7 +56,7 @@ WrittenRecordIsPrintable =
 -- What is written of a plan can be printed, where the plan is the same as that of a sheet which can be printed, and the classes of the four kinds can.
 abbrev pub WrittenIsPrintable : Type 0
 WrittenIsPrintable =
-    (s : Classes) (sheet : Sheet) (p q : Drawing) → IsPaired s → HasPrintableKinds s → IsPrintableSheet sheet → IsPlanOf s sheet p → Same s p q → IsWhole q
+    (s : Classes) (sheet : Sheet) (p q : Drawing) → HasPrintableKinds s → IsPrintableSheet sheet → IsPlanOf s sheet p → Same s p q → IsWhole q
     → CanBePrinted q.cse (written_records s q)
 
 -- Each attribute's class is of type ATT, where the plan is the same as the plan of a sheet that breaks no rule of references.

@@ -6,7 +6,8 @@ use Rattle.edi_record.specs.Layout.{Letters, value_text, IsName, IsLineName, IsR
 use Rattle.edi_record.specs.declared.record.Record.{Record}
 use Rattle.edi_record.specs.declared.record.Attribute.{Attribute}
 use Rattle.edi_record.specs.declared.record.End.{End}
-use Rattle.edi_schema.specs.Classes.{Classes, letter_named, is_number_named, role_of}
+use Rattle.edi_record.specs.declared.name.Name.{Name}
+use Rattle.edi_schema.specs.Classes.{Classes, letter_named, is_number_named, role_of, partner_of}
 use Rattle.edi_schema.specs.Roles.{is_plain}
 use Rattle.edi_plan.specs.Plans.{Drawing}
 use Rattle.edi_plan.specs.declared.record.PlanRecord.{PlanRecord}
@@ -51,9 +52,13 @@ written_records s p = written_from s p 0 p.list
 abbrev pub HasAttributeClasses : Classes → Drawing → Type 0
 HasAttributeClasses s p = AllByRecursion (λ r. AllByRecursion (λ a. (name_of s a.atp).rty ≡ codes "ATT") r.attributes) p.list
 
--- the names of the classes of the four kinds can be printed: no semicolon, and one line
+-- a name can be printed: no semicolon, and one line
+abbrev pub IsPrintableName : Name → Type 0
+IsPrintableName name = IsName name × IsLineName name
+
+-- where the name of a class of a kind can be printed, so can that of its partner
 abbrev pub HasPrintableKinds : Classes → Type 0
-HasPrintableKinds s = (class : ℕ) → is_plain (role_of s class) ≡ false → IsName (name_of s class) × IsLineName (name_of s class)
+HasPrintableKinds s = (class : ℕ) → is_plain (role_of s class) ≡ false → IsPrintableName (name_of s class) → IsPrintableName (name_of s (partner_of s class))
 
 -- what records and their character set need to be printed and read again
 pub record CanBePrinted (cse : Option (List ℕ)) (rs : List Record) : Type 0 where
