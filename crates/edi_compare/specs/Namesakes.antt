@@ -1,26 +1,42 @@
--- The way in which two sheets with one canonical file are paired: by the kinds and the numbers of their records.
-use Rattle.std.specs.Prelude.{◌≡◌, ℕ, ◌-◌, ◌<◌, ◌≤◌, not, length, slice_index}
+-- The way in which two sheets with one canonical file are paired: by the types and the numbers of their records.
+use Rattle.std.specs.Prelude.{◌≡◌, ℕ, ◌-◌, ◌<◌, ◌≤◌, not, length, slice_index, slice_index_or}
 use mathlib.Core.Bool.{beq}
 use Rattle.edi_record.specs.declared.record.Kind.{Kind}
+use Rattle.edi_record.specs.declared.record.Kind.TheVariants.{Pno}
 use Rattle.edi_plan.specs.Plans.{Drawing, IsPlace, record_at}
-use Rattle.edi_rank.specs.Labelling.{Labelling, order_of, number_of, turned_at}
+use Rattle.edi_rank.specs.Labelling.{Labelling, order_of, turned_at}
+use Rattle.edi_compare.specs.declared.first.FirstForm.{FirstForm}
 use Rattle.edi_compare.specs.declared.pairing.Pairing.{Pairing}
 
--- each record of p has a namesake by the labels m of a second plan: one of its kind with the number that the labels l give it
-pub record HasNamesakes (p : Drawing) (l m : Labelling) : Type 0 where
-  pub numbered : length l.numbers ≡ length p.list
-  pub directed : length l.turned ≡ length p.list
-  pub from_one : (k : ℕ) → IsPlace p k → 1 ≤ number_of l k
-  pub to_count : (k : ℕ) → IsPlace p k → number_of l k ≤ length (order_of m (record_at p k).kind)
+-- the type and the number of the record at a place of the first sheet
+abbrev pub kind_at : FirstForm → ℕ → Kind
+kind_at f k = slice_index_or f.kinds.items k Pno
+
+abbrev pub number_at : FirstForm → ℕ → ℕ
+number_at f k = slice_index f.numbers k
+
+-- what is kept of a plan and its labels: the type, the number and the reversal of each record
+pub record IsFirst (p : Drawing) (l : Labelling) (f : FirstForm) : Type 0 where
+  pub long : length f.kinds.items ≡ length p.list
+  pub kinds : (k : ℕ) → IsPlace p k → kind_at f k ≡ (record_at p k).kind
+  pub numbers : f.numbers ≡ l.numbers
+  pub turned : f.turned ≡ l.turned
+
+-- each record of the first sheet has a namesake by the labels m of a second plan: one of its type with its number
+pub record HasNamesakes (f : FirstForm) (m : Labelling) : Type 0 where
+  pub numbered : length f.numbers ≡ length f.kinds.items
+  pub directed : length f.turned ≡ length f.kinds.items
+  pub from_one : (k : ℕ) → k < length f.kinds.items → 1 ≤ number_at f k
+  pub to_count : (k : ℕ) → k < length f.kinds.items → number_at f k ≤ length (order_of m (kind_at f k))
   pub there : (kind : Kind) (i : ℕ) → i < length (order_of m kind) → slice_index (order_of m kind) i < length m.turned
 
--- the place of the record of a kind that has the number which the record of p at the place i has
-abbrev pub namesake : Drawing → Labelling → Labelling → ℕ → ℕ
-namesake p l m i = slice_index (order_of m (record_at p i).kind) (number_of l i - 1)
+-- the place of the record of a type that has the number which the record of the first sheet at the place i has
+abbrev pub namesake : FirstForm → Labelling → ℕ → ℕ
+namesake f m i = slice_index (order_of m (kind_at f i)) (number_at f i - 1)
 
--- each record goes to the one with its kind and its number, and is turned where the labels turn one of the two alone
-pub record PairsByNumber (p : Drawing) (l m : Labelling) (pairing : Pairing) : Type 0 where
-  pub all_paired : length pairing.to ≡ length p.list
-  pub all_directed : length pairing.turned ≡ length p.list
-  pub to : (i : ℕ) → IsPlace p i → slice_index pairing.to i ≡ namesake p l m i
-  pub turned : (i : ℕ) → IsPlace p i → turned_at pairing.turned i ≡ not (beq (turned_at l.turned i) (turned_at m.turned (namesake p l m i)))
+-- each record goes to the one with its type and its number, and is turned where one of the two alone is turned
+pub record PairsByNumber (f : FirstForm) (m : Labelling) (pairing : Pairing) : Type 0 where
+  pub all_paired : length pairing.to ≡ length f.kinds.items
+  pub all_directed : length pairing.turned ≡ length f.kinds.items
+  pub to : (i : ℕ) → i < length f.kinds.items → slice_index pairing.to i ≡ namesake f m i
+  pub turned : (i : ℕ) → i < length f.kinds.items → turned_at pairing.turned i ≡ not (beq (turned_at f.turned i) (turned_at m.turned (namesake f m i)))

@@ -105,6 +105,14 @@ impl Labels {
         self.turned.as_slice()
     }
 
+    /// The number of each record among those of its type, from 1, and whether each is an arc that is turned, by place.
+    pub fn into_numbers_and_turned(self) -> (Sequence<u32>, Sequence<bool>)
+        ensures numbers { result.0 ≡ self.numbers }
+        ensures turned { result.1 ≡ self.turned }
+    {
+        (self.numbers, self.turned)
+    }
+
     /// Whether a record is an arc that is turned.
     pub fn turned(&self, place: u32) -> bool
         requires { place < length self.now.turned }

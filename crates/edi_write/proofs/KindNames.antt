@@ -1,5 +1,5 @@
 -- Where the name of a class of a kind can be printed, so can that of its partner.
-use Rattle.std.proofs.Common.{◌≡◌, ℕ, false, Some, unwrap_or, slice_get, sym, ap, subst, ◌∙◌}
+use Rattle.std.proofs.Common.{◌≡◌, ℕ, false, Some, unwrap_or, slice_get, refl, sym, ap, subst, ◌∙◌}
 use Rattle.std.specs.Map.{keys_of}
 use Rattle.std.proofs.lemmas.List.Folds.{list_any_none}
 use Rattle.std.proofs.lemmas.Option.{slice_get-map}

@@ -9,7 +9,6 @@ abbrev pub invariant-loop-place : goal.invariant-loop-place
 invariant-loop-place l = record {
   to_long : length l.to.items ≡ l.place;
   turned_long : length l.turned.items ≡ l.place;
-  to : (k : ℕ) → k < l.place → slice_index l.to.items k ≡ namesake l.first.sound l.first.labels l.second.labels k;
-  turned : (k : ℕ) → k < l.place → turned_at l.turned.items k
-      ≡ not (beq (turned_at l.first.labels.turned k) (turned_at l.second.labels.turned (namesake l.first.sound l.first.labels l.second.labels k)));
+  to : (k : ℕ) → k < l.place → slice_index l.to.items k ≡ namesake l.first l.others k;
+  turned : (k : ℕ) → k < l.place → turned_at l.turned.items k ≡ not (beq (turned_at l.first.turned k) (turned_at l.others.turned (namesake l.first l.others k)));
 }
