@@ -49,9 +49,10 @@ module _ (s : Classes) (keeps : IsSchema s) (a b : List ℕ) (f : FirstForm) (ot
 
   pub different : (line : ℕ) → IsFirstDifference f.file.items other.file.items line → IsVerdict s a b (Different line)
   different line first =
-      let there : IsFirstDifference form.file.items other.file.items line = subst (λ x. IsFirstDifference x other.file.items line) kept.file first in
-      (λ same. not_equal form.file.items other.file.items line there (same_files same),
-      (form.file.items, other.file.items, has.file.canonical, has'.file.canonical, has.file.same, has'.file.same, there))
+      let there : IsFirstDifference form.file.items other.file.items line = subst (λ x. IsFirstDifference x other.file.items line) kept.file first in (
+        λ same. not_equal form.file.items other.file.items line there (same_files same),
+        (form.file.items, other.file.items, has.file.canonical, has'.file.canonical, has.file.same, has'.file.same, there),
+      )
 
   module _ (equal : f.file.items ≡ other.file.items) where
     one : form.file.items ≡ other.file.items
@@ -66,6 +67,11 @@ module _ (s : Classes) (keeps : IsSchema s) (a b : List ℕ) (f : FirstForm) (ot
     counts = has_namesakes s p q l m has.labels has'.labels one_arranged f kept.first
 
     pub paired_same : (pairing : Pairing) → PairsByNumber f m pairing → IsVerdict s a b (Same pairing)
-    paired_same pairing by = (p, q, has.plan, has'.plan,
-        pairing_carries s p q l m has.labels has'.labels one_arranged f kept.first pairing by
-        (plan_under s a p keeps has.file.accepted has.plan) (plan_under s b q keeps has'.file.accepted has'.plan))
+    paired_same pairing by = (
+      p,
+      q,
+      has.plan,
+      has'.plan,
+      pairing_carries s p q l m has.labels has'.labels one_arranged f kept.first pairing by
+          (plan_under s a p keeps has.file.accepted has.plan) (plan_under s b q keeps has'.file.accepted has'.plan),
+    )

@@ -73,7 +73,7 @@ classes_keep = record {
   in_order = (tt, tt);
   one = one;
   both = both;
-  pointable = refl;
+  pointable = pointable;
   readable = ((none_is 10 (codes "PGE") refl, none_is 10 (codes "NOD_id") refl, none_is 59 (codes "NOD_id") refl), tt);
 }
   where
@@ -91,6 +91,14 @@ classes_keep = record {
     both Left e = refl
     both Right e = refl
     both Plain e = refl
+
+    pointable : (role : Role) → Rattle.edi_schema.specs.Roles.is_plain role ≡ false
+        → Rattle.std.specs.List.list_any (Rattle.edi_schema.specs.Classes.is_pointable role) node_classes ≡ Rattle.std.specs.List.list_any (Rattle.edi_schema.specs.Classes.is_pointable (Rattle.edi_schema.specs.Roles.exchanged role)) node_classes
+    pointable Initial e = refl
+    pointable Final e = refl
+    pointable Left e = refl
+    pointable Right e = refl
+    pointable Plain e = refl
 
 -- ---- a list of nodes of which none has an earlier one's name breaks no rule of references where its classes are there
 
