@@ -16,7 +16,7 @@ use Rattle.edicad.specs.Hashes.{AreAnswered, IsCutOff, IsStep, RefusesFiles, Sch
 use Rattle.edicad.specs.Outcome.{ended, schema_text, status_of_fault, words_of_fault}
 use Rattle.edicad.specs.SheetRuns.{Inputs}
 use Rattle.edicad.specs.Statuses.{GoesOut, IsSheetStatus, Says}
-use Rattle.edicad.specs.declared.words.ManyFiles.{ManyFiles}
+use Rattle.edi_words.specs.declared.words.ManyFiles.{ManyFiles}
 
 abbrev pub paths_of : List (Bor (List ℕ)) → List (List ℕ)
 paths_of paths = map (λ (p : Bor (List ℕ)). p.now) paths

@@ -5,8 +5,8 @@ use Rattle.edi_compare.specs.Bundle.{OfParts}
 use Rattle.edi_compare.specs.declared.fault.RunFault.{RunFault}
 use Rattle.edi_compare.specs.declared.fault.RunFault.TheVariants.{Memory, Read, TooLong, Schema, First, Second, Write}
 use Rattle.edi_compare.specs.Runs.{IsCanonOf, MatchFault, TellFour, Told}
-use Rattle.edicad.specs.declared.words.PairFiles.{PairFiles}
-use Rattle.edicad.specs.declared.words.SheetFiles.{SheetFiles}
+use Rattle.edi_words.specs.declared.words.PairFiles.{PairFiles}
+use Rattle.edi_words.specs.declared.words.SheetFiles.{SheetFiles}
 use Rattle.edicad.specs.Folders.{Leavings}
 use Rattle.edicad.specs.Outputs.{IsWholeOrNew}
 use Rattle.edicad.specs.SheetRuns.{AreThere, FileFault, Inputs, OfCanon, OfFiles, OfPair}

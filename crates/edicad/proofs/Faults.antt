@@ -4,8 +4,8 @@ use Rattle.edi_schema.specs.Roles.{KindCodes}
 use Rattle.edi_compare.specs.declared.fault.RunFault.{RunFault}
 use Rattle.edi_compare.specs.declared.fault.RunFault.TheVariants.{Memory, Read, TooLong, Schema, First, Second, Write}
 use Rattle.edi_compare.specs.Runs.{ComparingFault, FilesFault, IsTooLong, Kept, OfInput, OfInputOfFour, OfThree, Seen, TellBoth, TellFour, Told}
-use Rattle.edicad.specs.declared.words.PairFiles.{PairFiles}
-use Rattle.edicad.specs.declared.words.SheetFiles.{SheetFiles}
+use Rattle.edi_words.specs.declared.words.PairFiles.{PairFiles}
+use Rattle.edi_words.specs.declared.words.SheetFiles.{SheetFiles}
 use Rattle.edicad.specs.SheetRuns.{FileFault, Gives, HoldsTooMuch, Inputs, PairFileFault, pair_path_at, path_at}
 
 -- what follows from each error holds of the result

@@ -11,8 +11,8 @@ use Rattle.edi_compare.specs.declared.fault.RunFault.{RunFault}
 use Rattle.edi_compare.specs.declared.fault.RunFault.TheVariants.{Memory, Read, TooLong, Schema, First, Second, Write}
 use Rattle.edi_compare.specs.Bundle.{OfParts}
 use Rattle.edi_compare.specs.Runs.{BeforeWriting, InputFault, IsVerdictOf, Seen}
-use Rattle.edicad.specs.declared.words.PairFiles.{PairFiles}
-use Rattle.edicad.specs.declared.words.SheetFiles.{SheetFiles}
+use Rattle.edi_words.specs.declared.words.PairFiles.{PairFiles}
+use Rattle.edi_words.specs.declared.words.SheetFiles.{SheetFiles}
 use Rattle.edicad.specs.Outcome.{FaultHasNames, HasNames, ended, first_text, outcome_for, sheet_text, status_for, status_of_fault, status_of_schema, status_of_sheet, words_for, words_of_fault}
 use Rattle.edicad.specs.SheetRuns.{AreFourThere, CanonFault, FileFault, FirstOfFourMissing, Inputs, IsInput, OfFiles, OfPair, PairFileFault}
 use Rattle.edicad.specs.Statuses.{AreTried, IsCompareStatus, IsToldAs, MeansStatus, Says, SaysPairRefusal, SaysRefusal, Warns, pair_names_of}

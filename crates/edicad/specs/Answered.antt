@@ -4,11 +4,11 @@ use Rattle.std.specs.Bool.{MatchBool}
 use Rattle.edi_compare.specs.Runs.{Seen}
 use Rattle.edicad.specs.Hashes.{IsHashStatus}
 use Rattle.edicad.specs.Outcome.{ended}
-use Rattle.edicad.specs.Requests.{is_standard_path, misuse_text}
+use Rattle.edi_words.specs.Requests.{is_standard_path, misuse_text}
 use Rattle.edicad.specs.SheetRuns.{Inputs}
 use Rattle.edicad.specs.Statuses.{IsBundleStatus, IsCanonStatus, IsCompareStatus, IsFileStatus, IsSendStatus, Warns}
-use Rattle.edicad.specs.declared.words.Request.{Request}
-use Rattle.edicad.specs.declared.words.Request.TheVariants.{Bundle, Check, Canon, Compare, Hash, Misused, Answered}
+use Rattle.edi_words.specs.declared.words.Request.{Request}
+use Rattle.edi_words.specs.declared.words.Request.TheVariants.{Bundle, Check, Canon, Compare, Hash, Misused, Answered}
 
 -- The status of what was asked for, over what is known of the inputs, which bytes were put where, and what the two streams
 -- have before and after.

@@ -18,7 +18,7 @@ use Rattle.edi_compare.specs.declared.fault.RunFault.TheVariants.{Read}
 use Rattle.edicad.specs.Outcome.{ended, schema_text, sheet_fault_text, status_of_fault}
 use Rattle.edicad.specs.SheetRuns.{Gives, HoldsTooMuch, Inputs, IsMissing, IsThere}
 use Rattle.edicad.specs.Statuses.{MeansStatus, Says, Warns, input_name}
-use Rattle.edicad.specs.declared.words.ManyFiles.{ManyFiles}
+use Rattle.edi_words.specs.declared.words.ManyFiles.{ManyFiles}
 
 -- the digest of the canonical file of the sheet b
 abbrev pub IsDigestOf : Classes → List ℕ → List ℕ → Type 0

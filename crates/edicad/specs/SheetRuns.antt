@@ -5,9 +5,9 @@ use Rattle.edi_schema.specs.Roles.{KindCodes}
 use Rattle.edi_compare.specs.declared.fault.RunFault.{RunFault}
 use Rattle.edi_compare.specs.declared.fault.RunFault.TheVariants.{Read, Write}
 use Rattle.edi_compare.specs.Runs.{IsCanonOf, IsTooLong, MatchFault, OfFour, OfThree, RefusesSchema, RefusesSecond, RefusesSheet, TellFour, Told}
-use Rattle.edicad.specs.Requests.{is_standard_path}
-use Rattle.edicad.specs.declared.words.PairFiles.{PairFiles}
-use Rattle.edicad.specs.declared.words.SheetFiles.{SheetFiles}
+use Rattle.edi_words.specs.Requests.{is_standard_path}
+use Rattle.edi_words.specs.declared.words.PairFiles.{PairFiles}
+use Rattle.edi_words.specs.declared.words.SheetFiles.{SheetFiles}
 
 -- what is known of the inputs
 pub record Inputs : Type 1 where

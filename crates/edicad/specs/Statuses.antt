@@ -11,12 +11,12 @@ use Rattle.edi_compare.specs.declared.pairing.Verdict.TheVariants.{Same, Differe
 use Rattle.edi_compare.specs.Bundle.{OfParts}
 use Rattle.edi_compare.specs.Runs.{InputFault, IsSheetUnder, IsVerdictOf, RefusesSchema, RefusesSecond, RefusesSheet, Seen, WritesAll, WritesFirst}
 use Rattle.edicad.specs.Outcome.{ended, schema_text, sheet_text, status_of_fault, words_of_fault}
-use Rattle.edicad.specs.Requests.{IsAsked, is_standard_path, usual_kinds}
+use Rattle.edi_words.specs.Requests.{IsAsked, is_standard_path, usual_kinds}
 use Rattle.edicad.specs.SheetRuns.{AreFourThere, AreThere, CanonFault, FileFault, FirstMissing, FirstOfFourMissing, Inputs, IsInput, OfCanon, OfFiles, OfPair, PairFileFault}
-use Rattle.edicad.specs.declared.words.PairFiles.{PairFiles}
-use Rattle.edicad.specs.declared.words.SheetFiles.{SheetFiles}
-use Rattle.edicad.specs.declared.words.Request.{Request}
-use Rattle.edicad.specs.declared.words.Request.TheVariants.{Bundle, Check, Canon, Compare, Hash, Misused, Answered}
+use Rattle.edi_words.specs.declared.words.PairFiles.{PairFiles}
+use Rattle.edi_words.specs.declared.words.SheetFiles.{SheetFiles}
+use Rattle.edi_words.specs.declared.words.Request.{Request}
+use Rattle.edi_words.specs.declared.words.Request.TheVariants.{Bundle, Check, Canon, Compare, Hash, Misused, Answered}
 
 -- of a run over sheets, each for itself: accepted, refused, not read or not written, out of memory
 abbrev pub IsSheetStatus : ℕ → Type 0

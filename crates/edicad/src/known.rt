@@ -1,34 +1,7 @@
-//! What the definitions say of known words, and of digests.
-ghost use Rattle.std.specs.Prelude.{◌≡◌, [], ◌∷◌, None, Some, codes};
-ghost use Rattle.clap.specs.Words.{fault_of, subcommand_of};
-ghost use Rattle.clap.specs.declared.error.ErrorKind.TheVariants.{DisplayHelp, DisplayVersion, InvalidSubcommand, MissingRequiredArgument, UnknownArgument};
-ghost use Rattle.edicad.specs.Requests.{edicad};
+//! What the definitions say of digests.
 ghost use Rattle.edicad.specs.Hashes.{OneDigestOnePlan, OnePlanOneDigest};
-ghost use Rattle.edicad.specs.Known.{sheets_of, values_of, words_in};
 
 use edi_compare::laws::equal_exactly_if_same;
-
-/// Known words ask for what they should.
-pub fn known_words_are_asked()
-    ensures bundle { subcommand_of edicad (words_in (codes "edicad")) ≡ None }
-    ensures check { values_of (codes "edicad check s d v")
-        ≡ Some (codes "check", None ∷ Some (codes "s") ∷ Some (codes "d") ∷ Some (codes "v") ∷ None ∷ None ∷ None ∷ []) }
-    ensures canon { values_of (codes "edicad canon s --kinds=A,B,C,D d v o")
-        ≡ Some (codes "canon", Some (codes "A,B,C,D") ∷ Some (codes "s") ∷ Some (codes "d") ∷ Some (codes "v") ∷ Some (codes "o") ∷ None ∷ None ∷ []) }
-    ensures compare { values_of (codes "edicad compare s d a b")
-        ≡ Some (codes "compare", None ∷ Some (codes "s") ∷ Some (codes "d") ∷ None ∷ None ∷ Some (codes "a") ∷ Some (codes "b") ∷ []) }
-    ensures hash { sheets_of (codes "edicad hash s d a b c") ≡ Some (codes "hash", codes "a" ∷ codes "b" ∷ codes "c" ∷ []) }
-    ensures no_bundle_fault { fault_of edicad (words_in (codes "edicad")) ≡ [] }
-    ensures no_check_fault { fault_of edicad (words_in (codes "edicad check s d v")) ≡ [] }
-    ensures no_canon_fault { fault_of edicad (words_in (codes "edicad canon s --kinds=A,B,C,D d v o")) ≡ [] }
-    ensures no_compare_fault { fault_of edicad (words_in (codes "edicad compare s d a b")) ≡ [] }
-    ensures no_hash_fault { fault_of edicad (words_in (codes "edicad hash s d a b c")) ≡ [] }
-    ensures no_sheet { fault_of edicad (words_in (codes "edicad hash s d")) ≡ MissingRequiredArgument ∷ [] }
-    ensures help { fault_of edicad (words_in (codes "edicad --help")) ≡ DisplayHelp ∷ [] }
-    ensures version { fault_of edicad (words_in (codes "edicad --version")) ≡ DisplayVersion ∷ [] }
-    ensures lacking { fault_of edicad (words_in (codes "edicad canon s d v")) ≡ MissingRequiredArgument ∷ [] }
-    ensures unknown { fault_of edicad (words_in (codes "edicad paint")) ≡ UnknownArgument ∷ InvalidSubcommand ∷ [] }
-{}
 
 /// Sheets of one plan have one digest, and sheets with one digest state one plan unless their canonical files are two that
 /// share a SHA-256.

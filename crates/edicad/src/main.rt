@@ -12,7 +12,6 @@ mod output;
 mod report;
 mod sheets;
 mod system;
-mod words;
 
 use std::env;
 use std::io::IsTerminal;

@@ -2,23 +2,20 @@
 ghost use Rattle.std.specs.Prelude.{◌≡◌, ◌<◌, ◌≤◌, IsTrue, codes};
 ghost use Rattle.std.specs.Io.KnownBytes.{Appends};
 ghost use Rattle.edicad.specs.Outcome.{HasNames, ended, line_for, status_for};
-ghost use Rattle.edicad.specs.Requests.{misuse_text};
+ghost use Rattle.edi_words.specs.Requests.{misuse_text};
 ghost use Rattle.edicad.specs.Statuses.{GoesOut, IsToldAs, input_name};
 
 use crate::outcome::{Outcome, line_of, status_of};
-use crate::sheets::is_standard;
-use crate::words::Misuse;
 use edi_line::ByteOut;
+use edi_words::{Misuse, is_standard};
 use edi_write::put_all;
 use std::alloc::Global;
 
-/// The exit status of want of memory.
-pub const MEMORY_STATUS: u8 = 5;
+const MEMORY_STATUS: u8 = 5;
 
 const WRITE_STATUS: u8 = 4;
 
-/// The exit status of words that are not taken.
-pub const USAGE_STATUS: u8 = 3;
+const USAGE_STATUS: u8 = 3;
 
 /// Writes the outcome's line where it belongs: answers and refusals to `out`, all else to `err`. Gives the exit
 /// status: that of the outcome, 4 if `out` fails, 5 if there is no memory for the line.

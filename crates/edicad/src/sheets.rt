@@ -7,20 +7,17 @@ ghost use Rattle.edi_compare.specs.Runs.{BeforeWriting, InputFault, IsCanonOf, I
 ghost use Rattle.edicad.specs.Folders.{Goes};
 ghost use Rattle.edicad.specs.Outcome.{FaultHasNames};
 ghost use Rattle.edicad.specs.Outputs.{IsUnmade, IsWholeOrNew, Reaches, Stops};
-ghost use Rattle.edicad.specs.Requests.{is_standard_path, usual_kinds};
+ghost use Rattle.edi_words.specs.Requests.{usual_kinds};
 ghost use Rattle.edicad.specs.SheetRuns.{CanonFault, FileFault, Gives, IsApart, IsInput, IsMissing, IsNoInput, Meets, OfCanon, OfFiles, OfPair, PairFileFault, inputs_of};
 
 use crate::folder::Folder;
 use crate::output;
-use crate::words::{PairFiles, SheetFiles};
 use edi_compare::{RunFault, Verdict, canon_of, run_bundle, run_check, run_compare};
 use edi_line::ByteOut;
 use edi_schema::Kinds;
+use edi_words::{PairFiles, SheetFiles, is_standard};
 use edi_write::{Written, put_all};
 use std::alloc::Global;
-
-// The path that stands for a standard stream.
-const STANDARD: &str = "-";
 
 /// The bundle on standard input, to its canonical file.
 pub fn bundle<F: Folder, O: ByteOut>(alloc: Global, folder: &F, out: &mut O) -> Result<(), RunFault>
@@ -117,13 +114,6 @@ pub fn compare<F: Folder>(
     let mut first = opened(folder, files.first, 3)?;
     let mut second = opened(folder, files.second, 4)?;
     run_compare(alloc, kinds, &mut scd, &mut dic, &mut first, &mut second)
-}
-
-/// Whether a path stands for a standard stream.
-pub fn is_standard(path: &str) -> bool
-    ensures { result ≡ is_standard_path path.now }
-{
-    path == STANDARD
 }
 
 // Writes all bytes.

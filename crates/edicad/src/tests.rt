@@ -2,7 +2,7 @@
 ghost use Rattle.edicad.specs.Outcome.{HasNames};
 
 use crate::command::run_words;
-use crate::known::{digests_tell_plans, known_words_are_asked};
+use crate::known::digests_tell_plans;
 use crate::outcome::{Outcome, line_of, status_of};
 use edi_compare::{Fault, RunFault, run_bundle};
 use edi_line::{ByteIn, FromRead, ScriptOut, ToWrite};
@@ -213,7 +213,6 @@ fn status(rt: &HostRuntime, line: &str) -> Result<u8, Fail> {
 fn makes_no_file_of_a_refused_sheet(rt: HostRuntime) -> Result<(), Fail> {
     fs::create_dir_all(&rt, "edicad_refused")?;
     fs::write(&rt, "edicad_refused/empty", "")?;
-    known_words_are_asked();
     digests_tell_plans();
     assert_eq!(rt; status(&rt, "edicad --help")?, 0);
     assert_eq!(rt; status(&rt, "edicad paint")?, 3);

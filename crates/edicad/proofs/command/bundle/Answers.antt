@@ -3,7 +3,7 @@ use Rattle.edi_compare.specs.Bundle.{OfParts}
 use Rattle.edi_compare.specs.Runs.{InputFault, WritesFirst, seen}
 use Rattle.std.specs.Io.KnownBytes.{Appends}
 use Rattle.edicad.specs.Outcome.{ended, words_of_fault}
-use Rattle.edicad.specs.Requests.{usual_kinds}
+use Rattle.edi_words.specs.Requests.{usual_kinds}
 use Rattle.edicad.specs.Statuses.{SaysRefusal}
 use Rattle.edicad.proofs.Refusals.{input_refused, means_fault, unwritten}
 use Rattle.edicad.proofs.command.bundle.Goals as goal

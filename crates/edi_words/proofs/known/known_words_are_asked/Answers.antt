@@ -1,0 +1,23 @@
+use Rattle.std.proofs.Common.{refl}
+use Rattle.clap.proofs.OnLiterals.{clap_on_literals}
+use Rattle.edi_words.proofs.known.known_words_are_asked.Goals as goal
+
+pub returns : goal.returns
+unfolding clap_on_literals
+returns c = record {
+  bundle = refl;
+  check = refl;
+  canon = refl;
+  compare = refl;
+  hash = refl;
+  no_bundle_fault = refl;
+  no_check_fault = refl;
+  no_canon_fault = refl;
+  no_compare_fault = refl;
+  no_hash_fault = refl;
+  no_sheet = refl;
+  help = refl;
+  version = refl;
+  lacking = refl;
+  unknown = refl;
+}

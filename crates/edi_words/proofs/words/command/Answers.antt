@@ -1,0 +1,23 @@
+use Rattle.std.proofs.Common.{◌≡◌, ◌∙◌, ap, ap₂, codes}
+use Rattle.std.proofs.lemmas.Result.{IfOk-weaker}
+use Rattle.clap.specs.Words.{App, app_of, new_app, with_subcommand}
+use Rattle.edi_words.specs.Requests.{canon_command, check_command, compare_command, versioned}
+use Rattle.edi_words.proofs.Plain.{command_local}
+use Rattle.edi_words.proofs.words.command.Goals as goal
+
+pub returns : goal.returns
+returns c =
+    let top_is : app_of c.after_help.result ≡ versioned (new_app (codes "edicad")) =
+    rw (c.after_help.ensures, c.about.ensures, c.version.ensures) (ap versioned c.new.ensures.app) in
+    let with_check : app_of c.in_ok-subcommand.field-0 ≡ with_subcommand (versioned (new_app (codes "edicad"))) check_command.top =
+    c.in_ok-subcommand.ensures.shape (command_local c.in_ok-check.field-0 (ap (λ (a : App). a.top.is_plain) c.in_ok-check.ensures))
+    ∙ ap₂ with_subcommand top_is (ap (λ (a : App). a.top) c.in_ok-check.ensures) in
+    let with_canon : app_of c.in_ok-subcommand-2.field-0 ≡ with_subcommand (with_subcommand (versioned (new_app (codes "edicad"))) check_command.top) canon_command.top =
+    c.in_ok-subcommand-2.ensures.shape (command_local c.in_ok-canon.field-0 (ap (λ (a : App). a.top.is_plain) c.in_ok-canon.ensures))
+    ∙ ap₂ with_subcommand with_check (ap (λ (a : App). a.top) c.in_ok-canon.ensures) in
+    let with_compare : app_of c.in_ok-subcommand-3.field-0 ≡ with_subcommand (with_subcommand (with_subcommand (versioned (new_app (codes "edicad"))) check_command.top) canon_command.top) compare_command.top =
+    c.in_ok-subcommand-3.ensures.shape (command_local c.in_ok-compare.field-0 (ap (λ (a : App). a.top.is_plain) c.in_ok-compare.ensures))
+    ∙ ap₂ with_subcommand with_canon (ap (λ (a : App). a.top) c.in_ok-compare.ensures) in
+    IfOk-weaker c.subcommand-4.result _ _
+    (λ _ added. added.shape (command_local c.in_ok-hash.field-0 (ap (λ (a : App). a.top.is_plain) c.in_ok-hash.ensures))
+    ∙ ap₂ with_subcommand with_compare (ap (λ (a : App). a.top) c.in_ok-hash.ensures)) c.subcommand-4.ensures

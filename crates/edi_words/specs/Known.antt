@@ -1,0 +1,21 @@
+-- Known words.
+use Rattle.std.specs.Prelude.{◌==◌, List, [], ◌∷◌, Option, map, option_map, codes}
+use Rattle.std.specs.List.{slice_split}
+use Rattle.clap.specs.Words.{Text, first_of, subcommand_of}
+use Rattle.edi_words.specs.Requests.{edicad, values_at}
+
+-- the words of a line, parted by spaces (32)
+abbrev pub words_in : Text → List Text
+words_in line = slice_split (λ x. x == 32) line
+
+-- the subcommand of a line, with the values of the option and of the files
+abbrev pub values_of : Text → Option (Text × List (Option Text))
+values_of line = option_map (λ met. (
+  met.0,
+  map (λ id. first_of id met.1)
+      (codes "kinds" ∷ codes "SCD" ∷ codes "DIC" ∷ codes "VEC" ∷ codes "OUT" ∷ codes "A" ∷ codes "B" ∷ []),
+)) (subcommand_of edicad (words_in line))
+
+-- the subcommand of a line, with the values of its last argument VEC
+abbrev pub sheets_of : Text → Option (Text × List Text)
+sheets_of line = option_map (λ met. (met.0, values_at (codes "VEC") met.1)) (subcommand_of edicad (words_in line))

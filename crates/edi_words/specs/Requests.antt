@@ -1,0 +1,161 @@
+-- What the words of the command line ask for.
+use Rattle.std.specs.Prelude.{◌≡◌, ◌⊎◌, ◌<◌, ◌+◌, ◌==◌, ℕ, Bool, true, if◌then◌else◌, List, [], ◌∷◌, Option, Some, None, IfSome, codes, map, unwrap_or}
+use Rattle.std.specs.List.{slice_split}
+use Rattle.std.specs.Str.{bytes_eq}
+use Rattle.clap.specs.Lexer.{usize_max}
+use Rattle.clap.specs.Words.{App, IsAmong, Row, Rule, Text, all_of, fault_of, first_of, new_app, new_rule, subcommand_of, with_rule, with_subcommand}
+use Rattle.clap.specs.declared.error.kind.ErrorKind.{ErrorKind}
+use Rattle.clap.specs.declared.error.kind.ErrorKind.TheVariants.{OutOfMemory, DisplayHelp, DisplayVersion}
+use Rattle.edi_schema.specs.Roles.{KindCodes, AreKindCodes}
+use Rattle.edi_words.specs.declared.words.Request.{Request}
+use Rattle.edi_words.specs.declared.words.Request.TheVariants.{Bundle, Check, Canon, Compare, Hash, Misused, Answered}
+use Rattle.edi_words.specs.declared.words.Misuse.{Misuse}
+use Rattle.edi_words.specs.declared.words.Misuse.TheVariants.{BadKinds, TwoStandard}
+use Rattle.edi_words.specs.declared.words.ManyFiles.{ManyFiles}
+use Rattle.edi_words.specs.declared.words.PairFiles.{PairFiles}
+use Rattle.edi_words.specs.declared.words.SheetFiles.{SheetFiles}
+
+-- the option with the codes, which has one value
+abbrev pub kinds_rule : Rule
+kinds_rule = record (new_rule (codes "kinds")) { long = Some (codes "kinds"); value_names = 1 }
+
+-- a file that has to be named
+abbrev pub file_rule : Text → Rule
+file_rule id = record (new_rule id) { required = true }
+
+-- files of which at least one has to be named
+abbrev pub files_rule : Text → Rule
+files_rule id = record (file_rule id) { range = Some (record { start_inclusive = 1; end_inclusive = usize_max }) }
+
+-- a subcommand over the files of a schema
+abbrev pub schema_command : Text → App
+schema_command name = with_rule (with_rule (with_rule (new_app name) kinds_rule) (file_rule (codes "SCD"))) (file_rule (codes "DIC"))
+
+-- the subcommands: over a sheet, over a sheet and where its canonical file goes, over two sheets, over many
+abbrev pub check_command : App
+check_command = with_rule (schema_command (codes "check")) (file_rule (codes "VEC"))
+
+abbrev pub canon_command : App
+canon_command = with_rule (with_rule (schema_command (codes "canon")) (file_rule (codes "VEC"))) (file_rule (codes "OUT"))
+
+abbrev pub compare_command : App
+compare_command = with_rule (with_rule (schema_command (codes "compare")) (file_rule (codes "A"))) (file_rule (codes "B"))
+
+abbrev pub hash_command : App
+hash_command = with_rule (schema_command (codes "hash")) (files_rule (codes "VEC"))
+
+-- a command that says its version
+abbrev pub versioned : App → App
+versioned a = record a { top = record a.top { has_version = true } }
+
+abbrev pub edicad : App
+edicad = with_subcommand (with_subcommand (with_subcommand (with_subcommand (versioned (new_app (codes "edicad"))) check_command.top) canon_command.top) compare_command.top) hash_command.top
+
+-- IND, FND, LPO and RPO
+abbrev pub usual_kinds : KindCodes
+usual_kinds = record { initial = codes "IND"; final_node = codes "FND"; left = codes "LPO"; right = codes "RPO" }
+
+-- the four codes, parted by commas (44)
+abbrev pub AreKindsIn : List ℕ → KindCodes → Type 0
+AreKindsIn text k =
+    (slice_split (λ x. x == 44) text ≡ k.initial ∷ k.final_node ∷ k.left ∷ k.right ∷ []) × AreKindCodes k
+
+-- the codes of the option, and the usual ones where it isn't given
+abbrev pub AreKindsOf : Option (List ℕ) → KindCodes → Type 0
+AreKindsOf (Some text) k = AreKindsIn text k
+AreKindsOf None k = k ≡ usual_kinds
+
+-- the first value of an argument, or no text
+abbrev pub value_at : Text → List Row → List ℕ
+value_at id rows = unwrap_or (first_of id rows) []
+
+-- the values of an argument
+abbrev pub values_at : Text → List Row → List (List ℕ)
+values_at id rows = unwrap_or (all_of id rows) []
+
+-- the arguments give these codes
+abbrev pub GiveKinds : List Row → KindCodes → Type 0
+GiveKinds rows k = AreKindsOf (first_of (codes "kinds") rows) k
+
+-- the arguments name the files of a sheet
+pub record AreSheetFiles (rows : List Row) (files : SheetFiles) : Type 0 where
+  pub scd : files.scd.now ≡ value_at (codes "SCD") rows
+  pub dic : files.dic.now ≡ value_at (codes "DIC") rows
+  pub vec : files.vec.now ≡ value_at (codes "VEC") rows
+
+-- the arguments name the files of two sheets
+pub record ArePairFiles (rows : List Row) (files : PairFiles) : Type 0 where
+  pub scd : files.scd.now ≡ value_at (codes "SCD") rows
+  pub dic : files.dic.now ≡ value_at (codes "DIC") rows
+  pub first : files.first.now ≡ value_at (codes "A") rows
+  pub second : files.second.now ≡ value_at (codes "B") rows
+
+-- the arguments name the files of a schema and of sheets
+pub record AreManyFiles (rows : List Row) (files : ManyFiles) : Type 0 where
+  pub scd : files.scd.now ≡ value_at (codes "SCD") rows
+  pub dic : files.dic.now ≡ value_at (codes "DIC") rows
+  pub sheets : map (λ p. p.now) files.sheets.items ≡ values_at (codes "VEC") rows
+
+-- the arguments name no good codes
+abbrev pub HasBadKinds : List Row → Type 0
+HasBadKinds rows = (k : KindCodes) → ¬ GiveKinds rows k
+
+-- whether a path stands for a standard stream
+abbrev pub is_standard_path : List ℕ → Bool
+is_standard_path path = bytes_eq path (codes "-")
+
+-- how many of the paths stand for standard input
+abbrev pub standard_in : List (List ℕ) → ℕ
+standard_in [] = 0
+standard_in (path ∷ paths) = (if is_standard_path path then 1 else 0) + standard_in paths
+
+-- how many of the inputs are standard input
+abbrev pub standard_at : Text → List Row → ℕ
+standard_at id rows = standard_in (values_at id rows)
+
+abbrev pub standard_count : List Row → ℕ
+standard_count rows =
+    standard_at (codes "SCD") rows + standard_at (codes "DIC") rows + standard_at (codes "VEC") rows + standard_at (codes "A") rows + standard_at (codes "B") rows
+
+-- the arguments can't be meant: the codes are no codes, or standard input is to be read twice
+abbrev pub IsMisuse : List Row → Misuse → Type 0
+IsMisuse rows BadKinds = HasBadKinds rows
+IsMisuse rows TwoStandard = 1 < standard_count rows
+
+-- what is said of it
+abbrev pub misuse_text : Misuse → List ℕ
+misuse_text BadKinds = codes "bad kinds"
+misuse_text TwoStandard = codes "only one input can be -"
+
+-- the subcommand, if there is one, is check, canon, compare or hash
+abbrev pub IsOwn : Option (Text × List Row) → Type 0
+IsOwn met = IfSome met (λ p. (p.0 ≡ codes "check") ⊎ ((p.0 ≡ codes "canon") ⊎ ((p.0 ≡ codes "compare") ⊎ (p.0 ≡ codes "hash"))))
+
+-- what the subcommand and its arguments ask for, or want of memory, whose status is 5
+abbrev pub Means : Option (Text × List Row) → Request → Type 0
+Means met Bundle = met ≡ None
+Means met (Check kinds files) = (rows : List Row) × (met ≡ Some (codes "check", rows)) × GiveKinds rows kinds × AreSheetFiles rows files
+Means met (Canon kinds files out) = (rows : List Row) × (met ≡ Some (codes "canon", rows)) × GiveKinds rows kinds × AreSheetFiles rows files
+    × (out.now ≡ value_at (codes "OUT") rows)
+Means met (Compare kinds files) = (rows : List Row) × (met ≡ Some (codes "compare", rows)) × GiveKinds rows kinds × ArePairFiles rows files
+Means met (Hash kinds files) = (rows : List Row) × (met ≡ Some (codes "hash", rows)) × GiveKinds rows kinds × AreManyFiles rows files
+Means met (Misused misuse) = (name : Text) × (rows : List Row) × (met ≡ Some (name, rows)) × IsMisuse rows misuse
+Means met (Answered status) = status ≡ 5
+
+-- 5 without memory, 0 where help was asked for, and else 3
+abbrev pub status_of_kind : ErrorKind → ℕ
+status_of_kind OutOfMemory = 5
+status_of_kind DisplayHelp = 0
+status_of_kind DisplayVersion = 0
+status_of_kind _ = 3
+
+-- the status of words that are not taken: memory ran out, or they have a fault of this status
+abbrev pub IsRefused : List Text → Request → Type 0
+IsRefused words (Answered status) =
+    (status ≡ 5) ⊎ ((k : ErrorKind) × IsAmong k (fault_of edicad words) × (status ≡ status_of_kind k))
+IsRefused words _ = ⊥
+
+-- what the words ask for: they have no fault and mean it, or they are refused
+abbrev pub IsAsked : List Text → Request → Type 0
+IsAsked words request =
+    ((fault_of edicad words ≡ []) × Means (subcommand_of edicad words) request) ⊎ IsRefused words request

@@ -1,0 +1,422 @@
+//! What the words of the command line ask for.
+ghost use Rattle.std.specs.Prelude.{◌≡◌, ◌↔◌, ◌<◌, ◌≤◌, ◌^◌, IsTrue, IfErr, IfOk, MatchOption, OnOk, [], codes, length, map, option_map, string_bytes};
+ghost use Rattle.clap.specs.Words.{HasKind, app_of, fault_of, found_of, kind_of, rows_of, rule_of, subcommand_of, subcommand_rows_of, with_rule};
+ghost use Rattle.edi_schema.specs.Roles.{KindCodes};
+ghost use Rattle.edi_words.specs.Requests.{AreKindsIn, AreKindsOf, AreManyFiles, ArePairFiles, AreSheetFiles, IsAsked, IsOwn, Means, canon_command, check_command, compare_command, edicad, file_rule, files_rule, hash_command, is_standard_path, kinds_rule, schema_command, standard_at, standard_count, standard_in, status_of_kind, value_at, values_at};
+
+use clap::error::ErrorKind;
+use clap::{Arg, ArgMatches, Command, Error};
+use edi_schema::Kinds;
+use std::alloc::{AllocError, Global};
+
+// The path that stands for a standard stream.
+const STANDARD: &str = "-";
+
+const MEMORY_STATUS: u8 = 5;
+
+const USAGE_STATUS: u8 = 3;
+
+const SHEET: &str = "The sheet, a file of type VEC";
+
+const VERSION: &str = "0.1.0";
+
+const STATUSES: &str = "\
+    A file named - is standard input, or standard output.\n\
+    \n\
+    Exit status: 0 accepted, or the same plan\n\
+    \x20            1 different plans\n\
+    \x20            2 refused\n\
+    \x20            3 wrong words\n\
+    \x20            4 a file can't be read or written\n\
+    \x20            5 out of memory";
+
+/// The files of a sheet: of classes, of words, and the sheet's own.
+#[derive(Clone, Copy, Debug)]
+pub struct SheetFiles<'a> {
+    pub scd: &'a str,
+    pub dic: &'a str,
+    pub vec: &'a str,
+}
+
+/// The files of two sheets: of classes, of words, and each sheet's own.
+#[derive(Clone, Copy, Debug)]
+pub struct PairFiles<'a> {
+    pub scd: &'a str,
+    pub dic: &'a str,
+    pub first: &'a str,
+    pub second: &'a str,
+}
+
+/// The files of a schema, and sheets under it.
+#[derive(Debug, Drop)]
+pub struct ManyFiles<'a> {
+    pub scd: &'a str,
+    pub dic: &'a str,
+    pub sheets: Vec<&'a str>,
+}
+
+/// What is asked for.
+#[derive(Debug, Drop)]
+pub enum Request<'a> {
+    /// The canonical file of the bundle on standard input.
+    Bundle,
+    /// Whether a sheet is accepted.
+    Check {
+        kinds: Kinds<'a>,
+        files: SheetFiles<'a>,
+    },
+    /// The canonical file of a sheet.
+    Canon {
+        kinds: Kinds<'a>,
+        files: SheetFiles<'a>,
+        out: &'a str,
+    },
+    /// Whether two sheets state the same plan.
+    Compare {
+        kinds: Kinds<'a>,
+        files: PairFiles<'a>,
+    },
+    /// The digests of the canonical files of sheets.
+    Hash {
+        kinds: Kinds<'a>,
+        files: ManyFiles<'a>,
+    },
+    /// Nothing that can be meant.
+    Misused(Misuse),
+    /// Nothing more: the words were answered on standard error, and this is the exit status.
+    Answered(u8),
+}
+
+/// Why words in good form can't be meant.
+#[derive(Clone, Copy, Debug)]
+pub enum Misuse {
+    /// The codes of the kinds are not four codes, of which no two are equal.
+    BadKinds,
+    /// Standard input is to be read twice.
+    TwoStandard,
+}
+
+/// What the words ask for, of which the first is the program's name.
+pub fn asked<'a, R: Eprint + AllocGlobal>(rt: &R, words: &'a [String]) -> Request<'a>
+    ensures { IsAsked (map string_bytes words.entry.now) result }
+{
+    match parsed(rt.alloc(), words) {
+        Ok(matches) => meant(rt, &matches),
+        Err(error) => Request::Answered(refused(rt, &error)),
+    }
+}
+
+// The words as the command takes them.
+fn parsed<'a>(alloc: Global, words: &'a [String]) -> Result<ArgMatches<'a>, Error>
+    ensures taken { OnOk result (fault_of edicad (map string_bytes words.entry.now) ≡ []) }
+    ensures met { IfOk result (λ m. subcommand_rows_of m ≡ subcommand_of edicad (map string_bytes words.entry.now)) }
+    ensures refused { IfErr result (HasKind (fault_of edicad (map string_bytes words.entry.now))) }
+{
+    command(alloc)?.try_get_matches_from(words)
+}
+
+// The command and its subcommands.
+fn command<'a>(alloc: Global) -> Result<Command<'a>, AllocError>
+    ensures { IfOk result (λ c. app_of c ≡ edicad) }
+{
+    Command::new(alloc, "edicad")
+        .version(VERSION)
+        .about(
+            "Reads EDIGeO sheets of the French cadastral plan.\n\nWithout a command, it reads SCD, DIC and VEC one after the other from\nstandard input, and writes the canonical file to standard output.",
+        )
+        .after_help(STATUSES)
+        .subcommand(check(alloc)?)?
+        .subcommand(canon(alloc)?)?
+        .subcommand(compare(alloc)?)?
+        .subcommand(hash(alloc)?)
+}
+
+// The subcommand that checks a sheet.
+fn check<'a>(alloc: Global) -> Result<Command<'a>, AllocError>
+    ensures { IfOk result (λ c. app_of c ≡ check_command) }
+{
+    let over_schema = over_schema(alloc, "check")?.about(
+        "Says whether a sheet is accepted, or which rule it breaks first",
+    );
+    with_file(alloc, over_schema, "VEC", SHEET)
+}
+
+// The subcommand that writes a sheet's canonical file.
+fn canon<'a>(alloc: Global) -> Result<Command<'a>, AllocError>
+    ensures { IfOk result (λ c. app_of c ≡ canon_command) }
+{
+    let over_schema = over_schema(alloc, "canon")?.about(
+        "Writes the canonical file of a sheet to OUT",
+    );
+    let over_sheet = with_file(alloc, over_schema, "VEC", SHEET)?;
+    with_file(
+        alloc,
+        over_sheet,
+        "OUT",
+        "The canonical file, which replaces OUT whole or not at all",
+    )
+}
+
+// The subcommand that compares two sheets.
+fn compare<'a>(alloc: Global) -> Result<Command<'a>, AllocError>
+    ensures { IfOk result (λ c. app_of c ≡ compare_command) }
+{
+    let over_schema = over_schema(alloc, "compare")?.about(
+        "Says whether two sheets state the same plan",
+    );
+    let over_sheet = with_file(
+        alloc,
+        over_schema,
+        "A",
+        "The first sheet, a file of type VEC",
+    )?;
+    with_file(
+        alloc,
+        over_sheet,
+        "B",
+        "The second sheet, a file of type VEC",
+    )
+}
+
+// The subcommand that gives the digests of sheets.
+fn hash<'a>(alloc: Global) -> Result<Command<'a>, AllocError>
+    ensures { IfOk result (λ c. app_of c ≡ hash_command) }
+{
+    let over_schema = over_schema(alloc, "hash")?.about(
+        "Gives the SHA-256 digest of each sheet's canonical file",
+    );
+    over_schema.arg(sheets_argument(alloc))
+}
+
+// A subcommand over the files of a schema.
+fn over_schema<'a>(alloc: Global, name: &'a str) -> Result<Command<'a>, AllocError>
+    ensures { IfOk result (λ c. app_of c ≡ schema_command name.entry.now) }
+{
+    let with_kinds = Command::new(alloc, name).arg(kinds_option(alloc))?;
+    let with_scd = with_file(
+        alloc,
+        with_kinds,
+        "SCD",
+        "The schema of the delivery, a file of type SCD",
+    )?;
+    with_file(
+        alloc,
+        with_scd,
+        "DIC",
+        "The dictionary of the delivery, a file of type DIC",
+    )
+}
+
+// A command with one more file, which has to be named.
+fn with_file<'a>(
+    alloc: Global,
+    command: Command<'a>,
+    id: &'a str,
+    help: &'a str,
+) -> Result<Command<'a>, AllocError>
+    ensures { IfOk result (λ c. app_of c ≡ with_rule (app_of command.entry) (file_rule id.entry.now)) }
+{
+    command.arg(file(alloc, id, help))
+}
+
+// A file that has to be named.
+fn file<'a>(alloc: Global, id: &'a str, help: &'a str) -> Arg<'a>
+    ensures { rule_of result ≡ file_rule id.entry.now }
+{
+    Arg::new(alloc, id).required(true).help(help)
+}
+
+// Sheets, of which at least one has to be named.
+fn sheets_argument<'a>(alloc: Global) -> Arg<'a>
+    ensures { rule_of result ≡ files_rule (codes "VEC") }
+{
+    file(alloc, "VEC", "The sheets, files of type VEC").num_args(1..)
+}
+
+// The option with the codes of the kinds.
+fn kinds_option<'a>(alloc: Global) -> Arg<'a>
+    ensures { rule_of result ≡ kinds_rule }
+{
+    Arg::new(alloc, "kinds")
+        .long("kinds")
+        .value_name("I,F,L,R")
+        .help("Codes of the kinds of link [default: IND,FND,LPO,RPO]")
+}
+
+// What words in good form ask for.
+fn meant<'a, R: Eprint + AllocGlobal>(rt: &R, matches: &ArgMatches<'a>) -> Request<'a>
+    requires { IsOwn (subcommand_rows_of matches.now) }
+    ensures { Means (subcommand_rows_of matches.now) result }
+{
+    let Some((name, given)) = matches.subcommand() else {
+        return Request::Bundle;
+    };
+    let Some(kinds) = kinds_of(given.get_str("kinds")) else {
+        return Request::Misused(Misuse::BadKinds);
+    };
+    if reads_input_twice(given) {
+        return Request::Misused(Misuse::TwoStandard);
+    }
+    match name {
+        "check" => Request::Check {
+            kinds,
+            files: sheet_files(given),
+        },
+        "canon" => Request::Canon {
+            kinds,
+            files: sheet_files(given),
+            out: path(given, "OUT"),
+        },
+        "compare" => Request::Compare {
+            kinds,
+            files: pair_files(given),
+        },
+        _ => match many_files(rt.alloc(), given) {
+            Ok(files) => Request::Hash { kinds, files },
+            Err(_) => Request::Answered(out_of_memory(rt)),
+        },
+    }
+}
+
+// Whether more than one input is standard input.
+fn reads_input_twice(given: &ArgMatches<'_>) -> bool
+    ensures { IsTrue result ↔ (1 < standard_count (rows_of (found_of given.now))) }
+{
+    standard(given, "SCD")
+        + standard(given, "DIC")
+        + standard(given, "VEC")
+        + standard(given, "A")
+        + standard(given, "B")
+        > 1
+}
+
+// How often an argument names standard input.
+fn standard(given: &ArgMatches<'_>, name: &str) -> usize
+    ensures value { result ≡ standard_at name.now (rows_of (found_of given.now)) }
+    ensures bound { result < 2 ^ 60 }
+{
+    match given.get_strs(name) {
+        Some(paths) => count_standard(paths),
+        None => 0,
+    }
+}
+
+// How many of the paths stand for standard input.
+fn count_standard(paths: &[&str]) -> usize
+    ensures value { result ≡ standard_in (map (λ p. p.now) paths.now) }
+    ensures bound { result ≤ length paths.now }
+{
+    let mut count = 0;
+    for path in paths {
+        if is_standard(path) {
+            count += 1;
+        }
+    }
+    count
+}
+
+/// Whether a path stands for a standard stream.
+pub fn is_standard(path: &str) -> bool
+    ensures { result ≡ is_standard_path path.now }
+{
+    path == STANDARD
+}
+
+// The files of a sheet, as the arguments name them.
+fn sheet_files<'a>(given: &ArgMatches<'a>) -> SheetFiles<'a>
+    ensures { AreSheetFiles (rows_of (found_of given.now)) result }
+{
+    SheetFiles {
+        scd: path(given, "SCD"),
+        dic: path(given, "DIC"),
+        vec: path(given, "VEC"),
+    }
+}
+
+// The files of two sheets, as the arguments name them.
+fn pair_files<'a>(given: &ArgMatches<'a>) -> PairFiles<'a>
+    ensures { ArePairFiles (rows_of (found_of given.now)) result }
+{
+    PairFiles {
+        scd: path(given, "SCD"),
+        dic: path(given, "DIC"),
+        first: path(given, "A"),
+        second: path(given, "B"),
+    }
+}
+
+// The files of a schema and of sheets, as the arguments name them.
+fn many_files<'a>(alloc: Global, given: &ArgMatches<'a>) -> Result<ManyFiles<'a>, AllocError>
+    ensures { IfOk result (AreManyFiles (rows_of (found_of given.now))) }
+{
+    Ok(ManyFiles {
+        scd: path(given, "SCD"),
+        dic: path(given, "DIC"),
+        sheets: paths(alloc, given, "VEC")?,
+    })
+}
+
+// The values of an argument.
+fn paths<'a>(alloc: Global, given: &ArgMatches<'a>, name: &str) -> Result<Vec<&'a str>, AllocError>
+    ensures { IfOk result (λ paths. map (λ p. p.now) paths.items ≡ values_at name.now (rows_of (found_of given.now))) }
+{
+    match given.get_strs(name) {
+        Some(paths) => Vec::from_slice(alloc, paths),
+        None => Ok(Vec::new(alloc)),
+    }
+}
+
+// The first value of an argument, or no text.
+fn path<'a>(given: &ArgMatches<'a>, name: &str) -> &'a str
+    ensures { result.now ≡ value_at name.now (rows_of (found_of given.now)) }
+{
+    given.get_str(name).unwrap_or("")
+}
+
+// Four codes parted by commas, or the usual ones where none are given.
+fn kinds_of(text: Option<&str>) -> Option<Kinds<'_>>
+    ensures { MatchOption result ((k : KindCodes) → ¬ (AreKindsOf (option_map (λ t. t.now) text.entry) k))
+        (AreKindsOf (option_map (λ t. t.now) text.entry)) }
+{
+    match text {
+        Some(text) => kinds_in(text),
+        None => Some(Kinds::usual()),
+    }
+}
+
+// Four codes parted by commas.
+fn kinds_in(text: &str) -> Option<Kinds<'_>>
+    ensures { MatchOption result ((k : KindCodes) → ¬ (AreKindsIn text.now k)) (AreKindsIn text.now) }
+{
+    let mut codes = text.split(',');
+    let (initial, final_node) = (codes.next()?, codes.next()?);
+    let (left, right) = (codes.next()?, codes.next()?);
+    match codes.next() {
+        Some(_) => None,
+        None => Kinds::new(
+            initial.as_bytes(),
+            final_node.as_bytes(),
+            left.as_bytes(),
+            right.as_bytes(),
+        ),
+    }
+}
+
+// Says that there is no memory.
+fn out_of_memory<R: Eprint>(rt: &R) -> u8
+    ensures { result ≡ 5 }
+{
+    let _ = rt.eprintln("out of memory");
+    MEMORY_STATUS
+}
+
+// Says what is wrong with the words, or the help that they ask for.
+fn refused<R: Eprint>(rt: &R, error: &Error) -> u8
+    ensures { result ≡ status_of_kind (kind_of error.now) }
+{
+    if error.kind() == ErrorKind::OutOfMemory {
+        return out_of_memory(rt);
+    }
+    let _ = rt.eprint(error);
+    if error.use_stderr() { USAGE_STATUS } else { 0 }
+}
