@@ -178,7 +178,7 @@ the_sheet = record { cse = Some (codes "IRV"); list = the_node ∷ []; few = lit
 states_sheet : IsSheetOf node_sheet the_sheet
 states_sheet = (zones_of node_sheet, sheet_zones, record { cse = sheet_set; records = subst (λ gs. AllZip States gs (the_node ∷ [])) (sym node_zones) (node_said, tt) })
 
-states_node : IsPlanOfFile node_classes node_sheet node_plan
+pub states_node : IsPlanOfFile node_classes node_sheet node_plan
 states_node = (the_sheet, states_sheet, record { set = refl; each = (record { kind = refl; class = refl; role = refl; points = refl; attributes = tt; extras = refl; ends = tt }, tt) })
 
 node_rules : first_broken (record_tests node_group) ≡ None
