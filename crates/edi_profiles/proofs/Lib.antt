@@ -1,0 +1,6 @@
+pub mod Transfer
+pub mod Today
+pub mod Flat
+pub mod Points
+pub mod Later
+pub mod Sheets

@@ -1,0 +1,3 @@
+pub mod Profiles
+pub mod Laws
+pub mod Known
