@@ -16,7 +16,7 @@ use Rattle.edicad.specs.SheetRuns.{AreFourThere, AreThere, CanonFault, FileFault
 use Rattle.edi_words.specs.declared.words.PairFiles.{PairFiles}
 use Rattle.edi_words.specs.declared.words.SheetFiles.{SheetFiles}
 use Rattle.edi_words.specs.declared.words.Request.{Request}
-use Rattle.edi_words.specs.declared.words.Request.TheVariants.{Bundle, Check, Canon, Compare, Hash, Misused, Answered}
+use Rattle.edi_words.specs.declared.words.Request.TheVariants.{Bundle, Check, Canon, Compare, Hash, Explain, Rule, Misused, Answered}
 
 -- of a run over sheets, each for itself: accepted, refused, not read or not written, out of memory
 abbrev pub IsSheetStatus : ℕ → Type 0
@@ -33,6 +33,8 @@ IsStatusOf (Check kinds files) s = IsSheetStatus s
 IsStatusOf (Canon kinds files out) s = IsSheetStatus s
 IsStatusOf (Compare kinds files) s = IsPairStatus s
 IsStatusOf (Hash kinds files) s = IsSheetStatus s
+IsStatusOf (Explain kinds files) s = IsSheetStatus s
+IsStatusOf (Rule word) s = (s ≡ 3) ⊎ IsSheetStatus s
 IsStatusOf (Misused misuse) s = s ≡ 3
 IsStatusOf (Answered status) s = s ≡ status
 
