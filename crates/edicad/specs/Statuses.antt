@@ -26,6 +26,10 @@ IsSheetStatus s = (s ≡ 0) ⊎ ((s ≡ 2) ⊎ ((s ≡ 4) ⊎ (s ≡ 5)))
 abbrev pub IsPairStatus : ℕ → Type 0
 IsPairStatus s = (s ≡ 1) ⊎ IsSheetStatus s
 
+-- of a rule: its page, no such rule, not written, out of memory
+abbrev pub IsPageStatus : ℕ → Type 0
+IsPageStatus s = (s ≡ 0) ⊎ ((s ≡ 3) ⊎ ((s ≡ 4) ⊎ (s ≡ 5)))
+
 -- of what was asked for, whatever the files hold
 abbrev pub IsStatusOf : Request → ℕ → Type 0
 IsStatusOf Bundle s = IsSheetStatus s
@@ -34,7 +38,7 @@ IsStatusOf (Canon kinds files out) s = IsSheetStatus s
 IsStatusOf (Compare kinds files) s = IsPairStatus s
 IsStatusOf (Hash kinds files) s = IsSheetStatus s
 IsStatusOf (Explain kinds files) s = IsSheetStatus s
-IsStatusOf (Rule word) s = (s ≡ 3) ⊎ IsSheetStatus s
+IsStatusOf (Rule word) s = IsPageStatus s
 IsStatusOf (Misused misuse) s = s ≡ 3
 IsStatusOf (Answered status) s = s ≡ status
 

@@ -10,7 +10,7 @@ ghost use Rattle.edi_explain.specs.Explained.{DescribesPlan, ExplainsSchema, Exp
 ghost use Rattle.edicad.specs.Explains.{IsExplainStatus, IsRuleStatus, TellsAccepted, TellsRefusal};
 ghost use Rattle.edicad.specs.Outcome.{FaultHasNames, ended, schema_text, sheet_text, status_of_fault};
 ghost use Rattle.edicad.specs.SheetRuns.{FileFault, OfFiles, inputs_of};
-ghost use Rattle.edicad.specs.Statuses.{IsSheetStatus};
+ghost use Rattle.edicad.specs.Statuses.{IsPageStatus, IsSheetStatus};
 
 use crate::folder::Folder;
 use crate::outcome::{Outcome, line_of_fault, line_of_schema};
@@ -214,7 +214,7 @@ pub fn explain_rule<O: ByteOut, E: ByteOut>(
     out: &mut O,
     err: &mut E,
 ) -> u8
-    ensures status { (result ≡ 3) ⊎ IsSheetStatus result }
+    ensures status { IsPageStatus result }
     ensures answer { IsRuleStatus (seen (O.told out.old) (O.told out.new) (O.has_failed out.new)) (seen (E.told err.old) (E.told err.new) (E.has_failed err.new)) word.now result }
 {
     let Some(text) = rule_of_word(word) else {
