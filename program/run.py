@@ -101,6 +101,85 @@ def digest_of(text):
     return hashlib.sha256(text.encode("latin-1") if isinstance(text, str) else text).hexdigest().encode()
 
 
+def place_of(room, name, number):
+    """Where the record of this number stands in a file, by its lines alone: the number of its line, type and identifier."""
+    rows = room.read(name).replace(b"\r", b"").split(b"\n")
+    heads = [at for at, it in enumerate(rows) if it.startswith(b"RTY")]
+    own = rows[heads[number - 1] : heads[number] if number < len(heads) else None]
+    rid = next((it[8:] for it in own if it.startswith(b"RID")), None)
+    return f"{heads[number - 1] + 1}: ".encode() + own[0][8:] + (b" " + rid if rid is not None else b"") + b": "
+
+
+def explain_case(room, name, words, wanted):
+    """What explain says of a sheet that is checked: the line and the status of the check, and where it is refused."""
+    status, out, err = room.run(["explain", *words])
+    room.report.check(name + ": explained, status", (status, err), (wanted[0], b""))
+    room.report.holds(name + ": explained, first line", out.startswith(wanted[1]))
+    said = out[len(wanted[1]) :]
+    found = re.fullmatch(rb"refused (scd |dic |)(\d+) (line|record) (\d+)\n", wanted[1])
+    if found:
+        file = {b"scd ": "s", b"dic ": "d", b"": "v"}[found[1]]
+        number = int(found[4])
+        simple = b"NEX" not in room.read(file)
+        if found[3] == b"line" or simple:
+            where = b"%d: " % number if found[3] == b"line" else place_of(room, file, number)
+            room.report.holds(name + ": explained, place", said.startswith(file.encode() + b":" + where))
+        room.report.holds(name + ": explained, rule", said.split(b"\n")[0].endswith(b" [" + found[2] + b"]"))
+
+
+def explains(room, sheet):
+    """Explanations with their whole text, of rules too; words, files and streams that are bad."""
+    report = room.report
+    room.write("v", sheet)
+    held = b"accepted\nnodes: 1\narcs: 0\nfaces: 0\nobjects: 0\nlinks: 0\nx: 10.5 to 10.5\ny: 20 to 20\ncharacter set: IRV\n"
+    room.expect("what an accepted sheet holds", ["explain", "s", "d", "v"], (0, held, b""))
+    room.expect("the sheet on standard input, explained", ["explain", "s", "d", "-"], (0, held, b""), room.read("v"))
+    room.write("empty", "BOMT 01:X\nEOMT 00:\n")
+    none = b"accepted\nnodes: 0\narcs: 0\nfaces: 0\nobjects: 0\nlinks: 0\ncharacter set: none\n"
+    room.expect("what a sheet without records holds", ["explain", "s", "d", "empty"], (0, none, b""))
+    node = "RTYSA03:PNO\nRIDSA0{0}:{1}\nSCPCP22:EDAB01;SeSD;PGE;NOD_id\nCORCC0{2}:{3};0;\n"
+    spread = "BOMT 01:X\n" + node.format(1, "a", 8, "-0.50") + node.format(1, "b", 4, "7") + "EOMT 00:\n"
+    room.write("spread", spread)
+    report.holds("the extent has decimals", b"\nx: -0.5 to 7\ny: 0 to 0\n" in room.run(["explain", "s", "d", "spread"])[1])
+    room.write("two", "BOMT 01:X\n" + node.format(1, "a", 4, "7") + "\n" + node.format(2, "bb", 4, "8") + node.format(1, "a", 4, "9") + "EOMT 00:\n")
+    named = ("refused 301 record 3\ntwo:11: PNO a: type and identifier of an earlier record [301]\ntwo:2: PNO a: the earlier record [301]\n").encode()
+    room.expect("a record with the name of an earlier one", ["explain", "s", "d", "two"], (2, named, b""))
+    dashed = named.replace(b"two:", b"standard input:")
+    room.expect("the same from standard input", ["explain", "s", "d", "-"], (2, dashed, b""), room.read("two"))
+    room.write("alike", "BOMT 01:X\n" + node.format(1, "a", 4, "7") + node.format(1, "b", 4, "8") + node.format(1, "c", 4, "7") + "EOMT 00:\n")
+    node_line = b"a node with the position, class, attributes and extras of an earlier node [403]\n"
+    room.expect("a node alike an earlier one", ["explain", "s", "d", "alike"], (2, b"refused 403 record 3\nalike:10: PNO c: " + node_line + b"alike:2: PNO a: the earlier node [403]\n", b""))
+    arc = "RTYSA03:PAR\nRIDSA01:{0}\nSCPCP22:EDAB01;SeSD;PGE;ARC_id\nCORCC04:{1};0;\nCORCC04:{2};0;\n"
+    room.write("arcs", "BOMT 01:X\n" + arc.format("a", 1, 2) + arc.format("b", 2, 1) + "EOMT 00:\n")
+    arcs = b"refused 405 record 2\narcs:7: PAR b: an arc with an earlier arc's points, in either direction [405]\narcs:2: PAR a: the earlier arc [405]\n"
+    room.expect("an arc with the points of an earlier one", ["explain", "s", "d", "arcs"], (2, arcs, b""))
+    room.write("cut", "BOMT 01:X\nRTYSA03:PNO\n")
+    room.expect("a rule of lines", ["explain", "s", "d", "cut"], (2, b"refused 106 line 3\ncut:3: there is no EOM [106]\n", b""))
+    room.write("twice", room.read("s").replace(b"RIDSA06:FAC_id", b"RIDSA06:NOD_id"))
+    twice = b"refused scd 602 record 3\ntwice:7: PGE NOD_id: type and identifier of an earlier record of the file [602]\ntwice:3: PGE NOD_id: the earlier record [602]\n"
+    room.expect("a refused schema", ["explain", "twice", "d", "v"], (2, twice, b""))
+    lone = ["explain", "--kinds", "XA,XB,XC,IND", "s", "d", "v"]
+    status, out, err = room.run(lone)
+    report.check("a refusal of the kinds", (status, out.split(b"\n")[0], out.split(b"\n")[1][:3], err), (2, b"refused kinds 604", b"s: ", b""))
+    for name, command in (("s", ["x", "d", "v"]), ("d", ["s", "x", "v"]), ("v", ["s", "d", "x"])):
+        room.expect(f"explain without {name}", ["explain", *command], (4, b"", b"cannot read x\n"))
+    room.expect("two inputs by -", ["explain", "-", "d", "-"], (3, b"", b"only one input can be -\n"))
+    room.expect("two files of three", ["explain", "s", "d"], (3, b"", b"explain takes RULE, or SCD, DIC and VEC\n"))
+    room.expect("bad kinds", ["explain", "--kinds", "A", "s", "d", "v"], (3, b"", b"bad kinds\n"))
+    status, out, err = room.run(["explain", "403"])
+    report.check("a rule: status", (status, err), (0, b""))
+    page = out.decode().split("\n")
+    report.check("a rule: its sentence", page[0], "403: a node with the position, class, attributes and extras of an earlier node")
+    report.check("a rule: its lines", [it.split(":")[0] for it in page[1:]], ["Why", "Usual cause", "What to do", ""])
+    for word in ("999", "0403", "+403", "403 ", "", "rule", "65939"):
+        room.expect(f"no rule {word!r}", ["explain", word], (3, b"", b"no rule has this number\n"))
+    for rule in (*range(101, 111), *range(201, 209), *range(301, 308), *range(401, 407), 501, 601, 602, 603, 604):
+        report.holds(f"rule {rule} has a page", room.run(["explain", str(rule)])[1].startswith(b"%d: " % rule))
+    with open("/dev/full", "wb") as full:
+        for command in (["s", "d", "v"], ["s", "d", "two"], ["403"]):
+            report.check(f"{command} explained to a full output", room.run(["explain", *command], stdout=full)[0], 4)
+
+
 def run_case(room, case):
     """A sheet, or a pair, and its answer."""
     if case["call"] == "hash":
@@ -121,6 +200,7 @@ def run_case(room, case):
     else:
         room.write("v", case["vec"])
         room.expect(case["name"], ["check", *kinds, "s", "d", "v"], wanted)
+        explain_case(room, case["name"], [*kinds, "s", "d", "v"], wanted)
         if case["call"] == "canon":
             room.write("o", "kept")
             room.expect(case["name"], ["canon", *kinds, "s", "d", "v", "o"], wanted)
@@ -153,11 +233,11 @@ def words(room):
     """Commands with good and bad words."""
     report = room.report
     for bad in (["paint"], ["check"], ["check", "s"], ["check", "s", "d"], ["canon", "s", "d", "v"], ["compare", "s", "d", "v"],
-                ["hash", "s", "d"], ["check", "s", "d", "v", "v"], ["--paint"], ["check", "--paint", "s", "d", "v"], ["check", "--kinds"], ["help", "paint"]):
+                ["hash", "s", "d"], ["explain"], ["explain", "s", "d", "v", "v"], ["check", "s", "d", "v", "v"], ["--paint"], ["check", "--paint", "s", "d", "v"], ["check", "--kinds"], ["help", "paint"]):
         status, out, err = room.run(bad)
         report.check(f"{bad}: status and output", (status, out), (3, b""))
         report.holds(f"{bad}: says what is wrong", err.startswith(b"error: ") and err.endswith(b"\n"))
-    for asked in (["--help"], ["-h"], ["help"], ["help", "check"], ["check", "--help"], ["canon", "-h"], ["compare", "--help"], ["hash", "--help"]):
+    for asked in (["--help"], ["-h"], ["help"], ["help", "check"], ["check", "--help"], ["canon", "-h"], ["compare", "--help"], ["hash", "--help"], ["explain", "--help"]):
         status, out, err = room.run(asked)
         report.check(f"{asked}: status and output", (status, out), (0, b""))
         report.holds(f"{asked}: has the usage", b"Usage: edicad" in err and err.endswith(b"\n"))
@@ -309,7 +389,7 @@ def manual(room):
     """The manual page has the usage lines that the program prints."""
     with open(os.path.join(HERE, "..", "docs", "edicad.1"), encoding="utf-8") as file:
         page = [re.sub(r"\\f[BIR]|\\&", "", it).replace("\\-", "-").strip() for it in file]
-    for words in (["--help"], ["check", "--help"], ["canon", "--help"], ["compare", "--help"], ["hash", "--help"]):
+    for words in (["--help"], ["check", "--help"], ["canon", "--help"], ["compare", "--help"], ["hash", "--help"], ["explain", "--help"]):
         usage = [it[len("Usage: "):] for it in room.run(words)[2].decode().splitlines() if it.startswith("Usage: ")]
         room.report.check(f"{words}: its usage is on the manual page", [it for it in usage if it not in page], [])
         room.report.check(f"{words}: one line of usage", len(usage), 1)
@@ -446,6 +526,7 @@ def main():
         in_room(report, program, given, files, bytes_of("vec"), bytes_of("canonical"))
         in_room(report, program, given, standard_streams, bytes_of("vec"), bytes_of("canonical"))
         in_room(report, program, given, hashes, bytes_of("vec"), bytes_of("canonical"))
+        in_room(report, program, given, explains, bytes_of("vec"))
         in_room(report, program, given, manual)
         in_room(report, program, given, terminal)
         in_room(report, program, given, hostile_folders, bytes_of("vec"))

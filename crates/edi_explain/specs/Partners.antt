@@ -20,9 +20,9 @@ IsLeastIfAny P found = MatchOption found ((k : ℕ) → ¬ (P k)) (IsLeast P)
 abbrev pub SharesName : List Record → ℕ → ℕ → Type 0
 SharesName list place m = (q r : Record) × (m < place) × (slice_get list m ≡ Some q) × (slice_get list place ≡ Some r) × (own_name q ≡ own_name r)
 
--- of rule 304: an earlier link with an end; the first has the first end of all links
+-- of rule 304: an earlier link with an end than the record at this place; the first has the first end of all links
 abbrev pub HasEnd : List Record → ℕ → ℕ → Type 0
-HasEnd list place m = (q : Record) × (m < place) × (slice_get list m ≡ Some q) × (0 < length q.ends)
+HasEnd list place m = (q : Record) × (m < place) × (slice_get list m ≡ Some q) × (0 < length q.ends) × (place < length list)
 
 -- of rule 403: an earlier node alike the one at this place
 abbrev pub IsAlikeNode : Drawing → ℕ → ℕ → Type 0

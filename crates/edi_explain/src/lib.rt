@@ -2,16 +2,23 @@
 #![tactic(auto)]
 
 pub mod counts;
+pub mod explained;
 pub mod extent;
+mod lines;
 pub mod partner;
+pub mod refused;
 pub mod rows;
 pub mod site;
 pub mod text;
 mod texts;
 
 pub use counts::count_of;
+pub use explained::{
+    NamedFile, describe_plan, explain_schema, explain_sheet, page_of, rule_of_word,
+};
 pub use extent::{Extent, Span, extent_of};
 pub use partner::{alike_node, first_link, namesake, same_arc};
+pub use refused::{Refused, earlier_record, refused_record, refused_row};
 pub use rows::row_namesake;
 pub use site::{RecordSite, record_site, site_among};
 pub use text::{RuleText, rule_text};

@@ -1,6 +1,6 @@
 //! Where the records of a file stand.
 
-ghost use Rattle.std.specs.Prelude.{List, ◌≡◌, IfOk, IfErr, OnOk, option_map, slice_get};
+ghost use Rattle.std.specs.Prelude.{List, ◌≡◌, IfOk, IfErr, OnOk, option_map, slice_get, suc};
 ghost use Rattle.edi_line.specs.Entry.{Entry, entries};
 ghost use Rattle.edi_line.specs.LineRules.{BreaksLineRule, IsZonesOf};
 ghost use Rattle.edi_line.specs.Refusal.{IsLineRefusal, IsUnbroken};
@@ -62,6 +62,20 @@ fn site_of(alloc: Global, group: &[Zone<'_>]) -> Result<Option<RecordSite>, Allo
     }))
 }
 
+/// Where the record at this place, counted from 0, stands among the zones of a file.
+pub(crate) fn site_at(
+    alloc: Global,
+    zones: &[Zone<'_>],
+    place: u64,
+) -> Result<Option<RecordSite>, AllocError>
+    ensures { IfOk result (IsSiteIfAny (entries zones.now) (suc place)) }
+{
+    match group_of(zones, place) {
+        Some(group) => site_of(alloc, group),
+        None => Ok(None),
+    }
+}
+
 /// Where the record with this number stands among the zones of a file, counted from 1 as refusals
 /// count them; `None` where there is no such record.
 pub fn site_among(
@@ -74,10 +88,7 @@ pub fn site_among(
     if number == 0 {
         return Ok(None);
     }
-    match group_of(zones, number - 1) {
-        Some(group) => site_of(alloc, group),
-        None => Ok(None),
-    }
+    site_at(alloc, zones, number - 1)
 }
 
 /// Where the record with this number stands in a file, counted from 1 as refusals count them; `None`

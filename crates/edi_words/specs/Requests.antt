@@ -1,5 +1,5 @@
 -- What the words of the command line ask for.
-use Rattle.std.specs.Prelude.{◌≡◌, ◌⊎◌, ◌<◌, ◌+◌, ◌==◌, ℕ, Bool, true, if◌then◌else◌, List, [], ◌∷◌, Option, Some, None, IfSome, codes, map, unwrap_or}
+use Rattle.std.specs.Prelude.{◌≡◌, ◌⊎◌, ◌<◌, ◌+◌, ◌==◌, ℕ, Bool, true, false, if◌then◌else◌, List, [], ◌∷◌, Option, Some, None, IfSome, codes, is_some, map, unwrap_or}
 use Rattle.std.specs.List.{slice_split}
 use Rattle.std.specs.Str.{bytes_eq}
 use Rattle.clap.specs.Lexer.{usize_max}
@@ -8,9 +8,10 @@ use Rattle.clap.specs.declared.error.kind.ErrorKind.{ErrorKind}
 use Rattle.clap.specs.declared.error.kind.ErrorKind.TheVariants.{OutOfMemory, DisplayHelp, DisplayVersion}
 use Rattle.edi_schema.specs.Roles.{KindCodes, AreKindCodes}
 use Rattle.edi_words.specs.declared.words.Request.{Request}
-use Rattle.edi_words.specs.declared.words.Request.TheVariants.{Bundle, Check, Canon, Compare, Hash, Misused, Answered}
+use Rattle.edi_words.specs.declared.words.Request.TheVariants.{Bundle, Check, Canon, Compare, Hash, Explain, Misused, Answered}
+use Rattle.edi_words.specs.declared.words.Request.TheVariants as asks
 use Rattle.edi_words.specs.declared.words.Misuse.{Misuse}
-use Rattle.edi_words.specs.declared.words.Misuse.TheVariants.{BadKinds, TwoStandard}
+use Rattle.edi_words.specs.declared.words.Misuse.TheVariants.{BadKinds, TwoStandard, NoSheet}
 use Rattle.edi_words.specs.declared.words.ManyFiles.{ManyFiles}
 use Rattle.edi_words.specs.declared.words.PairFiles.{PairFiles}
 use Rattle.edi_words.specs.declared.words.SheetFiles.{SheetFiles}
@@ -44,12 +45,20 @@ compare_command = with_rule (with_rule (schema_command (codes "compare")) (file_
 abbrev pub hash_command : App
 hash_command = with_rule (schema_command (codes "hash")) (files_rule (codes "VEC"))
 
+-- a rule's number, or the first file of a schema
+abbrev pub subject_rule : Rule
+subject_rule = record (file_rule (codes "SCD")) { value_names = 1 }
+
+-- the subcommand that explains a rule or a sheet
+abbrev pub explain_command : App
+explain_command = with_rule (with_rule (with_rule (with_rule (new_app (codes "explain")) kinds_rule) subject_rule) (new_rule (codes "DIC"))) (new_rule (codes "VEC"))
+
 -- a command that says its version
 abbrev pub versioned : App → App
 versioned a = record a { top = record a.top { has_version = true } }
 
 abbrev pub edicad : App
-edicad = with_subcommand (with_subcommand (with_subcommand (with_subcommand (versioned (new_app (codes "edicad"))) check_command.top) canon_command.top) compare_command.top) hash_command.top
+edicad = with_subcommand (with_subcommand (with_subcommand (with_subcommand (with_subcommand (versioned (new_app (codes "edicad"))) check_command.top) canon_command.top) compare_command.top) hash_command.top) explain_command.top
 
 -- IND, FND, LPO and RPO
 abbrev pub usual_kinds : KindCodes
@@ -117,19 +126,26 @@ abbrev pub standard_count : List Row → ℕ
 standard_count rows =
     standard_at (codes "SCD") rows + standard_at (codes "DIC") rows + standard_at (codes "VEC") rows + standard_at (codes "A") rows + standard_at (codes "B") rows
 
--- the arguments can't be meant: the codes are no codes, or standard input is to be read twice
-abbrev pub IsMisuse : List Row → Misuse → Type 0
-IsMisuse rows BadKinds = HasBadKinds rows
-IsMisuse rows TwoStandard = 1 < standard_count rows
+-- an argument is given
+abbrev pub is_given : Text → List Row → Bool
+is_given id rows = is_some (first_of id rows)
+
+-- The arguments of a subcommand can't be meant: the codes are no codes, standard input is to be read twice, or explain is
+-- given two files of three.
+abbrev pub IsMisuse : Text → List Row → Misuse → Type 0
+IsMisuse name rows BadKinds = HasBadKinds rows
+IsMisuse name rows TwoStandard = 1 < standard_count rows
+IsMisuse name rows NoSheet = (name ≡ codes "explain") × (is_given (codes "DIC") rows ≡ true) × (is_given (codes "VEC") rows ≡ false)
 
 -- what is said of it
 abbrev pub misuse_text : Misuse → List ℕ
 misuse_text BadKinds = codes "bad kinds"
 misuse_text TwoStandard = codes "only one input can be -"
+misuse_text NoSheet = codes "explain takes RULE, or SCD, DIC and VEC"
 
--- the subcommand, if there is one, is check, canon, compare or hash
+-- the subcommand, if there is one, is check, canon, compare, hash or explain
 abbrev pub IsOwn : Option (Text × List Row) → Type 0
-IsOwn met = IfSome met (λ p. (p.0 ≡ codes "check") ⊎ ((p.0 ≡ codes "canon") ⊎ ((p.0 ≡ codes "compare") ⊎ (p.0 ≡ codes "hash"))))
+IsOwn met = IfSome met (λ p. (p.0 ≡ codes "check") ⊎ ((p.0 ≡ codes "canon") ⊎ ((p.0 ≡ codes "compare") ⊎ ((p.0 ≡ codes "hash") ⊎ (p.0 ≡ codes "explain")))))
 
 -- what the subcommand and its arguments ask for, or want of memory, whose status is 5
 abbrev pub Means : Option (Text × List Row) → Request → Type 0
@@ -139,7 +155,11 @@ Means met (Canon kinds files out) = (rows : List Row) × (met ≡ Some (codes "c
     × (out.now ≡ value_at (codes "OUT") rows)
 Means met (Compare kinds files) = (rows : List Row) × (met ≡ Some (codes "compare", rows)) × GiveKinds rows kinds × ArePairFiles rows files
 Means met (Hash kinds files) = (rows : List Row) × (met ≡ Some (codes "hash", rows)) × GiveKinds rows kinds × AreManyFiles rows files
-Means met (Misused misuse) = (name : Text) × (rows : List Row) × (met ≡ Some (name, rows)) × IsMisuse rows misuse
+Means met (Explain kinds files) = (rows : List Row) × (met ≡ Some (codes "explain", rows)) × GiveKinds rows kinds × AreSheetFiles rows files
+    × (is_given (codes "DIC") rows ≡ true) × (is_given (codes "VEC") rows ≡ true)
+Means met (asks.Rule word) = (rows : List Row) × (met ≡ Some (codes "explain", rows)) × (word.now ≡ value_at (codes "SCD") rows)
+    × (is_given (codes "DIC") rows ≡ false)
+Means met (Misused misuse) = (name : Text) × (rows : List Row) × (met ≡ Some (name, rows)) × IsMisuse name rows misuse
 Means met (Answered status) = status ≡ 5
 
 -- 5 without memory, 0 where help was asked for, and else 3

@@ -15,11 +15,17 @@ pub fn known_words_are_asked()
     ensures compare { values_of (codes "edicad compare s d a b")
         ≡ Some (codes "compare", None ∷ Some (codes "s") ∷ Some (codes "d") ∷ None ∷ None ∷ Some (codes "a") ∷ Some (codes "b") ∷ []) }
     ensures hash { sheets_of (codes "edicad hash s d a b c") ≡ Some (codes "hash", codes "a" ∷ codes "b" ∷ codes "c" ∷ []) }
+    ensures explain { values_of (codes "edicad explain s d v")
+        ≡ Some (codes "explain", None ∷ Some (codes "s") ∷ Some (codes "d") ∷ Some (codes "v") ∷ None ∷ None ∷ None ∷ []) }
+    ensures rule { values_of (codes "edicad explain 403")
+        ≡ Some (codes "explain", None ∷ Some (codes "403") ∷ None ∷ None ∷ None ∷ None ∷ None ∷ []) }
     ensures no_bundle_fault { fault_of edicad (words_in (codes "edicad")) ≡ [] }
     ensures no_check_fault { fault_of edicad (words_in (codes "edicad check s d v")) ≡ [] }
     ensures no_canon_fault { fault_of edicad (words_in (codes "edicad canon s --kinds=A,B,C,D d v o")) ≡ [] }
     ensures no_compare_fault { fault_of edicad (words_in (codes "edicad compare s d a b")) ≡ [] }
     ensures no_hash_fault { fault_of edicad (words_in (codes "edicad hash s d a b c")) ≡ [] }
+    ensures no_explain_fault { fault_of edicad (words_in (codes "edicad explain s d v")) ≡ [] }
+    ensures no_rule_fault { fault_of edicad (words_in (codes "edicad explain 403")) ≡ [] }
     ensures no_sheet { fault_of edicad (words_in (codes "edicad hash s d")) ≡ MissingRequiredArgument ∷ [] }
     ensures help { fault_of edicad (words_in (codes "edicad --help")) ≡ DisplayHelp ∷ [] }
     ensures version { fault_of edicad (words_in (codes "edicad --version")) ≡ DisplayVersion ∷ [] }

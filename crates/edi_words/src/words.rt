@@ -1,8 +1,8 @@
 //! What the words of the command line ask for.
-ghost use Rattle.std.specs.Prelude.{◌≡◌, ◌↔◌, ◌<◌, ◌≤◌, ◌^◌, IsTrue, IfErr, IfOk, MatchOption, OnOk, [], codes, length, map, option_map, string_bytes};
-ghost use Rattle.clap.specs.Words.{HasKind, app_of, fault_of, found_of, kind_of, rows_of, rule_of, subcommand_of, subcommand_rows_of, with_rule};
+ghost use Rattle.std.specs.Prelude.{◌≡◌, ◌↔◌, ◌<◌, ◌≤◌, ◌^◌, IsTrue, IfErr, IfOk, MatchOption, OnOk, Some, [], codes, length, map, option_map, string_bytes};
+ghost use Rattle.clap.specs.Words.{HasKind, app_of, fault_of, found_of, kind_of, new_rule, rows_of, rule_of, subcommand_of, subcommand_rows_of, with_rule};
 ghost use Rattle.edi_schema.specs.Roles.{KindCodes};
-ghost use Rattle.edi_words.specs.Requests.{AreKindsIn, AreKindsOf, AreManyFiles, ArePairFiles, AreSheetFiles, IsAsked, IsOwn, Means, canon_command, check_command, compare_command, edicad, file_rule, files_rule, hash_command, is_standard_path, kinds_rule, schema_command, standard_at, standard_count, standard_in, status_of_kind, value_at, values_at};
+ghost use Rattle.edi_words.specs.Requests.{AreKindsIn, AreKindsOf, AreManyFiles, ArePairFiles, AreSheetFiles, IsAsked, GiveKinds, IsOwn, Means, canon_command, check_command, compare_command, edicad, explain_command, file_rule, files_rule, hash_command, is_given, is_standard_path, kinds_rule, schema_command, standard_at, standard_count, standard_in, status_of_kind, subject_rule, value_at, values_at};
 
 use clap::error::ErrorKind;
 use clap::{Arg, ArgMatches, Command, Error};
@@ -17,6 +17,8 @@ const MEMORY_STATUS: u8 = 5;
 const USAGE_STATUS: u8 = 3;
 
 const SHEET: &str = "The sheet, a file of type VEC";
+
+const DICTIONARY: &str = "The dictionary of the delivery, a file of type DIC";
 
 const VERSION: &str = "0.1.0";
 
@@ -81,6 +83,15 @@ pub enum Request<'a> {
         kinds: Kinds<'a>,
         files: ManyFiles<'a>,
     },
+    /// Where and why a sheet is refused, or what is in it.
+    Explain {
+        kinds: Kinds<'a>,
+        files: SheetFiles<'a>,
+    },
+    /// What the rule of this number means.
+    Rule {
+        word: &'a str,
+    },
     /// Nothing that can be meant.
     Misused(Misuse),
     /// Nothing more: the words were answered on standard error, and this is the exit status.
@@ -94,6 +105,8 @@ pub enum Misuse {
     BadKinds,
     /// Standard input is to be read twice.
     TwoStandard,
+    /// A schema is named, and no sheet.
+    NoSheet,
 }
 
 /// What the words ask for, of which the first is the program's name.
@@ -128,7 +141,8 @@ fn command<'a>(alloc: Global) -> Result<Command<'a>, AllocError>
         .subcommand(check(alloc)?)?
         .subcommand(canon(alloc)?)?
         .subcommand(compare(alloc)?)?
-        .subcommand(hash(alloc)?)
+        .subcommand(hash(alloc)?)?
+        .subcommand(explain(alloc)?)
 }
 
 // The subcommand that checks a sheet.
@@ -188,6 +202,37 @@ fn hash<'a>(alloc: Global) -> Result<Command<'a>, AllocError>
     over_schema.arg(sheets_argument(alloc))
 }
 
+// The subcommand that explains a rule or a sheet.
+fn explain<'a>(alloc: Global) -> Result<Command<'a>, AllocError>
+    ensures { IfOk result (λ c. app_of c ≡ explain_command) }
+{
+    let with_kinds = Command::new(alloc, "explain")
+        .about("Says what a rule means, or where and why a sheet is refused")
+        .arg(kinds_option(alloc))?;
+    let with_subject = with_kinds.arg(subject(alloc))?;
+    let with_dic = optional_file(alloc, with_subject, "DIC", DICTIONARY)?;
+    optional_file(alloc, with_dic, "VEC", SHEET)
+}
+
+// A rule's number, or the first file of a schema.
+fn subject<'a>(alloc: Global) -> Arg<'a>
+    ensures { rule_of result ≡ subject_rule }
+{
+    file(alloc, "SCD", "The number of a rule, or a file of type SCD").value_name("RULE|SCD")
+}
+
+// A command with one more file, which may be named.
+fn optional_file<'a>(
+    alloc: Global,
+    command: Command<'a>,
+    id: &'a str,
+    help: &'a str,
+) -> Result<Command<'a>, AllocError>
+    ensures { IfOk result (λ c. app_of c ≡ with_rule (app_of command.entry) (new_rule id.entry.now)) }
+{
+    command.arg(Arg::new(alloc, id).help(help))
+}
+
 // A subcommand over the files of a schema.
 fn over_schema<'a>(alloc: Global, name: &'a str) -> Result<Command<'a>, AllocError>
     ensures { IfOk result (λ c. app_of c ≡ schema_command name.entry.now) }
@@ -199,12 +244,7 @@ fn over_schema<'a>(alloc: Global, name: &'a str) -> Result<Command<'a>, AllocErr
         "SCD",
         "The schema of the delivery, a file of type SCD",
     )?;
-    with_file(
-        alloc,
-        with_scd,
-        "DIC",
-        "The dictionary of the delivery, a file of type DIC",
-    )
+    with_file(alloc, with_scd, "DIC", DICTIONARY)
 }
 
 // A command with one more file, which has to be named.
@@ -271,11 +311,36 @@ fn meant<'a, R: Eprint + AllocGlobal>(rt: &R, matches: &ArgMatches<'a>) -> Reque
             kinds,
             files: pair_files(given),
         },
-        _ => match many_files(rt.alloc(), given) {
+        "hash" => match many_files(rt.alloc(), given) {
             Ok(files) => Request::Hash { kinds, files },
             Err(_) => Request::Answered(out_of_memory(rt)),
         },
+        _ => explained(given, kinds),
     }
+}
+
+// What the arguments of `explain` ask for.
+fn explained<'a>(given: &ArgMatches<'a>, kinds: Kinds<'a>) -> Request<'a>
+    requires { GiveKinds (rows_of (found_of given.now)) kinds }
+    ensures { Means (Some (codes "explain", rows_of (found_of given.now))) result }
+{
+    match (is_given(given, "DIC"), is_given(given, "VEC")) {
+        (false, _) => Request::Rule {
+            word: path(given, "SCD"),
+        },
+        (true, false) => Request::Misused(Misuse::NoSheet),
+        (true, true) => Request::Explain {
+            kinds,
+            files: sheet_files(given),
+        },
+    }
+}
+
+// Whether an argument is given.
+fn is_given(given: &ArgMatches<'_>, name: &str) -> bool
+    ensures { result ≡ is_given name.now (rows_of (found_of given.now)) }
+{
+    given.get_str(name).is_some()
 }
 
 // Whether more than one input is standard input.

@@ -16,7 +16,7 @@ use Rattle.edicad.specs.SheetRuns.{AreFourThere, AreThere, CanonFault, FileFault
 use Rattle.edi_words.specs.declared.words.PairFiles.{PairFiles}
 use Rattle.edi_words.specs.declared.words.SheetFiles.{SheetFiles}
 use Rattle.edi_words.specs.declared.words.Request.{Request}
-use Rattle.edi_words.specs.declared.words.Request.TheVariants.{Bundle, Check, Canon, Compare, Hash, Misused, Answered}
+use Rattle.edi_words.specs.declared.words.Request.TheVariants.{Bundle, Check, Canon, Compare, Hash, Explain, Rule, Misused, Answered}
 
 -- of a run over sheets, each for itself: accepted, refused, not read or not written, out of memory
 abbrev pub IsSheetStatus : ℕ → Type 0
@@ -26,6 +26,10 @@ IsSheetStatus s = (s ≡ 0) ⊎ ((s ≡ 2) ⊎ ((s ≡ 4) ⊎ (s ≡ 5)))
 abbrev pub IsPairStatus : ℕ → Type 0
 IsPairStatus s = (s ≡ 1) ⊎ IsSheetStatus s
 
+-- of a rule: its page, no such rule, not written, out of memory
+abbrev pub IsPageStatus : ℕ → Type 0
+IsPageStatus s = (s ≡ 0) ⊎ ((s ≡ 3) ⊎ ((s ≡ 4) ⊎ (s ≡ 5)))
+
 -- of what was asked for, whatever the files hold
 abbrev pub IsStatusOf : Request → ℕ → Type 0
 IsStatusOf Bundle s = IsSheetStatus s
@@ -33,6 +37,8 @@ IsStatusOf (Check kinds files) s = IsSheetStatus s
 IsStatusOf (Canon kinds files out) s = IsSheetStatus s
 IsStatusOf (Compare kinds files) s = IsPairStatus s
 IsStatusOf (Hash kinds files) s = IsSheetStatus s
+IsStatusOf (Explain kinds files) s = IsSheetStatus s
+IsStatusOf (Rule word) s = IsPageStatus s
 IsStatusOf (Misused misuse) s = s ≡ 3
 IsStatusOf (Answered status) s = s ≡ status
 

@@ -10,6 +10,7 @@ ghost use Rattle.edicad.specs.Statuses.{HasStatus, IsBundleStatus, IsCanonStatus
 ghost use Rattle.edi_words.specs.declared.words.Request.{Request};
 
 use crate::disk::Disk;
+use crate::explains::{explain, explain_rule};
 use crate::folder::Folder;
 use crate::hashes::hash;
 use crate::outcome::Outcome;
@@ -111,6 +112,8 @@ pub fn answered<F: Folder, O: ByteOut, E: ByteOut>(
         }
         Request::Compare { kinds, files } => compare(alloc, folder, &kinds, &files, out, err),
         Request::Hash { kinds, files } => hash(alloc, folder, &kinds, &files, out, err),
+        Request::Explain { kinds, files } => explain(alloc, folder, &kinds, &files, out, err),
+        Request::Rule { word } => explain_rule(alloc, word, out, err),
         Request::Misused(misuse) => report::misused(err, misuse),
         Request::Answered(status) => status,
     }

@@ -3,6 +3,7 @@
 
 mod command;
 mod disk;
+mod explains;
 mod folder;
 mod hashes;
 #[cfg(test)]

@@ -104,6 +104,20 @@ pub fn line_of_sheet(alloc: Global, fault: &RunFault) -> Result<Vec<u8>, AllocEr
     }
 }
 
+/// The line of a refused schema, ended by a line feed.
+pub fn line_of_schema(alloc: Global, fault: &SchemaFault) -> Result<Vec<u8>, AllocError>
+    ensures { IfOk result (λ line. line.items ≡ ended (schema_text fault.now)) }
+{
+    schema_line(alloc, fault)
+}
+
+/// The line of a refused sheet, ended by a line feed.
+pub fn line_of_fault(alloc: Global, fault: &Fault) -> Result<Vec<u8>, AllocError>
+    ensures { IfOk result (λ line. line.items ≡ ended (sheet_text [] fault.now)) }
+{
+    sheet_line(alloc, b"", fault)
+}
+
 // The line of a refused schema.
 fn schema_line(alloc: Global, fault: &SchemaFault) -> Result<Vec<u8>, AllocError>
     ensures { IfOk result (λ line. line.items ≡ ended (schema_text fault.now)) }

@@ -77,7 +77,17 @@ pub fn misused<E: ByteOut>(err: &mut E, misuse: Misuse) -> u8
     match misuse {
         Misuse::BadKinds => warn(err, b"bad kinds\n"),
         Misuse::TwoStandard => warn(err, b"only one input can be -\n"),
+        Misuse::NoSheet => warn(err, b"explain takes RULE, or SCD, DIC and VEC\n"),
     }
+    USAGE_STATUS
+}
+
+/// Says that no rule has a number.
+pub fn unknown_rule<E: ByteOut>(err: &mut E) -> u8
+    ensures status { result ≡ 3 }
+    ensures text { GoesOut (E.told err.old) (E.told err.new) (E.has_failed err.new) (ended (codes "no rule has this number")) }
+{
+    warn(err, b"no rule has this number\n");
     USAGE_STATUS
 }
 

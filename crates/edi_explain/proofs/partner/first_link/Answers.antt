@@ -12,7 +12,7 @@ returns-then-has_end c =
     let less : c.loop-earlier.earlier < c.args.place = omega arith in
     let there = slice_get_read list _ c.loop-earlier.earlier c.index-records-earlier.result refl (omega arith) c.index-records-earlier.is in
     least_here (HasEnd list c.args.place) c.loop-earlier.earlier c.loop-earlier.invariant
-    (c.index-records-earlier.result, less, there, c.has_end.ensures.0 c.if-has_end.true)
+    (c.index-records-earlier.result, less, there, c.has_end.ensures.0 c.if-has_end.true, c.requires)
 
 pub loop-earlier-preserved : goal.loop-earlier-preserved
 loop-earlier-preserved c =

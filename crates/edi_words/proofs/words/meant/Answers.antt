@@ -3,7 +3,7 @@ use Rattle.std.specs.Prelude.{unwrap_or}
 use Rattle.std.proofs.lemmas.Bool.{false≢true}
 use Rattle.clap.specs.Words.{found_of, rows_of}
 use Rattle.clap.proofs.WalkLemmas.{first_value-rows}
-use Rattle.edi_words.specs.Requests.{AreKindsOf, IsOwn}
+use Rattle.edi_words.specs.Requests.{AreKindsOf, IsOwn, Means}
 use Rattle.edi_words.proofs.words.meant.Goals as goal
 
 -- a pair of which both parts are known
@@ -63,17 +63,28 @@ returns-in-compare g c =
 pub returns-in-Ok : goal.returns-in-Ok
 returns-in-Ok g c =
     let text_is = c.get_str.ensures ∙ first_value-rows (found_of c.in-Some.given.now) _ in
-    let rows = rows_of (found_of c.in-Some.given.now) in
-    let met = pair_of _ _ _ _ c.in-Some.ensures.name c.in-Some.ensures.rows in
-    let own = subst IsOwn met c.requires in
-    let name_is : c.in-Some.name.now ≡ codes "hash" = elim own [
-      | inl e ↦ absurd (c.in_default-name.not-check e)
-      | inr (inl e) ↦ absurd (c.in_default-name.not-canon e)
-      | inr (inr (inl e)) ↦ absurd (c.in_default-name.not-compare e)
-      | inr (inr (inr e)) ↦ e
-    ] in (
+    let rows = rows_of (found_of c.in-Some.given.now) in (
       rows,
-      met ∙ ap (λ name. Some (name, rows)) name_is,
+      pair_of _ _ _ _ c.in-Some.ensures.name c.in-Some.ensures.rows ∙ ap (λ name. Some (name, rows)) c.in-hash.is,
       subst (λ t. AreKindsOf t c.in-Some-kinds_of.kinds) text_is c.in-Some-kinds_of.ensures,
       c.in-Ok.ensures,
     )
+
+pub explained-requires : goal.explained-requires
+explained-requires g c =
+    let text_is = c.get_str.ensures ∙ first_value-rows (found_of c.in-Some.given.now) _ in
+    subst (λ t. AreKindsOf t c.in-Some-kinds_of.kinds) text_is c.in-Some-kinds_of.ensures
+
+pub returns-in_default-name : goal.returns-in_default-name
+returns-in_default-name g c =
+    let rows = rows_of (found_of c.in-Some.given.now) in
+    let met = pair_of _ _ _ _ c.in-Some.ensures.name c.in-Some.ensures.rows in
+    let own = subst IsOwn met c.requires in
+    let name_is : c.in-Some.name.now ≡ codes "explain" = elim own [
+      | inl e ↦ absurd (c.in_default-name.not-check e)
+      | inr (inl e) ↦ absurd (c.in_default-name.not-canon e)
+      | inr (inr (inl e)) ↦ absurd (c.in_default-name.not-compare e)
+      | inr (inr (inr (inl e))) ↦ absurd (c.in_default-name.not-hash e)
+      | inr (inr (inr (inr e))) ↦ e
+    ] in
+    subst (λ m. Means m c.explained.result) (sym (met ∙ ap (λ name. Some (name, rows)) name_is)) c.explained.ensures

@@ -1,0 +1,73 @@
+-- What holds of a sheet that is refused at a record: no rule of an earlier phase is broken.
+use Rattle.std.proofs.Common.{◌<◌, ◌≤◌, ℕ, List, arith}
+use Rattle.edi_line.specs.Entry.{Entry}
+use Rattle.edi_line.specs.LineRules.{BreaksLineRule}
+use Rattle.edi_record.specs.RecordRules.{BreaksGroupRule}
+use Rattle.edi_record.specs.RecordRules.BreaksGroupRule.{lacks_kind, lacks_identifier, lacks_class as lacks_record_class, bad_attribute, wrong_count, bad_point, bad_end, unknown_pointer}
+use Rattle.edi_record.specs.declared.record.Record.{Record}
+use Rattle.edi_schema.specs.Classes.{Classes}
+use Rattle.edi_plan.specs.ReferenceRules.{BreaksReferenceRule}
+use Rattle.edi_plan.specs.ReferenceRules.BreaksReferenceRule.{repeats_name, lacks_class, lacks_attribute_class, leaves_subset, names_nothing, joins_wrong, repeats_side}
+use Rattle.edi_compare.specs.Refused.{IsRefusal}
+use Rattle.edi_compare.specs.Rules.{Breaks, LinesHold, RecordsHold, ReferencesHold}
+use Rattle.edi_compare.specs.Rules.Breaks.{of_lines, of_records, of_references, of_topology, of_objects}
+use Rattle.edi_compare.specs.declared.fault.Fault.TheVariants.{Entry as AtRecord}
+use Rattle.edi_compare.proofs.Phases.{line_refusal}
+
+group_below : (group : List Entry) (rule : ℕ) → BreaksGroupRule group rule → rule < 300
+group_below group rule (lacks_kind e h) = omega (arith, e)
+group_below group rule (lacks_identifier e h) = omega (arith, e)
+group_below group rule (lacks_record_class e h) = omega (arith, e)
+group_below group rule (bad_attribute e h) = omega (arith, e)
+group_below group rule (wrong_count e h) = omega (arith, e)
+group_below group rule (bad_point e h) = omega (arith, e)
+group_below group rule (bad_end e k h) = omega (arith, e)
+group_below group rule (unknown_pointer e h) = omega (arith, e)
+
+reference_below : (s : Classes) (list : List Record) (rule place : ℕ) → BreaksReferenceRule s list rule place → rule < 400
+reference_below s list rule place (repeats_name e h) = omega (arith, e)
+reference_below s list rule place (lacks_class e h) = omega (arith, e)
+reference_below s list rule place (lacks_attribute_class e h) = omega (arith, e)
+reference_below s list rule place (leaves_subset e h) = omega (arith, e)
+reference_below s list rule place (names_nothing e h) = omega (arith, e)
+reference_below s list rule place (joins_wrong e h) = omega (arith, e)
+reference_below s list rule place (repeats_side e h) = omega (arith, e)
+
+module _ (s : Classes) (b : List ℕ) (rule at : ℕ) (is : IsRefusal s b (AtRecord rule at)) where
+  no_line : BreaksLineRule b rule at → ⊥
+  no_line g =
+      let below = line_refusal s b rule at (record { is = g; least = λ r p h. is.1.least r p (of_lines h) }) in
+      absurd (omega (arith, below.0, is.0))
+
+  lines_of : Breaks s b rule at → LinesHold s b
+  lines_of (of_lines g) = absurd (no_line g)
+  lines_of (of_records zones held z g) = held
+  lines_of (of_references sheet held z g) = held.0
+  lines_of (of_topology plan held z g) = held.0.0
+  lines_of (of_objects plan held z g) = held.0.0.0
+
+  records_of : 300 ≤ rule → Breaks s b rule at → RecordsHold s b
+  records_of big (of_lines g) = absurd (no_line g)
+  records_of big (of_records zones held z g) = absurd (omega (arith, big, group_below g.group rule g.breaks))
+  records_of big (of_references sheet held z g) = held
+  records_of big (of_topology plan held z g) = held.0
+  records_of big (of_objects plan held z g) = held.0.0
+
+  references_of : 400 ≤ rule → Breaks s b rule at → ReferencesHold s b
+  references_of big (of_lines g) = absurd (no_line g)
+  references_of big (of_records zones held z g) = absurd (omega (arith, big, group_below g.group rule g.breaks))
+  references_of big (of_references sheet held z g) = absurd (omega (arith, big, reference_below s sheet.list rule at g))
+  references_of big (of_topology plan held z g) = held
+  references_of big (of_objects plan held z g) = held.0
+
+  -- no rule of lines is broken
+  pub lines_hold : LinesHold s b
+  lines_hold = lines_of is.1.is
+
+  -- for a rule of references or a later one, no rule of records
+  pub records_hold : 300 ≤ rule → RecordsHold s b
+  records_hold big = records_of big is.1.is
+
+  -- for a rule of topology or a later one, no rule of references
+  pub references_hold : 400 ≤ rule → ReferencesHold s b
+  references_hold big = references_of big is.1.is

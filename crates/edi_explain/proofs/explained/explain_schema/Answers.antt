@@ -1,0 +1,35 @@
+use Rattle.std.proofs.Common.{List, ℕ, ap₂, ◌∙◌, subst, sym}
+use Rattle.std.proofs.lemmas.Result.{IfOk-weaker}
+use Rattle.edi_line.specs.LineRules.{BreaksLineRule}
+use Rattle.edi_line.specs.Refusal.{IsUnbroken}
+use Rattle.edi_schema.specs.SchemaRefusal.{IsSchemaRefusal}
+use Rattle.edi_schema.specs.SchemaRules.{LinesHold}
+use Rattle.edi_schema.specs.declared.fault.Source.{Source}
+use Rattle.edi_schema.specs.declared.fault.Source.TheVariants.{Scd, Dic}
+use Rattle.edi_explain.specs.Explained.{of_source}
+use Rattle.edi_explain.specs.Lines.{lines_of_sites}
+use Rattle.edi_explain.specs.Refusals.{IsRowRefusedAt}
+use Rattle.edi_explain.proofs.explained.explain_schema.Goals as goal
+
+lines_of : (file : Source) (scd dic : List ℕ) → LinesHold scd dic → IsUnbroken (BreaksLineRule (of_source file scd dic))
+lines_of Scd scd dic h = h.0
+lines_of Dic scd dic h = h.1
+
+pub refused_row-requires : goal.refused_row-requires
+refused_row-requires c =
+    let scd = c.args.scd.now.bytes.now in
+    let dic = c.args.dic.now.bytes.now in
+    let refusal = subst (IsSchemaRefusal scd dic c.requires.0) c.in-Entry.is c.requires.1 in
+    subst (λ (b : List ℕ). IsUnbroken (BreaksLineRule b)) (sym c.file_of-refused.ensures.bytes) (lines_of c.in-Entry.file scd dic refusal.0)
+
+pub returns-in_ok-sites-in-Entry : goal.returns-in_ok-sites-in-Entry
+returns-in_ok-sites-in-Entry c =
+    let said = c.sentence_for-in-Entry.ensures in
+    let sites = c.in_ok-sites-in-Entry.sites in
+    rw c.in-Entry.is (IfOk-weaker c.lines_of_refused.result _ _ (λ lines is. (
+      said.0,
+      sites,
+      said.1,
+      subst (λ (b : List ℕ). IsRowRefusedAt b c.in-Entry.rule c.in-Entry.at sites) c.file_of-refused.ensures.bytes c.in_ok-sites-in-Entry.ensures,
+      is ∙ ap₂ (λ (n s : List ℕ). lines_of_sites n sites s c.in-Entry.rule) c.file_of-refused.ensures.name said.2,
+    )) c.lines_of_refused.ensures)

@@ -1,0 +1,84 @@
+-- What is said of a refusal, of a plan and of a rule.
+use Rattle.std.specs.Prelude.{◌≡◌, ◌++◌, ℕ, List, [], ◌∷◌, Option, Some, None, codes, decimal, count_by, true}
+use Rattle.edi_line.specs.Number.{plain_text}
+use Rattle.edi_record.specs.declared.record.Kind.{Kind}
+use Rattle.edi_record.specs.declared.record.Kind.TheVariants.{Pno, Par, Pfe, Fea, Lnk}
+use Rattle.edi_plan.specs.Plans.{Drawing, same_kind}
+use Rattle.edi_schema.specs.Classes.{Classes}
+use Rattle.edi_schema.specs.declared.fault.Source.{Source}
+use Rattle.edi_schema.specs.declared.fault.Source.TheVariants.{Scd, Dic}
+use Rattle.edi_schema.specs.declared.fault.SchemaFault.{SchemaFault}
+use Rattle.edi_schema.specs.declared.fault.SchemaFault.TheVariants as schema
+use Rattle.edi_compare.specs.declared.fault.Fault.{Fault}
+use Rattle.edi_compare.specs.declared.fault.Fault.TheVariants.{Memory, Line, Entry}
+use Rattle.edi_explain.specs.Extents.{IsExtentIfAny, points_of}
+use Rattle.edi_explain.specs.Lines.{file_line, line_line, lines_of_sites, sentence_of}
+use Rattle.edi_explain.specs.Refusals.{IsRefusedAt, IsRowRefusedAt}
+use Rattle.edi_explain.specs.Rules.{IsTextIfAny, is_among, rules}
+use Rattle.edi_explain.specs.declared.extent.Extent.{Extent}
+use Rattle.edi_explain.specs.declared.extent.Span.{Span}
+use Rattle.edi_explain.specs.declared.refused.Refused.{Refused}
+use Rattle.edi_explain.specs.declared.text.RuleText.{RuleText}
+
+-- The lines that explain the refusal of the sheet b, whose file has this name: the broken line with the sentence of its
+-- rule; or the record with that sentence, and then the earlier record that the rule speaks of.
+abbrev pub ExplainsSheet : Classes → List ℕ → List ℕ → Fault → List ℕ → Type 0
+ExplainsSheet s b name (Memory e) lines = ⊥
+ExplainsSheet s b name (Line rule at) lines = (text : Option RuleText) × IsTextIfAny rules rule text × (lines ≡ line_line name at (sentence_of text) rule)
+ExplainsSheet s b name (Entry rule at) lines = (text : Option RuleText) × (sites : Refused) × IsTextIfAny rules rule text × IsRefusedAt s b rule at sites
+    × (lines ≡ lines_of_sites name sites (sentence_of text) rule)
+
+-- the one of two that belongs to a file of a schema
+abbrev pub of_source : Source → List ℕ → List ℕ → List ℕ
+of_source Scd scd dic = scd
+of_source Dic scd dic = dic
+
+-- the same of the refusal of two files of a schema, whose names are given; 604 is of the first file
+abbrev pub ExplainsSchema : List ℕ → List ℕ → List ℕ → List ℕ → SchemaFault → List ℕ → Type 0
+ExplainsSchema scd dic scd_name dic_name (schema.Memory e) lines = ⊥
+ExplainsSchema scd dic scd_name dic_name (schema.Line file rule at) lines = (text : Option RuleText) × IsTextIfAny rules rule text
+    × (lines ≡ line_line (of_source file scd_name dic_name) at (sentence_of text) rule)
+ExplainsSchema scd dic scd_name dic_name (schema.Entry file rule at) lines = (text : Option RuleText) × (sites : Refused) × IsTextIfAny rules rule text
+    × IsRowRefusedAt (of_source file scd dic) rule at sites × (lines ≡ lines_of_sites (of_source file scd_name dic_name) sites (sentence_of text) rule)
+ExplainsSchema scd dic scd_name dic_name schema.Kinds lines = (text : Option RuleText) × IsTextIfAny rules 604 text × (lines ≡ file_line scd_name (sentence_of text) 604)
+
+-- a sentence behind words, as a line
+abbrev pub worded_line : List ℕ → List ℕ → List ℕ
+worded_line words sentence = words ++ sentence ++ 10 ∷ []
+
+-- how many records of a type a plan has, behind a word
+abbrev pub count_line : Drawing → List ℕ → Kind → List ℕ
+count_line p word kind = word ++ codes ": " ++ decimal (count_by (λ r. same_kind kind r.kind) p.list) ++ 10 ∷ []
+
+abbrev pub count_lines : Drawing → List ℕ
+count_lines p = count_line p (codes "nodes") Pno ++ count_line p (codes "arcs") Par ++ count_line p (codes "faces") Pfe
+    ++ count_line p (codes "objects") Fea ++ count_line p (codes "links") Lnk
+
+-- the least and the greatest of some coordinates, behind a word
+abbrev pub span_line : List ℕ → Span → List ℕ
+span_line word span = word ++ codes ": " ++ plain_text span.least ++ codes " to " ++ plain_text span.greatest ++ 10 ∷ []
+
+abbrev pub extent_lines : Option Extent → List ℕ
+extent_lines (Some extent) = span_line (codes "x") extent.x ++ span_line (codes "y") extent.y
+extent_lines None = []
+
+-- the character set, or that there is none
+abbrev pub charset_line : Option (List ℕ) → List ℕ
+charset_line (Some charset) = worded_line (codes "character set: ") charset
+charset_line None = worded_line (codes "character set: ") (codes "none")
+
+-- The lines on an accepted sheet: its records by type, its extent where it has points, and its character set.
+abbrev pub DescribesPlan : Drawing → List ℕ → Type 0
+DescribesPlan p lines = (extent : Option Extent) × IsExtentIfAny (points_of p) extent × (lines ≡ count_lines p ++ extent_lines extent ++ charset_line p.cse)
+
+-- the reason of a rule, what usually breaks it, and what to do
+abbrev pub reason_lines : RuleText → List ℕ
+reason_lines text = worded_line (codes "Why: ") text.reason.now ++ worded_line (codes "Usual cause: ") text.cause.now ++ worded_line (codes "What to do: ") text.remedy.now
+
+-- the page on a rule: its number and its sentence, and those lines
+abbrev pub rule_page : RuleText → List ℕ
+rule_page text = decimal text.rule ++ worded_line (codes ": ") text.sentence.now ++ reason_lines text
+
+-- a word is the number of a rule, as it is usually written
+abbrev pub IsRuleWord : List ℕ → ℕ → Type 0
+IsRuleWord word rule = (word ≡ decimal rule) × (is_among rules rule ≡ true)

@@ -1,0 +1,53 @@
+-- The lines that say where something is refused and why.
+use Rattle.std.specs.Prelude.{◌++◌, ◌==◌, ℕ, List, [], ◌∷◌, Option, Some, None, codes, decimal, if◌then◌else◌}
+use Rattle.edi_explain.specs.declared.refused.Refused.{Refused}
+use Rattle.edi_explain.specs.declared.site.RecordSite.{RecordSite}
+use Rattle.edi_explain.specs.declared.text.RuleText.{RuleText}
+
+-- FILE:LINE:, and a space
+abbrev pub position_text : List ℕ → ℕ → List ℕ
+position_text name line = name ++ codes ":" ++ decimal line ++ codes ": "
+
+-- [RULE] behind a space, and the end of the line
+abbrev pub rule_mark : ℕ → List ℕ
+rule_mark rule = codes " [" ++ decimal rule ++ codes "]" ++ 10 ∷ []
+
+-- FILE:LINE: sentence [RULE]
+abbrev pub line_line : List ℕ → ℕ → List ℕ → ℕ → List ℕ
+line_line name line sentence rule = position_text name line ++ sentence ++ rule_mark rule
+
+-- an identifier behind a space, where there is one
+abbrev pub identifier_text : Option (List ℕ) → List ℕ
+identifier_text (Some rid) = codes " " ++ rid
+identifier_text None = []
+
+-- FILE:LINE: TYPE IDENTIFIER: sentence [RULE]
+abbrev pub record_line : List ℕ → RecordSite → List ℕ → ℕ → List ℕ
+record_line name site sentence rule =
+    position_text name site.line ++ site.rty ++ identifier_text site.rid ++ codes ": " ++ sentence ++ rule_mark rule
+
+-- that line of a record, where there is one
+abbrev pub line_of_site : List ℕ → Option RecordSite → List ℕ → ℕ → List ℕ
+line_of_site name (Some site) sentence rule = record_line name site sentence rule
+line_of_site name None sentence rule = []
+
+-- FILE: sentence [RULE]
+abbrev pub file_line : List ℕ → List ℕ → ℕ → List ℕ
+file_line name sentence rule = name ++ codes ": " ++ sentence ++ rule_mark rule
+
+-- the sentence of a rule
+abbrev pub sentence_of : Option RuleText → List ℕ
+sentence_of (Some text) = text.sentence.now
+sentence_of None = []
+
+-- what is said of the earlier record that a rule speaks of
+abbrev pub earlier_sentence : ℕ → List ℕ
+earlier_sentence rule =
+    if rule == 304 then codes "the first link with an end"
+    else if rule == 403 then codes "the earlier node"
+    else if rule == 405 then codes "the earlier arc"
+    else codes "the earlier record"
+
+-- the line of a refused record, and that of the earlier one
+abbrev pub lines_of_sites : List ℕ → Refused → List ℕ → ℕ → List ℕ
+lines_of_sites name sites sentence rule = line_of_site name sites.here sentence rule ++ line_of_site name sites.earlier (earlier_sentence rule) rule

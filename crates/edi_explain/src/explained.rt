@@ -1,0 +1,213 @@
+//! What is said of a refusal, of a plan and of a rule.
+
+ghost use Rattle.std.specs.Prelude.{◌≡◌, ◌↔◌, ◌++◌, ◌∷◌, [], ℕ, Option, IsTrue, IfOk, MatchOption, OnOk, codes, decimal, option_copied};
+ghost use Rattle.edi_schema.specs.Roles.{KindCodes};
+ghost use Rattle.edi_schema.specs.SchemaRefusal.{IsSchemaRefusal};
+ghost use Rattle.edi_compare.specs.Refused.{IsRefusal};
+ghost use Rattle.edi_explain.specs.Explained.{DescribesPlan, ExplainsSchema, ExplainsSheet, IsRuleWord, charset_line, count_line, count_lines, extent_lines, of_source, reason_lines, rule_page, span_line, worded_line};
+ghost use Rattle.edi_explain.specs.Lines.{sentence_of};
+ghost use Rattle.edi_explain.specs.Rules.{IsTextIfAny, rules};
+ghost use Rattle.edi_explain.specs.declared.text.RuleText.{RuleText as Texts};
+
+use crate::counts::count_of;
+use crate::extent::{Extent, Span, extent_of};
+use crate::lines::{line_of_file, line_of_line, lines_of_refused, push_number};
+use crate::refused::{refused_record, refused_row};
+use crate::text::{RuleText, rule_text};
+use edi_compare::Fault;
+use edi_plan::Plan;
+use edi_record::Kind;
+use edi_schema::{Schema, SchemaFault, Source};
+use itoa::Buffer;
+use std::alloc::{AllocError, Global};
+
+/// A file of a schema, and its name in lines.
+#[derive(Clone, Copy, Debug)]
+pub struct NamedFile<'a> {
+    pub name: &'a [u8],
+    pub bytes: &'a [u8],
+}
+
+/// The sentence of a rule.
+fn sentence_for(rule: u16) -> &'static str
+    ensures { (text : Option Texts) × IsTextIfAny rules rule text × (result.now ≡ sentence_of text) }
+{
+    match rule_text(rule) {
+        Some(text) => text.sentence,
+        None => "",
+    }
+}
+
+/// The lines that explain the refusal of a sheet, whose file has this name: where the broken line or record is,
+/// with the sentence of the rule; and the earlier record that the rule speaks of.
+pub fn explain_sheet(
+    alloc: Global,
+    schema: &Schema,
+    bytes: &[u8],
+    name: &[u8],
+    fault: &Fault,
+) -> Result<Vec<u8>, AllocError>
+    requires { IsRefusal schema.now bytes.now fault.now }
+    ensures { IfOk result (λ lines. ExplainsSheet schema.now bytes.now name.now fault.now lines.items) }
+{
+    match fault {
+        Fault::Memory(error) => Err(*error),
+        Fault::Line { rule, at } => line_of_line(alloc, name, *at, sentence_for(*rule), *rule),
+        Fault::Entry { rule, at } => {
+            let sites = refused_record(alloc, schema, bytes, *rule, *at)?;
+            lines_of_refused(alloc, name, &sites, sentence_for(*rule), *rule)
+        }
+    }
+}
+
+/// The one of two files that a fault is of.
+fn file_of<'a>(file: Source, scd: &NamedFile<'a>, dic: &NamedFile<'a>) -> NamedFile<'a>
+    ensures name { result.name.now ≡ of_source file scd.now.name.now dic.now.name.now }
+    ensures bytes { result.bytes.now ≡ of_source file scd.now.bytes.now dic.now.bytes.now }
+{
+    match file {
+        Source::Scd => *scd,
+        Source::Dic => *dic,
+    }
+}
+
+/// The lines that explain the refusal of a schema, in the same form; rule 604 has a line without a number.
+pub fn explain_schema(
+    alloc: Global,
+    scd: &NamedFile<'_>,
+    dic: &NamedFile<'_>,
+    fault: &SchemaFault,
+) -> Result<Vec<u8>, AllocError>
+    requires { (kinds : KindCodes) × IsSchemaRefusal scd.now.bytes.now dic.now.bytes.now kinds fault.now }
+    ensures { IfOk result (λ lines. ExplainsSchema scd.now.bytes.now dic.now.bytes.now scd.now.name.now dic.now.name.now fault.now lines.items) }
+{
+    match fault {
+        SchemaFault::Memory(error) => Err(*error),
+        SchemaFault::Line { file, rule, at } => {
+            let name = file_of(*file, scd, dic).name;
+            line_of_line(alloc, name, *at, sentence_for(*rule), *rule)
+        }
+        SchemaFault::Entry { file, rule, at } => {
+            let refused = file_of(*file, scd, dic);
+            let sites = refused_row(alloc, refused.bytes, *rule, *at)?;
+            lines_of_refused(alloc, refused.name, &sites, sentence_for(*rule), *rule)
+        }
+        SchemaFault::Kinds => line_of_file(alloc, scd.name, sentence_for(604), 604),
+    }
+}
+
+/// Appends words and a sentence, as a line.
+fn push_line(text: &mut Vec<u8>, words: &[u8], sentence: &[u8]) -> Result<(), AllocError>
+    ensures { OnOk result (text.new.items ≡ text.old.items ++ worded_line words.now sentence.now) }
+{
+    text.extend_from_slice(words)?;
+    text.extend_from_slice(sentence)?;
+    text.extend_from_slice(b"\n")
+}
+
+/// Appends how many records of a type there are, behind a word.
+fn push_count(text: &mut Vec<u8>, plan: &Plan, word: &[u8], kind: Kind) -> Result<(), AllocError>
+    ensures { OnOk result (text.new.items ≡ text.old.items ++ count_line plan.now word.now kind) }
+{
+    text.extend_from_slice(word)?;
+    text.extend_from_slice(b": ")?;
+    push_number(text, count_of(plan, kind) as u64)?;
+    text.extend_from_slice(b"\n")
+}
+
+/// Appends how many records of each type there are.
+fn push_counts(text: &mut Vec<u8>, plan: &Plan) -> Result<(), AllocError>
+    ensures { OnOk result (text.new.items ≡ text.old.items ++ count_lines plan.now) }
+{
+    push_count(text, plan, b"nodes", Kind::Pno)?;
+    push_count(text, plan, b"arcs", Kind::Par)?;
+    push_count(text, plan, b"faces", Kind::Pfe)?;
+    push_count(text, plan, b"objects", Kind::Fea)?;
+    push_count(text, plan, b"links", Kind::Lnk)
+}
+
+/// Appends the least and the greatest of some coordinates, behind a word.
+fn push_span(text: &mut Vec<u8>, word: &[u8], span: &Span) -> Result<(), AllocError>
+    ensures { OnOk result (text.new.items ≡ text.old.items ++ span_line word.now span.now) }
+{
+    text.extend_from_slice(word)?;
+    text.extend_from_slice(b": ")?;
+    span.least.push_plain(text)?;
+    text.extend_from_slice(b" to ")?;
+    span.greatest.push_plain(text)?;
+    text.extend_from_slice(b"\n")
+}
+
+/// Appends the least and the greatest coordinates, where there are any.
+fn push_extent(text: &mut Vec<u8>, extent: &Option<Extent>) -> Result<(), AllocError>
+    ensures { OnOk result (text.new.items ≡ text.old.items ++ extent_lines extent.now) }
+{
+    let Some(extent) = extent else {
+        return Ok(());
+    };
+    push_span(text, b"x", &extent.x)?;
+    push_span(text, b"y", &extent.y)
+}
+
+/// Appends the character set.
+fn push_charset(text: &mut Vec<u8>, charset: Option<&[u8]>) -> Result<(), AllocError>
+    ensures { OnOk result (text.new.items ≡ text.old.items ++ charset_line (option_copied charset.entry)) }
+{
+    match charset {
+        Some(charset) => push_line(text, b"character set: ", charset),
+        None => push_line(text, b"character set: ", b"none"),
+    }
+}
+
+/// The lines on an accepted sheet: its records by type, its least and greatest coordinates, its character set.
+pub fn describe_plan(alloc: Global, plan: &Plan) -> Result<Vec<u8>, AllocError>
+    ensures { IfOk result (λ lines. DescribesPlan plan.now lines.items) }
+{
+    let mut text = Vec::new(alloc);
+    push_counts(&mut text, plan)?;
+    push_extent(&mut text, &extent_of(plan))?;
+    push_charset(&mut text, plan.cse())?;
+    Ok(text)
+}
+
+/// Whether a word is a number, as it is usually written.
+fn spells(word: &str, number: u16) -> bool
+    ensures { IsTrue result ↔ (word.now ≡ decimal number) }
+{
+    let mut digits = Buffer::new();
+    digits.format(number) == word
+}
+
+/// The text of the rule whose number a word is, in its usual spelling.
+pub fn rule_of_word(word: &str) -> Option<RuleText>
+    ensures { MatchOption result ((rule : ℕ) → ¬ (IsRuleWord word.now rule)) (λ text. IsRuleWord word.now text.rule) }
+{
+    let Ok(rule) = word.parse::<u16>() else {
+        return None;
+    };
+    if spells(word, rule) {
+        rule_text(rule)
+    } else {
+        None
+    }
+}
+
+/// Appends why there is a rule, what usually breaks it, and what to do.
+fn push_reasons(page: &mut Vec<u8>, text: &RuleText) -> Result<(), AllocError>
+    ensures { OnOk result (page.new.items ≡ page.old.items ++ reason_lines text.now) }
+{
+    push_line(page, b"Why: ", text.reason.as_bytes())?;
+    push_line(page, b"Usual cause: ", text.cause.as_bytes())?;
+    push_line(page, b"What to do: ", text.remedy.as_bytes())
+}
+
+/// The page on a rule: its sentence, why there is such a rule, what usually breaks it, and what to do.
+pub fn page_of(alloc: Global, text: &RuleText) -> Result<Vec<u8>, AllocError>
+    ensures { IfOk result (λ page. page.items ≡ rule_page text.now) }
+{
+    let mut page = Vec::new(alloc);
+    push_number(&mut page, u64::from(text.rule))?;
+    push_line(&mut page, b": ", text.sentence.as_bytes())?;
+    push_reasons(&mut page, text)?;
+    Ok(page)
+}

@@ -1,0 +1,146 @@
+//! Lines that say where something is refused and why.
+
+ghost use Rattle.std.specs.Prelude.{◌≡◌, ◌++◌, IfOk, OnOk, decimal};
+ghost use Rattle.edi_explain.specs.Lines.{earlier_sentence, file_line, identifier_text, line_line, line_of_site, lines_of_sites, position_text, record_line, rule_mark};
+
+use crate::refused::Refused;
+use crate::site::RecordSite;
+use itoa::Buffer;
+use std::alloc::{AllocError, Global};
+
+/// Appends the decimal digits of a number.
+pub(crate) fn push_number(text: &mut Vec<u8>, number: u64) -> Result<(), AllocError>
+    ensures { OnOk result (text.new.items ≡ text.old.items ++ decimal number) }
+{
+    let mut digits = Buffer::new();
+    text.extend_from_slice(digits.format(number).as_bytes())
+}
+
+/// Appends a file's name and a line's number.
+fn push_position(text: &mut Vec<u8>, name: &[u8], line: u64) -> Result<(), AllocError>
+    ensures { OnOk result (text.new.items ≡ text.old.items ++ position_text name.now line) }
+{
+    text.extend_from_slice(name)?;
+    text.push(b':')?;
+    push_number(text, line)?;
+    text.extend_from_slice(b": ")
+}
+
+/// Appends a sentence, the number of its rule, and the end of the line.
+fn push_sentence(text: &mut Vec<u8>, sentence: &str, rule: u16) -> Result<(), AllocError>
+    ensures { OnOk result (text.new.items ≡ text.old.items ++ (sentence.now ++ rule_mark rule)) }
+{
+    text.extend_from_slice(sentence.as_bytes())?;
+    text.extend_from_slice(b" [")?;
+    push_number(text, u64::from(rule))?;
+    text.extend_from_slice(b"]\n")
+}
+
+/// The line of a file with the sentence of the rule that it breaks.
+pub(crate) fn line_of_line(
+    alloc: Global,
+    name: &[u8],
+    line: u64,
+    sentence: &str,
+    rule: u16,
+) -> Result<Vec<u8>, AllocError>
+    ensures { IfOk result (λ text. text.items ≡ line_line name.now line sentence.now rule) }
+{
+    let mut text = Vec::new(alloc);
+    push_position(&mut text, name, line)?;
+    push_sentence(&mut text, sentence, rule)?;
+    Ok(text)
+}
+
+/// A file with the sentence of the rule that it breaks.
+pub(crate) fn line_of_file(
+    alloc: Global,
+    name: &[u8],
+    sentence: &str,
+    rule: u16,
+) -> Result<Vec<u8>, AllocError>
+    ensures { IfOk result (λ text. text.items ≡ file_line name.now sentence.now rule) }
+{
+    let mut text = Vec::from_slice(alloc, name)?;
+    text.extend_from_slice(b": ")?;
+    push_sentence(&mut text, sentence, rule)?;
+    Ok(text)
+}
+
+/// Appends the line of a record.
+fn push_record(
+    text: &mut Vec<u8>,
+    name: &[u8],
+    site: &RecordSite,
+    sentence: &str,
+    rule: u16,
+) -> Result<(), AllocError>
+    ensures { OnOk result (text.new.items ≡ text.old.items ++ record_line name.now site.now sentence.now rule) }
+{
+    push_position(text, name, site.line)?;
+    text.extend_from_slice(site.rty.as_slice())?;
+    push_identifier(text, site)?;
+    text.extend_from_slice(b": ")?;
+    push_sentence(text, sentence, rule)
+}
+
+/// Appends the identifier of a record behind a space, if it has one.
+fn push_identifier(text: &mut Vec<u8>, site: &RecordSite) -> Result<(), AllocError>
+    ensures { OnOk result (text.new.items ≡ text.old.items ++ identifier_text site.now.rid) }
+{
+    let Some(rid) = &site.rid else {
+        return Ok(());
+    };
+    text.push(b' ')?;
+    text.extend_from_slice(rid.as_slice())
+}
+
+/// Appends the line of a record, if there is one.
+fn push_site(
+    text: &mut Vec<u8>,
+    name: &[u8],
+    site: &Option<RecordSite>,
+    sentence: &str,
+    rule: u16,
+) -> Result<(), AllocError>
+    ensures { OnOk result (text.new.items ≡ text.old.items ++ line_of_site name.now site.now sentence.now rule) }
+{
+    match site {
+        Some(site) => push_record(text, name, site, sentence, rule),
+        None => Ok(()),
+    }
+}
+
+/// What is said of the earlier record that a rule speaks of.
+fn sentence_of_earlier(rule: u16) -> &'static str
+    ensures { result.now ≡ earlier_sentence rule }
+{
+    match rule {
+        304 => "the first link with an end",
+        403 => "the earlier node",
+        405 => "the earlier arc",
+        _ => "the earlier record",
+    }
+}
+
+/// The line of a refused record, and that of the earlier one, where there is one.
+pub(crate) fn lines_of_refused(
+    alloc: Global,
+    name: &[u8],
+    sites: &Refused,
+    sentence: &str,
+    rule: u16,
+) -> Result<Vec<u8>, AllocError>
+    ensures { IfOk result (λ text. text.items ≡ lines_of_sites name.now sites.now sentence.now rule) }
+{
+    let mut text = Vec::new(alloc);
+    push_site(&mut text, name, &sites.here, sentence, rule)?;
+    push_site(
+        &mut text,
+        name,
+        &sites.earlier,
+        sentence_of_earlier(rule),
+        rule,
+    )?;
+    Ok(text)
+}

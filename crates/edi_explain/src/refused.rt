@@ -1,0 +1,242 @@
+//! The record that a refusal names, and the earlier one that its rule speaks of.
+
+ghost use Rattle.std.specs.Prelude.{◌≡◌, ◌≢◌, ◌⊎◌, ◌-◌, ◌<◌, ℕ, List, Option, IfOk, length};
+ghost use Rattle.edi_line.specs.Entry.{Entry, entries};
+ghost use Rattle.edi_line.specs.LineRules.{BreaksLineRule, IsZonesOf};
+ghost use Rattle.edi_line.specs.Refusal.{IsUnbroken};
+ghost use Rattle.edi_compare.specs.PlanOfFile.{IsPlanOfFile, IsSheetOf};
+ghost use Rattle.edi_compare.specs.Refused.{IsRefusal};
+ghost use Rattle.edi_compare.specs.Rules.{RecordsHold, ReferencesHold};
+ghost use Rattle.edi_compare.specs.declared.fault.Fault.TheVariants.{Entry as AtRecord};
+ghost use Rattle.edi_explain.specs.Partners.{HasEnd, IsAlikeNode, IsLeastIfAny, SharesName, SharesPoints};
+ghost use Rattle.edi_explain.specs.Refusals.{AreSites, IsEarlierIfAny, IsEarlierRowIfAny, IsRefusedAt, IsRowRefusedAt, IsSiteAtIfAny};
+
+use crate::partner::{alike_node, first_link, namesake, same_arc};
+use crate::rows::row_namesake;
+use crate::site::{RecordSite, site_among, site_at};
+use edi_line::{LineFault, Zone, zones};
+use edi_plan::{Plan, RefFault};
+use edi_record::{Record, RecordFault, Sheet, SheetFault, read_sheet};
+use edi_schema::Schema;
+use std::alloc::{AllocError, Global};
+
+/// Where the record of a refusal stands, and the earlier record that its rule speaks of.
+#[derive(Debug, Drop)]
+pub struct Refused {
+    pub here: Option<RecordSite>,
+    pub earlier: Option<RecordSite>,
+}
+
+/// The zones of a file that breaks no rule of lines.
+fn zones_of<'a>(alloc: Global, bytes: &'a [u8]) -> Result<Vec<Zone<'a>>, AllocError>
+    requires { IsUnbroken (BreaksLineRule bytes.now) }
+    ensures { IfOk result (λ found. IsZonesOf bytes.now (entries found.items)) }
+{
+    match zones(alloc, bytes) {
+        Ok(found) => Ok(found),
+        Err(LineFault::Memory(error)) => Err(error),
+        Err(LineFault::Broken { .. }) => unreachable!(),
+    }
+}
+
+/// The records of a file that breaks no rule of lines or records.
+fn sheet_of(alloc: Global, schema: &Schema, bytes: &[u8]) -> Result<Sheet, AllocError>
+    requires { RecordsHold schema.now bytes.now }
+    ensures { IfOk result (IsSheetOf bytes.now) }
+{
+    let _ = schema;
+    match read_sheet(alloc, bytes) {
+        Ok(sheet) => Ok(sheet),
+        Err(SheetFault::Line(LineFault::Memory(error))) => Err(error),
+        Err(SheetFault::Record(RecordFault::Memory(error))) => Err(error),
+        Err(SheetFault::Line(LineFault::Broken { .. })) => unreachable!(),
+        Err(SheetFault::Record(RecordFault::Broken { .. })) => unreachable!(),
+    }
+}
+
+/// The plan of a file that breaks no rule of lines, records or references.
+fn plan_of(alloc: Global, schema: &Schema, bytes: &[u8]) -> Result<Plan, AllocError>
+    requires { ReferencesHold schema.now bytes.now }
+    ensures { IfOk result (IsPlanOfFile schema.now bytes.now) }
+{
+    let sheet = sheet_of(alloc, schema, bytes)?;
+    match Plan::build(alloc, schema, sheet) {
+        Ok(plan) => Ok(plan),
+        Err(RefFault::Memory(error)) => Err(error),
+        Err(RefFault::Broken { .. }) => unreachable!(),
+    }
+}
+
+/// The first record with the name of the one at a place, if it comes before that one.
+fn namesake_before(records: &[Record], place: u64) -> Option<u64>
+    ensures { IsLeastIfAny (SharesName records.now place) result }
+{
+    if place >= records.len() as u64 {
+        return None;
+    }
+    match namesake(records, place as usize) {
+        Some(earlier) => Some(earlier as u64),
+        None => None,
+    }
+}
+
+/// The record with the first end of all links, if it comes before the one at a place.
+fn link_before(records: &[Record], place: u64) -> Option<u64>
+    ensures { IsLeastIfAny (HasEnd records.now place) result }
+{
+    if place >= records.len() as u64 {
+        return None;
+    }
+    match first_link(records, place as usize) {
+        Some(earlier) => Some(earlier as u64),
+        None => None,
+    }
+}
+
+/// The first node alike the one at a place, if it comes before that one.
+fn node_before(alloc: Global, plan: &Plan, place: u64) -> Result<Option<u64>, AllocError>
+    ensures { IfOk result (IsLeastIfAny (IsAlikeNode plan.now place)) }
+{
+    if place >= u64::from(plan.len()) {
+        return Ok(None);
+    }
+    match alike_node(alloc, plan, place as u32)? {
+        Some(earlier) => Ok(Some(u64::from(earlier))),
+        None => Ok(None),
+    }
+}
+
+/// The first arc with the points of the one at a place, if it comes before that one.
+fn arc_before(plan: &Plan, place: u64) -> Option<u64>
+    ensures { IsLeastIfAny (SharesPoints plan.now place) result }
+{
+    if place >= u64::from(plan.len()) {
+        return None;
+    }
+    match same_arc(plan, place as u32) {
+        Some(earlier) => Some(u64::from(earlier)),
+        None => None,
+    }
+}
+
+/// The earlier record that a rule of references speaks of, by its name or by its subset.
+fn earlier_in_sheet(
+    alloc: Global,
+    schema: &Schema,
+    bytes: &[u8],
+    rule: u16,
+    place: u64,
+) -> Result<Option<u64>, AllocError>
+    requires holds { RecordsHold schema.now bytes.now }
+    requires rule { (rule ≡ 301) ⊎ (rule ≡ 304) }
+    ensures { IfOk result (IsEarlierIfAny schema.now bytes.now rule place) }
+{
+    let sheet = sheet_of(alloc, schema, bytes)?;
+    let records = sheet.list.as_slice();
+    if rule == 301 {
+        Ok(namesake_before(records, place))
+    } else {
+        Ok(link_before(records, place))
+    }
+}
+
+/// The earlier record that a rule of topology speaks of: an alike node, or the same arc.
+fn earlier_in_plan(
+    alloc: Global,
+    schema: &Schema,
+    bytes: &[u8],
+    rule: u16,
+    place: u64,
+) -> Result<Option<u64>, AllocError>
+    requires holds { ReferencesHold schema.now bytes.now }
+    requires rule { (rule ≡ 403) ⊎ (rule ≡ 405) }
+    ensures { IfOk result (IsEarlierIfAny schema.now bytes.now rule place) }
+{
+    let plan = plan_of(alloc, schema, bytes)?;
+    if rule == 403 {
+        node_before(alloc, &plan, place)
+    } else {
+        Ok(arc_before(&plan, place))
+    }
+}
+
+/// The place of the earlier record that the rule of a refusal speaks of, counted from 0; `None` where the
+/// rule speaks of none. It is the least that breaks the rule with the refused record: 301, 304, 403, 405.
+pub fn earlier_record(
+    alloc: Global,
+    schema: &Schema,
+    bytes: &[u8],
+    rule: u16,
+    number: u64,
+) -> Result<Option<u64>, AllocError>
+    requires { IsRefusal schema.now bytes.now (AtRecord rule number) }
+    ensures { IfOk result (IsEarlierIfAny schema.now bytes.now rule (number - 1)) }
+{
+    let place = number.saturating_sub(1);
+    match rule {
+        301 | 304 => earlier_in_sheet(alloc, schema, bytes, rule, place),
+        403 | 405 => earlier_in_plan(alloc, schema, bytes, rule, place),
+        _ => Ok(None),
+    }
+}
+
+/// The sites of the record with a number and of the one at an earlier place, if there is one.
+fn sites_among(
+    alloc: Global,
+    zones: &[Zone<'_>],
+    number: u64,
+    earlier: Option<u64>,
+) -> Result<Refused, AllocError>
+    ensures { IfOk result (AreSites (entries zones.now) number earlier) }
+{
+    let earlier = match earlier {
+        Some(place) => site_at(alloc, zones, place)?,
+        None => None,
+    };
+    Ok(Refused {
+        here: site_among(alloc, zones, number)?,
+        earlier,
+    })
+}
+
+/// Where the record of a refusal stands, and the earlier record that its rule speaks of.
+pub fn refused_record(
+    alloc: Global,
+    schema: &Schema,
+    bytes: &[u8],
+    rule: u16,
+    number: u64,
+) -> Result<Refused, AllocError>
+    requires { IsRefusal schema.now bytes.now (AtRecord rule number) }
+    ensures { IfOk result (IsRefusedAt schema.now bytes.now rule number) }
+{
+    let earlier = earlier_record(alloc, schema, bytes, rule, number)?;
+    let zones = zones_of(alloc, bytes)?;
+    sites_among(alloc, &zones, number, earlier)
+}
+
+/// The place of the earlier record of a schema's file that rule 602 speaks of.
+fn earlier_row(zones: &[Zone<'_>], rule: u16, place: u64) -> Option<u64>
+    ensures { IsEarlierRowIfAny (entries zones.now) rule place result }
+{
+    if rule == 602 {
+        row_namesake(zones, place)
+    } else {
+        None
+    }
+}
+
+/// Where the record of a refusal in a schema's file stands, and the earlier one with its name for rule 602.
+pub fn refused_row(
+    alloc: Global,
+    bytes: &[u8],
+    rule: u16,
+    number: u64,
+) -> Result<Refused, AllocError>
+    requires { IsUnbroken (BreaksLineRule bytes.now) }
+    ensures { IfOk result (IsRowRefusedAt bytes.now rule number) }
+{
+    let zones = zones_of(alloc, bytes)?;
+    let earlier = earlier_row(&zones, rule, number.saturating_sub(1));
+    sites_among(alloc, &zones, number, earlier)
+}

@@ -1,0 +1,53 @@
+-- What is said of a sheet, from what its parts say.
+use Rattle.std.proofs.Common.{◌≡◌, ◌++◌, ℕ, Bool, true, false, List, [], Option, Some, None, IfSome, codes, sym, subst, inl, inr}
+use Rattle.std.specs.Bool.{MatchBool}
+use Rattle.edi_schema.specs.Classes.{Classes}
+use Rattle.edi_schema.specs.Roles.{KindCodes}
+use Rattle.edi_schema.specs.SchemaRefusal.{IsGoodSchema, IsSchemaRefusal}
+use Rattle.edi_schema.specs.declared.fault.SchemaFault.{SchemaFault}
+use Rattle.edi_plan.specs.Plans.{Drawing}
+use Rattle.edi_compare.specs.PlanOfFile.{IsPlanOfFile}
+use Rattle.edi_compare.specs.Refused.{IsProper, IsRefusal}
+use Rattle.edi_compare.specs.Rules.{IsAccepted}
+use Rattle.edi_compare.specs.Runs.{IsProperSchemaFault, Told}
+use Rattle.edi_compare.specs.declared.fault.Fault.{Fault}
+use Rattle.edi_explain.specs.Explained.{DescribesPlan, ExplainsSchema, ExplainsSheet}
+use Rattle.edi_words.specs.declared.words.SheetFiles.{SheetFiles}
+use Rattle.edicad.specs.Explains.{TellsAccepted, TellsRefusal}
+use Rattle.edicad.specs.Outcome.{ended, schema_text, sheet_text}
+use Rattle.edicad.specs.Statuses.{input_name}
+
+module _ (kinds : KindCodes) (files : SheetFiles) (scd dic b : List ℕ) (said : Bool) (text : List ℕ) where
+  abbrev pub Tells : Type 0
+  Tells = MatchBool said (TellsAccepted kinds scd dic b text) (TellsRefusal kinds files scd dic b text)
+
+  yes : said ≡ true → TellsAccepted kinds scd dic b text → Tells
+  yes e h = subst (λ (a : Bool). MatchBool a (TellsAccepted kinds scd dic b text) (TellsRefusal kinds files scd dic b text)) (sym e) h
+
+  no : said ≡ false → TellsRefusal kinds files scd dic b text → Tells
+  no e h = subst (λ (a : Bool). MatchBool a (TellsAccepted kinds scd dic b text) (TellsRefusal kinds files scd dic b text)) (sym e) h
+
+  module _ (s : Classes) (good : IsGoodSchema scd dic kinds s) where
+    pub accepted_said : (p : Drawing) → IsAccepted s b → IsPlanOfFile s b p
+        → (said ≡ true) × ((lines : List ℕ) × DescribesPlan p lines × (text ≡ ended (codes "accepted") ++ lines)) → Tells
+    accepted_said p accepted plan h = yes h.0 (s, p, h.1.0, good, accepted, plan, h.1.1, h.1.2)
+
+    pub sheet_said : (f : Fault) (name : List ℕ) → name ≡ input_name files.vec.now → IsRefusal s b f
+        → (said ≡ false) × IsProper f × ((lines : List ℕ) × ExplainsSheet s b name f lines × (text ≡ ended (sheet_text [] f) ++ lines)) → Tells
+    sheet_said f name is refusal h =
+        no h.0 (inr (f, s, h.2.0, good, h.1, refusal, subst (λ (n : List ℕ). ExplainsSheet s b n f h.2.0) is h.2.1, h.2.2))
+
+  pub schema_said : (f : SchemaFault) (x y : List ℕ) → x ≡ input_name files.scd.now → y ≡ input_name files.dic.now → IsSchemaRefusal scd dic kinds f
+      → (said ≡ false) × IsProperSchemaFault f × ((lines : List ℕ) × ExplainsSchema scd dic x y f lines × (text ≡ ended (schema_text f) ++ lines)) → Tells
+  schema_said f x y first second refusal h =
+      let named = subst (λ (m : List ℕ). ExplainsSchema scd dic (input_name files.scd.now) m f h.2.0) second
+      (subst (λ (n : List ℕ). ExplainsSchema scd dic n y f h.2.0) first h.2.1) in
+      no h.0 (inl (f, h.2.0, (h.1, refusal), named, h.2.2))
+
+-- a fact of the bytes that were read holds of what the inputs tell
+pub told_bytes : (a c e : Option (List ℕ)) (x y z : List ℕ) (P : List ℕ → List ℕ → List ℕ → Type 0) → IfSome a (λ t. x ≡ t) → IfSome c (λ t. y ≡ t) → IfSome e (λ t. z ≡ t)
+    → P x y z → Told a c e P
+told_bytes None c e x y z P f g h p = tt
+told_bytes (Some a) None e x y z P f g h p = tt
+told_bytes (Some a) (Some c) None x y z P f g h p = tt
+told_bytes (Some a) (Some c) (Some e) x y z P f g h p = subst (P a c) h (subst (λ (t : List ℕ). P a t z) g (subst (λ (t : List ℕ). P t y z) f p))

@@ -1,0 +1,71 @@
+use Rattle.std.proofs.Common.{◌∙◌, List, ℕ, subst, sym}
+use Rattle.std.proofs.lemmas.Result.{IfOk-weaker}
+use Rattle.edi_schema.specs.SchemaRefusal.{IsGoodSchema, IsSchemaRefusal}
+use Rattle.edi_compare.specs.PlanOfFile.{IsPlanOfFile}
+use Rattle.edi_compare.specs.Refused.{IsRefusal}
+use Rattle.edi_compare.specs.Rules.{IsAccepted}
+use Rattle.edi_explain.specs.Explained.{ExplainsSchema, ExplainsSheet}
+use Rattle.edicad.proofs.Explaining.{accepted_said, schema_said, sheet_said}
+use Rattle.edicad.proofs.explains.said_of.Goals as goal
+
+pub returns-in-Ok-accept : goal.returns-in-Ok-accept
+returns-in-Ok-accept c =
+    let kinds = c.args.kinds.now in
+    let bytes = c.args.bytes.now in
+    let s = c.in-Ok.schema in
+    let good = subst (λ (d : List ℕ). IsGoodSchema bytes.scd.items d kinds s) c.deref-2.ensures.value
+    (subst (λ (x : List ℕ). IsGoodSchema x c.deref-2.result.now kinds s) c.deref.ensures.value c.in-Ok.ensures.schema) in
+    let p = c.in-Ok-accept.accepted in
+    let accepted = subst (λ (b : List ℕ). IsAccepted s b) c.deref-in-Ok.ensures.value c.in-Ok-accept.ensures.accepted in
+    let plan = subst (λ (b : List ℕ). IsPlanOfFile s b p) c.deref-in-Ok.ensures.value c.in-Ok-accept.ensures.plan in
+    IfOk-weaker c.said_of_accepted.result _ _
+    (λ said h. accepted_said kinds c.args.files.now bytes.scd.items bytes.dic.items bytes.vec.items said.is_accepted said.text.items s good p accepted plan h)
+    c.said_of_accepted.ensures
+
+pub returns-in-Ok : goal.returns-in-Ok
+returns-in-Ok c =
+    let kinds = c.args.kinds.now in
+    let bytes = c.args.bytes.now in
+    let s = c.in-Ok.schema in
+    let good = subst (λ (d : List ℕ). IsGoodSchema bytes.scd.items d kinds s) c.deref-2.ensures.value
+    (subst (λ (x : List ℕ). IsGoodSchema x c.deref-2.result.now kinds s) c.deref.ensures.value c.in-Ok.ensures.schema) in
+    let f = c.in-Err-accept.fault in
+    let refusal = subst (λ (b : List ℕ). IsRefusal s b f) c.deref-in-Ok.ensures.value c.in-Err-accept.ensures.refusal in
+    IfOk-weaker c.said_of_sheet.result _ _
+    (λ said h. sheet_said kinds c.args.files.now bytes.scd.items bytes.dic.items bytes.vec.items said.is_accepted said.text.items s good f c.input_name.result.now
+    c.input_name.ensures refusal
+    (h.0, h.1, (h.2.0, subst (λ (b : List ℕ). ExplainsSheet s b c.input_name.result.now f h.2.0) c.deref-in-Err-accept.ensures.value h.2.1, h.2.2)))
+    c.said_of_sheet.ensures
+
+pub said_of_schema-requires : goal.said_of_schema-requires
+said_of_schema-requires c =
+    let bytes = c.args.bytes.now in
+    let kinds = c.args.kinds.now in
+    let f = c.in-Err.fault in (
+      kinds,
+      subst (λ (d : List ℕ). IsSchemaRefusal c.deref-in-Err.result.now d kinds f) (c.deref-2.ensures.value ∙ sym c.deref-in-Err-2.ensures.value)
+          (subst (λ (x : List ℕ). IsSchemaRefusal x c.deref-2.result.now kinds f) (c.deref.ensures.value ∙ sym c.deref-in-Err.ensures.value) c.in-Err.ensures.refusal),
+    )
+
+pub returns : goal.returns
+returns c =
+    let kinds = c.args.kinds.now in
+    let bytes = c.args.bytes.now in
+    let f = c.in-Err.fault in
+    let refusal = subst (λ (d : List ℕ). IsSchemaRefusal bytes.scd.items d kinds f) c.deref-2.ensures.value
+    (subst (λ (x : List ℕ). IsSchemaRefusal x c.deref-2.result.now kinds f) c.deref.ensures.value c.in-Err.ensures.refusal) in
+    let x = c.input_name-in-Err.result.now in
+    let y = c.input_name-in-Err-2.result.now in
+    IfOk-weaker c.said_of_schema.result _ _
+    (λ said h. schema_said kinds c.args.files.now bytes.scd.items bytes.dic.items bytes.vec.items said.is_accepted said.text.items f x y
+    c.input_name-in-Err.ensures c.input_name-in-Err-2.ensures refusal (
+      h.0,
+      h.1,
+      (
+        h.2.0,
+        subst (λ (d : List ℕ). ExplainsSchema bytes.scd.items d x y f h.2.0) c.deref-in-Err-2.ensures.value
+            (subst (λ (e : List ℕ). ExplainsSchema e c.deref-in-Err-2.result.now x y f h.2.0) c.deref-in-Err.ensures.value h.2.1),
+        h.2.2,
+      ),
+    ))
+    c.said_of_schema.ensures

@@ -1,0 +1,51 @@
+-- What is said of a sheet and of a rule.
+use Rattle.std.specs.Prelude.{◌≡◌, ◌⊎◌, ◌++◌, ℕ, List, [], IsTrue, codes}
+use Rattle.edi_schema.specs.Classes.{Classes}
+use Rattle.edi_schema.specs.Roles.{KindCodes}
+use Rattle.edi_schema.specs.SchemaRefusal.{IsGoodSchema}
+use Rattle.edi_schema.specs.declared.fault.SchemaFault.{SchemaFault}
+use Rattle.edi_plan.specs.Plans.{Drawing}
+use Rattle.edi_compare.specs.PlanOfFile.{IsPlanOfFile}
+use Rattle.edi_compare.specs.Refused.{IsProper, IsRefusal}
+use Rattle.edi_compare.specs.Rules.{IsAccepted}
+use Rattle.edi_compare.specs.Runs.{RefusesSchema, Seen}
+use Rattle.edi_compare.specs.declared.fault.Fault.{Fault}
+use Rattle.edi_explain.specs.Explained.{DescribesPlan, ExplainsSchema, ExplainsSheet, IsRuleWord, rule_page}
+use Rattle.edi_explain.specs.declared.text.RuleText.{RuleText}
+use Rattle.edi_words.specs.declared.words.SheetFiles.{SheetFiles}
+use Rattle.edicad.specs.Outcome.{ended, schema_text, sheet_text}
+use Rattle.edicad.specs.SheetRuns.{FileFault, Inputs, OfFiles}
+use Rattle.edicad.specs.Statuses.{AreTried, MeansStatus, Says, Warns, input_name, names_of}
+
+-- an accepted sheet: that it is accepted, and the lines on what it holds
+abbrev pub TellsAccepted : KindCodes → List ℕ → List ℕ → List ℕ → List ℕ → Type 0
+TellsAccepted kinds scd dic b text = (s : Classes) × (p : Drawing) × (lines : List ℕ) × IsGoodSchema scd dic kinds s × IsAccepted s b × IsPlanOfFile s b p
+    × DescribesPlan p lines × (text ≡ ended (codes "accepted") ++ lines)
+
+-- a refused schema: the line of a check, and the lines that explain the refusal
+abbrev pub TellsSchema : KindCodes → SheetFiles → List ℕ → List ℕ → List ℕ → Type 0
+TellsSchema kinds files scd dic text = (f : SchemaFault) × (lines : List ℕ) × RefusesSchema kinds scd dic f
+    × ExplainsSchema scd dic (input_name files.scd.now) (input_name files.dic.now) f lines × (text ≡ ended (schema_text f) ++ lines)
+
+-- the same of a refused sheet
+abbrev pub TellsSheet : KindCodes → SheetFiles → List ℕ → List ℕ → List ℕ → List ℕ → Type 0
+TellsSheet kinds files scd dic b text = (f : Fault) × (s : Classes) × (lines : List ℕ) × IsGoodSchema scd dic kinds s × IsProper f × IsRefusal s b f
+    × ExplainsSheet s b (input_name files.vec.now) f lines × (text ≡ ended (sheet_text [] f) ++ lines)
+
+-- either of them
+abbrev pub TellsRefusal : KindCodes → SheetFiles → List ℕ → List ℕ → List ℕ → List ℕ → Type 0
+TellsRefusal kinds files scd dic b text = TellsSchema kinds files scd dic text ⊎ TellsSheet kinds files scd dic b text
+
+-- The status of a run that explains a sheet, as that of a check; the output gets the check's line and what explains it.
+pub record IsExplainStatus (inputs : Inputs) (out err : Seen) (kinds : KindCodes) (files : SheetFiles) (s : ℕ) : Type 0 where
+  pub tried : AreTried inputs files
+  pub means : MeansStatus (OfFiles inputs files (λ scd dic b. (text : List ℕ) × TellsAccepted kinds scd dic b text × Says out text))
+      (OfFiles inputs files (λ scd dic b. (text : List ℕ) × TellsRefusal kinds files scd dic b text × Says out text))
+      (FileFault inputs kinds files (λ _. ⊥)) (names_of files (codes "standard output")) out err s
+
+-- The status of a run that explains a rule: 0 only where its page went out, 3 only where the word is no rule's number.
+pub record IsRuleStatus (out err : Seen) (word : List ℕ) (s : ℕ) : Type 0 where
+  pub done : s ≡ 0 → (text : RuleText) × IsRuleWord word text.rule × Says out (rule_page text)
+  pub unknown : s ≡ 3 → ((rule : ℕ) → ¬ IsRuleWord word rule) × Warns err (ended (codes "no rule has this number"))
+  pub failed : s ≡ 4 → IsTrue out.failed
+  pub memory : s ≡ 5 → Warns err (ended (codes "out of memory"))

@@ -1,0 +1,230 @@
+//! What is said of a sheet and of a rule.
+ghost use Rattle.std.specs.Prelude.{◌≡◌, ◌⊎◌, ◌++◌, ◌<◌, ℕ, List, [], false, true, IfErr, IfOk, IfSome, IsTrue, codes};
+ghost use Rattle.std.specs.Bool.{MatchBool};
+ghost use Rattle.std.specs.Io.KnownBytes.{Appends};
+ghost use Rattle.edi_schema.specs.Roles.{KindCodes};
+ghost use Rattle.edi_schema.specs.SchemaRefusal.{IsSchemaRefusal};
+ghost use Rattle.edi_compare.specs.Refused.{IsProper, IsRefusal};
+ghost use Rattle.edi_compare.specs.Runs.{IsProperSchemaFault, IsTooLong, MatchFault, seen};
+ghost use Rattle.edi_explain.specs.Explained.{DescribesPlan, ExplainsSchema, ExplainsSheet};
+ghost use Rattle.edicad.specs.Explains.{IsExplainStatus, IsRuleStatus, TellsAccepted, TellsRefusal};
+ghost use Rattle.edicad.specs.Outcome.{FaultHasNames, ended, schema_text, sheet_text, status_of_fault};
+ghost use Rattle.edicad.specs.SheetRuns.{FileFault, OfFiles, inputs_of};
+ghost use Rattle.edicad.specs.Statuses.{IsPageStatus, IsSheetStatus};
+
+use crate::folder::Folder;
+use crate::outcome::{Outcome, line_of_fault, line_of_schema};
+use crate::report;
+use crate::report::input_name;
+use crate::sheets::opened;
+use edi_compare::{Accepted, Fault, RunFault, accept};
+use edi_explain::{NamedFile, describe_plan, explain_schema, explain_sheet, page_of, rule_of_word};
+use edi_line::{ByteIn, ByteOut, ReadFault, read_all};
+use edi_schema::{Kinds, Schema, SchemaFault};
+use edi_words::SheetFiles;
+use edi_write::put_all;
+use std::alloc::{AllocError, Global};
+
+// How many bytes an input has at most.
+const MOST_BYTES: u64 = 4_294_967_296;
+
+const WRITE_STATUS: u8 = 4;
+
+const REFUSED_STATUS: u8 = 2;
+
+// What the three files of a sheet hold.
+#[derive(Drop)]
+struct SheetBytes {
+    scd: Vec<u8>,
+    dic: Vec<u8>,
+    vec: Vec<u8>,
+}
+
+// What is said of a sheet.
+#[derive(Drop)]
+struct Account {
+    is_accepted: bool,
+    text: Vec<u8>,
+}
+
+/// Says of a sheet what a check says, and then where and why it is refused, or what it holds. Gives the status of the
+/// check.
+pub fn explain<F: Folder, O: ByteOut, E: ByteOut>(
+    alloc: Global,
+    folder: &F,
+    kinds: &Kinds<'_>,
+    files: &SheetFiles<'_>,
+    out: &mut O,
+    err: &mut E,
+) -> u8
+    ensures status { IsSheetStatus result }
+    ensures answer { IsExplainStatus (inputs_of F.Reader (F.holds folder.now) (F.closed folder.now) (F.standard folder.now) F.Reader.has_failed) (seen (O.told out.old) (O.told out.new) (O.has_failed out.new)) (seen (E.told err.old) (E.told err.new) (E.has_failed err.new)) kinds.now files.now result }
+{
+    let names = [
+        input_name(files.scd),
+        input_name(files.dic),
+        input_name(files.vec),
+        b"standard output",
+    ];
+    match said(alloc, folder, kinds, files) {
+        Ok(said) => put_said(&said, out),
+        Err(fault) => report::told(alloc, out, err, &Outcome::Fault(fault), &names),
+    }
+}
+
+// Writes what is said, and gives the status.
+fn put_said<O: ByteOut>(said: &Account, out: &mut O) -> u8
+    ensures status { (result ≡ 4) ⊎ MatchBool said.now.is_accepted (result ≡ 0) (result ≡ 2) }
+    ensures written { result < 3 → Appends (O.told out.old) (O.told out.new) said.now.text.items }
+    ensures unwritten { result ≡ 4 → IsTrue (O.has_failed out.new) }
+{
+    if put_all(out, &said.text).is_err() {
+        return WRITE_STATUS;
+    }
+    if said.is_accepted { 0 } else { REFUSED_STATUS }
+}
+
+// What is said of the sheet of three files. All are opened before the first is read.
+fn said<F: Folder>(
+    alloc: Global,
+    folder: &F,
+    kinds: &Kinds<'_>,
+    files: &SheetFiles<'_>,
+) -> Result<Account, RunFault>
+    ensures ok { IfOk result (λ said. OfFiles (inputs_of F.Reader (F.holds folder.now) (F.closed folder.now) (F.standard folder.now) F.Reader.has_failed) files.now
+        (λ s d v. MatchBool said.is_accepted (TellsAccepted kinds.now s d v said.text.items) (TellsRefusal kinds.now files.now s d v said.text.items))) }
+    ensures err { IfErr result (FileFault (inputs_of F.Reader (F.holds folder.now) (F.closed folder.now) (F.standard folder.now) F.Reader.has_failed) kinds.now files.now (λ _. ⊥)) }
+    ensures names { IfErr result (λ e. FaultHasNames e 4) }
+    ensures unrefused { IfErr result (λ e. 2 < status_of_fault e) }
+{
+    let mut scd = opened(folder, files.scd, 1)?;
+    let mut dic = opened(folder, files.dic, 2)?;
+    let mut vec = opened(folder, files.vec, 3)?;
+    let scd = whole(alloc, &mut scd, 1)?;
+    let dic = whole(alloc, &mut dic, 2)?;
+    let vec = whole(alloc, &mut vec, 3)?;
+    match said_of(alloc, kinds, files, &SheetBytes { scd, dic, vec }) {
+        Ok(said) => Ok(said),
+        Err(error) => Err(RunFault::Memory(error)),
+    }
+}
+
+// All bytes of the input of this number.
+fn whole<R: ByteIn>(alloc: Global, reader: &mut R, input: u8) -> Result<Vec<u8>, RunFault>
+    ensures all { IfOk result (λ bytes. IfSome (R.told reader.old) (λ told. bytes.items ≡ told)) }
+    ensures err { IfErr result (λ e. MatchFault e (λ n. (n ≡ input) × IsTrue (R.has_failed reader.new))
+        (λ n. (n ≡ input) × IsTooLong (R.told reader.old)) (λ _. ⊥) (λ _. ⊥) (λ _. ⊥) (λ _. ⊥)) }
+{
+    match read_all(alloc, reader, MOST_BYTES) {
+        Ok(bytes) => Ok(bytes),
+        Err(ReadFault::Memory(error)) => Err(RunFault::Memory(error)),
+        Err(ReadFault::Read) => Err(RunFault::Read { input }),
+        Err(ReadFault::TooLong) => Err(RunFault::TooLong { input }),
+    }
+}
+
+// What is said of a sheet that was read.
+fn said_of(
+    alloc: Global,
+    kinds: &Kinds<'_>,
+    files: &SheetFiles<'_>,
+    bytes: &SheetBytes,
+) -> Result<Account, AllocError>
+    ensures { IfOk result (λ said. MatchBool said.is_accepted (TellsAccepted kinds.now bytes.now.scd.items bytes.now.dic.items bytes.now.vec.items said.text.items)
+        (TellsRefusal kinds.now files.now bytes.now.scd.items bytes.now.dic.items bytes.now.vec.items said.text.items)) }
+{
+    match Schema::load(alloc, &bytes.scd, &bytes.dic, kinds) {
+        Ok(schema) => match accept(alloc, &schema, &bytes.vec) {
+            Ok(accepted) => said_of_accepted(alloc, &accepted),
+            Err(fault) => said_of_sheet(alloc, &schema, &bytes.vec, input_name(files.vec), &fault),
+        },
+        Err(fault) => said_of_schema(
+            alloc,
+            &NamedFile {
+                name: input_name(files.scd),
+                bytes: &bytes.scd,
+            },
+            &NamedFile {
+                name: input_name(files.dic),
+                bytes: &bytes.dic,
+            },
+            &fault,
+        ),
+    }
+}
+
+// What is said of an accepted sheet.
+fn said_of_accepted(alloc: Global, accepted: &Accepted) -> Result<Account, AllocError>
+    ensures { IfOk result (λ said. (said.is_accepted ≡ true) × ((lines : List ℕ) × DescribesPlan accepted.now lines × (said.text.items ≡ ended (codes "accepted") ++ lines))) }
+{
+    let mut text = Vec::from_slice(alloc, b"accepted\n")?;
+    let lines = describe_plan(alloc, accepted.sound().plan())?;
+    text.extend_from_slice(&lines)?;
+    Ok(Account {
+        is_accepted: true,
+        text,
+    })
+}
+
+// What is said of a refused sheet.
+fn said_of_sheet(
+    alloc: Global,
+    schema: &Schema,
+    bytes: &[u8],
+    name: &[u8],
+    fault: &Fault,
+) -> Result<Account, AllocError>
+    requires { IsRefusal schema.now bytes.now fault.now }
+    ensures { IfOk result (λ said. (said.is_accepted ≡ false) × IsProper fault.now × ((lines : List ℕ) × ExplainsSheet schema.now bytes.now name.now fault.now lines
+        × (said.text.items ≡ ended (sheet_text [] fault.now) ++ lines))) }
+{
+    let mut text = line_of_fault(alloc, fault)?;
+    let lines = explain_sheet(alloc, schema, bytes, name, fault)?;
+    text.extend_from_slice(&lines)?;
+    Ok(Account {
+        is_accepted: false,
+        text,
+    })
+}
+
+// What is said of a refused schema.
+fn said_of_schema(
+    alloc: Global,
+    scd: &NamedFile<'_>,
+    dic: &NamedFile<'_>,
+    fault: &SchemaFault,
+) -> Result<Account, AllocError>
+    requires { (kinds : KindCodes) × IsSchemaRefusal scd.now.bytes.now dic.now.bytes.now kinds fault.now }
+    ensures { IfOk result (λ said. (said.is_accepted ≡ false) × IsProperSchemaFault fault.now × ((lines : List ℕ)
+        × ExplainsSchema scd.now.bytes.now dic.now.bytes.now scd.now.name.now dic.now.name.now fault.now lines × (said.text.items ≡ ended (schema_text fault.now) ++ lines))) }
+{
+    let mut text = line_of_schema(alloc, fault)?;
+    let lines = explain_schema(alloc, scd, dic, fault)?;
+    text.extend_from_slice(&lines)?;
+    Ok(Account {
+        is_accepted: false,
+        text,
+    })
+}
+
+/// Says what the rule of a number means, or that there is no such rule.
+pub fn explain_rule<O: ByteOut, E: ByteOut>(
+    alloc: Global,
+    word: &str,
+    out: &mut O,
+    err: &mut E,
+) -> u8
+    ensures status { IsPageStatus result }
+    ensures answer { IsRuleStatus (seen (O.told out.old) (O.told out.new) (O.has_failed out.new)) (seen (E.told err.old) (E.told err.new) (E.has_failed err.new)) word.now result }
+{
+    let Some(text) = rule_of_word(word) else {
+        return report::unknown_rule(err);
+    };
+    let Ok(page) = page_of(alloc, &text) else {
+        return report::out_of_memory(err);
+    };
+    match put_all(out, &page) {
+        Ok(()) => 0,
+        Err(_) => WRITE_STATUS,
+    }
+}
