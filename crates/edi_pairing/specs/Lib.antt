@@ -1,0 +1,5 @@
+pub mod Names
+pub mod PairingText
+pub mod Verified
+pub mod Laws
+pub mod inner

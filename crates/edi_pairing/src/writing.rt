@@ -1,0 +1,55 @@
+//! Writing pairings.
+
+ghost use Rattle.std.specs.Prelude.{◌≡◌, ◌++◌, IfOk, OnOk};
+ghost use Rattle.edi_pairing.specs.PairingText.{IsPairing, line_end, line_of, text_of};
+
+use crate::lines::code_of;
+use crate::names::{Names, RecordName};
+use edi_compare::Pairing;
+use std::alloc::{AllocError, Global};
+
+/// The end of a line.
+fn end_of(turned: bool) -> &'static [u8]
+    ensures { result.now ≡ line_end turned }
+{
+    if turned { b";reversed\n" } else { b"\n" }
+}
+
+/// Adds the line of a record.
+#[tactic(auto, unfolding(crate::specs::PairingText::line_of))]
+fn put_line(
+    text: &mut Vec<u8>,
+    name: &RecordName,
+    other: &RecordName,
+    turned: bool,
+) -> Result<(), AllocError>
+    ensures { OnOk result (text.new.items ≡ text.old.items ++ line_of name.now other.now.rid turned) }
+{
+    text.extend_from_slice(code_of(name.kind))?;
+    text.push(b';')?;
+    text.extend_from_slice(name.rid.as_slice())?;
+    text.push(b';')?;
+    text.extend_from_slice(other.rid.as_slice())?;
+    text.extend_from_slice(end_of(turned))?;
+    Ok(())
+}
+
+/// The text of a pairing (docs/FORMAT.md, "Pairings"). `read_pairing` reads it again as the same pairing.
+pub fn pairing_text(
+    alloc: Global,
+    first: &Names,
+    second: &Names,
+    pairing: &Pairing,
+) -> Result<Vec<u8>, AllocError>
+    requires { IsPairing first.now second.now pairing.now }
+    ensures { IfOk result (λ text. text.items ≡ text_of first.now second.now pairing.now) }
+{
+    let others = second.as_slice();
+    let to = pairing.to.as_slice();
+    let turned = pairing.turned.as_slice();
+    let mut text = b"edicad pairing 1\n".to_vec(alloc)?;
+    for (place, name) in first.as_slice().iter().enumerate() {
+        put_line(&mut text, name, &others[to[place] as usize], turned[place])?;
+    }
+    Ok(text)
+}
