@@ -3,3 +3,4 @@ pub mod PlaceLemmas
 pub mod LineLemmas
 pub mod TextLemmas
 pub mod VerifyLemmas
+pub mod CarriedPairs

@@ -28,7 +28,7 @@ same_some : {X : Type 0} (a b : X) → Some a ≡ Some b → a ≡ b
 same_some a b h = cc
 
 -- the record at a place, and its name
-record_there : (list : List Record) (k : ℕ) → k < length list → (r : Record) × (slice_get list k ≡ Some r)
+pub record_there : (list : List Record) (k : ℕ) → k < length list → (r : Record) × (slice_get list k ≡ Some r)
 record_there [] k less = absurd (omega arith)
 record_there (r ∷ rs) zero less = (r, refl)
 record_there (r ∷ rs) (suc k) less = record_there rs k (omega arith)
@@ -41,6 +41,10 @@ unfolding named
 named_there [] k r e = let l = slice_get_within [] k r e in absurd (omega (arith, l))
 named_there (q ∷ qs) zero r e = ap named (same_some q r e)
 named_there (q ∷ qs) (suc k) r e = named_there qs k r e
+
+pub kind_there : (list : List Record) (k : ℕ) (r : Record) → slice_get list k ≡ Some r → (name_at (names_of list) k).kind ≡ r.kind
+unfolding named
+kind_there list k r e = ap (λ (n : RecordName). n.kind) (named_there list k r e)
 
 holds_there : {X : Type 0} (P : X → Type 0) (xs : List X) (k : ℕ) (x : X) → AllByRecursion P xs → slice_get xs k ≡ Some x → P x
 holds_there P [] k x all e = let l = slice_get_within [] k x e in absurd (omega (arith, l))

@@ -6,9 +6,11 @@ use Rattle.edi_compare.specs.Pairings.{PairingCarries}
 use Rattle.edi_compare.specs.PlanOfFile.{IsPlanOfFile}
 use Rattle.edi_compare.specs.Refused.{IsProper, IsRefusal}
 use Rattle.edi_compare.specs.Rules.{IsAccepted}
+use Rattle.edi_compare.specs.Verdicts.{IsVerdict}
 use Rattle.edi_compare.specs.declared.fault.Fault.{Fault}
 use Rattle.edi_compare.specs.declared.fault.Fault.TheVariants as sheet
 use Rattle.edi_compare.specs.declared.pairing.Pairing.{Pairing}
+use Rattle.edi_compare.specs.declared.pairing.Verdict.TheVariants.{Same}
 use Rattle.edi_pairing.specs.Names.{AreNamesOf}
 use Rattle.edi_pairing.specs.PairingText.{IsFirstWrong, States}
 use Rattle.edi_pairing.specs.declared.names.RecordName.{RecordName}
@@ -24,6 +26,10 @@ pub record StatesOf (a b file : List ℕ) (pairing : Pairing) : Type 0 where
   pub are_names : AreNamesOf a names
   pub are_others : AreNamesOf b others
   pub stated : States names others pairing file
+
+-- both sheets are accepted, and comparing them found the pairing
+abbrev pub IsFound : Classes → List ℕ → List ℕ → Pairing → Type 0
+IsFound s a b pairing = IsAccepted s a × IsAccepted s b × IsVerdict s a b (Same pairing)
 
 -- the file states a pairing of the two sheets, and the answer is whether it carries the first plan onto the second
 pub record IsVerified (s : Classes) (a b file : List ℕ) (answer : Bool) : Type 0 where

@@ -17,4 +17,4 @@ pub use names::{Names, RecordName};
 pub use reading::read_pairing;
 pub use sheets::{NamedSheet, name_sheet};
 pub use verifying::verify;
-pub use writing::pairing_text;
+pub use writing::{pairing_file, pairing_text};

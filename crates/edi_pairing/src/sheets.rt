@@ -60,6 +60,19 @@ fn names_in(alloc: Global, bytes: &[u8]) -> Result<Vec<RecordName>, Fault>
     Ok(names)
 }
 
+/// The names of the records of a sheet that is accepted under some schema.
+pub(crate) fn names_of_accepted(alloc: Global, bytes: &[u8]) -> Result<Names, AllocError>
+    requires { (s : Classes) × IsAccepted s bytes.now }
+    ensures { IfOk result (AreNamesOf bytes.now) }
+{
+    match names_in(alloc, bytes) {
+        Ok(names) => Ok(Names::of(names)),
+        Err(Fault::Memory(error)) => Err(error),
+        Err(Fault::Line { .. }) => unreachable!(),
+        Err(Fault::Entry { .. }) => unreachable!(),
+    }
+}
+
 /// The plan of a sheet under a schema, and the names of its records, if no rule is broken; or the refusal that
 /// `edi_compare::accept` gives. The file is read twice, for the names and for the plan, so that its values are not
 /// in memory beside the plan.

@@ -2,9 +2,12 @@
 
 ghost use Rattle.std.specs.Prelude.{◌≡◌, ◌++◌, IfOk, OnOk};
 ghost use Rattle.edi_pairing.specs.PairingText.{IsPairing, line_end, line_of, text_of};
+ghost use Rattle.edi_pairing.specs.Verified.{IsFound, StatesOf};
+ghost use Rattle.edi_schema.specs.Classes.{Classes};
 
 use crate::lines::code_of;
 use crate::names::{Names, RecordName};
+use crate::sheets::names_of_accepted;
 use edi_compare::Pairing;
 use std::alloc::{AllocError, Global};
 
@@ -51,5 +54,22 @@ pub fn pairing_text(
     for (place, name) in first.as_slice().iter().enumerate() {
         put_line(&mut text, name, &others[to[place] as usize], turned[place])?;
     }
+    Ok(text)
+}
+
+/// The text of a pairing that `edi_compare::compare` found of two sheets. Both are read again for the names of their
+/// records; the only error is want of memory.
+pub fn pairing_file(
+    alloc: Global,
+    a: &[u8],
+    b: &[u8],
+    pairing: &Pairing,
+) -> Result<Vec<u8>, AllocError>
+    requires { (s : Classes) × IsFound s a.now b.now pairing.now }
+    ensures { IfOk result (λ file. StatesOf a.now b.now file.items pairing.now) }
+{
+    let first = names_of_accepted(alloc, a)?;
+    let second = names_of_accepted(alloc, b)?;
+    let text = pairing_text(alloc, &first, &second, pairing)?;
     Ok(text)
 }
