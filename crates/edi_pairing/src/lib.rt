@@ -18,3 +18,6 @@ pub use reading::read_pairing;
 pub use sheets::{NamedSheet, name_sheet};
 pub use verifying::verify;
 pub use writing::{pairing_file, pairing_text};
+
+#[cfg(test)]
+mod tests;
