@@ -10,10 +10,12 @@ use Rattle.edi_compare.specs.Verdicts.{IsVerdict}
 use Rattle.edi_compare.specs.declared.fault.Fault.{Fault}
 use Rattle.edi_compare.specs.declared.fault.Fault.TheVariants as sheet
 use Rattle.edi_compare.specs.declared.pairing.Pairing.{Pairing}
-use Rattle.edi_compare.specs.declared.pairing.Verdict.TheVariants.{Same}
+use Rattle.edi_compare.specs.declared.pairing.Verdict.TheVariants.{Different, Same}
 use Rattle.edi_pairing.specs.Names.{AreNamesOf}
 use Rattle.edi_pairing.specs.PairingText.{IsFirstWrong, States}
 use Rattle.edi_pairing.specs.declared.names.RecordName.{RecordName}
+use Rattle.edi_pairing.specs.declared.writing.Compared.{Compared}
+use Rattle.edi_pairing.specs.declared.writing.Compared.TheVariants.{Same as SameBy, Different as DifferentAt}
 use Rattle.edi_pairing.specs.declared.fault.PairingFault.{PairingFault}
 use Rattle.edi_pairing.specs.declared.fault.PairingFault.TheVariants as pairing_
 use Rattle.edi_pairing.specs.declared.fault.VerifyFault.{VerifyFault}
@@ -30,6 +32,11 @@ pub record StatesOf (a b file : List ℕ) (pairing : Pairing) : Type 0 where
 -- both sheets are accepted, and comparing them found the pairing
 abbrev pub IsFound : Classes → List ℕ → List ℕ → Pairing → Type 0
 IsFound s a b pairing = IsAccepted s a × IsAccepted s b × IsVerdict s a b (Same pairing)
+
+-- a file that states a pairing which carries the one plan onto the other; or the line at which the canonical files differ
+abbrev pub IsComparedTo : Classes → List ℕ → List ℕ → Compared → Type 0
+IsComparedTo s a b (SameBy file) = (pairing : Pairing) × IsVerdict s a b (Same pairing) × StatesOf a b file.items pairing
+IsComparedTo s a b (DifferentAt line) = IsVerdict s a b (Different line)
 
 -- the file states a pairing of the two sheets, and the answer is whether it carries the first plan onto the second
 pub record IsVerified (s : Classes) (a b file : List ℕ) (answer : Bool) : Type 0 where

@@ -17,7 +17,7 @@ pub use names::{Names, RecordName};
 pub use reading::read_pairing;
 pub use sheets::{NamedSheet, name_sheet};
 pub use verifying::verify;
-pub use writing::{pairing_file, pairing_text};
+pub use writing::{Compared, compare_to_file, pairing_file, pairing_text};
 
 #[cfg(test)]
 mod tests;

@@ -1,6 +1,7 @@
 //! Pairing files of small sheets, from the words of docs/FORMAT.md.
-use crate::{VerifyFault, name_sheet, pairing_file, pairing_text, read_pairing, verify};
-use edi_compare::{Verdict, compare};
+use crate::{
+    Compared, VerifyFault, compare_to_file, name_sheet, pairing_text, read_pairing, verify,
+};
 use edi_schema::{Kinds, Schema};
 use std::alloc::Global;
 use std::test::Fail;
@@ -140,17 +141,35 @@ fn refused_sheets_come_before_the_file(rt: HostRuntime) -> Result<(), Fail> {
 fn what_comparing_finds_is_written_read_and_checked(rt: HostRuntime) -> Result<(), Fail> {
     let alloc = rt.alloc();
     let schema = schema(alloc)?;
-    let Ok(Verdict::Same(pairing)) = compare(alloc, &schema, A, B) else {
+    let Ok(Compared::Same { file }) = compare_to_file(alloc, &schema, A, B) else {
         return Err("not the same".into());
     };
+    assert_eq!(rt; file.as_slice(), FILE);
+    assert_eq!(rt; answer(alloc, A, B, &file)?, 1);
+    let empty: &[u8] = b"BOMT 12:EDAB01T1.VEC\nEOMT 00:\n";
+    assert!(rt;
+        matches!(
+            &compare_to_file(alloc, &schema, A, empty),
+            Ok(Compared::Different { line: 2 })
+        )
+    );
+    Ok(())
+}
+
+#[test]
+fn a_file_is_written_as_it_was_read(rt: HostRuntime) -> Result<(), Fail> {
+    let alloc = rt.alloc();
+    let schema = schema(alloc)?;
     let (Ok(first), Ok(second)) = (name_sheet(alloc, &schema, A), name_sheet(alloc, &schema, B))
     else {
         return Err("a sheet is refused".into());
     };
-    let Ok(read) = read_pairing(alloc, &first.names, &second.names, FILE) else {
+    let Ok(pairing) = read_pairing(alloc, &first.names, &second.names, FILE) else {
         return Err("the file is refused".into());
     };
-    assert_eq!(rt; read.to.as_slice(), pairing.to.as_slice());
-    assert_eq!(rt; read.turned.as_slice(), pairing.turned.as_slice());
+    assert_eq!(rt; pairing.to.as_slice(), [2u32, 1, 0].as_slice());
+    assert_eq!(rt; pairing.turned.as_slice(), [false, false, true].as_slice());
+    let text = pairing_text(alloc, &first.names, &second.names, &pairing)?;
+    assert_eq!(rt; text.as_slice(), FILE);
     Ok(())
 }

@@ -1,15 +1,27 @@
 //! Writing pairings.
 
-ghost use Rattle.std.specs.Prelude.{◌≡◌, ◌++◌, IfOk, OnOk};
+ghost use Rattle.std.specs.Prelude.{◌≡◌, ◌++◌, IfErr, IfOk, OnOk};
 ghost use Rattle.edi_pairing.specs.PairingText.{IsPairing, line_end, line_of, text_of};
-ghost use Rattle.edi_pairing.specs.Verified.{IsFound, StatesOf};
+ghost use Rattle.edi_pairing.specs.Verified.{IsComparedTo, IsFound, StatesOf};
+ghost use Rattle.edi_compare.specs.Refused.{IsPairRefusal};
+ghost use Rattle.edi_compare.specs.Rules.{IsAccepted};
 ghost use Rattle.edi_schema.specs.Classes.{Classes};
 
 use crate::lines::code_of;
 use crate::names::{Names, RecordName};
 use crate::sheets::names_of_accepted;
-use edi_compare::Pairing;
+use edi_compare::{CompareFault, Pairing, Verdict, compare};
+use edi_schema::Schema;
 use std::alloc::{AllocError, Global};
+
+/// Whether two sheets state the same plan, with a pairing as a file.
+#[derive(Debug, Drop)]
+pub enum Compared {
+    /// They do, and this file states a pairing that carries the first onto the second.
+    Same { file: Vec<u8> },
+    /// They do not, and their canonical files first differ at this line, counted from 1.
+    Different { line: u64 },
+}
 
 /// The end of a line.
 fn end_of(turned: bool) -> &'static [u8]
@@ -72,4 +84,25 @@ pub fn pairing_file(
     let second = names_of_accepted(alloc, b)?;
     let text = pairing_text(alloc, &first, &second, pairing)?;
     Ok(text)
+}
+
+/// What `edi_compare::compare` answers, with the pairing as a file.
+pub fn compare_to_file(
+    alloc: Global,
+    schema: &Schema,
+    a: &[u8],
+    b: &[u8],
+) -> Result<Compared, CompareFault>
+    ensures first { OnOk result (IsAccepted schema.now a.now) }
+    ensures second { OnOk result (IsAccepted schema.now b.now) }
+    ensures compared { IfOk result (IsComparedTo schema.now a.now b.now) }
+    ensures refusal { IfErr result (IsPairRefusal schema.now a.now b.now) }
+{
+    match compare(alloc, schema, a, b)? {
+        Verdict::Same(pairing) => {
+            let file = pairing_file(alloc, a, b, &pairing)?;
+            Ok(Compared::Same { file })
+        }
+        Verdict::Different { line } => Ok(Compared::Different { line }),
+    }
 }
