@@ -5,7 +5,7 @@ ghost use Rattle.edi_pairing.specs.declared.fault.PairingFault.TheVariants.{Memo
 ghost use Rattle.edi_pairing.specs.declared.fault.VerifyFault.TheVariants as verified;
 ghost use Rattle.edi_pairing.specs.Verified.{of_pairing};
 
-use edi_compare::Fault;
+use edi_compare::{Fault, RunFault};
 use std::alloc::{AllocError, AllocFailed};
 use thiserror::Error;
 
@@ -70,4 +70,15 @@ impl From<PairingFault> for VerifyFault {
             PairingFault::Line { at } => VerifyFault::Pairing { at },
         }
     }
+}
+
+/// Why a run over a pairing's file gives no answer.
+#[derive(Debug, Drop, Error)]
+pub enum VerifyRunFault {
+    /// An input can't be read or is too long, the schema or a sheet is refused, or a growth was refused.
+    #[error(transparent)]
+    Run(RunFault),
+    /// Both sheets are accepted, and the file states no pairing of them: its first wrong line, counted from 1.
+    #[error("line {at} of the pairing is wrong")]
+    Pairing { at: u64 },
 }
