@@ -4,6 +4,7 @@ use crate::{
 };
 use edi_schema::{Kinds, Schema};
 use std::alloc::Global;
+use std::process::Abort;
 use std::test::Fail;
 
 const SCD: &[u8] = b"BOMT 12:EDAB01SE.SCD\n\
@@ -47,68 +48,89 @@ fn answer(alloc: Global, a: &[u8], b: &[u8], file: &[u8]) -> Result<u64, Fail> {
     }
 }
 
-#[test]
-fn files_are_judged(rt: HostRuntime) -> Result<(), Fail> {
-    let alloc = rt.alloc();
-    let cases: [(&[u8], u64); 16] = [
-        (FILE, 1),
-        // the arc isn't reversed; a node is; two nodes go to one; the nodes are crossed
-        (b"edicad pairing 1\nPNO;N1;M1\nPNO;N2;M2\nPAR;A1;M1\n", 0),
-        (
-            b"edicad pairing 1\nPNO;N1;M1;reversed\nPNO;N2;M2\nPAR;A1;M1;reversed\n",
-            0,
-        ),
-        (
-            b"edicad pairing 1\nPNO;N1;M1\nPNO;N2;M1\nPAR;A1;M1;reversed\n",
-            0,
-        ),
-        (b"edicad pairing 1\nPNO;N1;M2\nPNO;N2;M1\nPAR;A1;M1\n", 0),
-        // wrong heads
-        (b"", 101),
-        (
-            b"edicad pairing 2\nPNO;N1;M1\nPNO;N2;M2\nPAR;A1;M1;reversed\n",
-            101,
-        ),
-        (
-            b"edicad pairing 1\r\nPNO;N1;M1\nPNO;N2;M2\nPAR;A1;M1;reversed\n",
-            101,
-        ),
-        // a repeated line, a name that is unknown in A or in B, one of another type, a word that isn't known
-        (
-            b"edicad pairing 1\nPNO;N1;M1\nPNO;N1;M1\nPNO;N2;M2\nPAR;A1;M1;reversed\n",
-            103,
-        ),
-        (
-            b"edicad pairing 1\nPNO;N3;M1\nPNO;N2;M2\nPAR;A1;M1;reversed\n",
-            102,
-        ),
-        (
-            b"edicad pairing 1\nPNO;N1;M1\nPNO;N2;M3\nPAR;A1;M1;reversed\n",
-            103,
-        ),
-        (
-            b"edicad pairing 1\nPNO;N1;M1\nPNO;N2;M2\nPAR;A1;M2;reversed\n",
-            104,
-        ),
-        (
-            b"edicad pairing 1\nPNO;N1;M1\nPNO;N2;M2\nPAR;A1;M1;turned\n",
-            104,
-        ),
-        // a line is missing, the last has no line feed, there is one more
-        (b"edicad pairing 1\nPNO;N1;M1\nPNO;N2;M2\n", 104),
-        (
-            b"edicad pairing 1\nPNO;N1;M1\nPNO;N2;M2\nPAR;A1;M1;reversed",
-            104,
-        ),
-        (
-            b"edicad pairing 1\nPNO;N1;M1\nPNO;N2;M2\nPAR;A1;M1;reversed\n\n",
-            105,
-        ),
-    ];
-    for (file, wanted) in cases {
-        assert_eq!(rt; answer(alloc, A, B, file)?, wanted);
-    }
+fn expect_answer(rt: &impl Abort, alloc: Global, file: &[u8], wanted: u64) -> Result<(), Fail> {
+    assert_eq!(rt; answer(alloc, A, B, file)?, wanted);
     Ok(())
+}
+
+// The arc isn't reversed, or a node is.
+#[test]
+fn arcs_alone_are_reversed(rt: HostRuntime) -> Result<(), Fail> {
+    let alloc = rt.alloc();
+    expect_answer(&rt, alloc, FILE, 1)?;
+    expect_answer(
+        &rt,
+        alloc,
+        b"edicad pairing 1\nPNO;N1;M1\nPNO;N2;M2\nPAR;A1;M1\n",
+        0,
+    )?;
+    expect_answer(
+        &rt,
+        alloc,
+        b"edicad pairing 1\nPNO;N1;M1;reversed\nPNO;N2;M2\nPAR;A1;M1;reversed\n",
+        0,
+    )
+}
+
+// Two nodes go to one, or are crossed.
+#[test]
+fn nodes_go_to_their_own(rt: HostRuntime) -> Result<(), Fail> {
+    let alloc = rt.alloc();
+    expect_answer(
+        &rt,
+        alloc,
+        b"edicad pairing 1\nPNO;N1;M1\nPNO;N2;M1\nPAR;A1;M1;reversed\n",
+        0,
+    )?;
+    expect_answer(
+        &rt,
+        alloc,
+        b"edicad pairing 1\nPNO;N1;M2\nPNO;N2;M1\nPAR;A1;M1\n",
+        0,
+    )
+}
+
+#[test]
+fn other_heads_are_refused(rt: HostRuntime) -> Result<(), Fail> {
+    let alloc = rt.alloc();
+    expect_answer(&rt, alloc, b"", 101)?;
+    expect_answer(&rt, alloc, b"edicad pairing 2\nPNO;N1;M1\n", 101)?;
+    expect_answer(&rt, alloc, b"edicad pairing 1\r\nPNO;N1;M1\n", 101)
+}
+
+// A repeated line, a name that is unknown in A or in B, and one of another type.
+#[test]
+fn other_names_are_refused(rt: HostRuntime) -> Result<(), Fail> {
+    let alloc = rt.alloc();
+    expect_answer(&rt, alloc, b"edicad pairing 1\nPNO;N1;M1\nPNO;N1;M1\n", 103)?;
+    expect_answer(&rt, alloc, b"edicad pairing 1\nPNO;N3;M1\n", 102)?;
+    expect_answer(&rt, alloc, b"edicad pairing 1\nPNO;N1;M1\nPNO;N2;M3\n", 103)?;
+    expect_answer(
+        &rt,
+        alloc,
+        b"edicad pairing 1\nPNO;N1;M1\nPNO;N2;M2\nPAR;A1;M2\n",
+        104,
+    )
+}
+
+// A word that isn't known, a line that is missing, a last line without line feed, and one line more.
+#[test]
+fn other_lines_are_refused(rt: HostRuntime) -> Result<(), Fail> {
+    let alloc = rt.alloc();
+    expect_answer(&rt, alloc, b"edicad pairing 1\nPNO;N1;M1;turned\n", 102)?;
+    expect_answer(&rt, alloc, b"edicad pairing 1\nPNO;N1;M1\nPNO;N2;M2\n", 104)?;
+    expect_answer(
+        &rt,
+        alloc,
+        b"edicad pairing 1\nPNO;N1;M1\nPNO;N2;M2\nPAR;A1;M1;reversed",
+        104,
+    )?;
+    expect_answer(
+        &rt,
+        alloc,
+        b"edicad pairing 1\nPNO;N1;M1\nPNO;N2;M2\nPAR;A1;M1;reversed\n\n",
+        105,
+    )
 }
 
 #[test]
