@@ -23,6 +23,8 @@ CLAIMS = [
      [("edi_compare", "Verdicts", "IsVerdict"), ("edi_compare", "Refused", "IsPairRefusal")]),
     ("check_pairing", "whether a pairing carries one plan onto another",
      [("edi_compare", "Pairings", "PairingCarries"), ("edi_compare", "Pairings", "HasClasses")]),
+    ("verify", "whether a file states a pairing that carries one sheet's plan onto another's",
+     [("edi_pairing", "Verified", "IsVerified"), ("edi_pairing", "Verified", "IsVerifyRefusal")]),
 ]
 
 WORD = re.compile(r"[A-Za-z_][\w'-]*(?:\.[A-Za-z_][\w'-]*)*")
@@ -130,7 +132,8 @@ class Base:
         if definition.module == "src":
             words = set(re.findall(r"\b[A-Z]\w+", "\n".join(definition.lines)))
             near = [definition.crate, *self.crates[definition.crate]]
-            return [item for (crate, name), item in self.types.items() if crate in near and name in words and item != definition]
+            return [item for (crate, name), item in self.types.items() if crate in near and name in words and item != definition
+                    and (crate == definition.crate or (definition.crate, name) not in self.types)]
         module = self.modules[definition.crate, definition.module]
         found = []
         for word in WORD.findall("\n".join(re.sub(r'"[^"]*"', "", line) for line in definition.lines)):

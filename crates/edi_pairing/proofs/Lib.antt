@@ -1,0 +1,7 @@
+pub mod NameLemmas
+pub mod PlaceLemmas
+pub mod LineLemmas
+pub mod TextLemmas
+pub mod VerifyLemmas
+pub mod CarriedPairs
+pub mod TellingFive

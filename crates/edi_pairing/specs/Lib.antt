@@ -1,0 +1,6 @@
+pub mod Names
+pub mod PairingText
+pub mod Verified
+pub mod VerifyRuns
+pub mod Laws
+pub mod inner

@@ -1,0 +1,25 @@
+//! Pairings as files: written, read and checked.
+#![tactic(auto)]
+
+pub mod fault;
+pub mod laws;
+mod lines;
+pub mod names;
+mod places;
+pub mod reading;
+pub mod runs;
+pub mod sheets;
+pub mod verifying;
+pub mod writing;
+
+pub use fault::{PairingFault, VerifyFault, VerifyRunFault};
+pub use laws::texts_are_unique;
+pub use names::{Names, RecordName};
+pub use reading::read_pairing;
+pub use runs::run_verify;
+pub use sheets::{NamedSheet, name_sheet};
+pub use verifying::verify;
+pub use writing::{Compared, compare_to_file, pairing_file, pairing_text};
+
+#[cfg(test)]
+mod tests;

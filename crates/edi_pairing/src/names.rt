@@ -1,0 +1,54 @@
+//! The names of the records of a sheet.
+
+ghost use Rattle.std.specs.Prelude.{◌≡◌};
+
+use edi_line::{Sequence, Text};
+use edi_record::Kind;
+use std::marker::Model;
+
+/// The type and the identifier of a record.
+#[derive(Debug, Drop)]
+pub struct RecordName {
+    pub kind: Kind,
+    pub rid: Text,
+}
+
+/// The names of the records of an accepted sheet, in file order.
+#[derive(Drop)]
+pub struct Names {
+    list: Sequence<RecordName>,
+}
+
+impl Model for Names {
+    ghost use Rattle.std.specs.Prelude.{List};
+    ghost use Rattle.edi_pairing.specs.Names.{AreNames};
+    ghost use Rattle.edi_pairing.specs.declared.names.RecordName.{RecordName};
+
+    ghost Value = { List RecordName };
+
+    ghost view = { λ n. n.list };
+
+    ghost invariant = { λ n. AreNames n.list };
+}
+
+impl Names {
+    ghost use Rattle.edi_pairing.specs.Names.{AreNames};
+
+    /// The names of an accepted sheet.
+    pub(crate) fn of(list: Vec<RecordName>) -> Names
+        requires { AreNames list.items }
+        ensures { result ≡ list.items }
+    {
+        Names {
+            list: Sequence::from_vec(list),
+        }
+    }
+
+    /// The names, lent.
+    pub fn as_slice(&self) -> &[RecordName]
+        ensures is { result.now ≡ self.now }
+        ensures names { AreNames self.now }
+    {
+        self.list.as_slice()
+    }
+}

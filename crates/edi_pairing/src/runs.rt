@@ -1,0 +1,105 @@
+//! The run that checks a pairing's file.
+ghost use Rattle.std.specs.Prelude.{◌≡◌, IsTrue, IfOk, IfErr, IfSome, OnOk};
+ghost use Rattle.edi_compare.specs.Runs.{IsTooLong, MatchFault, WasRead, seen};
+ghost use Rattle.edi_pairing.specs.VerifyRuns.{AfterAllRead, AreAllRead, FilesFault, IsVerifiedUnder, MatchRun, TellFive, VerifyingFault};
+
+use crate::fault::{VerifyFault, VerifyRunFault};
+use crate::verifying::verify;
+use edi_compare::RunFault;
+use edi_line::{ByteIn, ReadFault, read_all};
+use edi_schema::{Kinds, Schema, SchemaFault};
+use std::alloc::Global;
+
+// How many bytes an input has at most.
+const MOST_BYTES: u64 = 4_294_967_296;
+
+/// Reads five files, and tells whether the fifth states a pairing that carries the plan of the third onto that of the
+/// fourth, two sheets under the schema of the first two. All are read before one is looked at. The second sheet is looked
+/// at only if the first is accepted, and the pairing's file only if both are.
+pub fn run_verify<S: ByteIn, D: ByteIn, A: ByteIn, B: ByteIn, F: ByteIn>(
+    alloc: Global,
+    kinds: &Kinds<'_>,
+    scd: &mut S,
+    dic: &mut D,
+    first: &mut A,
+    second: &mut B,
+    file: &mut F,
+) -> Result<bool, VerifyRunFault>
+    ensures ok { IfOk result (λ answer. TellFive (S.told scd.old) (D.told dic.old) (A.told first.old) (B.told second.old) (F.told file.old)
+        (λ s d a b f. IsVerifiedUnder kinds.now s d a b f answer)) }
+    ensures read { OnOk result (AreAllRead (record {
+      scd = seen (S.told scd.old) (S.told scd.new) (S.has_failed scd.new);
+      dic = seen (D.told dic.old) (D.told dic.new) (D.has_failed dic.new);
+      first = seen (A.told first.old) (A.told first.new) (A.has_failed first.new);
+      second = seen (B.told second.old) (B.told second.new) (B.has_failed second.new);
+      file = seen (F.told file.old) (F.told file.new) (F.has_failed file.new);
+    })) }
+    ensures err { IfErr result (VerifyingFault kinds.now (record {
+      scd = seen (S.told scd.old) (S.told scd.new) (S.has_failed scd.new);
+      dic = seen (D.told dic.old) (D.told dic.new) (D.has_failed dic.new);
+      first = seen (A.told first.old) (A.told first.new) (A.has_failed first.new);
+      second = seen (B.told second.old) (B.told second.new) (B.has_failed second.new);
+      file = seen (F.told file.old) (F.told file.new) (F.has_failed file.new);
+    })
+        (record { dic = dic.new ≡ dic.old; first = first.new ≡ first.old; second = second.new ≡ second.old; file = file.new ≡ file.old })) }
+    ensures after { IfErr result (λ e. AfterAllRead e (AreAllRead (record {
+      scd = seen (S.told scd.old) (S.told scd.new) (S.has_failed scd.new);
+      dic = seen (D.told dic.old) (D.told dic.new) (D.has_failed dic.new);
+      first = seen (A.told first.old) (A.told first.new) (A.has_failed first.new);
+      second = seen (B.told second.old) (B.told second.new) (B.has_failed second.new);
+      file = seen (F.told file.old) (F.told file.new) (F.has_failed file.new);
+    }))) }
+{
+    let scd = read_input(alloc, scd, 1)?;
+    let dic = read_input(alloc, dic, 2)?;
+    let first = read_input(alloc, first, 3)?;
+    let second = read_input(alloc, second, 4)?;
+    let file = read_input(alloc, file, 5)?;
+    verify_or_fault(alloc, kinds, &scd, &dic, &first, &second, &file)
+}
+
+// The input of this number, whole.
+fn read_input<R: ByteIn>(
+    alloc: Global,
+    reader: &mut R,
+    input: u8,
+) -> Result<Vec<u8>, VerifyRunFault>
+    ensures all { IfOk result (λ bytes. IfSome (R.told reader.old) (λ told. bytes.items ≡ told)) }
+    ensures read { OnOk result (WasRead (R.told reader.old) (R.told reader.new) (R.has_failed reader.new)) }
+    ensures err { IfErr result (λ e. MatchRun e (λ f. MatchFault f (λ n. (n ≡ input) × IsTrue (R.has_failed reader.new))
+        (λ n. (n ≡ input) × IsTooLong (R.told reader.old)) (λ _. ⊥) (λ _. ⊥) (λ _. ⊥) (λ _. ⊥)) (λ _. ⊥)) }
+{
+    match read_all(alloc, reader, MOST_BYTES) {
+        Ok(bytes) => Ok(bytes),
+        Err(ReadFault::Memory(error)) => Err(VerifyRunFault::Run(RunFault::Memory(error))),
+        Err(ReadFault::Read) => Err(VerifyRunFault::Run(RunFault::Read { input })),
+        Err(ReadFault::TooLong) => Err(VerifyRunFault::Run(RunFault::TooLong { input })),
+    }
+}
+
+// Whether the file states a pairing that carries, of two sheets under the schema of the two files.
+fn verify_or_fault(
+    alloc: Global,
+    kinds: &Kinds<'_>,
+    scd: &[u8],
+    dic: &[u8],
+    first: &[u8],
+    second: &[u8],
+    file: &[u8],
+) -> Result<bool, VerifyRunFault>
+    ensures ok { IfOk result (IsVerifiedUnder kinds.now scd.now dic.now first.now second.now file.now) }
+    ensures err { IfErr result (FilesFault kinds.now scd.now dic.now first.now second.now file.now) }
+{
+    let schema = match Schema::load(alloc, scd, dic, kinds) {
+        Ok(schema) => schema,
+        Err(SchemaFault::Memory(error)) => return Err(VerifyRunFault::Run(RunFault::Memory(error))),
+        Err(fault) => return Err(VerifyRunFault::Run(RunFault::Schema(fault))),
+    };
+    match verify(alloc, &schema, first, second, file) {
+        Ok(answer) => Ok(answer),
+        Err(VerifyFault::Memory(error)) => Err(VerifyRunFault::Run(RunFault::Memory(error))),
+        Err(VerifyFault::First(fault)) => Err(VerifyRunFault::Run(RunFault::First(fault))),
+        Err(VerifyFault::Second(fault)) => Err(VerifyRunFault::Run(RunFault::Second(fault))),
+        Err(VerifyFault::Pairing { at }) => Err(VerifyRunFault::Pairing { at }),
+    }
+}
