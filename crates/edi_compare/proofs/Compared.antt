@@ -13,7 +13,7 @@ use Rattle.edi_compare.specs.Pairings.{IsFirstDifference}
 use Rattle.edi_compare.specs.PlanOfFile.{IsPlanOfFile, StateSame}
 use Rattle.edi_compare.specs.Verdicts.{IsVerdict}
 use Rattle.edi_compare.specs.declared.canonical.Form.{Form}
-use Rattle.edi_compare.specs.declared.first.FirstForm.{FirstForm}
+use Rattle.edi_compare.specs.declared.comparing.FirstForm.{FirstForm}
 use Rattle.edi_compare.specs.declared.pairing.Pairing.{Pairing}
 use Rattle.edi_compare.specs.declared.pairing.Verdict.TheVariants.{Same, Different}
 use Rattle.edi_compare.proofs.Headline.{one_plan, equal_if_same, plan_under}
@@ -63,15 +63,15 @@ module _ (s : Classes) (keeps : IsSchema s) (a b : List ℕ) (f : FirstForm) (ot
         one_plan reading_is_one s keeps other.file.items (arranged s l p) (arranged s m q)
         (subst (λ x. IsPlanOfFile s x (arranged s l p)) one has.arranged_plan) has'.arranged_plan
 
-    pub counts : HasNamesakes f m
-    counts = has_namesakes s p q l m has.labels has'.labels one_arranged f kept.first
+    pub counts : HasNamesakes f.records m
+    counts = has_namesakes s p q l m has.labels has'.labels one_arranged f.records kept.records
 
-    pub paired_same : (pairing : Pairing) → PairsByNumber f m pairing → IsVerdict s a b (Same pairing)
+    pub paired_same : (pairing : Pairing) → PairsByNumber f.records m pairing → IsVerdict s a b (Same pairing)
     paired_same pairing by = (
       p,
       q,
       has.plan,
       has'.plan,
-      pairing_carries s p q l m has.labels has'.labels one_arranged f kept.first pairing by
+      pairing_carries s p q l m has.labels has'.labels one_arranged f.records kept.records pairing by
           (plan_under s a p keeps has.file.accepted has.plan) (plan_under s b q keeps has'.file.accepted has'.plan),
     )

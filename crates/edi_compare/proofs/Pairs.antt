@@ -16,9 +16,9 @@ use Rattle.edi_rank.proofs.Arranging.{carries_arranged}
 use Rattle.edi_rank.proofs.Carried.{carries_between}
 use Rattle.edi_rank.proofs.Offsets.{one_offset, one_count}
 use Rattle.edi_rank.proofs.SameLaws.{differ}
-use Rattle.edi_compare.specs.Namesakes.{HasNamesakes, IsFirst, PairsByNumber, kind_at, namesake, number_at}
+use Rattle.edi_compare.specs.Namesakes.{HasNamesakes, IsNumbered, PairsByNumber, kind_at, namesake, number_at}
 use Rattle.edi_compare.specs.Pairings.{PairingCarries}
-use Rattle.edi_compare.specs.declared.first.FirstForm.{FirstForm}
+use Rattle.edi_compare.specs.declared.numbered.NumberedRecords.{NumberedRecords}
 use Rattle.edi_compare.specs.declared.pairing.Pairing.{Pairing}
 
 -- what `!=` says of truths
@@ -28,7 +28,7 @@ told_differ true false = refl
 told_differ false true = refl
 told_differ false false = refl
 
-module _ (s : Classes) (p q : Drawing) (l m : Labelling) (labels : AreLabels s p l) (labels' : AreLabels s q m) (one : arranged s l p ≡ arranged s m q) (f : FirstForm) (first : IsFirst p l f) where
+module _ (s : Classes) (p q : Drawing) (l m : Labelling) (labels : AreLabels s p l) (labels' : AreLabels s q m) (one : arranged s l p ≡ arranged s m q) (f : NumberedRecords) (first : IsNumbered p l f) where
   number_is : (k : ℕ) → number_at f k ≡ number_of l k
   number_is k = ap (λ (ns : List ℕ). slice_index ns k) first.numbers
 

@@ -5,9 +5,9 @@ use Rattle.edi_rank.specs.Arranged.{arranged}
 use Rattle.edi_rank.specs.Labelling.{AreLabels}
 use Rattle.edi_compare.specs.Headline.{IsFormOf}
 use Rattle.edi_compare.specs.PlanOfFile.{IsPlanOfFile}
-use Rattle.edi_compare.specs.Namesakes.{IsFirst}
+use Rattle.edi_compare.specs.Namesakes.{IsNumbered}
 use Rattle.edi_compare.specs.declared.canonical.Form.{Form}
-use Rattle.edi_compare.specs.declared.first.FirstForm.{FirstForm}
+use Rattle.edi_compare.specs.declared.comparing.FirstForm.{FirstForm}
 
 -- The form of a sheet b: its plan, the labels of that plan, and its canonical file, which states the plan that the labels make.
 pub record HasForm (s : Classes) (b : List ℕ) (form : Form) : Type 0 where
@@ -24,7 +24,7 @@ IsFormOfSome s form = (b : List ℕ) × HasForm s b form
 pub record HasFirst (s : Classes) (b : List ℕ) (f : FirstForm) : Type 0 where
   pub form : Form
   pub has : HasForm s b form
-  pub first : IsFirst form.labelled.sound form.labelled.labels f
+  pub records : IsNumbered form.labelled.sound form.labelled.labels f.records
   pub file : f.file.items ≡ form.file.items
 
 -- the same of some sheet

@@ -1,7 +1,7 @@
 use Rattle.std.proofs.Common.{◌≡◌, ◌<◌, ℕ, length, slice_index_or}
 use Rattle.edi_plan.specs.Plans.{record_at}
 use Rattle.edi_record.specs.declared.record.Kind.TheVariants.{Pno}
-use Rattle.edi_compare.proofs.first.kinds_of.Given as goal
+use Rattle.edi_compare.proofs.numbered.kinds_of.Given as goal
 
 -- the types of the records so far
 abbrev pub invariant-loop-place : goal.invariant-loop-place

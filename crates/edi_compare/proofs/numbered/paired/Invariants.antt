@@ -2,7 +2,7 @@ use Rattle.std.proofs.Common.{◌≡◌, ◌<◌, ℕ, not, length, slice_index}
 use mathlib.Core.Bool.{beq}
 use Rattle.edi_rank.specs.Labelling.{turned_at}
 use Rattle.edi_compare.specs.Namesakes.{namesake}
-use Rattle.edi_compare.proofs.comparing.paired.Given as goal
+use Rattle.edi_compare.proofs.numbered.paired.Given as goal
 
 -- the records so far have their namesakes
 abbrev pub invariant-loop-place : goal.invariant-loop-place

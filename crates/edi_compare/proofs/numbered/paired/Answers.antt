@@ -4,7 +4,7 @@ use mathlib.Core.Bool.{beq}
 use Rattle.edi_rank.specs.Labelling.{turned_at}
 use Rattle.edi_compare.specs.Namesakes.{namesake}
 use Rattle.edi_compare.proofs.Pairs.{one_more_told}
-use Rattle.edi_compare.proofs.comparing.paired.Goals as goal
+use Rattle.edi_compare.proofs.numbered.paired.Goals as goal
 
 pub loop-place-preserved : goal.loop-place-preserved
 loop-place-preserved c =
