@@ -9,7 +9,7 @@ use edi_record::{Extra, Point};
 use std::alloc::{AllocError, Global};
 
 /// Whether these are the points, backwards where their arc is turned.
-pub(crate) fn same_points(points: &[Point], turned: bool, others: &[Point]) -> bool
+pub fn same_points(points: &[Point], turned: bool, others: &[Point]) -> bool
     ensures { IsTrue result ↔ (others.now ≡ directed turned points.now) }
 {
     if turned {
@@ -34,14 +34,14 @@ fn are_reverse(points: &[Point], others: &[Point]) -> bool
 }
 
 /// Whether these are the extra zones, in their order.
-pub(crate) fn same_extras(extras: &[Extra], others: &[Extra]) -> bool
+pub fn same_extras(extras: &[Extra], others: &[Extra]) -> bool
     ensures { IsTrue result ↔ (others.now ≡ extras.now) }
 {
     others == extras
 }
 
 /// Whether these are the attributes, in any order.
-pub(crate) fn same_attributes(
+pub fn same_attributes(
     alloc: Global,
     attributes: &[PlanAttribute],
     others: &[PlanAttribute],
@@ -57,7 +57,7 @@ pub(crate) fn same_attributes(
 }
 
 /// Whether two texts are equal, or both are missing.
-pub(crate) fn same_texts(first: Option<&[u8]>, second: Option<&[u8]>) -> bool
+pub fn same_texts(first: Option<&[u8]>, second: Option<&[u8]>) -> bool
     ensures { IsTrue result ↔ (option_copied first.entry ≡ option_copied second.entry) }
 {
     match (first, second) {

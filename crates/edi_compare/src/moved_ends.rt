@@ -93,7 +93,7 @@ fn same_others(
 }
 
 /// Whether the ends, renamed, are these others: the first is the first, and the rest are the rest in any order.
-pub(crate) fn same_ends(
+pub fn same_ends(
     alloc: Global,
     to: &[u32],
     ends: &[PlanEnd],

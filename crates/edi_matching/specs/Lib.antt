@@ -1,0 +1,4 @@
+pub mod Matchings
+pub mod Laws
+pub mod Differences
+pub mod inner
