@@ -1,3 +1,6 @@
 pub mod Totals
 pub mod Taken
 pub mod Checked
+pub mod Found
+pub mod SamePlans
+pub mod PartnersHold

@@ -2,3 +2,4 @@
 pub mod Proposals
 pub mod Marks
 pub mod Partners
+pub mod Same

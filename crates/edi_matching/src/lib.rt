@@ -2,10 +2,15 @@
 #![tactic(auto)]
 
 pub mod checking;
+pub mod differing;
+mod keys;
 pub mod laws;
 pub mod matching;
+mod partners;
 mod places;
 mod record;
+mod same;
 
 pub use checking::check_matching;
+pub use differing::differences;
 pub use matching::Matching;

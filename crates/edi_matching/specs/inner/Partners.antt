@@ -18,11 +18,6 @@ pub record TwoPlans : Type 0 where
 abbrev pub AreSound : TwoPlans → Type 0
 AreSound two = IsUnbroken (BreaksTopologyRule two.plan) × IsUnbroken (BreaksTopologyRule two.other)
 
--- of the records of a type in q the one of which k is told; or there is none
-abbrev pub IsToldIfAny : {K : Type 0} → Drawing → Kind → (ℕ → K) → K → Option ℕ → Type 0
-IsToldIfAny q kind told k found =
-    MatchOption found ((j : ℕ) → IsPlace q j → (record_at q j).kind ≡ kind → told j ≢ k) (λ j. IsPlace q j × ((record_at q j).kind ≡ kind) × (told j ≡ k))
-
 -- the record at the place i has a partner at this place at most
 abbrev pub IsOnlyAt : TwoPlans → ℕ → Option ℕ → Type 0
 IsOnlyAt two i found =
