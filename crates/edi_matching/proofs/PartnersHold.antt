@@ -148,3 +148,8 @@ different_told s p q none (Ok m) holds = (
   λ total. let c = total_carries s p q m holds total.0 total.1 in (slice_index (targets_of m.to), turned_at m.turned, c.carries),
   λ same. absurd (none same),
 )
+
+-- what matches more matches partners too
+pub partners_kept : {E : Type 0} (p q : Drawing) (m : Matching) → MatchesPartners p q m → (r : Result Matching E) → IfOk r (λ n. (i : ℕ) → IsMatched m.to i → IsMatched n.to i) → IfOk r (MatchesPartners p q)
+partners_kept p q m matched (Err e) kept = tt
+partners_kept p q m matched (Ok n) kept = λ i j t both. kept i (matched i j t both)

@@ -7,6 +7,7 @@ ghost use Rattle.edi_matching.specs.Differences.{IsTotalIfSame, MatchesPartners}
 ghost use Rattle.edi_matching.specs.Laws.{matching_of};
 ghost use Rattle.edi_matching.specs.Matchings.{MatchingHolds};
 
+use crate::growing::grown;
 use crate::matching::Matching;
 use crate::partners::Partners;
 use crate::same::same_pairing;
@@ -17,8 +18,10 @@ use edi_topo::Sound;
 use std::alloc::{AllocError, Global};
 
 /// A matching of two sheets that were accepted under this schema. It leaves nothing out exactly if the plans and
-/// character sets are the same; and it leaves out no node and no arc that has a partner, whatever the rest. Of sheets
-/// that differ it matches nodes and arcs alone. The only error is want of memory.
+/// character sets are the same; and it leaves out no node and no arc that has a partner, whatever the rest. Which
+/// faces, objects and links it matches of sheets that differ is not promised: faces that matched arcs have on one side,
+/// objects that a link of one class joins to one matched record, and links whose ends are matched, each if it holds the
+/// same. The only error is want of memory.
 pub fn differences(
     alloc: Global,
     schema: &Schema,
@@ -34,8 +37,25 @@ pub fn differences(
     first.sound().plan().keeps();
     match same_pairing(alloc, schema, first, second)? {
         Some(pairing) => whole_matching(alloc, pairing),
-        None => matched_by_keys(alloc, first.sound(), second.sound()),
+        None => different_matching(alloc, schema, first, second),
     }
+}
+
+/// A matching of two sheets that differ.
+fn different_matching(
+    alloc: Global,
+    schema: &Schema,
+    first: &Accepted,
+    second: &Accepted,
+) -> Result<Matching, AllocError>
+    requires first { IsAcceptedPlan schema.now first.now }
+    requires second { IsAcceptedPlan schema.now second.now }
+    ensures holds { IfOk result (MatchingHolds schema.now first.now second.now) }
+    ensures partners { IfOk result (MatchesPartners first.now second.now) }
+{
+    schema.keeps();
+    let matching = matched_by_keys(alloc, first.sound(), second.sound())?;
+    grown(alloc, schema, first, second, matching)
 }
 
 /// The matching that a pairing is.

@@ -1,8 +1,11 @@
 //! Matchings of two sheets: which records of the one are records of the other.
 #![tactic(auto)]
 
+mod added;
 pub mod checking;
 pub mod differing;
+mod entries;
+mod growing;
 mod keys;
 pub mod laws;
 pub mod matching;

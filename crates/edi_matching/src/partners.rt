@@ -212,7 +212,7 @@ fn node_member(nodes: &[(NodeKey<'_>, u32)], key: &NodeKey<'_>) -> Option<u32>
 }
 
 /// Whether the one record holds what the other does, and then whether its points are backwards.
-fn same_record(
+pub(crate) fn same_record(
     alloc: Global,
     plan: &Plan,
     place: u32,

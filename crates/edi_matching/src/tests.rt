@@ -173,12 +173,12 @@ fn what_differs_is_left_out(rt: HostRuntime) -> Result<(), Fail> {
         Some(9),
         Some(8),
         Some(7),
+        Some(6),
         None,
-        None,
-        None,
-        None,
-        None,
-        None,
+        Some(5),
+        Some(4),
+        Some(3),
+        Some(2),
         None,
     ];
     assert_eq!(rt; renamed.to.as_slice(), kept.as_slice());
@@ -188,13 +188,13 @@ fn what_differs_is_left_out(rt: HostRuntime) -> Result<(), Fail> {
         None,
         None,
         Some(3),
+        Some(4),
+        Some(5),
         None,
         None,
         None,
-        None,
-        None,
-        None,
-        None,
+        Some(9),
+        Some(10),
     ];
     assert_eq!(rt; moved.to.as_slice(), kept.as_slice());
     Ok(())

@@ -1,10 +1,8 @@
-use Rattle.std.proofs.Common.{◌∙◌, subst, ℕ, Option, MatchOption, IfOk}
-use Rattle.edi_plan.specs.Plans.{Drawing}
+use Rattle.std.proofs.Common.{◌∙◌, subst, Option, MatchOption}
 use Rattle.edi_plan.specs.Whole.{IsWhole}
 use Rattle.edi_rank.specs.Same.{Same}
 use Rattle.edi_compare.specs.Pairings.{PairingCarries}
 use Rattle.edi_compare.specs.declared.pairing.Pairing.{Pairing}
-use Rattle.edi_matching.specs.Matchings.{MatchingHolds}
 use Rattle.edi_matching.proofs.PartnersHold.{pairing_told, different_told}
 use Rattle.edi_matching.proofs.differing.differences.Goals as goal
 
@@ -23,6 +21,4 @@ returns-in-None-clause-total c =
     let p = c.args.first.now in
     let q = c.args.second.now in
     let none = subst (λ (o : Option Pairing). MatchOption o (¬ (Same s p q)) (PairingCarries s p q)) c.in-None.is c.in_ok-pairing.ensures in
-    different_told s p q none c.matched_by_keys.result
-    (subst (λ (x : Drawing). IfOk c.matched_by_keys.result (MatchingHolds s x q)) c.sound-in-None.ensures
-    (subst (λ (y : Drawing). IfOk c.matched_by_keys.result (MatchingHolds s c.sound-in-None.result.now y)) c.sound-in-None-2.ensures (c.matched_by_keys.ensures.holds s)))
+    different_told s p q none c.different_matching.result c.different_matching.ensures.holds
