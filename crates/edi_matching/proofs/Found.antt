@@ -1,18 +1,17 @@
 -- What is found by its key is the only place where a partner can be.
-use Rattle.std.proofs.Common.{◌≡◌, ◌≢◌, ℕ, ◌+◌, ◌<◌, ◌≤◌, ◌⊎◌, inl, inr, Bool, true, false, true≢false, List, [], ◌∷◌, length, map, reverse, Option, None, Some, MatchOption, get_or, refl, sym, ap, ◌∙◌, subst, arith, All, Contains, IsPermutation, IsSorted, Ordering, Less, Equal, Greater, is_lt, nat_cmp}
+use Rattle.std.proofs.Common.{◌≡◌, ◌≢◌, ℕ, ◌+◌, ◌<◌, ◌≤◌, ◌⊎◌, inl, inr, Bool, true, false, List, [], length, reverse, Option, None, Some, MatchOption, get_or, refl, sym, ap, ◌∙◌, subst, arith, All, IsPermutation, IsSorted, Ordering, Less, Equal, Greater, is_lt, nat_cmp}
 use Rattle.std.specs.Cmp.{IsTotalOrder}
-use Rattle.std.specs.List.{slice_index}
 use Rattle.std.specs.List.Sorted.{IsSortedBy}
 use Rattle.std.specs.Ordering.{ordering_then}
 use Rattle.std.proofs.lemmas.Bool.{cases_lt}
 use Rattle.std.proofs.lemmas.Cmp.{tied_itself}
-use Rattle.std.proofs.lemmas.List.{get_or-map, get_or_default}
+use Rattle.std.proofs.lemmas.List.{get_or-map}
 use Rattle.std.proofs.lemmas.List.Sorted.{All-permutation, Contains-permutation}
 use Rattle.std.proofs.lemmas.Map.Lookups.{CmpEqualImpliesEq}
 use Rattle.edi_line.specs.Refusal.{IsUnbroken}
 use Rattle.edi_record.specs.Orders.{points_cmp, point_cmp}
 use Rattle.edi_record.specs.declared.record.Kind.{Kind}
-use Rattle.edi_record.specs.declared.record.Kind.TheVariants.{Pno, Par, Pfe, Fea, Lnk}
+use Rattle.edi_record.specs.declared.record.Kind.TheVariants.{Pno, Par}
 use Rattle.edi_record.specs.declared.record.Point.{Point}
 use Rattle.edi_schema.proofs.SortedLists.{sort_by-same, counts_from_permutation}
 use Rattle.edi_plan.specs.Orders.{attribute_cmp}
@@ -32,7 +31,6 @@ use Rattle.edi_topo.proofs.FirstArcRepeat.{one_direction}
 use Rattle.edi_topo.proofs.KeyOrder.{AreMembers, has_member}
 use Rattle.edi_topo.proofs.NodeOrders.{node_key_total, node_key_exact, node_order}
 use Rattle.edi_topo.specs.contracts.node_key.NodeKeyOrd.TheImpl.{ghosts as nodes}
-use Rattle.edi_rank.specs.KeyLaws.{TellsTypeApart}
 use Rattle.edi_rank.specs.Same.{directed}
 use Rattle.edi_rank.proofs.KeysApart.{one_node, one_arc}
 use Rattle.edi_matching.specs.Differences.{HoldsSame, ArePartners}

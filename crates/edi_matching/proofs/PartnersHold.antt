@@ -1,5 +1,5 @@
 -- A matching of nodes and arcs with their partners holds, and matches each that has one.
-use Rattle.std.proofs.Common.{◌≡◌, ◌≢◌, ◌↔◌, ℕ, suc, ◌+◌, ◌<◌, ◌⊎◌, inl, inr, Bool, true, false, true≢false, cond, List, [], ◌∷◌, ◌++◌, map, length, slice_index, Option, None, Some, option_map, IsPermutation, Result, Ok, Err, IfOk, get_or, refl, sym, ap, ◌∙◌, subst, arith, eqb-true}
+use Rattle.std.proofs.Common.{◌≡◌, ℕ, suc, ◌+◌, ◌<◌, ◌⊎◌, inl, inr, Bool, true, false, true≢false, List, [], ◌∷◌, ◌++◌, map, length, slice_index, Option, None, Some, option_map, IsPermutation, Result, Ok, Err, IfOk, get_or, refl, sym, ap, ◌∙◌, subst, arith, eqb-true}
 use Rattle.std.specs.List.{AllByRecursion, list_any}
 use Rattle.std.proofs.lemmas.List.{get_or_append_left, get_or_push}
 use Rattle.std.proofs.lemmas.List.Sorted.{IsPermutation-refl}
@@ -7,23 +7,20 @@ use borrow.Author.Count.{below_more}
 use Rattle.edi_line.specs.Refusal.{IsUnbroken}
 use Rattle.edi_record.specs.Shapes.{may_have_ends}
 use Rattle.edi_record.specs.declared.record.Kind.{Kind}
-use Rattle.edi_record.specs.declared.record.Kind.TheVariants.{Pno, Par, Pfe, Fea, Lnk}
-use Rattle.edi_record.specs.declared.record.Point.{Point}
+use Rattle.edi_record.specs.declared.record.Kind.TheVariants.{Pno, Par}
 use Rattle.edi_schema.specs.Classes.{Classes, partner_of}
-use Rattle.edi_plan.specs.Plans.{Drawing, IsPlace, record_at, first_of, rest_of, origin_of, others_of}
+use Rattle.edi_plan.specs.Plans.{Drawing, IsPlace, record_at, first_of, rest_of, others_of}
 use Rattle.edi_plan.specs.Whole.{IsWhole}
 use Rattle.edi_plan.specs.declared.record.PlanEnd.{PlanEnd}
 use Rattle.edi_plan.specs.declared.record.PlanRecord.{PlanRecord}
-use Rattle.edi_topo.specs.Directions.{forward}
-use Rattle.edi_topo.specs.NodeKeys.{node_key}
 use Rattle.edi_topo.specs.TopologyRules.{BreaksTopologyRule}
 use Rattle.edi_rank.specs.Labelling.{turned_at}
-use Rattle.edi_rank.specs.Same.{CarriesRecord, has_turned_arc, class_after, moved, Same}
+use Rattle.edi_rank.specs.Same.{CarriesRecord, class_after, moved, Same}
 use Rattle.edi_rank.proofs.KeysApart.{one_node, one_arc}
 use Rattle.edi_rank.proofs.SameLaws.{after, after_none}
 use Rattle.edi_matching.specs.Differences.{HoldsSame, ArePartners, MatchesPartners, IsTotalIfSame}
 use Rattle.edi_matching.specs.Laws.{matching_of}
-use Rattle.edi_matching.specs.Matchings.{GoesTo, IsMatched, MatchingHolds, IsTotal, targets_of}
+use Rattle.edi_matching.specs.Matchings.{GoesTo, IsMatched, MatchingHolds, targets_of}
 use Rattle.edi_matching.specs.declared.matching.Matching.{Matching}
 use Rattle.edi_matching.specs.inner.Partners.{TwoPlans, GoesToPartner}
 use Rattle.edi_compare.specs.Pairings.{PairingCarries}

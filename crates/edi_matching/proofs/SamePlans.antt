@@ -1,18 +1,18 @@
 -- Two plans are the same exactly if the pairing by types and numbers carries the one onto the other.
-use Rattle.std.proofs.Common.{◌≡◌, ◌↔◌, ℕ, ◌+◌, ◌-◌, ◌<◌, ◌≤◌, ◌⊎◌, Bool, true, false, true≢false, IsTrue, List, length, slice_index, Option, None, Some, refl, sym, ap, ◌∙◌, subst, arith}
+use Rattle.std.proofs.Common.{◌≡◌, ◌↔◌, ◌-◌, Bool, false, true≢false, IsTrue, length, slice_index, sym, ◌∙◌, arith}
 use Rattle.std.proofs.lemmas.Option.{slice_get-get_or, slice_get_within}
 use Rattle.edi_line.specs.Refusal.{IsUnbroken}
 use Rattle.edi_record.specs.declared.record.Kind.{Kind}
 use Rattle.edi_record.specs.declared.record.Kind.TheVariants.{Pno, Par, Pfe, Fea, Lnk}
 use Rattle.edi_schema.specs.Classes.{Classes, IsSchema}
 use Rattle.edi_plan.specs.Agreeing.{Agrees}
-use Rattle.edi_plan.specs.Plans.{Drawing, IsPlace, record_at}
+use Rattle.edi_plan.specs.Plans.{Drawing, record_at}
 use Rattle.edi_topo.specs.TopologyRules.{BreaksTopologyRule}
 use Rattle.edi_rank.specs.Alike.{BreaksObjectRule}
 use Rattle.edi_rank.specs.Arranged.{arranged, new_place}
 use Rattle.edi_rank.specs.Labelling.{Labelling, AreLabels, order_of, number_of, turned_at}
 use Rattle.edi_rank.specs.Laws.{IsPlanUnder}
-use Rattle.edi_rank.specs.Same.{Carries, Same}
+use Rattle.edi_rank.specs.Same.{Same}
 use Rattle.edi_rank.proofs.ArrangedRises.{arranged_in_order}
 use Rattle.edi_rank.proofs.ArrangedUnder.{under_arranged}
 use Rattle.edi_rank.proofs.Arranging.{carries_arranged}

@@ -1,10 +1,10 @@
 -- Where the partner of a node or an arc is looked for.
-use Rattle.std.specs.Prelude.{◌≡◌, ◌≢◌, ℕ, Bool, false, true, List, Option, None, Some, MatchOption, length}
+use Rattle.std.specs.Prelude.{◌≡◌, ◌≢◌, ℕ, Bool, false, true, List, Option, None, Some, MatchOption}
 use Rattle.edi_record.specs.declared.record.Kind.{Kind}
 use Rattle.edi_record.specs.declared.record.Kind.TheVariants.{Par}
 use Rattle.edi_record.specs.declared.record.Point.{Point}
 use Rattle.edi_line.specs.Refusal.{IsUnbroken}
-use Rattle.edi_plan.specs.Plans.{Drawing, IsPlace, record_at}
+use Rattle.edi_plan.specs.Plans.{Drawing, IsPlace}
 use Rattle.edi_plan.specs.declared.record.PlanRecord.{PlanRecord}
 use Rattle.edi_rank.specs.Same.{directed}
 use Rattle.edi_topo.specs.TopologyRules.{BreaksTopologyRule}

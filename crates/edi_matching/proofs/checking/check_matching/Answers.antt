@@ -1,4 +1,4 @@
-use Rattle.std.proofs.Common.{◌≡◌, ℕ, length, subst, ◌∙◌, arith}
+use Rattle.std.proofs.Common.{subst, ◌∙◌, arith}
 use Rattle.edi_matching.specs.inner.Marks.{AreApart}
 use Rattle.edi_matching.proofs.Checked.{all_told}
 use Rattle.edi_matching.proofs.checking.check_matching.Goals as goal

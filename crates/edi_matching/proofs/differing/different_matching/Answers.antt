@@ -1,4 +1,4 @@
-use Rattle.std.proofs.Common.{subst, sym}
+use Rattle.std.proofs.Common.{subst}
 use Rattle.edi_plan.specs.Plans.{Drawing}
 use Rattle.edi_matching.specs.Differences.{MatchesPartners}
 use Rattle.edi_matching.specs.Matchings.{MatchingHolds}

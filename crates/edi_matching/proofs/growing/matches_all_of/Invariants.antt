@@ -1,4 +1,4 @@
-use Rattle.std.proofs.Common.{◌≡◌, ◌<◌, ℕ, None}
+use Rattle.std.proofs.Common.{◌<◌, ℕ}
 use Rattle.edi_matching.specs.Matchings.{IsMatched}
 use Rattle.edi_matching.proofs.growing.matches_all_of.Given as goal
 

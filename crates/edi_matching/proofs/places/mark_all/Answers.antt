@@ -1,4 +1,4 @@
-use Rattle.std.proofs.Common.{◌≡◌, refl, length, subst, ap, sym, arith}
+use Rattle.std.proofs.Common.{◌≡◌, refl, length, subst, arith}
 use Rattle.edi_matching.proofs.Taken.{AreTaken, all_apart}
 use Rattle.edi_matching.proofs.places.mark_all.Goals as goal
 

@@ -1,10 +1,10 @@
-use Rattle.std.proofs.Common.{◌≡◌, ℕ, Bool, List, Option, None, false, length, get_or, ap, sym, subst, arith}
+use Rattle.std.proofs.Common.{◌≡◌, length, ap, subst, arith}
 use Rattle.std.proofs.lemmas.List.{length_push}
 use Rattle.edi_line.specs.Refusal.{IsUnbroken}
 use Rattle.edi_plan.specs.Plans.{Drawing}
 use Rattle.edi_plan.specs.Whole.{IsWhole}
 use Rattle.edi_topo.specs.TopologyRules.{BreaksTopologyRule}
-use Rattle.edi_matching.specs.inner.Partners.{TwoPlans, GoesToPartner}
+use Rattle.edi_matching.specs.inner.Partners.{TwoPlans}
 use Rattle.edi_matching.proofs.PartnersHold.{one_goes_more, partners_told}
 use Rattle.edi_matching.proofs.partners.Partners.matching.Goals as goal
 

@@ -1,4 +1,4 @@
-use Rattle.std.proofs.Common.{sym, subst, length, List, [], ◌∷◌, get_or, IsPermutation}
+use Rattle.std.proofs.Common.{sym, subst}
 use Rattle.edi_line.specs.Refusal.{IsUnbroken}
 use Rattle.edi_plan.specs.Plans.{Drawing}
 use Rattle.edi_topo.specs.TopologyRules.{BreaksTopologyRule}
