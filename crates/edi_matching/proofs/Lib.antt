@@ -4,3 +4,4 @@ pub mod Checked
 pub mod Found
 pub mod SamePlans
 pub mod PartnersHold
+pub mod KnownMatchings

@@ -1,5 +1,5 @@
 -- A matching of the records of two plans: what a pairing is, of some of the records.
-use Rattle.std.specs.Prelude.{◌≡◌, ℕ, List, map, length, slice_index, slice_index_or, unwrap_or, Option, None, Some, true, true}
+use Rattle.std.specs.Prelude.{◌≡◌, ℕ, List, map, length, slice_index, slice_index_or, unwrap_or, Option, None, Some, true}
 use Rattle.std.specs.List.{AllByRecursion}
 use Rattle.edi_record.specs.declared.record.Kind.TheVariants.{Par}
 use Rattle.edi_schema.specs.Classes.{Classes}

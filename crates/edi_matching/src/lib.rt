@@ -7,6 +7,7 @@ pub mod differing;
 mod entries;
 mod growing;
 mod keys;
+pub mod known;
 pub mod laws;
 pub mod matching;
 mod partners;
