@@ -28,7 +28,7 @@ told_differ true false = refl
 told_differ false true = refl
 told_differ false false = refl
 
-module _ (s : Classes) (p q : Drawing) (l m : Labelling) (labels : AreLabels s p l) (labels' : AreLabels s q m) (one : arranged s l p ≡ arranged s m q) (f : NumberedRecords) (first : IsNumbered p l f) where
+module _ (s : Classes) (p q : Drawing) (l m : Labelling) (labels : AreLabels s p l) (labels' : AreLabels s q m) (f : NumberedRecords) (first : IsNumbered p l f) where
   number_is : (k : ℕ) → number_at f k ≡ number_of l k
   number_is k = ap (λ (ns : List ℕ). slice_index ns k) first.numbers
 
@@ -38,23 +38,28 @@ module _ (s : Classes) (p q : Drawing) (l m : Labelling) (labels : AreLabels s p
   within : (k : ℕ) → k < length f.kinds.items → IsPlace p k
   within k h = subst (λ n. k < n) first.long h
 
+  ordered_there : (kind : Kind) (i : ℕ) → i < length (order_of m kind) → IsPlace q (slice_index (order_of m kind) i)
+  ordered_there kind i h = (labels'.orders kind i (slice_index (order_of m kind) i) (slice_get-get_or (order_of m kind) i 0 h)).0
+
+  -- where the second plan has as many records of a type as the numbers of the first go, each has a namesake
+  pub have_namesakes : ((k : ℕ) → IsPlace p k → number_of l k ≤ length (order_of m (record_at p k).kind)) → HasNamesakes f m
+  have_namesakes fits = record {
+    numbered = ap length first.numbers ∙ (labels.all_numbered ∙ sym first.long);
+    directed = ap length first.turned ∙ (labels.all_directed ∙ sym first.long);
+    from_one = λ k h. subst (λ n. 1 ≤ n) (sym (number_is k)) (labels.from_one k (within k h));
+    to_count = λ k h.
+        let place = within k h in
+        subst (λ n. n ≤ length (order_of m (kind_at f k))) (sym (number_is k)) (subst (λ kind. number_of l k ≤ length (order_of m kind)) (sym (first.kinds k place)) (fits k place));
+    there = λ kind i h. omega (arith, ordered_there kind i h, labels'.all_directed);
+  }
+
+module _ (s : Classes) (p q : Drawing) (l m : Labelling) (labels : AreLabels s p l) (labels' : AreLabels s q m) (one : arranged s l p ≡ arranged s m q) (f : NumberedRecords) (first : IsNumbered p l f) where
   number_fits : (k : ℕ) → IsPlace p k → number_of l k - 1 < length (order_of m (record_at p k).kind)
   number_fits k h =
       omega (arith, slice_get_within (order_of l (record_at p k).kind) (number_of l k - 1) k (labels.to_count k h), one_count s p q l m labels labels' one (record_at p k).kind)
 
-  ordered_there : (kind : Kind) (i : ℕ) → i < length (order_of m kind) → IsPlace q (slice_index (order_of m kind) i)
-  ordered_there kind i h = (labels'.orders kind i (slice_index (order_of m kind) i) (slice_get-get_or (order_of m kind) i 0 h)).0
-
   pub has_namesakes : HasNamesakes f m
-  has_namesakes = record {
-    numbered = ap length first.numbers ∙ (labels.all_numbered ∙ sym first.long);
-    directed = ap length first.turned ∙ (labels.all_directed ∙ sym first.long);
-    from_one = λ k h. subst (λ n. 1 ≤ n) (sym (number_is k)) (labels.from_one k (within k h));
-    to_count = λ k h. let place = within k h in
-        let fits : number_of l k ≤ length (order_of m (record_at p k).kind) = omega (arith, number_fits k place, labels.from_one k place) in
-        subst (λ n. n ≤ length (order_of m (kind_at f k))) (sym (number_is k)) (subst (λ kind. number_of l k ≤ length (order_of m kind)) (sym (first.kinds k place)) fits);
-    there = λ kind i h. omega (arith, ordered_there kind i h, labels'.all_directed);
-  }
+  has_namesakes = have_namesakes s p q l m labels labels' f first (λ k h. omega (arith, number_fits k h, labels.from_one k h))
 
   -- the namesake of a record, by the labels of its plan
   other : ℕ → ℕ
@@ -62,12 +67,12 @@ module _ (s : Classes) (p q : Drawing) (l m : Labelling) (labels : AreLabels s p
 
   namesake_is : (i : ℕ) → IsPlace p i → namesake f m i ≡ other i
   unfolding other
-  namesake_is i h = ap₂ (λ kind n. slice_index (order_of m kind) (n - 1)) (first.kinds i h) (number_is i)
+  namesake_is i h = ap₂ (λ kind n. slice_index (order_of m kind) (n - 1)) (first.kinds i h) (number_is s p q l m labels labels' f first i)
 
   -- it is there, and goes where the record goes
   other_there : (i : ℕ) → IsPlace p i → IsPlace q (other i)
   unfolding other
-  other_there i h = ordered_there (record_at p i).kind (number_of l i - 1) (number_fits i h)
+  other_there i h = ordered_there s p q l m labels labels' f first (record_at p i).kind (number_of l i - 1) (number_fits i h)
 
   other_goes : (i : ℕ) → IsPlace p i → new_place m q (other i) ≡ new_place l p i
   unfolding other
@@ -85,7 +90,7 @@ module _ (s : Classes) (p q : Drawing) (l m : Labelling) (labels : AreLabels s p
         let there = subst (λ n. i < n) (sym first.long) h in
         by.turned i there
         ∙ (told_differ (turned_at f.turned i) (turned_at m.turned (namesake f m i))
-        ∙ ap₂ differ (turned_is i) (ap (turned_at m.turned) (sym (by.to i there))))
+        ∙ ap₂ differ (turned_is s p q l m labels labels' f first i) (ap (turned_at m.turned) (sym (by.to i there))))
 
     pub pairing_carries : IsPlanUnder s p → IsPlanUnder s q → PairingCarries s p q pairing
     pairing_carries under under' = record {

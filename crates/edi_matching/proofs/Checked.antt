@@ -1,0 +1,100 @@
+-- A matching holds exactly if what is asked of each record holds.
+use Rattle.std.proofs.Common.{◌≡◌, ◌↔◌, ℕ, ◌+◌, ◌<◌, Bool, true, true≢false, IsTrue, List, ◌∷◌, drop, length, slice_index, Option, None, Some, Result, Ok, Err, IfOk, get_or, refl, sym, ap, ◌∙◌, subst, arith, add-one, drop-cons}
+use Rattle.std.specs.List.{AllByRecursion}
+use Rattle.std.specs.Option.{is_some}
+use Rattle.edi_record.specs.declared.record.Kind.TheVariants.{Par}
+use Rattle.edi_schema.specs.Classes.{Classes}
+use Rattle.edi_plan.specs.Plans.{Drawing, IsPlace, record_at}
+use Rattle.edi_plan.specs.declared.record.PlanEnd.{PlanEnd}
+use Rattle.edi_rank.specs.Labelling.{turned_at}
+use Rattle.edi_rank.specs.Same.{CarriesRecord}
+use Rattle.edi_matching.specs.Matchings.{GoesTo, IsMatched, MatchingHolds, targets_of}
+use Rattle.edi_matching.specs.inner.Marks.{AreApart}
+use Rattle.edi_matching.specs.inner.Proposals.{Proposal, HoldsAt, IsCarried}
+use Rattle.edi_matching.specs.declared.matching.Matching.{Matching}
+use Rattle.edi_matching.proofs.Totals.{goes_within}
+
+pub some_is : {X : Type 0} (o : Option X) → is_some o ≡ true → (x : X) × (o ≡ Some x)
+some_is None e = absurd (true≢false (sym e))
+some_is (Some x) e = (x, refl)
+
+-- one end more
+pub matched_more : (to : List (Option ℕ)) (ends : List PlanEnd) (i : ℕ) (x : PlanEnd) → i < length ends → x ≡ get_or ends i x → IsMatched to x.target
+    → (AllByRecursion (λ e. IsMatched to e.target) (drop i ends) ↔ AllByRecursion (λ e. IsMatched to e.target) ends)
+    → AllByRecursion (λ e. IsMatched to e.target) (drop (i + 1) ends) ↔ AllByRecursion (λ e. IsMatched to e.target) ends
+matched_more to ends i x h is matched all = (λ left. all.0 (back (here, left)), λ whole. (forth (all.1 whole)).1)
+  where
+    All : List PlanEnd → Type 0
+    All = AllByRecursion (λ (e : PlanEnd). IsMatched to e.target)
+
+    split : drop i ends ≡ get_or ends i x ∷ drop (i + 1) ends
+    split = drop-cons ends i x h ∙ ap (λ k. get_or ends i x ∷ drop k ends) (sym (add-one i))
+
+    here : IsMatched to (get_or ends i x).target
+    here = subst (λ (e : PlanEnd). IsMatched to e.target) is matched
+
+    back : IsMatched to (get_or ends i x).target × AllByRecursion (λ e. IsMatched to e.target) (drop (i + 1) ends) → AllByRecursion (λ e. IsMatched to e.target) (drop i ends)
+    back both = subst (AllByRecursion (λ (e : PlanEnd). IsMatched to e.target)) (sym split) both
+
+    forth : AllByRecursion (λ e. IsMatched to e.target) (drop i ends) → IsMatched to (get_or ends i x).target × AllByRecursion (λ e. IsMatched to e.target) (drop (i + 1) ends)
+    forth some = subst (AllByRecursion (λ (e : PlanEnd). IsMatched to e.target)) split some
+
+-- what is asked of a record that goes somewhere
+
+pub holds_told : {E : Type 0} (m : Proposal) (i j : ℕ) → GoesTo m.to i j → (turned_at m.turned i ≡ true → (record_at m.plan i).kind ≡ Par)
+    → AllByRecursion (λ e. IsMatched m.to e.target) (record_at m.plan i).ends → (r : Result Bool E)
+    → IfOk r (λ answer. IsTrue answer ↔ IsCarried m i j) → IfOk r (λ answer. IsTrue answer ↔ HoldsAt m i)
+holds_told m i j goes arc ends (Err e) told = tt
+holds_told m i j goes arc ends (Ok answer) told = (λ t. holds (told.0 t), λ h. told.1 (h.carries j goes))
+  where
+    one : (k : ℕ) → GoesTo m.to i k → j ≡ k
+    one k e = let f : Some j ≡ Some k = sym goes ∙ e in cc
+
+    holds : IsCarried m i j → HoldsAt m i
+    holds carried = record {
+      arc = λ e. ((j, goes), arc e);
+      ends = λ k e. ends;
+      carries = λ k e. subst (IsCarried m i) (one k e) carried;
+    }
+
+-- all of them
+
+module _ (s : Classes) (p q : Drawing) (m : Matching) (targets : List ℕ) (same : targets ≡ targets_of m.to) where
+  abbrev proposal : Proposal
+  proposal = record { classes = s; plan = p; other = q; to = m.to; targets = targets; turned = m.turned }
+
+  carried : (i j : ℕ) → IsCarried proposal i j → CarriesRecord s (slice_index (targets_of m.to)) (turned_at m.turned) i (record_at p i) (record_at q j)
+  carried i j c = subst (λ (ts : List ℕ). CarriesRecord s (slice_index ts) (turned_at m.turned) i (record_at p i) (record_at q j)) same c
+
+  carried_back : (i j : ℕ) → CarriesRecord s (slice_index (targets_of m.to)) (turned_at m.turned) i (record_at p i) (record_at q j) → IsCarried proposal i j
+  carried_back i j c = subst (λ (ts : List ℕ). CarriesRecord s (slice_index ts) (turned_at m.turned) i (record_at p i) (record_at q j)) (sym same) c
+
+  pub all_hold : length m.to ≡ length p.list → length m.turned ≡ length p.list → AreApart m.to (length q.list)
+      → ((i : ℕ) → IsPlace p i → HoldsAt proposal i) → MatchingHolds s p q m
+  all_hold entered directed apart each = record {
+    all_entered = entered;
+    all_directed = directed;
+    within = apart.within;
+    apart = apart.apart;
+    arcs = λ i h. (each i h).arc;
+    ends = λ i j e. (each i (place i j e)).ends j e;
+    each = λ i j e. carried i j ((each i (place i j e)).carries j e);
+  }
+    where
+      place : (i j : ℕ) → GoesTo m.to i j → IsPlace p i
+      place i j e = let less = goes_within m.to i j e in omega (arith, less, entered)
+
+  pub each_holds : MatchingHolds s p q m → (i : ℕ) → IsPlace p i → HoldsAt proposal i
+  each_holds holds i h = record { arc = holds.arcs i h; ends = holds.ends i; carries = λ j e. carried_back i j (holds.each i j e) }
+
+-- the same of plans and lists that are those of the matching
+pub all_told : {E : Type 0} (s : Classes) (p q p' q' : Drawing) (m : Matching) (to : List (Option ℕ)) (turned : List Bool) (targets : List ℕ) → p' ≡ p → q' ≡ q → to ≡ m.to → turned ≡ m.turned → targets ≡ targets_of to
+    → length to ≡ length p'.list → length turned ≡ length p'.list → AreApart to (length q'.list) → (r : Result Bool E)
+    → IfOk r (λ answer. IsTrue answer ↔ ((i : ℕ) → IsPlace p' i → HoldsAt (record { classes = s; plan = p'; other = q'; to = to; targets = targets; turned = turned }) i))
+    → IfOk r (λ answer. IsTrue answer ↔ MatchingHolds s p q m)
+all_told s p q p' q' m to turned targets is is' same same' aim entered directed apart (Err e) told = tt
+all_told s p q p' q' m to turned targets is is' same same' aim entered directed apart (Ok answer) told =
+    subst (λ (x : Drawing). IsTrue answer ↔ MatchingHolds s x q m) is
+    (subst (λ (y : Drawing). IsTrue answer ↔ MatchingHolds s p' y m) is'
+    (subst (λ (n : Matching). IsTrue answer ↔ MatchingHolds s p' q' n) (λ k. record { to = same k; turned = same' k })
+    (λ t. all_hold s p' q' (record { to = to; turned = turned }) targets aim entered directed apart (told.0 t), λ holds. told.1 (each_holds s p' q' (record { to = to; turned = turned }) targets aim holds))))

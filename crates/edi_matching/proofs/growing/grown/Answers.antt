@@ -1,0 +1,8 @@
+use Rattle.std.proofs.Common.{ℕ, List, Option, subst, sym}
+use Rattle.edi_matching.specs.Matchings.{IsMatched}
+use Rattle.edi_matching.proofs.growing.grown.Goals as goal
+
+pub returns-then-branch-clause-keeps : goal.returns-then-branch-clause-keeps
+returns-then-branch-clause-keeps c =
+    λ i m. subst (λ (to : List (Option ℕ)). IsMatched to i) c.as_slice.ensures
+    (c.matches_all_of.ensures c.if-matches_all_of.true i (subst (λ (to : List (Option ℕ)). IsMatched to i) (sym c.as_slice-2.ensures) m))

@@ -1,0 +1,5 @@
+pub mod Matchings
+pub mod Laws
+pub mod Differences
+pub mod Known
+pub mod inner

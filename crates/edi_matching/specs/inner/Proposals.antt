@@ -1,0 +1,44 @@
+-- What is checked of a matching, record by record.
+use Rattle.std.specs.Prelude.{◌≡◌, ℕ, Bool, true, List, Option, length, slice_index}
+use Rattle.std.specs.List.{AllByRecursion}
+use Rattle.edi_record.specs.declared.record.Kind.TheVariants.{Par}
+use Rattle.edi_schema.specs.Classes.{Classes, partner_of}
+use Rattle.edi_plan.specs.Plans.{Drawing, IsPlace, record_at}
+use Rattle.edi_rank.specs.Labelling.{turned_at}
+use Rattle.edi_rank.specs.Same.{class_after, directed, CarriesRecord}
+use Rattle.edi_compare.specs.Pairings.{HasClasses}
+use Rattle.edi_matching.specs.Matchings.{GoesTo, IsMatched}
+
+-- two plans of one schema, where it is proposed that the records of the first go, if anywhere, the same as places, and which are turned
+pub record Proposal : Type 0 where
+  pub classes : Classes
+  pub plan : Drawing
+  pub other : Drawing
+  pub to : List (Option ℕ)
+  pub targets : List ℕ
+  pub turned : List Bool
+
+-- each record has an entry, and where it goes is a place of the other plan
+pub record IsFitting (m : Proposal) : Type 0 where
+  pub classed : HasClasses m.classes m.plan
+  pub all_entered : length m.to ≡ length m.plan.list
+  pub all_directed : length m.turned ≡ length m.plan.list
+  pub all_targeted : length m.targets ≡ length m.plan.list
+  pub within : (i j : ℕ) → GoesTo m.to i j → IsPlace m.other j
+
+-- the record at the place i is carried onto that at the place j of the other plan
+abbrev pub IsCarried : Proposal → ℕ → ℕ → Type 0
+IsCarried m i j = CarriesRecord m.classes (slice_index m.targets) (turned_at m.turned) i (record_at m.plan i) (record_at m.other j)
+
+-- of that what needs no order: kind, class, points and extra zones
+pub record HasSameBody (m : Proposal) (i j : ℕ) : Type 0 where
+  pub kind : (record_at m.other j).kind ≡ (record_at m.plan i).kind
+  pub class : (record_at m.other j).class ≡ class_after (partner_of m.classes) (turned_at m.turned) (record_at m.plan i)
+  pub points : (record_at m.other j).points ≡ directed (turned_at m.turned i) (record_at m.plan i).points
+  pub extras : (record_at m.other j).extras ≡ (record_at m.plan i).extras
+
+-- what is asked of the record at the place i
+pub record HoldsAt (m : Proposal) (i : ℕ) : Type 0 where
+  pub arc : turned_at m.turned i ≡ true → IsMatched m.to i × ((record_at m.plan i).kind ≡ Par)
+  pub ends : (j : ℕ) → GoesTo m.to i j → AllByRecursion (λ e. IsMatched m.to e.target) (record_at m.plan i).ends
+  pub carries : (j : ℕ) → GoesTo m.to i j → IsCarried m i j

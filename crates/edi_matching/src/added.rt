@@ -1,0 +1,123 @@
+//! Records that are matched where neither is yet.
+
+use crate::partners::same_record;
+use edi_plan::Plan;
+use edi_record::Kind;
+use edi_schema::Role;
+use std::alloc::{AllocError, Global};
+
+/// Adds the faces that matched arcs have on one side and hold the same.
+pub(crate) fn add_faces(
+    alloc: Global,
+    plan: &Plan,
+    other: &Plan,
+    turned: &[bool],
+    to: &mut [Option<u32>],
+    taken: &mut [bool],
+) -> Result<(), AllocError> {
+    for arc in 0..plan.len() {
+        let target = target_of(to, arc);
+        let is_turned = turned.get(arc as usize).copied().unwrap_or(false);
+        if let Some(target) = target
+            && plan.kind(arc) == Kind::Par
+            && target < other.len()
+        {
+            for role in [Role::Left, Role::Right] {
+                let there = if is_turned { role.exchanged() } else { role };
+                add_same(
+                    alloc,
+                    plan,
+                    plan.side(arc, role),
+                    other,
+                    other.side(target, there),
+                    to,
+                    taken,
+                )?;
+            }
+        }
+    }
+    Ok(())
+}
+
+/// Where a record goes.
+pub(crate) fn target_of(to: &[Option<u32>], place: u32) -> Option<u32> {
+    to.get(place as usize).copied().flatten()
+}
+
+/// Adds one record, if there are both and they hold the same.
+fn add_same(
+    alloc: Global,
+    plan: &Plan,
+    place: Option<u32>,
+    other: &Plan,
+    target: Option<u32>,
+    to: &mut [Option<u32>],
+    taken: &mut [bool],
+) -> Result<(), AllocError> {
+    if let (Some(place), Some(target)) = (place, target)
+        && place < plan.len()
+        && target < other.len()
+        && same_record(alloc, plan, place, other, target)?.is_some()
+    {
+        add(to, taken, place, target);
+    }
+    Ok(())
+}
+
+/// Adds the objects with one key that hold the same, of lists in the order of their keys.
+pub(crate) fn add_objects<K: Ord>(
+    alloc: Global,
+    plan: &Plan,
+    objects: &[(K, u32)],
+    other: &Plan,
+    others: &[(K, u32)],
+    to: &mut [Option<u32>],
+    taken: &mut [bool],
+) -> Result<(), AllocError> {
+    let mut at = 0;
+    for (key, place) in objects {
+        at = first_from(others, at, key);
+        if at < others.len() && others[at].0 == *key {
+            let target = others[at].1;
+            add_same(alloc, plan, Some(*place), other, Some(target), to, taken)?;
+            at += 1;
+        }
+    }
+    Ok(())
+}
+
+/// Adds the links with one key, of lists in the order of their keys.
+pub(crate) fn add_links<K: Ord>(
+    links: &[(K, u32)],
+    others: &[(K, u32)],
+    to: &mut [Option<u32>],
+    taken: &mut [bool],
+) {
+    let mut at = 0;
+    for (key, place) in links {
+        at = first_from(others, at, key);
+        if at < others.len() && others[at].0 == *key {
+            add(to, taken, *place, others[at].1);
+            at += 1;
+        }
+    }
+}
+
+/// The first position from this one on whose key is not less.
+fn first_from<K: Ord>(others: &[(K, u32)], from: usize, key: &K) -> usize {
+    let mut at = from;
+    while at < others.len() && others[at].0.cmp(key).is_lt() {
+        at += 1;
+    }
+    at
+}
+
+/// Matches a record, if neither is matched yet.
+fn add(to: &mut [Option<u32>], taken: &mut [bool], place: u32, target: u32) {
+    let i = place as usize;
+    let j = target as usize;
+    if i < to.len() && j < taken.len() && to[i].is_none() && !taken[j] {
+        to[i] = Some(target);
+        taken[j] = true;
+    }
+}

@@ -1,0 +1,48 @@
+//! Checking matchings.
+
+ghost use Rattle.std.specs.Prelude.{◌↔◌, IfOk, IsTrue};
+ghost use Rattle.edi_compare.specs.Pairings.{HasClasses};
+ghost use Rattle.edi_matching.specs.Matchings.{MatchingHolds};
+
+use crate::matching::Matching;
+use crate::places::{are_apart, targets_of};
+use crate::record::Proposed;
+use edi_compare::Accepted;
+use edi_schema::Schema;
+use std::alloc::{AllocError, Global};
+
+/// Whether a matching holds between two sheets that were accepted under this schema: it has an entry for each record of
+/// the first, takes no two of these to one, turns matched arcs alone, and each record that it matches is the one that it
+/// goes to, as `check_pairing` has it, with all its ends. A true answer asks for no trust in where the matching came
+/// from. The only error is want of memory.
+pub fn check_matching(
+    alloc: Global,
+    schema: &Schema,
+    first: &Accepted,
+    second: &Accepted,
+    matching: &Matching,
+) -> Result<bool, AllocError>
+    requires { HasClasses schema.now first.now }
+    ensures { IfOk result (λ answer. IsTrue answer ↔ MatchingHolds schema.now first.now second.now matching.now) }
+{
+    let plan = first.sound().plan();
+    let other = second.sound().plan();
+    let to = matching.to.as_slice();
+    let turned = matching.turned.as_slice();
+    if to.len() != plan.len() as usize || turned.len() != plan.len() as usize {
+        return Ok(false);
+    }
+    if !are_apart(alloc, to, other.len())? {
+        return Ok(false);
+    }
+    let targets = targets_of(alloc, to)?;
+    let proposed = Proposed {
+        schema,
+        plan,
+        other,
+        to,
+        targets: &targets,
+        turned,
+    };
+    proposed.all_hold(alloc)
+}

@@ -1,0 +1,113 @@
+//! Faces, objects and links, added to a matching of nodes and arcs.
+
+ghost use Rattle.std.specs.Prelude.{◌≡◌, ◌<◌, ℕ, IfOk, IsTrue, Some, length};
+ghost use Rattle.edi_plan.specs.Plans.{IsPlace};
+ghost use Rattle.edi_compare.specs.Pairings.{HasClasses};
+ghost use Rattle.edi_matching.specs.Matchings.{IsMatched, MatchingHolds};
+
+use crate::added::{add_faces, add_links, add_objects};
+use crate::checking::check_matching;
+use crate::entries::{links_by_key, objects_by_key};
+use crate::matching::Matching;
+use edi_compare::Accepted;
+use edi_line::Sequence;
+use edi_plan::Plan;
+use edi_schema::Schema;
+use std::alloc::{AllocError, Global};
+
+/// A matching that matches what this one does, and more if that holds.
+pub(crate) fn grown(
+    alloc: Global,
+    schema: &Schema,
+    first: &Accepted,
+    second: &Accepted,
+    matching: Matching,
+) -> Result<Matching, AllocError>
+    requires first { HasClasses schema.now first.now }
+    requires second { HasClasses schema.now second.now }
+    requires holds { MatchingHolds schema.now first.now second.now matching }
+    ensures holds { IfOk result (MatchingHolds schema.now first.now second.now) }
+    ensures keeps { IfOk result (λ m. (i : ℕ) → IsMatched matching.to i → IsMatched m.to i) }
+{
+    let more = with_more(alloc, schema, first, second, &matching)?;
+    if matches_all_of(more.to.as_slice(), matching.to.as_slice())
+        && check_matching(alloc, schema, first, second, &more)?
+    {
+        Ok(more)
+    } else {
+        Ok(matching)
+    }
+}
+
+/// Whether each record that is matched there is matched here.
+fn matches_all_of(here: &[Option<u32>], there: &[Option<u32>]) -> bool
+    ensures { IsTrue result → (i : ℕ) → IsMatched there.now i → IsMatched here.now i }
+{
+    if here.len() != there.len() {
+        return false;
+    }
+    for place in 0..here.len() {
+        if !is_kept(here[place], there[place]) {
+            return false;
+        }
+    }
+    true
+}
+
+/// Whether there is one here, if there is one there.
+fn is_kept(here: Option<u32>, there: Option<u32>) -> bool
+    ensures { IsTrue result → (j : ℕ) → there ≡ Some j → (k : ℕ) × (here ≡ Some k) }
+{
+    match (here, there) {
+        (Some(_), _) => true,
+        (None, None) => true,
+        (None, Some(_)) => false,
+    }
+}
+
+/// The matching with faces by the sides of arcs, objects by what their links name beside them, and links by all that
+/// they hold. Nothing rests on it: what it gives is checked.
+fn with_more(
+    alloc: Global,
+    schema: &Schema,
+    first: &Accepted,
+    second: &Accepted,
+    matching: &Matching,
+) -> Result<Matching, AllocError>
+    requires first { HasClasses schema.now first.now }
+    requires second { HasClasses schema.now second.now }
+    requires long { length matching.now.turned ≡ length first.now.list }
+{
+    let plan = first.sound().plan();
+    let other = second.sound().plan();
+    let turned = matching.turned.as_slice();
+    let mut to = copied(alloc, matching.to.as_slice())?;
+    let mut taken = vec![in alloc; false; other.len() as usize]?;
+    let itself = each_to_itself(alloc, other)?;
+    let unturned = vec![in alloc; false; other.len() as usize]?;
+    add_faces(alloc, plan, other, turned, &mut to, &mut taken)?;
+    let objects = objects_by_key(alloc, plan, &to)?;
+    let others = objects_by_key(alloc, other, &itself)?;
+    add_objects(alloc, plan, &objects, other, &others, &mut to, &mut taken)?;
+    let links = links_by_key(alloc, schema, plan, &to, turned)?;
+    let others = links_by_key(alloc, schema, other, &itself, &unturned)?;
+    add_links(&links, &others, &mut to, &mut taken);
+    Ok(Matching {
+        to: Sequence::from_vec(to),
+        turned: Sequence::from_vec(copied(alloc, turned)?),
+    })
+}
+
+fn copied<T: Copy>(alloc: Global, values: &[T]) -> Result<Vec<T>, AllocError>
+    ensures { IfOk result (λ copy. copy.items ≡ values.now) }
+{
+    values.iter().copied().collect(alloc)
+}
+
+fn each_to_itself(alloc: Global, plan: &Plan) -> Result<Vec<Option<u32>>, AllocError> {
+    let mut to = Vec::with_capacity(alloc, plan.len() as usize)?;
+    for place in 0..plan.len() {
+        to.push(Some(place))?;
+    }
+    Ok(to)
+}

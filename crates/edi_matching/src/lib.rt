@@ -1,0 +1,23 @@
+//! Matchings of two sheets: which records of the one are records of the other.
+#![tactic(auto)]
+
+mod added;
+pub mod checking;
+pub mod differing;
+mod entries;
+mod growing;
+mod keys;
+pub mod known;
+pub mod laws;
+pub mod matching;
+mod partners;
+mod places;
+mod record;
+mod same;
+
+pub use checking::check_matching;
+pub use differing::differences;
+pub use matching::Matching;
+
+#[cfg(test)]
+mod tests;

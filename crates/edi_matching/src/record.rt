@@ -1,0 +1,148 @@
+//! Whether each record of a plan is the one that it goes to.
+
+ghost use Rattle.std.specs.Prelude.{◌≡◌, ◌↔◌, ◌<◌, ℕ, IfOk, IsTrue, length, true};
+ghost use Rattle.std.specs.List.{AllByRecursion};
+ghost use Rattle.edi_record.specs.declared.record.Kind.TheVariants.{Par};
+ghost use Rattle.edi_plan.specs.Plans.{IsPlace, record_at};
+ghost use Rattle.edi_rank.specs.Labelling.{turned_at};
+ghost use Rattle.edi_matching.specs.Matchings.{GoesTo, IsMatched};
+ghost use Rattle.edi_matching.specs.inner.Proposals.{HasSameBody, HoldsAt, IsCarried};
+
+use edi_compare::contents::{same_attributes, same_extras, same_points};
+use edi_compare::moved_ends::same_ends;
+use edi_plan::{Plan, PlanEnd};
+use edi_rank::class_turned;
+use edi_record::Kind;
+use edi_schema::Schema;
+use std::alloc::{AllocError, Global};
+use std::marker::Model;
+
+/// Two plans, and for each record of the first where it goes in the second, if anywhere, and whether it is turned. The
+/// targets have 0 for a record that goes nowhere.
+#[derive(Drop)]
+pub(crate) struct Proposed<'a> {
+    pub(crate) schema: &'a Schema,
+    pub(crate) plan: &'a Plan,
+    pub(crate) other: &'a Plan,
+    pub(crate) to: &'a [Option<u32>],
+    pub(crate) targets: &'a [u32],
+    pub(crate) turned: &'a [bool],
+}
+
+impl<'a> Model for Proposed<'a> {
+    ghost use Rattle.edi_matching.specs.inner.Proposals.{Proposal, IsFitting};
+
+    ghost Value = { Proposal };
+
+    ghost view = { λ p. record { classes = p.schema.now; plan = p.plan.now; other = p.other.now; to = p.to.now; targets = p.targets.now; turned = p.turned.now } };
+
+    ghost invariant = { λ p. IsFitting (record { classes = p.schema.now; plan = p.plan.now; other = p.other.now; to = p.to.now; targets = p.targets.now; turned = p.turned.now }) };
+}
+
+impl<'a> Proposed<'a> {
+    /// Whether what is asked of a record holds of each.
+    pub(crate) fn all_hold(&self, alloc: Global) -> Result<bool, AllocError>
+        ensures { IfOk result (λ answer. IsTrue answer ↔ ((i : ℕ) → IsPlace self.now.plan i → HoldsAt self.now i)) }
+    {
+        for place in 0..self.plan.len() {
+            if !self.holds_at(alloc, place)? {
+                return Ok(false);
+            }
+        }
+        Ok(true)
+    }
+
+    /// Whether what is asked of a record holds.
+    fn holds_at(&self, alloc: Global, place: u32) -> Result<bool, AllocError>
+        requires { IsPlace self.now.plan place }
+        ensures { IfOk result (λ answer. IsTrue answer ↔ HoldsAt self.now place) }
+    {
+        match self.to[place as usize] {
+            Some(target) => self.holds_there(alloc, place, target),
+            None => Ok(!self.turned[place as usize]),
+        }
+    }
+
+    /// Whether what is asked of a record that goes to this place holds.
+    fn holds_there(&self, alloc: Global, place: u32, target: u32) -> Result<bool, AllocError>
+        requires place { IsPlace self.now.plan place }
+        requires goes { GoesTo self.now.to place target }
+        requires there { IsPlace self.now.other target }
+        ensures { IfOk result (λ answer. IsTrue answer ↔ HoldsAt self.now place) }
+    {
+        if !self.may_turn(place) || !self.has_matched_ends(place) {
+            return Ok(false);
+        }
+        self.is_carried(alloc, place, target)
+    }
+
+    /// Whether each end of a record is matched.
+    fn has_matched_ends(&self, place: u32) -> bool
+        requires { IsPlace self.now.plan place }
+        ensures { IsTrue result ↔ AllByRecursion (λ e. IsMatched self.now.to e.target) (record_at self.now.plan place).ends }
+    {
+        self.plan.keeps();
+        all_matched(self.to, self.plan.ends(place))
+    }
+
+    /// Whether a record is an arc if it is turned.
+    fn may_turn(&self, place: u32) -> bool
+        requires { IsPlace self.now.plan place }
+        ensures { IsTrue result ↔ (turned_at self.now.turned place ≡ true → (record_at self.now.plan place).kind ≡ Par) }
+    {
+        !self.turned[place as usize] || self.plan.kind(place) == Kind::Par
+    }
+
+    /// Whether the record is carried onto the one at this place of the other plan.
+    pub(crate) fn is_carried(
+        &self,
+        alloc: Global,
+        place: u32,
+        target: u32,
+    ) -> Result<bool, AllocError>
+        requires place { IsPlace self.now.plan place }
+        requires target { IsPlace self.now.other target }
+        ensures { IfOk result (λ answer. IsTrue answer ↔ IsCarried self.now place target) }
+    {
+        if !self.has_same_body(place, target) {
+            return Ok(false);
+        }
+        let attributes = self.plan.attributes(place);
+        if !same_attributes(alloc, attributes, self.other.attributes(target))? {
+            return Ok(false);
+        }
+        self.plan.keeps();
+        same_ends(
+            alloc,
+            self.targets,
+            self.plan.ends(place),
+            self.other.ends(target),
+        )
+    }
+
+    /// Whether a record has the type, the class, the points and the extra zones of one of the other plan.
+    fn has_same_body(&self, place: u32, target: u32) -> bool
+        requires place { IsPlace self.now.plan place }
+        requires target { IsPlace self.now.other target }
+        ensures { IsTrue result ↔ HasSameBody self.now place target }
+    {
+        let turned = self.turned[place as usize];
+        self.other.kind(target) == self.plan.kind(place)
+            && self.other.scp(target) == class_turned(self.schema, self.plan, self.turned, place)
+            && same_points(self.plan.points(place), turned, self.other.points(target))
+            && same_extras(self.plan.extras(place), self.other.extras(target))
+    }
+}
+
+/// Whether each end is matched.
+fn all_matched(to: &[Option<u32>], ends: &[PlanEnd]) -> bool
+    requires { AllByRecursion (λ e. e.target < length to.now) ends.now }
+    ensures { IsTrue result ↔ AllByRecursion (λ e. IsMatched to.now e.target) ends.now }
+{
+    for end in ends {
+        if to[end.target as usize].is_none() {
+            return false;
+        }
+    }
+    true
+}
