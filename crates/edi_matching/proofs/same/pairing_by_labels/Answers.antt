@@ -18,8 +18,8 @@ paired-requires c =
 pub check_pairing-requires : goal.check_pairing-requires
 check_pairing-requires c = accepted_classed c.args.schema.now c.args.first.now c.keeps.ensures c.requires.first
 
-pub returns-else-branch : goal.returns-else-branch
-returns-else-branch c =
+pub returns : goal.returns
+returns c =
     not_carried c.args.schema.now c.args.first.now c.args.second.now c.args.labels c.args.others.now c.keeps.ensures c.requires.first c.requires.second c.requires.labels c.requires.others
     c.in_ok-records.records (subst (λ (p : Drawing). IsNumbered p c.args.labels c.in_ok-records.records) (c.plan.ensures.plan ∙ c.sound.ensures) c.in_ok-records.ensures)
     c.in_ok-pairing.pairing c.in_ok-pairing.ensures c.in_ok-check_pairing.field-0 c.in_ok-check_pairing.ensures c.if-branch.false
