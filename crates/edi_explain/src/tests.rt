@@ -295,7 +295,7 @@ fn schemas_are_explained(rt: HostRuntime) -> Result<(), Fail> {
         Ok(_) => return Err("the schema is not refused".into()),
         Err(fault) => assert_eq!(rt;
             explain_schema(alloc, &scd, &dic, &fault)?.as_slice(),
-            b"s:4: PGE 1: type and identifier of an earlier record of the file [602]\ns:2: PGE 1: the earlier record [602]\n"
+            b"s:4: PGE 1: type and identifier of an earlier record of the file [602]\ns:2: PGE 1: the earlier record [602]\n".as_slice()
         ),
     }
     Ok(())
@@ -309,7 +309,7 @@ fn rules_have_pages(rt: HostRuntime) -> Result<(), Fail> {
     let text = rule_of_word("106").ok_or("no such rule")?;
     assert_eq!(rt;
         page_of(rt.alloc(), &text)?.as_slice(),
-        b"106: there is no EOM\nWhy: A file ends with EOM, so that a file that was cut is not taken for the whole.\nUsual cause: The file was cut: a transfer stopped, or a disk was full.\nWhat to do: Fetch or export the file again; don't write EOM by hand unless you know that nothing else is missing.\n"
+        b"106: there is no EOM\nWhy: A file ends with EOM, so that a file that was cut is not taken for the whole.\nUsual cause: The file was cut: a transfer stopped, or a disk was full.\nWhat to do: Fetch or export the file again; don't write EOM by hand unless you know that nothing else is missing.\n".as_slice()
     );
     Ok(())
 }
