@@ -1,10 +1,8 @@
 //! Sites of known records, texts of the rules, and earlier records.
 use crate::{
-    Extent, NamedFile, RecordSite, Span, alike_node, count_of, describe_plan, explain_schema,
-    explain_sheet, extent_of, first_link, namesake, page_of, record_site, row_namesake,
-    rule_of_word, rule_text, same_arc,
+    Extent, RecordSite, Span, alike_node, count_of, extent_of, first_link, namesake, record_site,
+    row_namesake, rule_text, same_arc,
 };
-use edi_compare::accept;
 use edi_line::{LineFault, zones};
 use edi_plan::Plan;
 use edi_record::{Kind, Sheet, records};
@@ -240,76 +238,5 @@ fn namesakes_in_a_schema_are_found(rt: HostRuntime) -> Result<(), Fail> {
     for (place, earlier) in wanted {
         assert_eq!(rt; row_namesake(&zones, place), earlier);
     }
-    Ok(())
-}
-
-// What is said of a sheet under the schema of these tests, in a file of the name v.
-fn lines_on(alloc: Global, bytes: &[u8]) -> Result<Vec<u8>, Fail> {
-    let schema = match Schema::load(alloc, SCD, DIC, &Kinds::usual()) {
-        Ok(schema) => schema,
-        Err(_) => return Err("the schema is refused".into()),
-    };
-    match accept(alloc, &schema, bytes) {
-        Ok(accepted) => Ok(describe_plan(alloc, accepted.sound().plan())?),
-        Err(fault) => Ok(explain_sheet(alloc, &schema, bytes, b"v", &fault)?),
-    }
-}
-
-#[test]
-fn sheets_are_explained(rt: HostRuntime) -> Result<(), Fail> {
-    let alloc = rt.alloc();
-    let wanted: [(&[u8], &[u8]); 5] = [
-        (
-            TIES,
-            b"v:24: PNO 4: a node with the position, class, attributes and extras of an earlier node [403]\nv:2: PNO 1: the earlier node [403]\n",
-        ),
-        (NAMESAKES, b"v:2: PFE 1: SCP names no class [302]\n"),
-        (b"", b"v:1: there is no EOM [106]\n"),
-        (
-            SPREAD,
-            b"nodes: 1\narcs: 1\nfaces: 0\nobjects: 0\nlinks: 0\nx: -5 to 4\ny: -1.5 to 8\ncharacter set: none\n",
-        ),
-        (
-            NOTHING,
-            b"nodes: 0\narcs: 0\nfaces: 0\nobjects: 0\nlinks: 0\ncharacter set: none\n",
-        ),
-    ];
-    for (bytes, lines) in wanted {
-        assert_eq!(rt; lines_on(alloc, bytes)?.as_slice(), lines);
-    }
-    Ok(())
-}
-
-#[test]
-fn schemas_are_explained(rt: HostRuntime) -> Result<(), Fail> {
-    let alloc = rt.alloc();
-    let scd = NamedFile {
-        name: b"s",
-        bytes: ROWS,
-    };
-    let dic = NamedFile {
-        name: b"d",
-        bytes: DIC,
-    };
-    match Schema::load(alloc, scd.bytes, dic.bytes, &Kinds::usual()) {
-        Ok(_) => return Err("the schema is not refused".into()),
-        Err(fault) => assert_eq!(rt;
-            explain_schema(alloc, &scd, &dic, &fault)?.as_slice(),
-            b"s:4: PGE 1: type and identifier of an earlier record of the file [602]\ns:2: PGE 1: the earlier record [602]\n"
-        ),
-    }
-    Ok(())
-}
-
-#[test]
-fn rules_have_pages(rt: HostRuntime) -> Result<(), Fail> {
-    for word in ["999", "0403", "+403", "", "rule", "65939"] {
-        assert!(rt; rule_of_word(word).is_none());
-    }
-    let text = rule_of_word("106").ok_or("no such rule")?;
-    assert_eq!(rt;
-        page_of(rt.alloc(), &text)?.as_slice(),
-        b"106: there is no EOM\nWhy: A file ends with EOM, so that a file that was cut is not taken for the whole.\nUsual cause: The file was cut: a transfer stopped, or a disk was full.\nWhat to do: Fetch or export the file again; don't write EOM by hand unless you know that nothing else is missing.\n"
-    );
     Ok(())
 }
