@@ -1,9 +1,7 @@
 -- What is known of the bytes of five inputs that were read is known of those that the devices tell.
 use Rattle.std.proofs.Common.{◌≡◌, ℕ, List, Result, Ok, Err, IfOk, IfErr, Option, Some, None, IfSome, subst}
 use Rattle.edi_schema.specs.Roles.{KindCodes}
-use Rattle.edi_compare.specs.Runs.{MatchFault, PairFault, RefusesSchema, RefusesSecond, RefusesSheet, TellBoth, TellFour, Told}
-use Rattle.edi_compare.specs.declared.fault.RunFault.{RunFault}
-use Rattle.edi_compare.specs.declared.fault.RunFault.TheVariants.{Memory, Read, TooLong, Schema, First, Second, Write}
+use Rattle.edi_compare.specs.Runs.{MatchFault, RefusesSchema, RefusesSecond, RefusesSheet, TellBoth, TellFour, Told}
 use Rattle.edi_compare.proofs.TellingFour.{four_err}
 use Rattle.edi_pairing.specs.VerifyRuns.{FilesFault, MatchRun, RefusesFile, TellFive}
 use Rattle.edi_pairing.specs.declared.fault.VerifyRunFault.{VerifyRunFault}
