@@ -18,6 +18,3 @@ mod same;
 pub use checking::check_matching;
 pub use differing::differences;
 pub use matching::Matching;
-
-#[cfg(test)]
-mod tests;
