@@ -132,8 +132,15 @@ module _ (scd dic : List ℕ) (kinds : KindCodes) (s : Classes) (good : IsGoodSc
           true≢false (sym passes ∙ (list_any-IsPermutation (is_pointable (exchanged role)) stated s good.is.same ∙ none))
       go m e h own free k f g other true i =
           let again : has_role (exchanged (exchanged role)) e ≡ true = ap (λ r. has_role r e) (twice role) ∙ own in
-          good.kinds_hold (inr (inr (suc k, suc m, exchanged role, stated_role (exchanged role) other_kind k f g other,
-              stated_role (exchanged (exchanged role)) (still_kind (exchanged role) ∙ other_kind) m e h again, i, free)))
+          good.kinds_hold (inr (inr (
+            suc k,
+            suc m,
+            exchanged role,
+            stated_role (exchanged role) other_kind k f g other,
+            stated_role (exchanged (exchanged role)) (still_kind (exchanged role) ∙ other_kind) m e h again,
+            i,
+            free,
+          )))
 
   pointable : ArePointable s
   pointable role kind = go (list_any (is_pointable role) s) (list_any (is_pointable (exchanged role)) s) refl refl

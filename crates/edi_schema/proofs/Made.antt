@@ -179,8 +179,15 @@ module _ (cs ws : List (List Entry)) (cs_led : AllByRecursion IsLed cs) (ws_led 
       let parts = by_pointable role e pointed in
       let other_kind = still_kind role ∙ kind in
       let again : has_role (exchanged (exchanged role)) e ≡ true = ap (λ r. has_role r e) (twice role) ∙ parts.0 in
-      inr (inr (suc k, suc m, exchanged role, role_here k (exchanged role) f other_kind g other,
-          role_here m (exchanged (exchanged role)) e (still_kind (exchanged role) ∙ other_kind) h again, holds, parts.1))
+      inr (inr (
+        suc k,
+        suc m,
+        exchanged role,
+        role_here k (exchanged role) f other_kind g other,
+        role_here m (exchanged (exchanged role)) e (still_kind (exchanged role) ∙ other_kind) h again,
+        holds,
+        parts.1,
+      ))
 
   unnamed : (role : Role) → is_plain role ≡ false → (m : ℕ) (e : Name × Class) → slice_get are.stated m ≡ Some e → is_pointable role e ≡ true
       → list_any (is_pointable (exchanged role)) are.stated ≡ false → BreaksKinds cs ws kinds
@@ -196,9 +203,13 @@ module _ (cs ws : List (List Entry)) (cs_led : AllByRecursion IsLed cs) (ws_led 
           let found = any_at (has_role (exchanged role)) are.stated i in
           with_class found.0 found.1 found.2 found.3 (list_any is_semicolon found.1.0.rty) refl
       go false i =
-          inr (inl (suc m, role, role_here m role e kind h (by_pointable role e pointed).0,
-              λ n there. let class = class_here n (exchanged role) there in
-              true≢false (sym (some_pass (has_role (exchanged role)) are.stated (n - 1) class.0 class.1 class.2) ∙ i)))
+          inr (inl (
+            suc m,
+            role,
+            role_here m role e kind h (by_pointable role e pointed).0,
+            λ n there. let class = class_here n (exchanged role) there in
+                true≢false (sym (some_pass (has_role (exchanged role)) are.stated (n - 1) class.0 class.1 class.2) ∙ i),
+          ))
 
   pub kinds_break : AreUnmatched s → BreaksKinds cs ws kinds
   kinds_break (inr (role, kind, named, lacks)) =

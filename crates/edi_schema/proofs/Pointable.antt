@@ -67,6 +67,8 @@ partner_named s keeps c e kind h none =
     let own : has_role role e ≡ true = ap (same_role role) (sym (role_there s c e h)) ∙ itself role in
     let named : list_any (is_pointable role) s ≡ true = some_pass (is_pointable role) s c e h (makes_pointable role e own none) in
     let other : list_any (is_pointable (exchanged role)) s ≡ true = sym (keeps.pointable role kind) ∙ named in
-    let found = partner s keeps c kind in
-    (found.1, ap (slice_get s) found.2 ∙ found.3,
-        is_the_one s (exchanged role) (keeps.one (exchanged role) (still_kind role ∙ kind)) other found.0 found.1 found.3 found.4)
+    let found = partner s keeps c kind in (
+      found.1,
+      ap (slice_get s) found.2 ∙ found.3,
+      is_the_one s (exchanged role) (keeps.one (exchanged role) (still_kind role ∙ kind)) other found.0 found.1 found.3 found.4,
+    )

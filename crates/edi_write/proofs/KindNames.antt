@@ -26,4 +26,4 @@ kinds_printable s keeps c kind prints =
     let found = partner_named s keeps c here.0 kind here.1 free in
     let read : IsReadName found.0.0 = all_at (λ (x : Name × Class). IsReadName x.0) s keeps.readable (partner_of s c) found.0 found.1 in
     subst IsPrintableName (sym (name_there s (partner_of s c) found.0 found.1))
-        (record { rty = whole_text found.0.0.rty found.2; rid = read.2 }, record { rty = read.0; rid = read.1 })
+    (record { rty = whole_text found.0.0.rty found.2; rid = read.2 }, record { rty = read.0; rid = read.1 })
