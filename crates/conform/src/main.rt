@@ -6,6 +6,7 @@ mod case;
 mod devices;
 mod layers;
 mod lines;
+mod matchings;
 mod numbers;
 mod pairs;
 mod records;
