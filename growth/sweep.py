@@ -70,6 +70,17 @@ def sweep(name, words, library, out, lacks=lacks_memory):
         number += 1
 
 
+def twice(folder, path):
+    """A sheet with the records of this one twice, so that two have one identifier."""
+    with open(path, "rb") as file:
+        lines = file.read().splitlines(keepends=True)
+    records = [k for k, line in enumerate(lines) if line.startswith(b"RTY")][0]
+    copy = os.path.join(folder, "twice.vec")
+    with open(copy, "wb") as file:
+        file.write(b"".join(lines[:-1] + lines[records:]))
+    return copy
+
+
 def main():
     with tempfile.TemporaryDirectory() as folder:
         library = os.path.join(folder, "refuse.so")
@@ -82,6 +93,9 @@ def main():
         pair = [os.path.join(PARCEL, name) for name in ("schema.scd", "dictionary.dic", "sheet.vec", "same_plan.vec")]
         sweep("compare", ["compare", *pair], library, out)
         sweep("hash", ["hash", *pair], library, out, lacks_lines)
+        sweep("explain", ["explain", *files], library, out)
+        sweep("explain, refused", ["explain", *files[:2], twice(folder, files[2])], library, out)
+        sweep("explain, a rule", ["explain", "403"], library, out)
 
 
 main()
