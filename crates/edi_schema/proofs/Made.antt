@@ -22,7 +22,6 @@ use Rattle.edi_schema.specs.declared.role.Role.{Role}
 use Rattle.edi_schema.specs.declared.role.Role.TheVariants.{Plain}
 use Rattle.edi_schema.proofs.Led.{IsLed}
 use Rattle.edi_schema.proofs.StepsHold.{own_name, word_named, named_class}
-use Rattle.edi_schema.proofs.Ordered.{all_at}
 use Rattle.edi_schema.proofs.Paired.{one_role, itself, twice, still_kind, count-cons, is_counted, one_place, found_at}
 use Rattle.edi_schema.proofs.Good.{not_plain, zip_at, zip_back}
 use Rattle.edi_schema.proofs.Pointable.{any_at, some_pass, by_pointable, makes_pointable, is_the_one}

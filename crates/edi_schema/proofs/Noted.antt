@@ -15,7 +15,7 @@ use Rattle.edi_schema.specs.Roles.{is_plain, same_role, exchanged}
 use Rattle.edi_schema.specs.Classes.{Classes, has_role}
 use Rattle.edi_schema.specs.ByRole.{of_role, IsWith}
 use Rattle.edi_schema.specs.Places.{are_alike, are_paired, AreNoted, ArePlaces, AreUnpaired}
-use Rattle.edi_schema.proofs.Paired.{one_role, itself, still_kind, count-cons, found_at}
+use Rattle.edi_schema.proofs.Paired.{one_role, itself, count-cons, found_at}
 
 -- ---- first places, a step at a time
 

@@ -1,6 +1,6 @@
 -- The places of the classes of the four kinds.
-use Rattle.std.specs.Prelude.{◌≡◌, ◌⊎◌, ℕ, ◌<◌, ◌≤◌, Bool, true, false, ◌&&◌, Option, Some, None, if◌then◌else◌, position, count_by}
-use Rattle.edi_schema.specs.Roles.{is_plain, same_role, exchanged}
+use Rattle.std.specs.Prelude.{◌≡◌, ◌⊎◌, ℕ, ◌<◌, ◌≤◌, Bool, true, false, ◌&&◌, Option, Some, None, position, count_by}
+use Rattle.edi_schema.specs.Roles.{is_plain, exchanged}
 use Rattle.std.specs.List.{list_any}
 use Rattle.edi_schema.specs.Classes.{Classes, has_role, is_pointable}
 use Rattle.edi_schema.specs.declared.role.Role.{Role}
