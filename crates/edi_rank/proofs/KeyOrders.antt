@@ -1,5 +1,5 @@
 -- The derived orders of keys are the written ones.
-use Rattle.std.proofs.Common.{◌≡◌, refl, ap, nat_cmp}
+use Rattle.std.proofs.Common.{◌≡◌, ap, nat_cmp}
 use Rattle.std.specs.Cmp.Lexicographic.{slice_cmp}
 use Rattle.std.specs.Ordering.{ordering_then}
 use Rattle.edi_record.specs.Orders.{text_cmp}

@@ -31,6 +31,7 @@ pub mod ObjectKeys
 pub mod Renumbered
 pub mod ArrangedRises
 pub mod RankedApart
+pub mod LowerNumbers
 pub mod Carried
 pub mod Offsets
 pub mod KeysApart

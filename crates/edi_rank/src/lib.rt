@@ -20,6 +20,6 @@ pub use ends::{end_in_order, numbered_end};
 pub use face_layer::FaceLayer;
 pub use fault::RankFault;
 pub use keys::{FaceKey, LinkKey, NumberedEnd, ObjectKey};
-pub use labels::Labels;
+pub use labels::{Labels, tell_objects_apart};
 pub use link_key::class_turned;
 pub use object_layer::ObjectLayer;

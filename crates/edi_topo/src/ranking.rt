@@ -17,7 +17,7 @@ use std::cmp::Ordering;
 fn keyed_members<L: Layer>(alloc: Global, layer: &L) -> Result<Vec<(L::Key, u32)>, AllocError>
     ensures { IfOk result (λ pairs. pairs.items ≡ keyed (L.key_of layer.now) (L.size layer.now)) }
 {
-    let mut pairs = Vec::new(alloc);
+    let mut pairs = Vec::with_capacity(alloc, layer.len() as usize)?;
     for member in 0..layer.len() {
         let key = layer.key(alloc, member)?;
         pairs.push((key, member))?;

@@ -1,4 +1,4 @@
-use Rattle.std.proofs.Common.{◌≡◌, ◌+◌, ◌<◌, ◌≤◌, ◌∙◌, ℕ, List, length, length-set, get_or, set, subst, sym, ap, arith}
+use Rattle.std.proofs.Common.{◌+◌, ◌<◌, ◌≤◌, ◌∙◌, length, length-set, get_or, set, subst, sym, ap, arith}
 use Rattle.edi_plan.specs.Places.{places_of}
 use Rattle.edi_plan.proofs.PlaceLemmas.{place_there, places_few}
 use Rattle.edi_rank.proofs.KindNumbers.{WrittenTo, OthersStay, written_more, others_stay, each_member}

@@ -1,4 +1,4 @@
-use Rattle.std.proofs.Common.{◌≡◌, ◌≢◌, ◌∙◌, ◌⊎◌, inl, inr, ℕ, true, true≢false, List, [], sym, subst, ap, length, get_or, refl}
+use Rattle.std.proofs.Common.{◌≡◌, ◌≢◌, ◌∙◌, ◌⊎◌, inl, inr, ℕ, true, List, [], sym, subst, ap, length, get_or, refl}
 use Rattle.edi_line.specs.Refusal.{IsUnbroken}
 use Rattle.edi_record.specs.Orders.{points_cmp}
 use Rattle.edi_record.specs.declared.record.Kind.{Kind}
@@ -20,10 +20,10 @@ use Rattle.edi_topo.specs.Arcs.{forward_keys, IsForwardRanking}
 use Rattle.edi_rank.specs.Layers.{face_keys, no_side, number_by, ranked, placed_link_cmp, placed_link_key, LinkSource, IsFaceRanking, IsLinkRanking}
 use Rattle.edi_rank.proofs.LabelsMade.{KindLabels, Ranked, ranks_of, kind_labels, lower_ranked, link_or_not, no_link, labels_made}
 use Rattle.edi_rank.proofs.LinksApart.{placed_total}
+use Rattle.edi_rank.proofs.LowerNumbers.{lower_apart, objects_zero}
 use Rattle.edi_rank.proofs.Orders.{face_key_total, object_key_total}
 use Rattle.edi_rank.proofs.ObjectsRise.{objects_rise}
 use Rattle.edi_rank.proofs.OthersSorted.{no_object}
-use Rattle.edi_rank.proofs.RankedApart.{ranked_apart}
 use Rattle.edi_rank.proofs.Rankings.{ranks_each}
 use Rattle.edi_rank.proofs.labels.Labels.of.Goals as goal
 
@@ -148,34 +148,22 @@ returns-clause-labels c =
     number_is p r numbers unlinked unnamed k h links others objects rest ranked (inr e) (inr f) = others e ∙ (rest f ∙ (ranked ∙ lower_ranked r (record_at p k).kind (member_of p k) e f))
 
 pub name_objects-requires-clause-objects : goal.name_objects-requires-clause-objects
-name_objects-requires-clause-objects c k h e =
-    let p = c.plan-plan.result.now in
-    let is = c.plan-plan.ensures.plan in
-    let there : IsPlace p k = subst (λ q. IsPlace q k) (sym is) h in
-    let object : is_object (record_at p k).kind ≡ true = subst (λ q. is_object (record_at q k).kind ≡ true) (sym is) e in
-    c.in_ok-unnamed.ensures.ranked k there ∙ zero_for (record_at p k).kind object
-  where
-    zero_for : (kind : Kind) → is_object kind ≡ true → number_by c.in_ok-lower.lower.nodes.now c.in_ok-lower.lower.arcs.now c.in_ok-lower.lower.faces kind (member_of c.plan-plan.result.now k) ≡ 0
-    zero_for Pno f = absurd (true≢false (sym f))
-    zero_for Par f = absurd (true≢false (sym f))
-    zero_for Pfe f = absurd (true≢false (sym f))
-    zero_for Fea f = refl
-    zero_for Lnk f = absurd (true≢false (sym f))
+name_objects-requires-clause-objects c =
+    let lower = c.in_ok-lower.lower in
+    let unnamed = c.in_ok-unnamed.unnamed.items in
+    subst (λ (q : Drawing). (k : ℕ) → IsPlace q k → is_object (record_at q k).kind ≡ true → get_or unnamed k 0 ≡ 0) c.plan-plan.ensures.plan
+    (objects_zero c.plan-plan.result.now lower.nodes.now lower.arcs.now lower.faces unnamed c.in_ok-unnamed.ensures.ranked)
 
 pub name_objects-requires-clause-apart : goal.name_objects-requires-clause-apart
 name_objects-requires-clause-apart c =
     let p = c.plan-plan.result.now in
     let is = c.plan-plan.ensures.plan in
     let lower = c.in_ok-lower.lower in
-    let by_node : IsNodeRanking p lower.nodes.now = subst (λ q. IsNodeRanking q lower.nodes.now) (sym is) c.in_ok-lower.ensures.nodes in
-    let by_arc : IsForwardRanking p lower.arcs.now = subst (λ q. IsForwardRanking q lower.arcs.now) (sym is) c.in_ok-lower.ensures.arcs in
-    let by_face : IsFaceRanking p lower.arcs.now lower.faces = subst (λ q. IsFaceRanking q lower.arcs.now lower.faces) (sym is) c.in_ok-lower.ensures.faces in
-    let ranks = ranked_apart p lower.nodes.now lower.arcs.now lower.faces
-    (ranks_each node_key_cmp node_key_total (λ m. get_or (node_keys p) m no_node) (length (places_of Pno p)) lower.nodes.now by_node) by_node.all
-    (ranks_each points_cmp points_total (λ m. get_or (forward_keys p) m []) (length (places_of Par p)) lower.arcs.now by_arc) by_arc.all
-    (ranks_each face_key_cmp face_key_total (λ m. get_or (face_keys p lower.arcs.now) m no_side) (length (places_of Pfe p)) lower.faces by_face) by_face.all in
-    let number : (k : ℕ) → IsPlace p k → get_or c.in_ok-unnamed.unnamed.items k 0 ≡ ranked p lower.nodes.now lower.arcs.now lower.faces k = λ k h. c.in_ok-unnamed.ensures.ranked k h in
-    subst (λ q. TellsApart q (λ k. get_or c.in_ok-unnamed.unnamed.items k 0)) is (record { apart = λ i k h g kinds below e. ranks.apart i k h g kinds below (sym (number i h) ∙ (e ∙ number k g)) })
+    let unnamed = c.in_ok-unnamed.unnamed.items in
+    subst (λ q. TellsApart q (λ k. get_or unnamed k 0)) is (lower_apart p lower.nodes.now lower.arcs.now lower.faces unnamed
+    (subst (λ q. IsNodeRanking q lower.nodes.now) (sym is) c.in_ok-lower.ensures.nodes)
+    (subst (λ q. IsForwardRanking q lower.arcs.now) (sym is) c.in_ok-lower.ensures.arcs)
+    (subst (λ q. IsFaceRanking q lower.arcs.now lower.faces) (sym is) c.in_ok-lower.ensures.faces) c.in_ok-unnamed.ensures.ranked)
 
 pub name_objects-requires-clause-numbers : goal.name_objects-requires-clause-numbers
 name_objects-requires-clause-numbers c = c.in_ok-unnamed.ensures.length ∙ ap (λ (q : Drawing). length q.list) c.plan-plan.ensures.plan

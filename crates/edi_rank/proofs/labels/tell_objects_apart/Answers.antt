@@ -1,0 +1,40 @@
+use Rattle.std.proofs.Common.{◌≡◌, ◌≤◌, ℕ, true, List, sym, subst, get_or}
+use Rattle.edi_plan.specs.Plans.{Drawing, IsPlace, record_at, others_of, is_object}
+use Rattle.edi_rank.specs.EndOrder.{OthersInOrder}
+use Rattle.edi_rank.specs.Laws.{TellsApart}
+use Rattle.edi_rank.specs.Layers.{IsFaceRanking}
+use Rattle.edi_rank.specs.Pieces.{ObjectSource, object_count}
+use Rattle.edi_topo.specs.Arcs.{IsForwardRanking}
+use Rattle.edi_topo.specs.NodeKeys.{IsNodeRanking}
+use Rattle.edi_rank.proofs.LowerNumbers.{lower_apart, objects_zero}
+use Rattle.edi_rank.proofs.labels.tell_objects_apart.Goals as goal
+
+-- the other ends of each record are in order where one of them at most is an object
+abbrev LowerInOrder : Drawing → List ℕ → List (List ℕ) → Type 0
+LowerInOrder q numbers orders = (k : ℕ) → IsPlace q k → object_count q (others_of (record_at q k)) ≤ 1 → OthersInOrder q (λ j. get_or numbers j 0) orders k
+
+pub numbered-requires-clause-objects : goal.numbered-requires-clause-objects
+numbered-requires-clause-objects c =
+    let lower = c.in_ok-lower.lower in
+    let unnamed = c.in_ok-unnamed.unnamed.items in
+    subst (λ (q : Drawing). (k : ℕ) → IsPlace q k → is_object (record_at q k).kind ≡ true → get_or unnamed k 0 ≡ 0) c.plan-plan.ensures.plan
+    (objects_zero c.plan-plan.result.now lower.nodes.now lower.arcs.now lower.faces unnamed c.in_ok-unnamed.ensures.ranked)
+
+pub numbered-requires-clause-orders : goal.numbered-requires-clause-orders
+numbered-requires-clause-orders c =
+    let unnamed = c.in_ok-unnamed.unnamed.items in
+    let orders = c.in_ok-orders.orders.items in
+    subst (λ (p : Drawing). LowerInOrder p unnamed orders) c.plan-plan.ensures.plan
+    (subst (λ numbers. LowerInOrder c.plan-plan.result.now numbers orders) c.deref-2.ensures.value c.in_ok-orders.ensures.orders)
+
+pub object_ranks-requires-clause-apart : goal.object_ranks-requires-clause-apart
+object_ranks-requires-clause-apart c =
+    let p = c.plan-plan.result.now in
+    let is = c.plan-plan.ensures.plan in
+    let lower = c.in_ok-lower.lower in
+    let unnamed = c.in_ok-unnamed.unnamed.items in
+    let apart : TellsApart p (λ k. get_or unnamed k 0) = lower_apart p lower.nodes.now lower.arcs.now lower.faces unnamed
+    (subst (λ q. IsNodeRanking q lower.nodes.now) (sym is) c.in_ok-lower.ensures.nodes)
+    (subst (λ q. IsForwardRanking q lower.arcs.now) (sym is) c.in_ok-lower.ensures.arcs)
+    (subst (λ q. IsFaceRanking q lower.arcs.now lower.faces) (sym is) c.in_ok-lower.ensures.faces) c.in_ok-unnamed.ensures.ranked in
+    subst (λ (l : ObjectSource). TellsApart c.args.sound.now (λ k. get_or l.numbers k 0)) (sym c.in_ok-layer.ensures) (subst (λ q. TellsApart q (λ k. get_or unnamed k 0)) is apart)
