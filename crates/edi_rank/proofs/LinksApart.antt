@@ -1,5 +1,5 @@
 -- No two links tie, since their places are in their keys.
-use Rattle.std.proofs.Common.{◌≡◌, ℕ, length, get_or, ap, arith, nat_cmp, Ordering}
+use Rattle.std.proofs.Common.{◌≡◌, ℕ, length, get_or, ap, arith, nat_cmp}
 use Rattle.std.specs.Cmp.{IsTotalOrder}
 use Rattle.std.specs.Ordering.{ordering_then}
 use Rattle.std.proofs.lemmas.Cmp.{then_total, on_total, nat_cmp_total}
@@ -10,15 +10,12 @@ use Rattle.edi_plan.proofs.Orders.{then_tied}
 use Rattle.edi_plan.proofs.PlaceLemmas.{places_rise}
 use Rattle.edi_topo.specs.Ranking.{Ties}
 use Rattle.edi_rank.specs.Layers.{LinkSource, placed_link_key, placed_link_cmp}
-use Rattle.edi_rank.specs.contracts.keys.LinkKeyOrd.TheImpl.{ghosts as links}
+use Rattle.edi_rank.specs.inner.LinkOrigins.{placed_cmp}
 use Rattle.edi_rank.specs.declared.keys.LinkKey.{LinkKey}
 use Rattle.edi_rank.proofs.KeyOrders.{link_order}
 use Rattle.edi_rank.proofs.Orders.{link_key_total}
 
-abbrev pub derived_cmp : LinkKey × ℕ → LinkKey × ℕ → Ordering
-derived_cmp a b = ordering_then (links.cmp a.0 b.0) (nat_cmp a.1 b.1)
-
-pub placed_order : (a b : LinkKey × ℕ) → derived_cmp a b ≡ placed_link_cmp a b
+pub placed_order : (a b : LinkKey × ℕ) → placed_cmp a b ≡ placed_link_cmp a b
 placed_order a b = ap (λ o. ordering_then o (nat_cmp a.1 b.1)) (link_order a.0 b.0)
 
 pub placed_total : IsTotalOrder placed_link_cmp

@@ -6,6 +6,7 @@ pub mod InOrder
 pub mod Alike
 pub mod RankRefusal
 pub mod Layers
+pub mod inner
 pub mod Beside
 pub mod Pieces
 pub mod Labelling

@@ -13,6 +13,7 @@ pub mod link_key;
 mod link_layer;
 mod numbering;
 pub mod object_layer;
+mod placed_link;
 
 pub use edi_topo::{ArcLayer, Layer, NodeLayer, Ranks, TieFault, is_forward, ranks};
 pub use end_orders::lower_orders;

@@ -8,8 +8,8 @@ ghost use Rattle.edi_plan.specs.Plans.{IsPlace};
 ghost use Rattle.edi_rank.specs.EndOrder.{OthersInOrder};
 ghost use Rattle.edi_rank.specs.Layers.{placed_link_key};
 
-use crate::keys::LinkKey;
 use crate::link_key::{class_turned, link_key_at};
+use crate::placed_link::PlacedLink;
 use edi_line::Sequence;
 use edi_plan::Plan;
 use edi_record::Kind;
@@ -83,7 +83,7 @@ impl<'a> LinkLayer<'a> {
 }
 
 impl<'a> Layer for LinkLayer<'a> {
-    type Key = (LinkKey<'a>, u32);
+    type Key = PlacedLink<'a>;
 
     ghost size = { λ l. length (places_of Lnk l.plan) };
 
@@ -94,11 +94,11 @@ impl<'a> Layer for LinkLayer<'a> {
         self.places.len() as u32
     }
 
-    fn key(&self, alloc: Global, member: u32) -> Result<(LinkKey<'a>, u32), AllocError> {
+    fn key(&self, alloc: Global, member: u32) -> Result<PlacedLink<'a>, AllocError> {
         let place = self.place(member);
         let class = class_turned(self.schema, self.plan, self.turned, place);
         let order = self.orders[place as usize].as_slice();
         let key = link_key_at(alloc, self.plan, self.numbers, order, class, place)?;
-        Ok((key, place))
+        Ok(PlacedLink::of(key, place))
     }
 }

@@ -1,0 +1,2 @@
+-- What private contracts need.
+pub mod LinkOrigins
