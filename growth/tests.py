@@ -1,13 +1,14 @@
 #!/usr/bin/env python3
-"""Refuses growths of memory of the built tests and of the cases, which run each public call that can answer want of memory.
+"""Refuses each growth of memory of the cases, which run each public call that can answer want of memory, and of the built tests.
 
-    cd crates/NAME && rt test                builds out/NAME_tests
     cd crates/conform/data && rt run conform builds out/conform
-    python3 growth/tests.py [NAME ..]        from the top; needs cc. NAME is a crate with tests, or conform
+    cd crates/NAME && rt test                builds out/NAME_tests
+    python3 growth/tests.py [NAME ..]        from the top; needs cc. NAME is conform, a crate with tests, or a file of cases
 
-For N = 1, 2, .. until a run meets no refusal, growth N of a test is refused; past the first 2000 each 97th. Each run must
-pass, or end with an error that tells of memory: an answer that differs from the one with ample memory fails its test with
-other words. A test of thousands of growths is a table of cases, which take the same ways again and again.
+Each growth is refused in a copy of the run (growth/each.c), none is left out. A copy must end in one of three ways: as with
+ample memory; with the right answer of a call that was made again, with ample memory then, under the same schema and over the same
+sheets; or with an error that tells of memory, where the case itself could not be read or written down. An answer that differs
+from the one with ample memory fails its case or its test. Growths before a file of cases is read are not counted.
 """
 import os
 import subprocess
@@ -17,38 +18,24 @@ import tempfile
 HERE = os.path.dirname(os.path.abspath(__file__))
 CRATES = os.path.join(HERE, "..", "crates")
 DATA = os.path.join(CRATES, "conform", "data")
-USUAL = ["edi_line", "edi_record", "conform"]
-EACH, STEP = 2000, 97
+USUAL = ["conform", "edi_line", "edi_record", "edi_hash", "edi_explain", "edi_pairing"]
 
 
-def refused(program, test, number, library):
-    """Whether the test passes, what it says of its failure, and whether a growth was refused."""
+def sweep(name, program, word, library, files):
+    """Runs the program with this word, and prints how often a growth was refused and what came of it."""
     reading, writing = os.pipe()
-    environment = dict(os.environ, LD_PRELOAD=library, REFUSE=str(number), NOTES=str(writing))
-    done = subprocess.run([program, test], stdin=subprocess.DEVNULL, capture_output=True, env=environment, pass_fds=[writing], cwd=DATA)
+    environment = dict(os.environ, LD_PRELOAD=library, COUNTS=str(writing), FILES=str(files))
+    done = subprocess.Popen([program, word], stdin=subprocess.DEVNULL, stdout=subprocess.PIPE, stderr=subprocess.STDOUT,
+                            env=environment, pass_fds=[writing], cwd=DATA)
     os.close(writing)
-    with os.fdopen(reading, "rb") as notes:
-        met = notes.read() != b""
-    return done.returncode == 0, done.stderr, met
-
-
-def sweep(name, program, test, library):
-    memory = same = 0
-    number = 1
-    while True:
-        passes, said, met = refused(program, test, number, library)
-        if not met:
-            break
-        if passes:
-            same += 1
-        elif any(word in said for word in (b"AllocError", b"AllocFailed", b"OutOfMemory", b"memory")):
-            memory += 1
-        else:
-            sys.exit(f"{name} {test}: growth {number} gives {said.decode(errors='replace')}")
-        number += 1 if number < EACH else STEP
-    if not passes:
-        sys.exit(f"{name} {test}: fails with ample memory: {said.decode(errors='replace')}")
-    print(f"{name} {test}: up to growth {number - 1}, {memory} ended for want of memory, {same} passed", flush=True)
+    said, _ = done.communicate()
+    with os.fdopen(reading, "rb") as counts:
+        counted = counts.read().decode(errors="replace")
+    if done.returncode != 0 or counted.count("\n") != 1:
+        sys.exit(f"{name}: {counted}{said.decode(errors='replace')}")
+    growths, same, again, memory = [int(it) for it in counted.split()]
+    print(f"| {name} | {growths} | {again} | {memory} | {same} |", flush=True)
+    return growths
 
 
 def listed(program):
@@ -57,14 +44,24 @@ def listed(program):
     return [line[:-len(": test")] for line in lines if line.endswith(": test")]
 
 
+def swept(name, library):
+    """The growths of a crate's tests, of all files of cases, or of one."""
+    if name == "conform" or name.endswith(".cases"):
+        program = os.path.abspath(os.path.join(CRATES, "conform", "out", "conform"))
+        files = sorted(os.listdir(DATA)) if name == "conform" else [name]
+        return sum(sweep(it, program, it, library, 1) for it in files)
+    program = os.path.abspath(os.path.join(CRATES, name, "out", f"{name}_tests"))
+    return sum(sweep(f"{name}: {it}", program, it, library, 0) for it in listed(program))
+
+
 def main():
+    print("| cases or test | growths refused | made again with memory | ended for want of memory | as with ample memory |")
+    print("|---|---|---|---|---|")
     with tempfile.TemporaryDirectory() as folder:
-        library = os.path.join(folder, "refuse.so")
-        subprocess.run(["cc", "-O1", "-shared", "-fPIC", os.path.join(HERE, "refuse.c"), "-o", library, "-ldl"], check=True)
-        for name in sys.argv[1:] or USUAL:
-            program = os.path.abspath(os.path.join(CRATES, name, "out", "conform" if name == "conform" else f"{name}_tests"))
-            for test in sorted(os.listdir(DATA)) if name == "conform" else listed(program):
-                sweep(name, program, test, library)
+        library = os.path.join(folder, "each.so")
+        subprocess.run(["cc", "-O1", "-shared", "-fPIC", os.path.join(HERE, "each.c"), "-o", library, "-ldl"], check=True)
+        total = sum(swept(name, library) for name in sys.argv[1:] or USUAL)
+    print(f"{total} growths refused in turn, each answered as it should be")
 
 
 main()

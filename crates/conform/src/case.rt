@@ -77,10 +77,11 @@ impl<'a> CaseFile<'a> {
     /// What the cases of the file share: a schema file, a dictionary and the codes of the four kinds, where it names them.
     pub(crate) fn setting(&self, alloc: Global) -> Result<Setting<'a>> {
         let codes = self.shared.wanted.trim_end();
-        Ok(Setting {
-            scd: self.shared.text(1).unwrap_or(""),
-            dic: self.shared.text(2).unwrap_or(""),
-            kinds: crate::setting::kinds_of(codes)?,
-        })
+        Setting::of(
+            alloc,
+            self.shared.text(1).unwrap_or(""),
+            self.shared.text(2).unwrap_or(""),
+            crate::setting::kinds_of(codes)?,
+        )
     }
 }

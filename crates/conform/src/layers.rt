@@ -46,7 +46,12 @@ pub(crate) fn of_keys(alloc: Global, case: &Case<'_>) -> Result<String> {
 
 // The numbers of the members of a layer, or its tie.
 fn numbered<L: Layer>(alloc: Global, layer: &L) -> Result<String> {
-    match ranks(alloc, layer) {
+    let ranks = match ranks(alloc, layer) {
+        // memory ran out, and may be there again for the same layer
+        Err(TieFault::Memory(_)) => ranks(alloc, layer),
+        answer => answer,
+    };
+    match ranks {
         Ok(ranks) => numbers_text(alloc, ranks),
         Err(TieFault::Tie(member)) => Ok(format!(in alloc; "member {member} ties\n")?),
         Err(TieFault::Memory(fault)) => Err(fault.into()),
@@ -64,9 +69,9 @@ fn numbers_text(alloc: Global, ranks: Ranks) -> Result<String> {
 
 /// The numbers of the nodes, arcs, faces and objects of an accepted sheet, a line each.
 pub(crate) fn of_sheet(alloc: Global, setting: &Setting<'_>, case: &Case<'_>) -> Result<String> {
-    let schema = setting.schema(alloc)?;
+    let schema = setting.schema()?;
     let sheet = case.input(alloc, 0)?;
-    match accept(alloc, &schema, sheet.as_bytes()) {
+    match accept(alloc, schema, sheet.as_bytes()) {
         Ok(accepted) => layers_text(alloc, accepted.sound()),
         Err(fault) => Err(fault.into()),
     }

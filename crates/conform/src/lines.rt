@@ -1,12 +1,12 @@
 //! Files cut into zones, whole and in pieces.
 
-ghost use Rattle.std.specs.Prelude.{◌≡◌, ◌+◌, ◌^◌, ◌<◌, IfOk};
+ghost use Rattle.std.specs.Prelude.{◌≡◌, ◌+◌, ◌^◌, ◌<◌, IfOk, IsSome};
 
 use crate::case::Case;
 use crate::refusals;
 use anyhow::{Result, bail};
-use edi_line::{Feed, Zone, zones};
-use std::alloc::Global;
+use edi_line::{Feed, LineFault, Zone, zones};
+use std::alloc::{AllocError, Global};
 
 /// The zones of a file, a line each, or its refusal.
 pub(crate) fn cut(alloc: Global, case: &Case<'_>) -> Result<String> {
@@ -27,6 +27,7 @@ pub(crate) fn fed(alloc: Global, case: &Case<'_>) -> Result<String> {
         length = length_with(length, piece.len())?;
         match feed.feed(piece.as_bytes()) {
             Ok(()) => text.push_str("taken\n")?,
+            Err(LineFault::Memory(fault)) => return stays_out_of_memory(alloc, feed, fault),
             Err(fault) => text.push_str(refusals::of_lines(alloc, fault)?.as_str())?,
         }
     }
@@ -35,6 +36,17 @@ pub(crate) fn fed(alloc: Global, case: &Case<'_>) -> Result<String> {
         Err(fault) => text.push_str(refusals::of_lines(alloc, fault)?.as_str())?,
     }
     Ok(text)
+}
+
+// A feed that lacked memory once answers so again, to a piece and at the end.
+fn stays_out_of_memory(alloc: Global, mut feed: Feed, fault: AllocError) -> Result<String>
+    requires { IsSome feed.refused }
+{
+    let again = feed.feed(b"");
+    match (again, feed.finish()) {
+        (Err(LineFault::Memory(_)), Err(LineFault::Memory(_))) => Err(fault.into()),
+        _ => Ok(String::from_str(alloc, "a feed goes on without memory\n")?),
+    }
 }
 
 // The length with that of one more piece. Cases are far shorter than a feed may be.

@@ -9,6 +9,7 @@ mod lines;
 mod numbers;
 mod pairings;
 mod pairs;
+mod phases;
 mod records;
 mod refusals;
 mod schemas;
@@ -16,7 +17,8 @@ mod setting;
 mod sheets;
 
 use anyhow::{Context, Result};
-use case::CaseFile;
+use case::{Case, CaseFile};
+use setting::Setting;
 use std::process::ExitCode;
 use std::rt::Runtime;
 use std::{env, fs};
@@ -54,8 +56,8 @@ fn run_cases<R: Runtime + AllocGlobal>(
 ) -> Result<()> {
     let setting = file.setting(rt.alloc())?;
     for block in file.cases.split("--\n") {
-        let case = case::Case::read(block)?;
-        let answer = call::answer(rt.alloc(), file.call, &setting, &case)?;
+        let case = Case::read(block)?;
+        let answer = answer(rt, file.call, &setting, &case)?;
         tally.run = tally.run.saturating_add(1);
         if answer.as_str() == case.wanted {
             println!(rt; "  ok      {}", case.title)?;
@@ -68,4 +70,20 @@ fn run_cases<R: Runtime + AllocGlobal>(
         }
     }
     Ok(())
+}
+
+// What a call answers to a case. Where memory runs out the call is made once more, under the schema that was lent to it.
+fn answer<R: Runtime + AllocGlobal>(
+    rt: &R,
+    call: &str,
+    setting: &Setting<'_>,
+    case: &Case<'_>,
+) -> Result<String> {
+    match call::answer(rt.alloc(), call, setting, case) {
+        Ok(answer) => Ok(answer),
+        Err(fault) => {
+            println!(rt; "  again   {}: {fault}", case.title)?;
+            call::answer(rt.alloc(), call, setting, case)
+        }
+    }
 }

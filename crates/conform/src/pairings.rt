@@ -9,13 +9,13 @@ use std::alloc::Global;
 
 /// What `verify` answers of two sheets and the file of a pairing.
 pub(crate) fn verified(alloc: Global, setting: &Setting<'_>, case: &Case<'_>) -> Result<String> {
-    let schema = setting.schema(alloc)?;
+    let schema = setting.schema()?;
     let first = case.input(alloc, 0)?;
     let second = case.input(alloc, 1)?;
     let file = case.input(alloc, 2)?;
     match verify(
         alloc,
-        &schema,
+        schema,
         first.as_bytes(),
         second.as_bytes(),
         file.as_bytes(),

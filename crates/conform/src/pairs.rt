@@ -14,18 +14,12 @@ use std::alloc::Global;
 
 /// What `compare` answers of two sheets, which `run_compare` has to answer too. A pairing that is found has to carry.
 pub(crate) fn compared(alloc: Global, setting: &Setting<'_>, case: &Case<'_>) -> Result<String> {
-    let schema = setting.schema(alloc)?;
+    let schema = setting.schema()?;
     let first = case.input(alloc, 0)?;
     let second = case.input(alloc, 1)?;
-    let answer = match compare(alloc, &schema, first.as_bytes(), second.as_bytes()) {
+    let answer = match compare(alloc, schema, first.as_bytes(), second.as_bytes()) {
         Ok(Verdict::Same(pairing)) => {
-            if !carries(
-                alloc,
-                &schema,
-                first.as_bytes(),
-                second.as_bytes(),
-                &pairing,
-            )? {
+            if !carries(alloc, schema, first.as_bytes(), second.as_bytes(), &pairing)? {
                 return Ok(String::from_str(alloc, "a pairing that doesn't carry\n")?);
             }
             String::from_str(alloc, "same\n")?
@@ -64,10 +58,10 @@ fn run(alloc: Global, setting: &Setting<'_>, first: &[u8], second: &[u8]) -> Res
 /// The pairing that `compare` finds: the record of the second sheet, from 1, that each record of the first goes to, with
 /// an `r` behind it where that is an arc to reverse.
 pub(crate) fn paired(alloc: Global, setting: &Setting<'_>, case: &Case<'_>) -> Result<String> {
-    let schema = setting.schema(alloc)?;
+    let schema = setting.schema()?;
     let first = case.input(alloc, 0)?;
     let second = case.input(alloc, 1)?;
-    match compare(alloc, &schema, first.as_bytes(), second.as_bytes()) {
+    match compare(alloc, schema, first.as_bytes(), second.as_bytes()) {
         Ok(Verdict::Same(pairing)) => pairing_text(alloc, &pairing),
         Ok(Verdict::Different { line }) => Ok(format!(in alloc; "different at line {line}\n")?),
         Err(fault) => refusals::of_pair(alloc, fault),
@@ -87,17 +81,11 @@ fn pairing_text(alloc: Global, pairing: &Pairing) -> Result<String> {
 
 /// What `check_pairing` answers of two sheets and a pairing, which is written as `paired` writes it.
 pub(crate) fn checked(alloc: Global, setting: &Setting<'_>, case: &Case<'_>) -> Result<String> {
-    let schema = setting.schema(alloc)?;
+    let schema = setting.schema()?;
     let first = case.input(alloc, 0)?;
     let second = case.input(alloc, 1)?;
     let pairing = pairing_of(alloc, case.text(2)?)?;
-    let carries = carries(
-        alloc,
-        &schema,
-        first.as_bytes(),
-        second.as_bytes(),
-        &pairing,
-    )?;
+    let carries = carries(alloc, schema, first.as_bytes(), second.as_bytes(), &pairing)?;
     Ok(format!(in alloc; "{carries}\n")?)
 }
 
@@ -130,7 +118,11 @@ fn carries(
 ) -> Result<bool> {
     let first = accepted(alloc, schema, first)?;
     let second = accepted(alloc, schema, second)?;
-    Ok(check_pairing(alloc, schema, &first, &second, pairing)?)
+    match check_pairing(alloc, schema, &first, &second, pairing) {
+        Ok(carries) => Ok(carries),
+        // memory ran out, and may be there again for the same sheets
+        Err(_) => Ok(check_pairing(alloc, schema, &first, &second, pairing)?),
+    }
 }
 
 fn accepted(alloc: Global, schema: &Schema, sheet: &[u8]) -> Result<Accepted>

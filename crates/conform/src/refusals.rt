@@ -46,6 +46,11 @@ pub(crate) fn of_sheet(alloc: Global, which: &str, fault: Fault) -> Result<Strin
     }
 }
 
+/// Of a record.
+pub(crate) fn of_record(alloc: Global, rule: u16, at: u64) -> Result<String> {
+    Ok(refused(alloc, "", rule, Place::Record(at))?)
+}
+
 fn name_of(file: Source) -> &'static str {
     match file {
         Source::Scd => "scd ",

@@ -4,21 +4,47 @@ use anyhow::{Context, Result};
 use edi_schema::{Kinds, Schema};
 use std::alloc::Global;
 
-/// The files of a schema, and the codes of the four kinds.
+/// The files of a schema, the codes of the four kinds, and the schema of these files, which all cases of a file share.
 #[derive(Drop)]
 pub struct Setting<'a> {
     pub scd: &'a str,
     pub dic: &'a str,
     pub kinds: Kinds<'a>,
+    schema: Option<Schema>,
 }
 
-impl Setting<'_> {
-    /// The schema of these files. A case that isn't about schemas has one that is accepted.
-    pub(crate) fn schema(&self, alloc: Global) -> Result<Schema> {
-        match Schema::load(alloc, self.scd.as_bytes(), self.dic.as_bytes(), &self.kinds) {
-            Ok(schema) => Ok(schema),
-            Err(fault) => Err(fault.into()),
-        }
+impl<'a> Setting<'a> {
+    /// The setting of these files. Cases that need no schema name none.
+    pub(crate) fn of(
+        alloc: Global,
+        scd: &'a str,
+        dic: &'a str,
+        kinds: Kinds<'a>,
+    ) -> Result<Setting<'a>> {
+        let schema = if scd.is_empty() {
+            None
+        } else {
+            Some(loaded(alloc, scd, dic, &kinds)?)
+        };
+        Ok(Setting {
+            scd,
+            dic,
+            kinds,
+            schema,
+        })
+    }
+
+    /// The schema of these files, lent.
+    pub(crate) fn schema(&self) -> Result<&Schema> {
+        self.schema.as_ref().context("the cases have no schema")
+    }
+}
+
+// The schema of two files, which is accepted.
+fn loaded(alloc: Global, scd: &str, dic: &str, kinds: &Kinds<'_>) -> Result<Schema> {
+    match Schema::load(alloc, scd.as_bytes(), dic.as_bytes(), kinds) {
+        Ok(schema) => Ok(schema),
+        Err(fault) => Err(fault.into()),
     }
 }
 

@@ -1,8 +1,8 @@
 //! Sheets through each call that takes one: all have to answer the same.
 
 use crate::case::Case;
-use crate::refusals;
 use crate::setting::Setting;
+use crate::{phases, refusals};
 use anyhow::Result;
 use edi_compare::{RunFault, accept, canon, canon_of, run_bundle, run_canon, run_check};
 use edi_line::{ScriptIn, ScriptOut};
@@ -11,10 +11,10 @@ use std::alloc::Global;
 
 /// The canonical file of a sheet, or its refusal; or the first call that answers something else.
 pub(crate) fn canonical(alloc: Global, setting: &Setting<'_>, case: &Case<'_>) -> Result<String> {
-    let schema = setting.schema(alloc)?;
+    let schema = setting.schema()?;
     let sheet = case.input(alloc, 0)?;
-    let answer = canonical_of(alloc, &schema, sheet.as_bytes())?;
-    match call_apart(alloc, setting, &schema, sheet.as_str(), answer.as_str())? {
+    let answer = canonical_of(alloc, schema, sheet.as_bytes())?;
+    match call_apart(alloc, setting, schema, sheet.as_str(), answer.as_str())? {
         Some(call) => Ok(format!(in alloc; "{call} answers something else\n")?),
         None => Ok(answer),
     }
@@ -29,7 +29,7 @@ fn canonical_of(alloc: Global, schema: &Schema, sheet: &[u8]) -> Result<String> 
 }
 
 // A canonical file as text. Each of its lines ends in CR LF, or it is said that one doesn't.
-fn file_text(alloc: Global, file: &[u8]) -> Result<String> {
+pub(crate) fn file_text(alloc: Global, file: &[u8]) -> Result<String> {
     let text = std::str::from_utf8(file)?;
     let lines = text.replace(alloc, "\r\n", "\n")?;
     if lines.as_str().replace(alloc, "\n", "\r\n")?.as_str() == text {
@@ -61,6 +61,9 @@ fn call_apart(
         answer,
     ) {
         return Ok(Some("accept"));
+    }
+    if phases::canonical(alloc, schema, sheet.as_bytes())?.as_str() != answer {
+        return Ok(Some("a call of each phase"));
     }
     run_apart(alloc, setting, sheet.as_bytes(), answer)
 }
@@ -184,7 +187,7 @@ fn text_written(alloc: Global, run: Result<(), RunFault>, out: &ScriptOut) -> Re
 /// Whether each cut of a sheet is refused where it lies: inside a line by 101 or 102 at that line, between two lines by
 /// 106, one line past the last. Only the last line feed may be missing.
 pub(crate) fn cuts(alloc: Global, setting: &Setting<'_>, case: &Case<'_>) -> Result<String> {
-    let schema = setting.schema(alloc)?;
+    let schema = setting.schema()?;
     let sheet = case.input(alloc, 0)?;
     let mut line = 1u64;
     let mut ended = true;
@@ -194,7 +197,7 @@ pub(crate) fn cuts(alloc: Global, setting: &Setting<'_>, case: &Case<'_>) -> Res
         if ends {
             line = line.saturating_add(1);
         }
-        let answer = canonical_of(alloc, &schema, cut)?;
+        let answer = canonical_of(alloc, schema, cut)?;
         if !is_refused_there(alloc, answer.as_str(), line, ended || ends)?
             && length.wrapping_add(1) != sheet.len()
         {
