@@ -452,11 +452,11 @@ def pairings(room, sheet):
     for words, said in refusals:
         room.expect(f"verify of {words}", ["verify", *words, "bad"], (2, said, b""))
         room.expect(f"a pairing of {words}", ["compare", "--pairing", "kept", *words], (2, said, b""))
-    room.expect("a pairing of different sheets", ["compare", "--pairing", "kept", "s", "d", "a", "c"], (1, b"different at line 8\n", b""))
+    room.expect("a pairing of different sheets", ["compare", "--pairing", "kept", "s", "d", "a", "c"], (1, b"different at line 5\n", b""))
     room.expect("a pairing of a missing sheet", ["compare", "--pairing", "kept", "s", "d", "a", "x"], (4, b"", b"cannot read x\n"))
     room.expect("a pairing to -", ["compare", "--pairing", "-", *sheets], (3, b"", b"--pairing takes a file, and not -\n"))
     report.check("FILE of other answers", (room.read("kept"), room.read("-")), (b"kept", None))
-    room.expect("a new FILE of different sheets", ["compare", "--pairing", "new", "s", "d", "a", "c"], (1, b"different at line 8\n", b""))
+    room.expect("a new FILE of different sheets", ["compare", "--pairing", "new", "s", "d", "a", "c"], (1, b"different at line 5\n", b""))
     report.check("no FILE of different sheets", room.read("new"), None)
     for name in sheets:
         before = room.read(name)

@@ -25,8 +25,8 @@ const VERSION: &str = "0.1.0";
 const STATUSES: &str = "\
     A file named - is standard input, or standard output.\n\
     \n\
-    Exit status: 0 accepted, or the same plan\n\
-    \x20            1 different plans\n\
+    Exit status: 0 accepted, the same plan, or a file that pairs\n\
+    \x20            1 different plans, or a file that doesn't pair\n\
     \x20            2 refused\n\
     \x20            3 wrong words\n\
     \x20            4 a file can't be read or written\n\
@@ -318,7 +318,7 @@ fn pairing_option<'a>(alloc: Global) -> Arg<'a>
     Arg::new(alloc, "pairing")
         .long("pairing")
         .value_name("FILE")
-        .help("Writes which records of B are those of A to FILE, if the plans are the same")
+        .help("Where a pairing goes if the plans are the same")
 }
 
 // What words in good form ask for.

@@ -1,5 +1,5 @@
 -- A pairing that was made of four files, and one that was checked.
-use Rattle.std.proofs.Common.{◌≡◌, ◌⊎◌, ◌<◌, ◌≤◌, ℕ, zero, suc, Bool, true, false, List, [], Option, Some, None, IfSome, IsTrue, codes, length, inl, inr, refl, sym, ◌∙◌, ap, subst, ⊎_elim, arith, Bor, Result, Ok, Err, IfOk, IfErr}
+use Rattle.std.proofs.Common.{◌≡◌, ◌⊎◌, ◌<◌, ◌≤◌, ℕ, zero, suc, Bool, true, false, List, Option, Some, None, IsTrue, codes, length, inl, inr, refl, sym, ◌∙◌, ap, subst, ⊎_elim, arith, Bor, Result, Ok, Err, IfOk, IfErr}
 use Rattle.std.specs.Prelude.{MatchOption, ⊤}
 use Rattle.edi_schema.specs.Roles.{KindCodes}
 use Rattle.edi_compare.specs.declared.fault.RunFault.{RunFault}
