@@ -5,7 +5,7 @@
     python3 growth/sweep.py                                     from the top; needs cc
 
 For N = 1, 2, .. until a run meets no refusal, growth N of a run is refused. Each run must give the answer that it gives
-with ample memory, or `out of memory` with status 5 and nothing on standard output. OUT is then not there or whole: the
+with ample memory, or `out of memory` with status 5 and nothing on standard output. OUT, or FILE, is then not there or whole: the
 line that tells that the sheet was accepted needs memory too. `hash` says of each sheet by itself that memory ran out.
 Anything else is a fault.
 """
@@ -92,6 +92,10 @@ def main():
         sweep("canon", ["canon", *files, out], library, out)
         pair = [os.path.join(PARCEL, name) for name in ("schema.scd", "dictionary.dic", "sheet.vec", "same_plan.vec")]
         sweep("compare", ["compare", *pair], library, out)
+        sweep("compare, with a pairing", ["compare", "--pairing", out, *pair], library, out)
+        pairing = os.path.join(folder, "pairing")
+        run(["compare", "--pairing", pairing, *pair], library, 0, out)
+        sweep("verify", ["verify", *pair, pairing], library, out)
         sweep("hash", ["hash", *pair], library, out, lacks_lines)
         sweep("explain", ["explain", *files], library, out)
         sweep("explain, refused", ["explain", *files[:2], twice(folder, files[2])], library, out)

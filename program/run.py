@@ -180,6 +180,25 @@ def explains(room, sheet):
             report.check(f"{command} explained to a full output", room.run(["explain", *command], stdout=full)[0], 4)
 
 
+def pair_case(room, name, kinds, wanted):
+    """What compare says of a pair with a file for its pairing, which it writes or leaves, and what verify says of that file."""
+    check = room.report.check
+    room.write("p", "kept")
+    room.expect(name + ": with a pairing", ["compare", *kinds, "--pairing", "p", "s", "d", "a", "b"], wanted)
+    if wanted[:2] == (0, b"same\n"):
+        room.report.holds(name + ": the pairing's first line", room.read("p").startswith(b"edicad pairing 1\n"))
+        room.expect(name + ": the pairing verified", ["verify", *kinds, "s", "d", "a", "b", "p"], (0, b"pairs\n", b""))
+        rows = room.read("p").splitlines(keepends=True)
+        room.write("p", b"".join(rows[:-1]))
+        late = line(f"refused pairing line {len(rows)}") if len(rows) > 1 else line("refused pairing line 1")
+        room.expect(name + ": the pairing without its last line", ["verify", *kinds, "s", "d", "a", "b", "p"], (2, late, b""))
+    else:
+        check(name + ": FILE", room.read("p"), b"kept")
+        bad = (2, b"refused pairing line 1\n", b"") if wanted[0] == 1 else wanted
+        room.expect(name + ": a file without a pairing", ["verify", *kinds, "s", "d", "a", "b", "p"], bad)
+    os.remove(room.path("p"))
+
+
 def run_case(room, case):
     """A sheet, or a pair, and its answer."""
     if case["call"] == "hash":
@@ -197,6 +216,7 @@ def run_case(room, case):
         room.write("a", case["a"])
         room.write("b", case["b"])
         room.expect(case["name"], ["compare", *kinds, "s", "d", "a", "b"], wanted)
+        pair_case(room, case["name"], kinds, wanted)
     else:
         room.write("v", case["vec"])
         room.expect(case["name"], ["check", *kinds, "s", "d", "v"], wanted)
@@ -233,11 +253,12 @@ def words(room):
     """Commands with good and bad words."""
     report = room.report
     for bad in (["paint"], ["check"], ["check", "s"], ["check", "s", "d"], ["canon", "s", "d", "v"], ["compare", "s", "d", "v"],
-                ["hash", "s", "d"], ["explain"], ["explain", "s", "d", "v", "v"], ["check", "s", "d", "v", "v"], ["--paint"], ["check", "--paint", "s", "d", "v"], ["check", "--kinds"], ["help", "paint"]):
+                ["hash", "s", "d"], ["explain"], ["explain", "s", "d", "v", "v"], ["verify", "s", "d", "v", "v"], ["verify", "s", "d", "v", "v", "p", "p"], ["compare", "--pairing", "s", "d", "v", "v"],
+                ["verify", "--pairing", "p", "s", "d", "v", "v", "p"], ["check", "s", "d", "v", "v"], ["--paint"], ["check", "--paint", "s", "d", "v"], ["check", "--kinds"], ["help", "paint"]):
         status, out, err = room.run(bad)
         report.check(f"{bad}: status and output", (status, out), (3, b""))
         report.holds(f"{bad}: says what is wrong", err.startswith(b"error: ") and err.endswith(b"\n"))
-    for asked in (["--help"], ["-h"], ["help"], ["help", "check"], ["check", "--help"], ["canon", "-h"], ["compare", "--help"], ["hash", "--help"], ["explain", "--help"]):
+    for asked in (["--help"], ["-h"], ["help"], ["help", "check"], ["check", "--help"], ["canon", "-h"], ["compare", "--help"], ["hash", "--help"], ["explain", "--help"], ["verify", "--help"]):
         status, out, err = room.run(asked)
         report.check(f"{asked}: status and output", (status, out), (0, b""))
         report.holds(f"{asked}: has the usage", b"Usage: edicad" in err and err.endswith(b"\n"))
@@ -245,9 +266,9 @@ def words(room):
     status, out, err = room.run(["--version"])
     report.check("--version", (status, out, err), (0, b"", b"edicad 0.1.0\n"))
     for kinds in ("A,B,C", "A,B,C,D,E", "A,A,B,C", "A,,C,D", ""):
-        for command in (["check", "absent", "absent", "absent"], ["canon", "absent", "absent", "absent", "o"], ["compare", "absent", "absent", "absent", "absent"], ["hash", "absent", "absent", "absent"]):
+        for command in (["check", "absent", "absent", "absent"], ["canon", "absent", "absent", "absent", "o"], ["compare", "absent", "absent", "absent", "absent"], ["hash", "absent", "absent", "absent"], ["verify", *["absent"] * 5]):
             room.expect(f"{command[0]} with the kinds {kinds!r}", [command[0], "--kinds", kinds, *command[1:]], (3, b"", b"bad kinds\n"))
-    for twice in (["check", "-", "-", "v"], ["check", "-", "d", "-"], ["canon", "s", "-", "-", "o"], ["compare", "s", "d", "-", "-"],
+    for twice in (["check", "-", "-", "v"], ["check", "-", "d", "-"], ["canon", "s", "-", "-", "o"], ["compare", "s", "d", "-", "-"], ["verify", "s", "d", "-", "v", "-"], ["verify", "-", "d", "v", "v", "-"],
                   ["hash", "s", "d", "-", "v", "-"], ["hash", "s", "-", "v", "-"]):
         room.expect(f"{twice}", twice, (3, b"", b"only one input can be -\n"))
     status, out, err = room.run([b"\xff"])
@@ -373,6 +394,93 @@ def hashes(room, sheet, canonical):
     report.check("a closed output", room.run(["hash", "s", "d", "v"], preexec_fn=lambda: os.close(1))[0], 4)
 
 
+def pairings(room, sheet):
+    """Pairings that are written and verified: each line and status of both commands, what is missing, kept and replaced."""
+    report = room.report
+    node = "RTYSA03:PNO\nRIDSA01:{0}\nSCPCP22:EDAB01;SeSD;PGE;NOD_id\nCORCC04:{1};0;\n"
+    of = lambda *nodes: "BOMT 01:X\n" + "".join(node.format(*it) for it in nodes) + "EOMT 00:\n"
+    room.write("a", of(("a", 7), ("b", 8)))
+    room.write("b", of(("c", 8), ("d", 7)))
+    room.write("c", of(("c", 8), ("d", 9)))
+    room.write("bad", "")
+    pairing = b"edicad pairing 1\nPNO;a;d\nPNO;b;c\n"
+    sheets = ["s", "d", "a", "b"]
+    same = (0, b"same\n", b"")
+    room.expect("a pairing is written", ["compare", "--pairing", "p", *sheets], same)
+    report.check("the pairing", room.read("p"), pairing)
+    room.write("p", "old" * 1000)
+    os.chmod(room.path("p"), 0o640)
+    room.expect("a pairing replaces FILE", ["compare", *sheets, "--pairing=p"], same)
+    report.check("FILE that is replaced", (room.read("p"), os.stat(room.path("p")).st_mode & 0o777), (pairing, 0o640))
+    for name, text, wanted in (
+        ("the pairing", pairing, (0, b"pairs\n", b"")),
+        ("one that exchanges the nodes", b"edicad pairing 1\nPNO;a;c\nPNO;b;d\n", (1, b"does not pair\n", b"")),
+        ("one with both nodes to one", b"edicad pairing 1\nPNO;a;d\nPNO;b;d\n", (1, b"does not pair\n", b"")),
+        ("one that reverses a node", b"edicad pairing 1\nPNO;a;d;reversed\nPNO;b;c\n", (1, b"does not pair\n", b"")),
+        ("an empty file", b"", (2, b"refused pairing line 1\n", b"")),
+        ("another version", b"edicad pairing 2\nPNO;a;d\nPNO;b;c\n", (2, b"refused pairing line 1\n", b"")),
+        ("a carriage return", b"edicad pairing 1\r\nPNO;a;d\nPNO;b;c\n", (2, b"refused pairing line 1\n", b"")),
+        ("no record of A", b"edicad pairing 1\nPNO;x;d\nPNO;b;c\n", (2, b"refused pairing line 2\n", b"")),
+        ("no record of B", b"edicad pairing 1\nPNO;a;d\nPNO;b;x\n", (2, b"refused pairing line 3\n", b"")),
+        ("another type", b"edicad pairing 1\nPAR;a;d\nPNO;b;c\n", (2, b"refused pairing line 2\n", b"")),
+        ("a line repeated", b"edicad pairing 1\nPNO;a;d\nPNO;a;d\nPNO;b;c\n", (2, b"refused pairing line 3\n", b"")),
+        ("a line after the last", pairing + b"PNO;b;c\n", (2, b"refused pairing line 4\n", b"")),
+        ("lines in another order", b"edicad pairing 1\nPNO;b;c\nPNO;a;d\n", (2, b"refused pairing line 2\n", b"")),
+        ("a line too few", pairing[:-8], (2, b"refused pairing line 3\n", b"")),
+        ("no end of the last line", pairing[:-1], (2, b"refused pairing line 3\n", b"")),
+        ("a sheet", room.read("a"), (2, b"refused pairing line 1\n", b"")),
+    ):
+        room.write("q", text)
+        room.expect(f"verify of {name}", ["verify", *sheets, "q"], wanted)
+        room.expect(f"verify of {name} on standard input", ["verify", *sheets, "-"], wanted, text)
+    room.expect("verify of other sheets", ["verify", "s", "d", "a", "c", "p"], (1, b"does not pair\n", b""))
+    room.expect("verify with A and B exchanged", ["verify", "s", "d", "b", "a", "p"], (2, b"refused pairing line 2\n", b""))
+    for at, name in enumerate(("s", "d", "a", "b", "p")):
+        words = [*sheets, "p"]
+        words[at] = "-"
+        room.expect(f"verify with {name} on standard input", ["verify", *words], (0, b"pairs\n", b""), room.read(name))
+        words[at] = "x"
+        room.expect(f"verify without {name}", ["verify", *words], (4, b"", b"cannot read x\n"))
+        words[at] = "."
+        room.expect(f"verify with a folder for {name}", ["verify", *words], (4, b"", b"cannot read .\n"))
+        if name != "p":
+            room.expect(f"all are opened before one is read, {name}", ["verify", *words[:4], "y"], (4, b"", b"cannot read y\n"))
+    refusals = ((["bad", "d", "a", "b"], b"refused scd 106 line 1\n"), (["s", "bad", "a", "b"], b"refused dic 106 line 1\n"),
+                (["s", "d", "bad", "bad"], b"refused first 106 line 1\n"), (["s", "d", "a", "bad"], b"refused second 106 line 1\n"),
+                (["--kinds", "XA,XB,XC,IND", "s", "d", "a", "b"], b"refused kinds 604\n"))
+    room.write("kept", "kept")
+    for words, said in refusals:
+        room.expect(f"verify of {words}", ["verify", *words, "bad"], (2, said, b""))
+        room.expect(f"a pairing of {words}", ["compare", "--pairing", "kept", *words], (2, said, b""))
+    room.expect("a pairing of different sheets", ["compare", "--pairing", "kept", "s", "d", "a", "c"], (1, b"different at line 5\n", b""))
+    room.expect("a pairing of a missing sheet", ["compare", "--pairing", "kept", "s", "d", "a", "x"], (4, b"", b"cannot read x\n"))
+    room.expect("a pairing to -", ["compare", "--pairing", "-", *sheets], (3, b"", b"--pairing takes a file, and not -\n"))
+    report.check("FILE of other answers", (room.read("kept"), room.read("-")), (b"kept", None))
+    room.expect("a new FILE of different sheets", ["compare", "--pairing", "new", "s", "d", "a", "c"], (1, b"different at line 5\n", b""))
+    report.check("no FILE of different sheets", room.read("new"), None)
+    for name in sheets:
+        before = room.read(name)
+        os.symlink(name, room.path("to_" + name))
+        for file in (name, "./" + name, "to_" + name):
+            room.expect(f"FILE is the input {file}", ["compare", "--pairing", file, *sheets], (4, b"", line("cannot write " + file)))
+        room.expect(f"FILE is the input {name}, before a file is opened", ["compare", "--pairing", name, *["absent" if it != name else it for it in sheets]], (4, b"", line("cannot write " + name)))
+        report.check(f"the input {name} stays", room.read(name), before)
+    room.expect("a FILE of the name -", ["compare", "--pairing", "./-", *sheets], same)
+    report.check("the FILE of the name -", room.read("-"), pairing)
+    room.expect("a sheet on standard input", ["compare", "--pairing", "p", "s", "d", "-", "b"], same, room.read("a"))
+    room.expect("FILE in no folder", ["compare", "--pairing", "none/p", *sheets], (4, b"", b"cannot write none/p\n"))
+    room.expect("FILE is a full device", ["compare", "--pairing", "/dev/full", *sheets], (4, b"", b"cannot write /dev/full\n"))
+    room.expect("FILE is the device of standard output", ["compare", "--pairing", "/dev/stdout", *sheets], (0, pairing + b"same\n", b""))
+    with open("/dev/full", "wb") as full:
+        for words in (["compare", "--pairing", "p", *sheets], ["verify", *sheets, "p"], ["verify", *sheets, "a"]):
+            report.check(f"{words} to a full output", room.run(words, stdout=full)[0], 4)
+        report.check("FILE where the answer didn't go out", room.read("p"), pairing)
+    report.check("no draft of a pairing stays", drafts(room.folder), [])
+    room.write("v", sheet)
+    room.expect("a pairing of a sheet with itself", ["compare", "--pairing", "p", "s", "d", "v", "v"], same)
+    report.check("the pairing of a sheet with itself", room.read("p"), b"edicad pairing 1\nPNO;Noeud_1;Noeud_1\n")
+
+
 def terminal(room):
     """Without words on a terminal, a line says what is awaited."""
     awaited = b"reading SCD, DIC and VEC from the terminal, one after the other; edicad --help says more\n"
@@ -389,7 +497,7 @@ def manual(room):
     """The manual page has the usage lines that the program prints."""
     with open(os.path.join(HERE, "..", "docs", "edicad.1"), encoding="utf-8") as file:
         page = [re.sub(r"\\f[BIR]|\\&", "", it).replace("\\-", "-").strip() for it in file]
-    for words in (["--help"], ["check", "--help"], ["canon", "--help"], ["compare", "--help"], ["hash", "--help"], ["explain", "--help"]):
+    for words in (["--help"], ["check", "--help"], ["canon", "--help"], ["compare", "--help"], ["hash", "--help"], ["explain", "--help"], ["verify", "--help"]):
         usage = [it[len("Usage: "):] for it in room.run(words)[2].decode().splitlines() if it.startswith("Usage: ")]
         room.report.check(f"{words}: its usage is on the manual page", [it for it in usage if it not in page], [])
         room.report.check(f"{words}: one line of usage", len(usage), 1)
@@ -527,6 +635,7 @@ def main():
         in_room(report, program, given, standard_streams, bytes_of("vec"), bytes_of("canonical"))
         in_room(report, program, given, hashes, bytes_of("vec"), bytes_of("canonical"))
         in_room(report, program, given, explains, bytes_of("vec"))
+        in_room(report, program, given, pairings, bytes_of("vec"))
         in_room(report, program, given, manual)
         in_room(report, program, given, terminal)
         in_room(report, program, given, hostile_folders, bytes_of("vec"))

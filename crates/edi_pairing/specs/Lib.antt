@@ -1,6 +1,7 @@
 pub mod Names
 pub mod PairingText
 pub mod Verified
+pub mod CompareRuns
 pub mod VerifyRuns
 pub mod Laws
 pub mod inner

@@ -3,6 +3,7 @@
 ghost use Rattle.std.specs.Prelude.{◌≡◌, alloc_error};
 ghost use Rattle.edi_pairing.specs.declared.fault.PairingFault.TheVariants.{Memory};
 ghost use Rattle.edi_pairing.specs.declared.fault.VerifyFault.TheVariants as verified;
+ghost use Rattle.edi_pairing.specs.declared.fault.VerifyRunFault.TheVariants.{Run};
 ghost use Rattle.edi_pairing.specs.Verified.{of_pairing};
 
 use edi_compare::{Fault, RunFault};
@@ -81,4 +82,12 @@ pub enum VerifyRunFault {
     /// Both sheets are accepted, and the file states no pairing of them: its first wrong line, counted from 1.
     #[error("line {at} of the pairing is wrong")]
     Pairing { at: u64 },
+}
+
+impl From<RunFault> for VerifyRunFault {
+    ghost from_gives = { λ f e. e ≡ Run f };
+
+    fn from(fault: RunFault) -> VerifyRunFault {
+        VerifyRunFault::Run(fault)
+    }
 }

@@ -16,7 +16,7 @@ pub use fault::{PairingFault, VerifyFault, VerifyRunFault};
 pub use laws::texts_are_unique;
 pub use names::{Names, RecordName};
 pub use reading::read_pairing;
-pub use runs::run_verify;
+pub use runs::{run_compare_to_file, run_verify};
 pub use sheets::{NamedSheet, name_sheet};
 pub use verifying::verify;
 pub use writing::{Compared, compare_to_file, pairing_file, pairing_text};

@@ -1,17 +1,47 @@
-//! The run that checks a pairing's file.
+//! The runs that write a pairing's file and check one.
 ghost use Rattle.std.specs.Prelude.{◌≡◌, IsTrue, IfOk, IfErr, IfSome, OnOk};
-ghost use Rattle.edi_compare.specs.Runs.{IsTooLong, MatchFault, WasRead, seen};
-ghost use Rattle.edi_pairing.specs.VerifyRuns.{AfterAllRead, AreAllRead, FilesFault, IsVerifiedUnder, MatchRun, TellFive, VerifyingFault};
+ghost use Rattle.edi_schema.specs.SchemaRefusal.{IsGoodSchema};
+ghost use Rattle.edi_compare.specs.Runs.{AfterReading, AreFourRead, ComparingFault, IsTooLong, MatchFault, PairFault, RefusesSchema, TellFour, WasRead, seen};
+ghost use Rattle.edi_pairing.specs.CompareRuns.{IsComparedUnder};
+ghost use Rattle.edi_pairing.specs.VerifyRuns.{AfterAllRead, AreAllRead, FilesFault, IsVerifiedUnder, TellFive, VerifyingFault};
 
 use crate::fault::{VerifyFault, VerifyRunFault};
 use crate::verifying::verify;
-use edi_compare::RunFault;
+use crate::writing::{Compared, compare_to_file};
+use edi_compare::{CompareFault, RunFault};
 use edi_line::{ByteIn, ReadFault, read_all};
 use edi_schema::{Kinds, Schema, SchemaFault};
 use std::alloc::Global;
 
 // How many bytes an input has at most.
 const MOST_BYTES: u64 = 4_294_967_296;
+
+/// Reads four files, and tells whether the third and the fourth, two sheets under the schema of the first two, state the
+/// same plan, with a pairing of them as a file. The second sheet is looked at only if the first is accepted.
+pub fn run_compare_to_file<S: ByteIn, D: ByteIn, A: ByteIn, B: ByteIn>(
+    alloc: Global,
+    kinds: &Kinds<'_>,
+    scd: &mut S,
+    dic: &mut D,
+    first: &mut A,
+    second: &mut B,
+) -> Result<Compared, RunFault>
+    ensures ok { IfOk result (λ compared. TellFour (S.told scd.old) (D.told dic.old) (A.told first.old) (B.told second.old)
+        (λ s d a b. IsComparedUnder kinds.now s d a b compared)) }
+    ensures read { OnOk result (AreFourRead (seen (S.told scd.old) (S.told scd.new) (S.has_failed scd.new)) (seen (D.told dic.old) (D.told dic.new) (D.has_failed dic.new))
+        (seen (A.told first.old) (A.told first.new) (A.has_failed first.new)) (seen (B.told second.old) (B.told second.new) (B.has_failed second.new))) }
+    ensures err { IfErr result (ComparingFault kinds.now (seen (S.told scd.old) (S.told scd.new) (S.has_failed scd.new)) (seen (D.told dic.old) (D.told dic.new) (D.has_failed dic.new))
+        (seen (A.told first.old) (A.told first.new) (A.has_failed first.new)) (seen (B.told second.old) (B.told second.new) (B.has_failed second.new))
+        (record { dic = dic.new ≡ dic.old; first = first.new ≡ first.old; second = second.new ≡ second.old })) }
+    ensures after { IfErr result (λ e. AfterReading e (AreFourRead (seen (S.told scd.old) (S.told scd.new) (S.has_failed scd.new)) (seen (D.told dic.old) (D.told dic.new) (D.has_failed dic.new))
+        (seen (A.told first.old) (A.told first.new) (A.has_failed first.new)) (seen (B.told second.old) (B.told second.new) (B.has_failed second.new)))) }
+{
+    let scd = read_input(alloc, scd, 1)?;
+    let dic = read_input(alloc, dic, 2)?;
+    let first = read_input(alloc, first, 3)?;
+    let second = read_input(alloc, second, 4)?;
+    compare_or_fault(alloc, kinds, &scd, &dic, &first, &second)
+}
 
 /// Reads five files, and tells whether the fifth states a pairing that carries the plan of the third onto that of the
 /// fourth, two sheets under the schema of the first two. All are read before one is looked at. The second sheet is looked
@@ -59,21 +89,55 @@ pub fn run_verify<S: ByteIn, D: ByteIn, A: ByteIn, B: ByteIn, F: ByteIn>(
 }
 
 // The input of this number, whole.
-fn read_input<R: ByteIn>(
-    alloc: Global,
-    reader: &mut R,
-    input: u8,
-) -> Result<Vec<u8>, VerifyRunFault>
+fn read_input<R: ByteIn>(alloc: Global, reader: &mut R, input: u8) -> Result<Vec<u8>, RunFault>
     ensures all { IfOk result (λ bytes. IfSome (R.told reader.old) (λ told. bytes.items ≡ told)) }
     ensures read { OnOk result (WasRead (R.told reader.old) (R.told reader.new) (R.has_failed reader.new)) }
-    ensures err { IfErr result (λ e. MatchRun e (λ f. MatchFault f (λ n. (n ≡ input) × IsTrue (R.has_failed reader.new))
-        (λ n. (n ≡ input) × IsTooLong (R.told reader.old)) (λ _. ⊥) (λ _. ⊥) (λ _. ⊥) (λ _. ⊥)) (λ _. ⊥)) }
+    ensures err { IfErr result (λ e. MatchFault e (λ n. (n ≡ input) × IsTrue (R.has_failed reader.new))
+        (λ n. (n ≡ input) × IsTooLong (R.told reader.old)) (λ _. ⊥) (λ _. ⊥) (λ _. ⊥) (λ _. ⊥)) }
 {
     match read_all(alloc, reader, MOST_BYTES) {
         Ok(bytes) => Ok(bytes),
-        Err(ReadFault::Memory(error)) => Err(VerifyRunFault::Run(RunFault::Memory(error))),
-        Err(ReadFault::Read) => Err(VerifyRunFault::Run(RunFault::Read { input })),
-        Err(ReadFault::TooLong) => Err(VerifyRunFault::Run(RunFault::TooLong { input })),
+        Err(ReadFault::Memory(error)) => Err(RunFault::Memory(error)),
+        Err(ReadFault::Read) => Err(RunFault::Read { input }),
+        Err(ReadFault::TooLong) => Err(RunFault::TooLong { input }),
+    }
+}
+
+// The schema of two files, with its refusal as a run's.
+fn load_or_fault(
+    alloc: Global,
+    kinds: &Kinds<'_>,
+    scd: &[u8],
+    dic: &[u8],
+) -> Result<Schema, RunFault>
+    ensures ok { IfOk result (IsGoodSchema scd.now dic.now kinds.now) }
+    ensures err { IfErr result (λ e. MatchFault e (λ _. ⊥) (λ _. ⊥) (RefusesSchema kinds.now scd.now dic.now) (λ _. ⊥) (λ _. ⊥) (λ _. ⊥)) }
+{
+    match Schema::load(alloc, scd, dic, kinds) {
+        Ok(schema) => Ok(schema),
+        Err(SchemaFault::Memory(error)) => Err(RunFault::Memory(error)),
+        Err(fault) => Err(RunFault::Schema(fault)),
+    }
+}
+
+// What comparing two sheets under the schema of the two files answers.
+fn compare_or_fault(
+    alloc: Global,
+    kinds: &Kinds<'_>,
+    scd: &[u8],
+    dic: &[u8],
+    first: &[u8],
+    second: &[u8],
+) -> Result<Compared, RunFault>
+    ensures ok { IfOk result (IsComparedUnder kinds.now scd.now dic.now first.now second.now) }
+    ensures err { IfErr result (PairFault kinds.now scd.now dic.now first.now second.now) }
+{
+    let schema = load_or_fault(alloc, kinds, scd, dic)?;
+    match compare_to_file(alloc, &schema, first, second) {
+        Ok(compared) => Ok(compared),
+        Err(CompareFault::Memory(error)) => Err(RunFault::Memory(error)),
+        Err(CompareFault::First(fault)) => Err(RunFault::First(fault)),
+        Err(CompareFault::Second(fault)) => Err(RunFault::Second(fault)),
     }
 }
 
@@ -90,11 +154,7 @@ fn verify_or_fault(
     ensures ok { IfOk result (IsVerifiedUnder kinds.now scd.now dic.now first.now second.now file.now) }
     ensures err { IfErr result (FilesFault kinds.now scd.now dic.now first.now second.now file.now) }
 {
-    let schema = match Schema::load(alloc, scd, dic, kinds) {
-        Ok(schema) => schema,
-        Err(SchemaFault::Memory(error)) => return Err(VerifyRunFault::Run(RunFault::Memory(error))),
-        Err(fault) => return Err(VerifyRunFault::Run(RunFault::Schema(fault))),
-    };
+    let schema = load_or_fault(alloc, kinds, scd, dic)?;
     match verify(alloc, &schema, first, second, file) {
         Ok(answer) => Ok(answer),
         Err(VerifyFault::Memory(error)) => Err(VerifyRunFault::Run(RunFault::Memory(error))),

@@ -16,6 +16,10 @@ values_of line = option_map (λ met. (
       (codes "kinds" ∷ codes "SCD" ∷ codes "DIC" ∷ codes "VEC" ∷ codes "OUT" ∷ codes "A" ∷ codes "B" ∷ []),
 )) (subcommand_of edicad (words_in line))
 
+-- the values of a line's option for a pairing's file, and of its argument FILE
+abbrev pub pairing_of : Text → Option (List (Option Text))
+pairing_of line = option_map (λ met. first_of (codes "pairing") met.1 ∷ first_of (codes "FILE") met.1 ∷ []) (subcommand_of edicad (words_in line))
+
 -- the subcommand of a line, with the values of its last argument VEC
 abbrev pub sheets_of : Text → Option (Text × List Text)
 sheets_of line = option_map (λ met. (met.0, values_at (codes "VEC") met.1)) (subcommand_of edicad (words_in line))

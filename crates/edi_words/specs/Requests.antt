@@ -1,17 +1,18 @@
 -- What the words of the command line ask for.
-use Rattle.std.specs.Prelude.{◌≡◌, ◌⊎◌, ◌<◌, ◌+◌, ◌==◌, ℕ, Bool, true, false, if◌then◌else◌, List, [], ◌∷◌, Option, Some, None, IfSome, codes, is_some, map, unwrap_or}
+use Rattle.std.specs.Prelude.{◌≡◌, ◌⊎◌, ◌<◌, ◌+◌, ◌==◌, ℕ, Bool, true, false, if◌then◌else◌, List, [], ◌∷◌, Option, Some, None, IfSome, codes, is_some, map, option_map, unwrap_or}
 use Rattle.std.specs.List.{slice_split}
 use Rattle.std.specs.Str.{bytes_eq}
+use Rattle.std.proofs.Common.{Bor}
 use Rattle.clap.specs.Lexer.{usize_max}
 use Rattle.clap.specs.Words.{App, IsAmong, Row, Rule, Text, all_of, fault_of, first_of, new_app, new_rule, subcommand_of, with_rule, with_subcommand}
 use Rattle.clap.specs.declared.error.kind.ErrorKind.{ErrorKind}
 use Rattle.clap.specs.declared.error.kind.ErrorKind.TheVariants.{OutOfMemory, DisplayHelp, DisplayVersion}
 use Rattle.edi_schema.specs.Roles.{KindCodes, AreKindCodes}
 use Rattle.edi_words.specs.declared.words.Request.{Request}
-use Rattle.edi_words.specs.declared.words.Request.TheVariants.{Bundle, Check, Canon, Compare, Hash, Explain, Misused, Answered}
+use Rattle.edi_words.specs.declared.words.Request.TheVariants.{Bundle, Check, Canon, Compare, Hash, Explain, Verify, Misused, Answered}
 use Rattle.edi_words.specs.declared.words.Request.TheVariants as asks
 use Rattle.edi_words.specs.declared.words.Misuse.{Misuse}
-use Rattle.edi_words.specs.declared.words.Misuse.TheVariants.{BadKinds, TwoStandard, NoSheet}
+use Rattle.edi_words.specs.declared.words.Misuse.TheVariants.{BadKinds, TwoStandard, NoSheet, StandardPairing}
 use Rattle.edi_words.specs.declared.words.ManyFiles.{ManyFiles}
 use Rattle.edi_words.specs.declared.words.PairFiles.{PairFiles}
 use Rattle.edi_words.specs.declared.words.SheetFiles.{SheetFiles}
@@ -19,6 +20,10 @@ use Rattle.edi_words.specs.declared.words.SheetFiles.{SheetFiles}
 -- the option with the codes, which has one value
 abbrev pub kinds_rule : Rule
 kinds_rule = record (new_rule (codes "kinds")) { long = Some (codes "kinds"); value_names = 1 }
+
+-- the option with the file that a pairing goes to, which has one value
+abbrev pub pairing_rule : Rule
+pairing_rule = record (new_rule (codes "pairing")) { long = Some (codes "pairing"); value_names = 1 }
 
 -- a file that has to be named
 abbrev pub file_rule : Text → Rule
@@ -40,7 +45,7 @@ abbrev pub canon_command : App
 canon_command = with_rule (with_rule (schema_command (codes "canon")) (file_rule (codes "VEC"))) (file_rule (codes "OUT"))
 
 abbrev pub compare_command : App
-compare_command = with_rule (with_rule (schema_command (codes "compare")) (file_rule (codes "A"))) (file_rule (codes "B"))
+compare_command = with_rule (with_rule (with_rule (schema_command (codes "compare")) (file_rule (codes "A"))) (file_rule (codes "B"))) pairing_rule
 
 abbrev pub hash_command : App
 hash_command = with_rule (schema_command (codes "hash")) (files_rule (codes "VEC"))
@@ -53,12 +58,16 @@ subject_rule = record (file_rule (codes "SCD")) { value_names = 1 }
 abbrev pub explain_command : App
 explain_command = with_rule (with_rule (with_rule (with_rule (new_app (codes "explain")) kinds_rule) subject_rule) (new_rule (codes "DIC"))) (new_rule (codes "VEC"))
 
+-- the subcommand over two sheets and a pairing's file
+abbrev pub verify_command : App
+verify_command = with_rule (with_rule (with_rule (schema_command (codes "verify")) (file_rule (codes "A"))) (file_rule (codes "B"))) (file_rule (codes "FILE"))
+
 -- a command that says its version
 abbrev pub versioned : App → App
 versioned a = record a { top = record a.top { has_version = true } }
 
 abbrev pub edicad : App
-edicad = with_subcommand (with_subcommand (with_subcommand (with_subcommand (with_subcommand (versioned (new_app (codes "edicad"))) check_command.top) canon_command.top) compare_command.top) hash_command.top) explain_command.top
+edicad = with_subcommand (with_subcommand (with_subcommand (with_subcommand (with_subcommand (with_subcommand (versioned (new_app (codes "edicad"))) check_command.top) canon_command.top) compare_command.top) hash_command.top) explain_command.top) verify_command.top
 
 -- IND, FND, LPO and RPO
 abbrev pub usual_kinds : KindCodes
@@ -125,27 +134,38 @@ standard_at id rows = standard_in (values_at id rows)
 abbrev pub standard_count : List Row → ℕ
 standard_count rows =
     standard_at (codes "SCD") rows + standard_at (codes "DIC") rows + standard_at (codes "VEC") rows + standard_at (codes "A") rows + standard_at (codes "B") rows
+    + standard_at (codes "FILE") rows
 
 -- an argument is given
 abbrev pub is_given : Text → List Row → Bool
 is_given id rows = is_some (first_of id rows)
 
--- The arguments of a subcommand can't be meant: the codes are no codes, standard input is to be read twice, or explain is
--- given two files of three.
+-- the pairing is to go to standard output
+abbrev pub is_pairing_standard : List Row → Bool
+is_pairing_standard rows = is_standard_path (value_at (codes "pairing") rows)
+
+-- The arguments of a subcommand can't be meant: the codes are no codes, standard input is to be read twice, explain is
+-- given two files of three, or the pairing of a comparison is to go to standard output.
 abbrev pub IsMisuse : Text → List Row → Misuse → Type 0
 IsMisuse name rows BadKinds = HasBadKinds rows
 IsMisuse name rows TwoStandard = 1 < standard_count rows
 IsMisuse name rows NoSheet = (name ≡ codes "explain") × (is_given (codes "DIC") rows ≡ true) × (is_given (codes "VEC") rows ≡ false)
+IsMisuse name rows StandardPairing = (name ≡ codes "compare") × (is_pairing_standard rows ≡ true)
 
 -- what is said of it
 abbrev pub misuse_text : Misuse → List ℕ
 misuse_text BadKinds = codes "bad kinds"
 misuse_text TwoStandard = codes "only one input can be -"
 misuse_text NoSheet = codes "explain takes RULE, or SCD, DIC and VEC"
+misuse_text StandardPairing = codes "--pairing takes a file, and not -"
 
--- the subcommand, if there is one, is check, canon, compare, hash or explain
+-- the subcommand, if there is one, is check, canon, compare, hash, explain or verify
 abbrev pub IsOwn : Option (Text × List Row) → Type 0
-IsOwn met = IfSome met (λ p. (p.0 ≡ codes "check") ⊎ ((p.0 ≡ codes "canon") ⊎ ((p.0 ≡ codes "compare") ⊎ ((p.0 ≡ codes "hash") ⊎ (p.0 ≡ codes "explain")))))
+IsOwn met = IfSome met (λ p. (p.0 ≡ codes "check") ⊎ ((p.0 ≡ codes "canon") ⊎ ((p.0 ≡ codes "compare") ⊎ ((p.0 ≡ codes "hash") ⊎ ((p.0 ≡ codes "explain") ⊎ (p.0 ≡ codes "verify"))))))
+
+-- the file that the option names, if it is given, and which isn't standard output
+abbrev pub IsPairingFile : List Row → Option (Bor (List ℕ)) → Type 0
+IsPairingFile rows pairing = (option_map (λ (p : Bor (List ℕ)). p.now) pairing ≡ first_of (codes "pairing") rows) × (is_pairing_standard rows ≡ false)
 
 -- what the subcommand and its arguments ask for, or want of memory, whose status is 5
 abbrev pub Means : Option (Text × List Row) → Request → Type 0
@@ -153,12 +173,15 @@ Means met Bundle = met ≡ None
 Means met (Check kinds files) = (rows : List Row) × (met ≡ Some (codes "check", rows)) × GiveKinds rows kinds × AreSheetFiles rows files
 Means met (Canon kinds files out) = (rows : List Row) × (met ≡ Some (codes "canon", rows)) × GiveKinds rows kinds × AreSheetFiles rows files
     × (out.now ≡ value_at (codes "OUT") rows)
-Means met (Compare kinds files) = (rows : List Row) × (met ≡ Some (codes "compare", rows)) × GiveKinds rows kinds × ArePairFiles rows files
+Means met (Compare kinds files pairing) = (rows : List Row) × (met ≡ Some (codes "compare", rows)) × GiveKinds rows kinds × ArePairFiles rows files
+    × IsPairingFile rows pairing
 Means met (Hash kinds files) = (rows : List Row) × (met ≡ Some (codes "hash", rows)) × GiveKinds rows kinds × AreManyFiles rows files
 Means met (Explain kinds files) = (rows : List Row) × (met ≡ Some (codes "explain", rows)) × GiveKinds rows kinds × AreSheetFiles rows files
     × (is_given (codes "DIC") rows ≡ true) × (is_given (codes "VEC") rows ≡ true)
 Means met (asks.Rule word) = (rows : List Row) × (met ≡ Some (codes "explain", rows)) × (word.now ≡ value_at (codes "SCD") rows)
     × (is_given (codes "DIC") rows ≡ false)
+Means met (Verify kinds files pairing) = (rows : List Row) × (met ≡ Some (codes "verify", rows)) × GiveKinds rows kinds × ArePairFiles rows files
+    × (pairing.now ≡ value_at (codes "FILE") rows)
 Means met (Misused misuse) = (name : Text) × (rows : List Row) × (met ≡ Some (name, rows)) × IsMisuse name rows misuse
 Means met (Answered status) = status ≡ 5
 

@@ -2,7 +2,7 @@
 ghost use Rattle.std.specs.Prelude.{◌≡◌, [], ◌∷◌, None, Some, codes};
 ghost use Rattle.clap.specs.Words.{fault_of, subcommand_of};
 ghost use Rattle.clap.specs.declared.error.ErrorKind.TheVariants.{DisplayHelp, DisplayVersion, InvalidSubcommand, MissingRequiredArgument, UnknownArgument};
-ghost use Rattle.edi_words.specs.Known.{sheets_of, values_of, words_in};
+ghost use Rattle.edi_words.specs.Known.{pairing_of, sheets_of, values_of, words_in};
 ghost use Rattle.edi_words.specs.Requests.{edicad};
 
 /// Known words ask for what they should.
@@ -19,6 +19,10 @@ pub fn known_words_are_asked()
         ≡ Some (codes "explain", None ∷ Some (codes "s") ∷ Some (codes "d") ∷ Some (codes "v") ∷ None ∷ None ∷ None ∷ []) }
     ensures rule { values_of (codes "edicad explain 403")
         ≡ Some (codes "explain", None ∷ Some (codes "403") ∷ None ∷ None ∷ None ∷ None ∷ None ∷ []) }
+    ensures verify { values_of (codes "edicad verify s d a b f")
+        ≡ Some (codes "verify", None ∷ Some (codes "s") ∷ Some (codes "d") ∷ None ∷ None ∷ Some (codes "a") ∷ Some (codes "b") ∷ []) }
+    ensures pairing_checked { pairing_of (codes "edicad verify s d a b f") ≡ Some (None ∷ Some (codes "f") ∷ []) }
+    ensures pairing_written { pairing_of (codes "edicad compare --pairing f s d a b") ≡ Some (Some (codes "f") ∷ None ∷ []) }
     ensures no_bundle_fault { fault_of edicad (words_in (codes "edicad")) ≡ [] }
     ensures no_check_fault { fault_of edicad (words_in (codes "edicad check s d v")) ≡ [] }
     ensures no_canon_fault { fault_of edicad (words_in (codes "edicad canon s --kinds=A,B,C,D d v o")) ≡ [] }
@@ -26,6 +30,8 @@ pub fn known_words_are_asked()
     ensures no_hash_fault { fault_of edicad (words_in (codes "edicad hash s d a b c")) ≡ [] }
     ensures no_explain_fault { fault_of edicad (words_in (codes "edicad explain s d v")) ≡ [] }
     ensures no_rule_fault { fault_of edicad (words_in (codes "edicad explain 403")) ≡ [] }
+    ensures no_verify_fault { fault_of edicad (words_in (codes "edicad verify s d a b f")) ≡ [] }
+    ensures no_pairing_fault { fault_of edicad (words_in (codes "edicad compare --pairing f s d a b")) ≡ [] }
     ensures no_sheet { fault_of edicad (words_in (codes "edicad hash s d")) ≡ MissingRequiredArgument ∷ [] }
     ensures help { fault_of edicad (words_in (codes "edicad --help")) ≡ DisplayHelp ∷ [] }
     ensures version { fault_of edicad (words_in (codes "edicad --version")) ≡ DisplayVersion ∷ [] }

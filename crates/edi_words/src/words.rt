@@ -2,7 +2,7 @@
 ghost use Rattle.std.specs.Prelude.{◌≡◌, ◌↔◌, ◌<◌, ◌≤◌, ◌^◌, IsTrue, IfErr, IfOk, MatchOption, OnOk, Some, [], codes, length, map, option_map, string_bytes};
 ghost use Rattle.clap.specs.Words.{HasKind, app_of, fault_of, found_of, kind_of, new_rule, rows_of, rule_of, subcommand_of, subcommand_rows_of, with_rule};
 ghost use Rattle.edi_schema.specs.Roles.{KindCodes};
-ghost use Rattle.edi_words.specs.Requests.{AreKindsIn, AreKindsOf, AreManyFiles, ArePairFiles, AreSheetFiles, IsAsked, GiveKinds, IsOwn, Means, canon_command, check_command, compare_command, edicad, explain_command, file_rule, files_rule, hash_command, is_given, is_standard_path, kinds_rule, schema_command, standard_at, standard_count, standard_in, status_of_kind, subject_rule, value_at, values_at};
+ghost use Rattle.edi_words.specs.Requests.{AreKindsIn, AreKindsOf, AreManyFiles, ArePairFiles, AreSheetFiles, IsAsked, GiveKinds, IsOwn, Means, canon_command, check_command, compare_command, edicad, explain_command, file_rule, files_rule, hash_command, is_given, is_standard_path, kinds_rule, pairing_rule, schema_command, standard_at, standard_count, standard_in, status_of_kind, subject_rule, value_at, values_at, verify_command};
 
 use clap::error::ErrorKind;
 use clap::{Arg, ArgMatches, Command, Error};
@@ -25,8 +25,8 @@ const VERSION: &str = "0.1.0";
 const STATUSES: &str = "\
     A file named - is standard input, or standard output.\n\
     \n\
-    Exit status: 0 accepted, or the same plan\n\
-    \x20            1 different plans\n\
+    Exit status: 0 accepted, the same plan, or a file that pairs\n\
+    \x20            1 different plans, or a file that doesn't pair\n\
     \x20            2 refused\n\
     \x20            3 wrong words\n\
     \x20            4 a file can't be read or written\n\
@@ -73,10 +73,11 @@ pub enum Request<'a> {
         files: SheetFiles<'a>,
         out: &'a str,
     },
-    /// Whether two sheets state the same plan.
+    /// Whether two sheets state the same plan, and where a pairing of them goes.
     Compare {
         kinds: Kinds<'a>,
         files: PairFiles<'a>,
+        pairing: Option<&'a str>,
     },
     /// The digests of the canonical files of sheets.
     Hash {
@@ -91,6 +92,12 @@ pub enum Request<'a> {
     /// What the rule of this number means.
     Rule {
         word: &'a str,
+    },
+    /// Whether a file states a pairing that carries the plan of one sheet onto that of another.
+    Verify {
+        kinds: Kinds<'a>,
+        files: PairFiles<'a>,
+        pairing: &'a str,
     },
     /// Nothing that can be meant.
     Misused(Misuse),
@@ -107,6 +114,8 @@ pub enum Misuse {
     TwoStandard,
     /// A schema is named, and no sheet.
     NoSheet,
+    /// A pairing is to go to standard output, which gets the answer.
+    StandardPairing,
 }
 
 /// What the words ask for, of which the first is the program's name.
@@ -142,7 +151,8 @@ fn command<'a>(alloc: Global) -> Result<Command<'a>, AllocError>
         .subcommand(canon(alloc)?)?
         .subcommand(compare(alloc)?)?
         .subcommand(hash(alloc)?)?
-        .subcommand(explain(alloc)?)
+        .subcommand(explain(alloc)?)?
+        .subcommand(verify(alloc)?)
 }
 
 // The subcommand that checks a sheet.
@@ -178,18 +188,7 @@ fn compare<'a>(alloc: Global) -> Result<Command<'a>, AllocError>
     let over_schema = over_schema(alloc, "compare")?.about(
         "Says whether two sheets state the same plan",
     );
-    let over_sheet = with_file(
-        alloc,
-        over_schema,
-        "A",
-        "The first sheet, a file of type VEC",
-    )?;
-    with_file(
-        alloc,
-        over_sheet,
-        "B",
-        "The second sheet, a file of type VEC",
-    )
+    with_pair(alloc, over_schema)?.arg(pairing_option(alloc))
 }
 
 // The subcommand that gives the digests of sheets.
@@ -200,6 +199,35 @@ fn hash<'a>(alloc: Global) -> Result<Command<'a>, AllocError>
         "Gives the SHA-256 digest of each sheet's canonical file",
     );
     over_schema.arg(sheets_argument(alloc))
+}
+
+// The subcommand that checks a pairing's file.
+fn verify<'a>(alloc: Global) -> Result<Command<'a>, AllocError>
+    ensures { IfOk result (λ c. app_of c ≡ verify_command) }
+{
+    let over_schema = over_schema(alloc, "verify")?.about(
+        "Says whether a file pairs two sheets that state the same plan",
+    );
+    let over_pair = with_pair(alloc, over_schema)?;
+    with_file(
+        alloc,
+        over_pair,
+        "FILE",
+        "The pairing, as compare --pairing writes it",
+    )
+}
+
+// A command with two more sheets.
+fn with_pair<'a>(alloc: Global, command: Command<'a>) -> Result<Command<'a>, AllocError>
+    ensures { IfOk result (λ c. app_of c ≡ with_rule (with_rule (app_of command.entry) (file_rule (codes "A"))) (file_rule (codes "B"))) }
+{
+    let with_first = with_file(alloc, command, "A", "The first sheet, a file of type VEC")?;
+    with_file(
+        alloc,
+        with_first,
+        "B",
+        "The second sheet, a file of type VEC",
+    )
 }
 
 // The subcommand that explains a rule or a sheet.
@@ -283,6 +311,16 @@ fn kinds_option<'a>(alloc: Global) -> Arg<'a>
         .help("Codes of the kinds of link [default: IND,FND,LPO,RPO]")
 }
 
+// The option with the file that a pairing goes to.
+fn pairing_option<'a>(alloc: Global) -> Arg<'a>
+    ensures { rule_of result ≡ pairing_rule }
+{
+    Arg::new(alloc, "pairing")
+        .long("pairing")
+        .value_name("FILE")
+        .help("Where a pairing goes if the plans are the same")
+}
+
 // What words in good form ask for.
 fn meant<'a, R: Eprint + AllocGlobal>(rt: &R, matches: &ArgMatches<'a>) -> Request<'a>
     requires { IsOwn (subcommand_rows_of matches.now) }
@@ -307,15 +345,32 @@ fn meant<'a, R: Eprint + AllocGlobal>(rt: &R, matches: &ArgMatches<'a>) -> Reque
             files: sheet_files(given),
             out: path(given, "OUT"),
         },
-        "compare" => Request::Compare {
-            kinds,
-            files: pair_files(given),
-        },
+        "compare" => compared(given, kinds),
         "hash" => match many_files(rt.alloc(), given) {
             Ok(files) => Request::Hash { kinds, files },
             Err(_) => Request::Answered(out_of_memory(rt)),
         },
+        "verify" => Request::Verify {
+            kinds,
+            files: pair_files(given),
+            pairing: path(given, "FILE"),
+        },
         _ => explained(given, kinds),
+    }
+}
+
+// What the arguments of `compare` ask for.
+fn compared<'a>(given: &ArgMatches<'a>, kinds: Kinds<'a>) -> Request<'a>
+    requires { GiveKinds (rows_of (found_of given.now)) kinds }
+    ensures { Means (Some (codes "compare", rows_of (found_of given.now))) result }
+{
+    if is_standard(path(given, "pairing")) {
+        return Request::Misused(Misuse::StandardPairing);
+    }
+    Request::Compare {
+        kinds,
+        files: pair_files(given),
+        pairing: given.get_str("pairing"),
     }
 }
 
@@ -352,6 +407,7 @@ fn reads_input_twice(given: &ArgMatches<'_>) -> bool
         + standard(given, "VEC")
         + standard(given, "A")
         + standard(given, "B")
+        + standard(given, "FILE")
         > 1
 }
 

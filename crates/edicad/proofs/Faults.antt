@@ -68,11 +68,11 @@ fault_unwritten inputs kinds files W (First f) (inr h) = inr h
 fault_unwritten inputs kinds files W (Second f) (inr h) = inr h
 fault_unwritten inputs kinds files W (Write w) (inr h) = absurd h.1
 
-tell_both_told_four : (a b c d : Option (List ℕ)) (P : List ℕ → List ℕ → Type 0) → TellBoth a b P → TellFour a b c d (λ s t u v. P s t)
+pub tell_both_told_four : (a b c d : Option (List ℕ)) (P : List ℕ → List ℕ → Type 0) → TellBoth a b P → TellFour a b c d (λ s t u v. P s t)
 tell_both_told_four a b c None P h = tt
 tell_both_told_four a b c (Some w) P h = tell_both_told a b c P h
 
-told_four : (a b c d : Option (List ℕ)) (P : List ℕ → List ℕ → List ℕ → Type 0) → Told a b c P → TellFour a b c d (λ s t u v. P s t u)
+pub told_four : (a b c d : Option (List ℕ)) (P : List ℕ → List ℕ → List ℕ → Type 0) → Told a b c P → TellFour a b c d (λ s t u v. P s t u)
 told_four a b c None P h = tt
 told_four a b c (Some w) P h = h
 
@@ -96,7 +96,7 @@ module _ (inputs : Inputs) (kinds : KindCodes) (files : PairFiles) (scd dic firs
   pair_too_long (suc (suc (suc (suc zero)))) h = (second.before, gives_second, (h.5 refl).3)
   pair_too_long (suc (suc (suc (suc (suc n))))) h = absurd (omega (arith, h.1))
 
-  pair_matched : (e : RunFault) → ComparingFault kinds scd dic first second kept e → PairFileFault inputs kinds files e
+  pair_matched : (e : RunFault) → ComparingFault kinds scd dic first second kept e → PairFileFault inputs kinds files (λ _. ⊥) e
   pair_matched (Memory e) h = inr (((scd.before, gives_scd), (dic.before, gives_dic), (first.before, gives_first), (second.before, gives_second)), tt)
   pair_matched (Read n) h =
       inr (((scd.before, gives_scd), (dic.before, gives_dic), (first.before, gives_first), (second.before, gives_second)), (h.0, h.1, failed_of_four n h))
@@ -140,5 +140,5 @@ module _ (inputs : Inputs) (kinds : KindCodes) (files : PairFiles) (scd dic firs
   pair_matched (Write w) h = absurd h
 
   -- of a run over four readers
-  pub pair_fault : {T : Type 0} (r : Result T RunFault) → IfErr r (ComparingFault kinds scd dic first second kept) → IfErr r (PairFileFault inputs kinds files)
-  pair_fault r h = if_err_map r (ComparingFault kinds scd dic first second kept) (PairFileFault inputs kinds files) pair_matched h
+  pub pair_fault : {T : Type 0} (r : Result T RunFault) → IfErr r (ComparingFault kinds scd dic first second kept) → IfErr r (PairFileFault inputs kinds files (λ _. ⊥))
+  pair_fault r h = if_err_map r (ComparingFault kinds scd dic first second kept) (PairFileFault inputs kinds files (λ _. ⊥)) pair_matched h

@@ -14,7 +14,7 @@ use Rattle.edi_compare.specs.Runs.{BeforeWriting, InputFault, IsVerdictOf, Seen}
 use Rattle.edi_words.specs.declared.words.PairFiles.{PairFiles}
 use Rattle.edi_words.specs.declared.words.SheetFiles.{SheetFiles}
 use Rattle.edicad.specs.Outcome.{FaultHasNames, HasNames, ended, first_text, outcome_for, sheet_text, status_for, status_of_fault, status_of_schema, status_of_sheet, words_for, words_of_fault}
-use Rattle.edicad.specs.SheetRuns.{AreFourThere, CanonFault, FileFault, FirstOfFourMissing, Inputs, IsInput, OfFiles, OfPair, PairFileFault}
+use Rattle.edicad.specs.SheetRuns.{AreFourThere, CanonFault, FileFault, FirstOfFourMissing, Inputs, IsInput, MatchPairFault, OfFiles, OfPair, PairFileFault}
 use Rattle.edicad.specs.Statuses.{AreTried, IsCompareStatus, IsToldAs, MeansStatus, Says, SaysPairRefusal, SaysRefusal, Warns, pair_names_of}
 use Rattle.edicad.proofs.Canonical.{files_map, pair_map, parts_map}
 
@@ -65,24 +65,28 @@ pub canon_tried : (inputs : Inputs) (is_one : List ℕ → List ℕ → Bool →
 canon_tried inputs is_one kinds files path W e (inl input) = inl input.0
 canon_tried inputs is_one kinds files path W e (inr h) = inr (file_tried inputs kinds files W e h.1)
 
-pair_tried : (inputs : Inputs) (kinds : KindCodes) (files : PairFiles) (e : RunFault) → PairFileFault inputs kinds files e
+pub pair_tried : (inputs : Inputs) (kinds : KindCodes) (files : PairFiles) (W : ℕ → Type 0) (e : RunFault) → PairFileFault inputs kinds files W e
     → AreFourThere inputs files ⊎ ((n : ℕ) × FirstOfFourMissing inputs files n)
-pair_tried inputs kinds files e (inl missing) = inr (missing.0, missing.1)
-pair_tried inputs kinds files e (inr h) = inl h.0
+pair_tried inputs kinds files W e (inl missing) = inr (missing.0, missing.1)
+pair_tried inputs kinds files W e (inr h) = inl h.0
 
 -- a refusal of one of two sheets is said as its line
 module _ (out : Seen) (kinds : KindCodes) (names : List (List ℕ)) (two_sheets : first_text (length names) ≡ codes "first ") where
-  pair_refused : (inputs : Inputs) (files : PairFiles) (e : RunFault) → PairFileFault inputs kinds files e → status_of_fault e ≡ 2
+  pub match_refused : (inputs : Inputs) (files : PairFiles) (R T W : ℕ → Type 0) (e : RunFault) → MatchPairFault inputs kinds files R T W e → status_of_fault e ≡ 2
       → Says out (ended (words_of_fault e names)) → OfPair inputs files (SaysPairRefusal out kinds)
-  pair_refused inputs files e (inl missing) two line = absurd (omega (arith, ap status_of_fault missing.2, two))
-  pair_refused inputs files (Memory e) (inr h) two line = absurd (omega (arith, two))
-  pair_refused inputs files (Read n) (inr h) two line = absurd (omega (arith, two))
-  pair_refused inputs files (TooLong n) (inr h) two line = absurd (omega (arith, two))
-  pair_refused inputs files (Schema f) (inr h) two line = pair_map inputs files _ _ (λ s d a b r. inl (f, r, line)) h.1
-  pair_refused inputs files (First f) (inr h) two line =
-      pair_map inputs files _ _ (λ s d a b r. inr (inl (f, r, subst (λ which. Says out (ended (sheet_text which f))) two_sheets line))) h.1
-  pair_refused inputs files (Second f) (inr h) two line = pair_map inputs files _ _ (λ s d a b r. inr (inr (f, r, line))) h.1
-  pair_refused inputs files (Write w) (inr h) two line = absurd h.1
+  match_refused inputs files R T W (Memory e) h two line = absurd (omega (arith, two))
+  match_refused inputs files R T W (Read n) h two line = absurd (omega (arith, two))
+  match_refused inputs files R T W (TooLong n) h two line = absurd (omega (arith, two))
+  match_refused inputs files R T W (Schema f) h two line = pair_map inputs files _ _ (λ s d a b r. inl (f, r, line)) h
+  match_refused inputs files R T W (First f) h two line =
+      pair_map inputs files _ _ (λ s d a b r. inr (inl (f, r, subst (λ which. Says out (ended (sheet_text which f))) two_sheets line))) h
+  match_refused inputs files R T W (Second f) h two line = pair_map inputs files _ _ (λ s d a b r. inr (inr (f, r, line))) h
+  match_refused inputs files R T W (Write w) h two line = absurd (omega (arith, two))
+
+  pub pair_refused : (inputs : Inputs) (files : PairFiles) (W : ℕ → Type 0) (e : RunFault) → PairFileFault inputs kinds files W e → status_of_fault e ≡ 2
+      → Says out (ended (words_of_fault e names)) → OfPair inputs files (SaysPairRefusal out kinds)
+  pair_refused inputs files W e (inl missing) two line = absurd (omega (arith, ap status_of_fault missing.2, two))
+  pair_refused inputs files W e (inr h) two line = match_refused inputs files _ _ W e h.1 two line
 
 -- the status of a fault
 abbrev pub IsFaultStatus : ℕ → Type 0
@@ -118,7 +122,7 @@ not_zero s (inl e) zero = absurd (omega (arith, e, zero))
 not_zero s (inr (inl e)) zero = absurd (omega (arith, e, zero))
 not_zero s (inr (inr e)) zero = absurd (omega (arith, e, zero))
 
-not_one : (s : ℕ) → IsFaultStatus s → s ≢ 1
+pub not_one : (s : ℕ) → IsFaultStatus s → s ≢ 1
 not_one s (inl e) one = absurd (omega (arith, e, one))
 not_one s (inr (inl e)) one = absurd (omega (arith, e, one))
 not_one s (inr (inr e)) one = absurd (omega (arith, e, one))
@@ -154,48 +158,50 @@ module _ (Done Refused : Type 0) (IsFault : RunFault → Type 0) (names : List (
     memory = memory;
   }
 
+-- all four were opened of which something holds
+pub were_four : (inputs : Inputs) (files : PairFiles) (P : List ℕ → List ℕ → List ℕ → List ℕ → Type 0) → OfPair inputs files P → AreFourThere inputs files
+were_four inputs files P h = ((h.0, h.4), (h.1, h.5), (h.2, h.6), (h.3, h.7))
+
+-- a run that ends with one of two statuses has no outcome of the other
+pub not_zero_of_one : (s : ℕ) → s ≡ 0 → IsToldAs 1 s → ⊥
+not_zero_of_one s zero (inl e) = absurd (omega (arith, e, zero))
+not_zero_of_one s zero (inr (inl e)) = absurd (omega (arith, e, zero))
+not_zero_of_one s zero (inr (inr e)) = absurd (omega (arith, e.1, zero))
+
+pub not_one_of_zero : (s : ℕ) → s ≡ 1 → IsToldAs 0 s → ⊥
+not_one_of_zero s one (inl e) = absurd (omega (arith, e, one))
+not_one_of_zero s one (inr (inl e)) = absurd (omega (arith, e, one))
+not_one_of_zero s one (inr (inr e)) = absurd (omega (arith, e.1, one))
+
 -- the status of a comparison
-module _ (inputs : Inputs) (out err : Seen) (kinds : KindCodes) (files : PairFiles) (names : List (List ℕ)) (are : names ≡ pair_names_of files) (s : ℕ) where
-  of_fault : (e : RunFault) → PairFileFault inputs kinds files e → IsToldAs (status_of_fault e) s
+module _ (inputs : Inputs) (out err : Seen) (kinds : KindCodes) (files : PairFiles) (names : List (List ℕ)) (are : names ≡ pair_names_of files (codes "standard output")) (s : ℕ) where
+  of_fault : (e : RunFault) → PairFileFault inputs kinds files (λ _. ⊥) e → IsToldAs (status_of_fault e) s
       → (s < 3 → Says out (ended (words_of_fault e names))) → (status_of_fault e < 3 → s ≡ 4 → IsTrue out.failed)
       → (3 ≤ status_of_fault e → s ≡ 4 → Warns err (ended (words_of_fault e names))) → (s ≡ 5 → Warns err (ended (codes "out of memory")))
       → IsCompareStatus inputs out err kinds files s
   of_fault e h told line stopped warned memory = record {
-    tried = pair_tried inputs kinds files e h;
+    tried = pair_tried inputs kinds files (λ _. ⊥) e h;
     different = λ one. absurd (not_one s (told_fault (status_of_fault e) s (fault_status e) told) one);
-    means = means_fault _ _ _ (pair_names_of files) out err s e (λ big four. h)
-        (λ is two. pair_refused out kinds (pair_names_of files) refl inputs files e h is (subst (λ n. Says out (ended (words_of_fault e n))) are (line (omega (arith, two))))) told
+    means = means_fault _ _ _ (pair_names_of files (codes "standard output")) out err s e (λ big four. h)
+        (λ is two. pair_refused out kinds (pair_names_of files (codes "standard output")) refl inputs files (λ _. ⊥) e h is (subst (λ n. Says out (ended (words_of_fault e n))) are (line (omega (arith, two))))) told
         stopped
         (subst (λ n. 3 ≤ status_of_fault e → s ≡ 4 → Warns err (ended (words_of_fault e n))) are warned) memory;
   }
 
-  were_four : (P : List ℕ → List ℕ → List ℕ → List ℕ → Type 0) → OfPair inputs files P → AreFourThere inputs files
-  were_four P h = ((h.0, h.4), (h.1, h.5), (h.2, h.6), (h.3, h.7))
-
-  not_zero_of_one : s ≡ 0 → IsToldAs 1 s → ⊥
-  not_zero_of_one zero (inl e) = absurd (omega (arith, e, zero))
-  not_zero_of_one zero (inr (inl e)) = absurd (omega (arith, e, zero))
-  not_zero_of_one zero (inr (inr e)) = absurd (omega (arith, e.1, zero))
-
-  not_one_of_zero : s ≡ 1 → IsToldAs 0 s → ⊥
-  not_one_of_zero one (inl e) = absurd (omega (arith, e, one))
-  not_one_of_zero one (inr (inl e)) = absurd (omega (arith, e, one))
-  not_one_of_zero one (inr (inr e)) = absurd (omega (arith, e.1, one))
-
   pub compare_status : (r : Result Verdict RunFault) → IfOk r (λ v. OfPair inputs files (λ scd dic a b. IsVerdictOf kinds scd dic a b v))
-      → IfErr r (PairFileFault inputs kinds files) → IsToldAs (status_for (outcome_for r)) s
+      → IfErr r (PairFileFault inputs kinds files (λ _. ⊥)) → IsToldAs (status_for (outcome_for r)) s
       → (s < 3 → Says out (ended (words_for (outcome_for r) names))) → (status_for (outcome_for r) < 3 → s ≡ 4 → IsTrue out.failed)
       → (3 ≤ status_for (outcome_for r) → s ≡ 4 → Warns err (ended (words_for (outcome_for r) names))) → (s ≡ 5 → Warns err (ended (codes "out of memory")))
       → IsCompareStatus inputs out err kinds files s
   compare_status (Ok (verdict.Same pairing)) h fault told line stopped warned memory = record {
-    tried = inl (were_four _ h);
-    different = λ one. absurd (not_one_of_zero one told);
-    means = means_answer _ _ _ (pair_names_of files) out err s 0 (omega arith) (λ zero. ((pairing, h), line (omega (arith, zero)))) told stopped memory;
+    tried = inl (were_four inputs files _ h);
+    different = λ one. absurd (not_one_of_zero s one told);
+    means = means_answer _ _ _ (pair_names_of files (codes "standard output")) out err s 0 (omega arith) (λ zero. ((pairing, h), line (omega (arith, zero)))) told stopped memory;
   }
   compare_status (Ok (verdict.Different at)) h fault told line stopped warned memory = record {
-    tried = inl (were_four _ h);
+    tried = inl (were_four inputs files _ h);
     different = λ one. (at, h, line (omega (arith, one)));
-    means = means_answer _ _ _ (pair_names_of files) out err s 1 (omega arith) (λ zero. absurd (not_zero_of_one zero told)) told stopped memory;
+    means = means_answer _ _ _ (pair_names_of files (codes "standard output")) out err s 1 (omega arith) (λ zero. absurd (not_zero_of_one s zero told)) told stopped memory;
   }
   compare_status (Err e) ok h told line stopped warned memory = of_fault e h told line stopped warned memory
 

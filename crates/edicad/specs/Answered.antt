@@ -1,5 +1,5 @@
 -- What each request is answered by.
-use Rattle.std.specs.Prelude.{◌≡◌, ℕ, Bool, List}
+use Rattle.std.specs.Prelude.{◌≡◌, ℕ, Bool, List, MatchOption}
 use Rattle.std.specs.Bool.{MatchBool}
 use Rattle.edi_compare.specs.Runs.{Seen}
 use Rattle.edicad.specs.Explains.{IsExplainStatus, IsRuleStatus}
@@ -7,9 +7,9 @@ use Rattle.edicad.specs.Hashes.{IsHashStatus}
 use Rattle.edicad.specs.Outcome.{ended}
 use Rattle.edi_words.specs.Requests.{is_standard_path, misuse_text}
 use Rattle.edicad.specs.SheetRuns.{Inputs}
-use Rattle.edicad.specs.Statuses.{IsBundleStatus, IsCanonStatus, IsCompareStatus, IsFileStatus, IsSendStatus, Warns}
+use Rattle.edicad.specs.Statuses.{IsBundleStatus, IsCanonStatus, IsCompareStatus, IsFileStatus, IsPairingStatus, IsSendStatus, IsVerifyStatus, Warns}
 use Rattle.edi_words.specs.declared.words.Request.{Request}
-use Rattle.edi_words.specs.declared.words.Request.TheVariants.{Bundle, Check, Canon, Compare, Hash, Explain, Rule, Misused, Answered}
+use Rattle.edi_words.specs.declared.words.Request.TheVariants.{Bundle, Check, Canon, Compare, Hash, Explain, Rule, Verify, Misused, Answered}
 
 -- The status of what was asked for, over what is known of the inputs, which bytes were put where, and what the two streams
 -- have before and after.
@@ -18,9 +18,11 @@ IsAnswered inputs is_one Puts Stops out err Bundle s = IsBundleStatus inputs out
 IsAnswered inputs is_one Puts Stops out err (Check kinds files) s = IsFileStatus inputs out err kinds files s
 IsAnswered inputs is_one Puts Stops out err (Canon kinds files path) s = MatchBool (is_standard_path path.now) (IsSendStatus inputs out err kinds files s)
     (IsCanonStatus inputs is_one out err kinds files path.now (Puts path.now) (Stops path.now) s)
-IsAnswered inputs is_one Puts Stops out err (Compare kinds files) s = IsCompareStatus inputs out err kinds files s
+IsAnswered inputs is_one Puts Stops out err (Compare kinds files pairing) s = MatchOption pairing (IsCompareStatus inputs out err kinds files s)
+    (λ path. IsPairingStatus inputs is_one out err kinds files path.now (Puts path.now) (Stops path.now) s)
 IsAnswered inputs is_one Puts Stops out err (Hash kinds files) s = IsHashStatus inputs out err kinds files s
 IsAnswered inputs is_one Puts Stops out err (Explain kinds files) s = IsExplainStatus inputs out err kinds files s
 IsAnswered inputs is_one Puts Stops out err (Rule word) s = IsRuleStatus out err word.now s
+IsAnswered inputs is_one Puts Stops out err (Verify kinds files pairing) s = IsVerifyStatus inputs out err kinds files pairing.now s
 IsAnswered inputs is_one Puts Stops out err (Misused misuse) s = (s ≡ 3) × Warns err (ended (misuse_text misuse))
 IsAnswered inputs is_one Puts Stops out err (Answered status) s = s ≡ status

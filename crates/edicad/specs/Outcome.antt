@@ -1,5 +1,5 @@
 -- The line and the status of each outcome.
-use Rattle.std.specs.Prelude.{ℕ, ◌-◌, ◌<◌, List, [], ◌∷◌, ◌++◌, length, codes, ⊤, map, zero, suc, ◌==◌, if◌then◌else◌}
+use Rattle.std.specs.Prelude.{ℕ, Bool, true, false, ◌-◌, ◌<◌, Option, Some, None, List, [], ◌∷◌, ◌++◌, ◌||◌, length, codes, ⊤, map, zero, suc, ◌==◌, if◌then◌else◌}
 use Rattle.std.proofs.Common.{Bor, Result, Ok, Err}
 use Rattle.std.specs.Fmt.{decimal}
 use Rattle.edi_schema.specs.declared.fault.Source.{Source}
@@ -12,8 +12,10 @@ use Rattle.edi_compare.specs.declared.pairing.Verdict.{Verdict}
 use Rattle.edi_compare.specs.declared.pairing.Verdict.TheVariants as verdict
 use Rattle.edi_compare.specs.declared.fault.RunFault.{RunFault}
 use Rattle.edi_compare.specs.declared.fault.RunFault.TheVariants.{Memory, Read, TooLong, Schema, First, Second, Write}
+use Rattle.edi_pairing.specs.declared.fault.VerifyRunFault.{VerifyRunFault}
+use Rattle.edi_pairing.specs.declared.fault.VerifyRunFault.TheVariants as verifying
 use Rattle.edicad.specs.declared.outcome.Outcome.{Outcome}
-use Rattle.edicad.specs.declared.outcome.Outcome.TheVariants.{Accepted, Same, Different, Fault}
+use Rattle.edicad.specs.declared.outcome.Outcome.TheVariants.{Accepted, Same, Different, Pairs, Unpaired, WrongPairing, Fault}
 
 abbrev pub status_of_schema : SchemaFault → ℕ
 status_of_schema (schema.Memory e) = 5
@@ -39,6 +41,9 @@ abbrev pub status_for : Outcome → ℕ
 status_for Accepted = 0
 status_for Same = 0
 status_for (Different line) = 1
+status_for Pairs = 0
+status_for Unpaired = 1
+status_for (WrongPairing line) = 2
 status_for (Fault fault) = status_of_fault fault
 
 -- the name at a place
@@ -63,9 +68,9 @@ sheet_text which (sheet.Memory e) = codes "out of memory"
 sheet_text which (sheet.Line rule at) = codes "refused " ++ which ++ decimal rule ++ codes " line " ++ decimal at
 sheet_text which (sheet.Entry rule at) = codes "refused " ++ which ++ decimal rule ++ codes " record " ++ decimal at
 
--- five names are those of a comparison, which has a first sheet
+-- five names are those of a comparison, and six those of a pairing's check: both have a first sheet
 abbrev pub first_text : ℕ → List ℕ
-first_text count = if count == 5 then codes "first " else []
+first_text count = if (count == 5) || (count == 6) then codes "first " else []
 
 abbrev pub words_of_fault : RunFault → List (List ℕ) → List ℕ
 words_of_fault (Memory e) names = codes "out of memory"
@@ -90,6 +95,9 @@ abbrev pub words_for : Outcome → List (List ℕ) → List ℕ
 words_for Accepted names = codes "accepted"
 words_for Same names = codes "same"
 words_for (Different line) names = codes "different at line " ++ decimal line
+words_for Pairs names = codes "pairs"
+words_for Unpaired names = codes "does not pair"
+words_for (WrongPairing line) names = codes "refused pairing line " ++ decimal line
 words_for (Fault fault) names = words_of_fault fault names
 
 abbrev pub texts : List (Bor (List ℕ)) → List (List ℕ)
@@ -117,6 +125,9 @@ abbrev pub HasNames : Outcome → List (Bor (List ℕ)) → Type 0
 HasNames Accepted names = ⊤
 HasNames Same names = ⊤
 HasNames (Different line) names = ⊤
+HasNames Pairs names = ⊤
+HasNames Unpaired names = ⊤
+HasNames (WrongPairing line) names = ⊤
 HasNames (Fault fault) names = FaultHasNames fault (length names)
 
 -- what a comparison came to
@@ -124,3 +135,16 @@ abbrev pub outcome_for : Result Verdict RunFault → Outcome
 outcome_for (Ok (verdict.Same pairing)) = Same
 outcome_for (Ok (verdict.Different line)) = Different line
 outcome_for (Err fault) = Fault fault
+
+-- what a comparison to a pairing's file came to, of which the line is known where the plans are not the same
+abbrev pub paired_outcome : Result (Option ℕ) RunFault → Outcome
+paired_outcome (Ok None) = Same
+paired_outcome (Ok (Some line)) = Different line
+paired_outcome (Err fault) = Fault fault
+
+-- what the check of a pairing's file came to
+abbrev pub verified_outcome : Result Bool VerifyRunFault → Outcome
+verified_outcome (Ok true) = Pairs
+verified_outcome (Ok false) = Unpaired
+verified_outcome (Err (verifying.Run fault)) = Fault fault
+verified_outcome (Err (verifying.Pairing at)) = WrongPairing at

@@ -5,6 +5,8 @@ use Rattle.edi_schema.specs.Roles.{KindCodes}
 use Rattle.edi_compare.specs.declared.fault.RunFault.{RunFault}
 use Rattle.edi_compare.specs.declared.fault.RunFault.TheVariants.{Read, Write}
 use Rattle.edi_compare.specs.Runs.{IsCanonOf, IsTooLong, MatchFault, OfFour, OfThree, RefusesSchema, RefusesSecond, RefusesSheet, TellFour, Told}
+use Rattle.edi_pairing.specs.CompareRuns.{IsPairingFileOf}
+use Rattle.edi_pairing.specs.VerifyRuns.{TellFive}
 use Rattle.edi_words.specs.Requests.{is_standard_path}
 use Rattle.edi_words.specs.declared.words.PairFiles.{PairFiles}
 use Rattle.edi_words.specs.declared.words.SheetFiles.{SheetFiles}
@@ -112,15 +114,70 @@ FirstOfFourMissing inputs files n = OfFour n (IsThere inputs files.scd.now) (IsT
 abbrev pub pair_path_at : PairFiles → ℕ → List ℕ
 pair_path_at files n = if n == 1 then files.scd.now else if n == 2 then files.dic.now else if n == 3 then files.first.now else files.second.now
 
--- Why a run over the files of two sheets has no answer. One of the four is missing; or all were opened, and one failed or
--- is too long, the schema is refused, the first sheet is, or the second where the first is accepted.
-abbrev pub PairFileFault : Inputs → KindCodes → PairFiles → RunFault → Type 0
-PairFileFault inputs kinds files e =
-    ((n : ℕ) × FirstOfFourMissing inputs files n × (e ≡ Read n))
-    ⊎ (AreFourThere inputs files × MatchFault e
-    (λ n. (1 ≤ n) × (n ≤ 4) × inputs.failed)
-    (λ n. (1 ≤ n) × (n ≤ 4) × HoldsTooMuch inputs (pair_path_at files n))
+-- A fact for each reason why a run over two sheets that were opened has no answer: an input failed or is too long, the
+-- schema is refused, the first sheet is, or the second where the first is accepted, or so many bytes went out before the
+-- writer failed.
+abbrev pub MatchPairFault : Inputs → KindCodes → PairFiles → (ℕ → Type 0) → (ℕ → Type 0) → (ℕ → Type 0) → RunFault → Type 0
+MatchPairFault inputs kinds files R T W e = MatchFault e R T
     (λ f. OfPair inputs files (λ s d a b. RefusesSchema kinds s d f))
     (λ f. OfPair inputs files (λ s d a b. RefusesSheet kinds s d a f))
     (λ f. OfPair inputs files (λ s d a b. RefusesSecond kinds s d a b f))
-    (λ _. ⊥))
+    W
+
+-- Why a run over the files of two sheets has no answer. One of the four is missing; or all were opened.
+abbrev pub PairFileFault : Inputs → KindCodes → PairFiles → (ℕ → Type 0) → RunFault → Type 0
+PairFileFault inputs kinds files W e =
+    ((n : ℕ) × FirstOfFourMissing inputs files n × (e ≡ Read n))
+    ⊎ (AreFourThere inputs files × MatchPairFault inputs kinds files
+    (λ n. (1 ≤ n) × (n ≤ 4) × inputs.failed)
+    (λ n. (1 ≤ n) × (n ≤ 4) × HoldsTooMuch inputs (pair_path_at files n))
+    W e)
+
+-- ---- the pairing of two sheets, put at a path
+
+-- a file that states a pairing which carries the first plan onto the second, of which this holds
+abbrev pub OfPairing : Inputs → KindCodes → PairFiles → (List ℕ → Type 0) → Type 0
+OfPairing inputs kinds files P = OfPair inputs files (λ s d a b. (file : List ℕ) × IsPairingFileOf kinds s d a b file × P file)
+
+-- FILE is one of the inputs, and none of them
+abbrev pub IsPairInput : (List ℕ → List ℕ → Bool → Type 0) → PairFiles → List ℕ → Type 0
+IsPairInput is_one files out =
+    Meets is_one out files.scd.now ⊎ (Meets is_one out files.dic.now ⊎ (Meets is_one out files.first.now ⊎ Meets is_one out files.second.now))
+
+abbrev pub IsNoPairInput : (List ℕ → List ℕ → Bool → Type 0) → PairFiles → List ℕ → Type 0
+IsNoPairInput is_one files out =
+    IsApart is_one out files.scd.now × IsApart is_one out files.dic.now × IsApart is_one out files.first.now × IsApart is_one out files.second.now
+
+-- Why a comparison to a pairing's file has no answer: FILE is an input, and nothing was opened; or the run has none.
+abbrev pub PairingFault : Inputs → (List ℕ → List ℕ → Bool → Type 0) → KindCodes → PairFiles → List ℕ → (ℕ → Type 0) → RunFault → Type 0
+PairingFault inputs is_one kinds files out W e =
+    (IsPairInput is_one files out × (e ≡ Write (record { count = 0 }))) ⊎ (IsNoPairInput is_one files out × PairFileFault inputs kinds files W e)
+
+-- ---- the file of a pairing, checked
+
+-- a fact of what the four files of two sheets and that of a pairing hold, where they tell it
+abbrev pub OfFive : Inputs → PairFiles → List ℕ → (List ℕ → List ℕ → List ℕ → List ℕ → List ℕ → Type 0) → Type 0
+OfFive inputs files pairing P = (s d a b f : Option (List ℕ)) × Gives inputs files.scd.now s × Gives inputs files.dic.now d × Gives inputs files.first.now a
+    × Gives inputs files.second.now b × Gives inputs pairing f × TellFive s d a b f P
+
+-- all five were opened
+abbrev pub AreFiveThere : Inputs → PairFiles → List ℕ → Type 0
+AreFiveThere inputs files pairing = AreFourThere inputs files × IsThere inputs pairing
+
+-- the first of the five that is missing
+abbrev pub FirstOfFiveMissing : Inputs → PairFiles → List ℕ → ℕ → Type 0
+FirstOfFiveMissing inputs files pairing n = FirstOfFourMissing inputs files n ⊎ ((n ≡ 5) × AreFourThere inputs files × IsMissing inputs pairing)
+
+-- the path of an input
+abbrev pub verify_path_at : PairFiles → List ℕ → ℕ → List ℕ
+verify_path_at files pairing n = if n == 5 then pairing else pair_path_at files n
+
+-- Why the check of a pairing's file has no answer, but for a file that states no pairing. One of the five is missing; or all
+-- were opened.
+abbrev pub VerifyFileFault : Inputs → KindCodes → PairFiles → List ℕ → RunFault → Type 0
+VerifyFileFault inputs kinds files pairing e =
+    ((n : ℕ) × FirstOfFiveMissing inputs files pairing n × (e ≡ Read n))
+    ⊎ (AreFiveThere inputs files pairing × MatchPairFault inputs kinds files
+    (λ n. (1 ≤ n) × (n ≤ 5) × inputs.failed)
+    (λ n. (1 ≤ n) × (n ≤ 5) × HoldsTooMuch inputs (verify_path_at files pairing n))
+    (λ _. ⊥) e)

@@ -1,5 +1,5 @@
 -- The exit statuses.
-use Rattle.std.specs.Prelude.{◌≡◌, ◌⊎◌, ◌<◌, ◌++◌, ℕ, Bool, List, [], ◌∷◌, Option, IfSome, IsTrue, codes, if◌then◌else◌}
+use Rattle.std.specs.Prelude.{◌≡◌, ◌⊎◌, ◌<◌, ◌++◌, ℕ, Bool, true, false, List, [], ◌∷◌, Option, IfSome, IsTrue, codes, if◌then◌else◌}
 use Rattle.std.specs.Fmt.{decimal}
 use Rattle.std.specs.Io.KnownBytes.{Appends}
 use Rattle.edi_schema.specs.Roles.{KindCodes}
@@ -12,17 +12,18 @@ use Rattle.edi_compare.specs.Bundle.{OfParts}
 use Rattle.edi_compare.specs.Runs.{InputFault, IsSheetUnder, IsVerdictOf, RefusesSchema, RefusesSecond, RefusesSheet, Seen, WritesAll, WritesFirst}
 use Rattle.edicad.specs.Outcome.{ended, schema_text, sheet_text, status_of_fault, words_of_fault}
 use Rattle.edi_words.specs.Requests.{IsAsked, is_standard_path, usual_kinds}
-use Rattle.edicad.specs.SheetRuns.{AreFourThere, AreThere, CanonFault, FileFault, FirstMissing, FirstOfFourMissing, Inputs, IsInput, OfCanon, OfFiles, OfPair, PairFileFault}
+use Rattle.edi_pairing.specs.VerifyRuns.{IsVerifiedUnder, RefusesFile}
+use Rattle.edicad.specs.SheetRuns.{AreFiveThere, AreFourThere, AreThere, CanonFault, FileFault, FirstMissing, FirstOfFiveMissing, FirstOfFourMissing, Inputs, IsInput, IsPairInput, OfCanon, OfFiles, OfFive, OfPair, OfPairing, PairFileFault, PairingFault, VerifyFileFault}
 use Rattle.edi_words.specs.declared.words.PairFiles.{PairFiles}
 use Rattle.edi_words.specs.declared.words.SheetFiles.{SheetFiles}
 use Rattle.edi_words.specs.declared.words.Request.{Request}
-use Rattle.edi_words.specs.declared.words.Request.TheVariants.{Bundle, Check, Canon, Compare, Hash, Explain, Rule, Misused, Answered}
+use Rattle.edi_words.specs.declared.words.Request.TheVariants.{Bundle, Check, Canon, Compare, Hash, Explain, Rule, Verify, Misused, Answered}
 
 -- of a run over sheets, each for itself: accepted, refused, not read or not written, out of memory
 abbrev pub IsSheetStatus : ℕ → Type 0
 IsSheetStatus s = (s ≡ 0) ⊎ ((s ≡ 2) ⊎ ((s ≡ 4) ⊎ (s ≡ 5)))
 
--- of a run over two sheets: those, or different
+-- of a run over two sheets: those, or 1 where the plans differ or the pairing doesn't carry
 abbrev pub IsPairStatus : ℕ → Type 0
 IsPairStatus s = (s ≡ 1) ⊎ IsSheetStatus s
 
@@ -35,10 +36,11 @@ abbrev pub IsStatusOf : Request → ℕ → Type 0
 IsStatusOf Bundle s = IsSheetStatus s
 IsStatusOf (Check kinds files) s = IsSheetStatus s
 IsStatusOf (Canon kinds files out) s = IsSheetStatus s
-IsStatusOf (Compare kinds files) s = IsPairStatus s
+IsStatusOf (Compare kinds files pairing) s = IsPairStatus s
 IsStatusOf (Hash kinds files) s = IsSheetStatus s
 IsStatusOf (Explain kinds files) s = IsSheetStatus s
 IsStatusOf (Rule word) s = IsPageStatus s
+IsStatusOf (Verify kinds files pairing) s = IsPairStatus s
 IsStatusOf (Misused misuse) s = s ≡ 3
 IsStatusOf (Answered status) s = s ≡ status
 
@@ -73,9 +75,13 @@ output_name path = if is_standard_path path then codes "standard output" else pa
 abbrev pub names_of : SheetFiles → List ℕ → List (List ℕ)
 names_of files out = input_name files.scd.now ∷ input_name files.dic.now ∷ input_name files.vec.now ∷ out ∷ []
 
-abbrev pub pair_names_of : PairFiles → List (List ℕ)
-pair_names_of files =
-    input_name files.scd.now ∷ input_name files.dic.now ∷ input_name files.first.now ∷ input_name files.second.now ∷ codes "standard output" ∷ []
+abbrev pub pair_names_of : PairFiles → List ℕ → List (List ℕ)
+pair_names_of files out =
+    input_name files.scd.now ∷ input_name files.dic.now ∷ input_name files.first.now ∷ input_name files.second.now ∷ out ∷ []
+
+abbrev pub verify_names_of : PairFiles → List ℕ → List (List ℕ)
+verify_names_of files pairing =
+    input_name files.scd.now ∷ input_name files.dic.now ∷ input_name files.first.now ∷ input_name files.second.now ∷ input_name pairing ∷ codes "standard output" ∷ []
 
 -- What a status of a run says: 0 that it is done, 2 that something is refused, 4 that a file could not be read or written
 -- or the output failed, 5 that memory ran out. The last two are said on the stream of errors.
@@ -141,7 +147,31 @@ pub record IsCompareStatus (inputs : Inputs) (out err : Seen) (kinds : KindCodes
       × Says out (ended (codes "different at line " ++ decimal line))
   pub means : MeansStatus
       (((pairing : Pairing) × OfPair inputs files (λ scd dic a b. IsVerdictOf kinds scd dic a b (Same pairing))) × Says out (ended (codes "same")))
-      (OfPair inputs files (SaysPairRefusal out kinds)) (PairFileFault inputs kinds files) (pair_names_of files) out err s
+      (OfPair inputs files (SaysPairRefusal out kinds)) (PairFileFault inputs kinds files (λ _. ⊥)) (pair_names_of files (codes "standard output")) out err s
+
+-- The same of a run that puts a pairing at a path where the plans are the same: Puts says of bytes that they are there, and
+-- Stops why they are not.
+pub record IsPairingStatus (inputs : Inputs) (is_one : List ℕ → List ℕ → Bool → Type 0) (out err : Seen) (kinds : KindCodes) (files : PairFiles) (path : List ℕ)
+    (Puts : List ℕ → Type 0) (Stops : ℕ → List ℕ → Type 0) (s : ℕ) : Type 0 where
+  pub tried : IsPairInput is_one files path ⊎ (AreFourThere inputs files ⊎ ((n : ℕ) × FirstOfFourMissing inputs files n))
+  pub different : s ≡ 1 → (line : ℕ) × OfPair inputs files (λ scd dic a b. IsVerdictOf kinds scd dic a b (Different line))
+      × Says out (ended (codes "different at line " ++ decimal line))
+  pub means : MeansStatus (OfPairing inputs kinds files Puts × Says out (ended (codes "same"))) (OfPair inputs files (SaysPairRefusal out kinds))
+      (PairingFault inputs is_one kinds files path (λ count. OfPairing inputs kinds files (Stops count))) (pair_names_of files path) out err s
+
+-- the schema or a sheet is refused, or the pairing's file where both sheets are accepted, and the line of the refusal went out
+abbrev pub SaysVerifyRefusal : Inputs → Seen → KindCodes → PairFiles → List ℕ → Type 0
+SaysVerifyRefusal inputs out kinds files pairing =
+    OfPair inputs files (SaysPairRefusal out kinds)
+    ⊎ ((at : ℕ) × OfFive inputs files pairing (λ scd dic a b f. RefusesFile kinds scd dic a b f at) × Says out (ended (codes "refused pairing line " ++ decimal at)))
+
+-- The status of a run that checks a pairing's file: 0 only where it states a pairing that carries the one plan onto the other,
+-- 1 only where it states one that doesn't, 2 only where a sheet or the file is refused, and each is said.
+pub record IsVerifyStatus (inputs : Inputs) (out err : Seen) (kinds : KindCodes) (files : PairFiles) (pairing : List ℕ) (s : ℕ) : Type 0 where
+  pub tried : AreFiveThere inputs files pairing ⊎ ((n : ℕ) × FirstOfFiveMissing inputs files pairing n)
+  pub unpaired : s ≡ 1 → OfFive inputs files pairing (λ scd dic a b f. IsVerifiedUnder kinds scd dic a b f false) × Says out (ended (codes "does not pair"))
+  pub means : MeansStatus (OfFive inputs files pairing (λ scd dic a b f. IsVerifiedUnder kinds scd dic a b f true) × Says out (ended (codes "pairs")))
+      (SaysVerifyRefusal inputs out kinds files pairing) (VerifyFileFault inputs kinds files pairing) (verify_names_of files pairing) out err s
 
 -- the status once the line was printed: that of the outcome, 5 without memory for the line, 4 where it can't be printed
 abbrev pub IsToldAs : ℕ → ℕ → Type 0

@@ -2,11 +2,11 @@
 ghost use Rattle.std.specs.Prelude.{◌≡◌, ◌⊎◌, ℕ, List, Option, map, string_bytes, codes};
 ghost use Rattle.edi_compare.specs.Runs.{seen};
 ghost use Rattle.edicad.specs.Answered.{IsAnswered};
-ghost use Rattle.edicad.specs.Outcome.{ended, outcome_for};
+ghost use Rattle.edicad.specs.Outcome.{ended, outcome_for, paired_outcome, verified_outcome};
 ghost use Rattle.edicad.specs.Outputs.{IsUnmade, Reaches, Stops};
 ghost use Rattle.edi_words.specs.Requests.{IsAsked};
 ghost use Rattle.edicad.specs.SheetRuns.{inputs_of};
-ghost use Rattle.edicad.specs.Statuses.{HasStatus, IsBundleStatus, IsCanonStatus, IsCompareStatus, IsFileStatus, IsPairStatus, IsSendStatus, IsSheetStatus, IsStatus, IsStatusOf, Warns};
+ghost use Rattle.edicad.specs.Statuses.{HasStatus, IsBundleStatus, IsCanonStatus, IsCompareStatus, IsFileStatus, IsPairStatus, IsPairingStatus, IsSendStatus, IsSheetStatus, IsStatus, IsStatusOf, IsVerifyStatus, Warns};
 ghost use Rattle.edi_words.specs.declared.words.Request.{Request};
 
 use crate::disk::Disk;
@@ -19,6 +19,7 @@ use crate::system::{CommandLine, Errors, Words};
 use crate::{report, sheets};
 use edi_compare::{RunFault, Verdict};
 use edi_line::{ByteOut, ToWrite};
+use edi_pairing::VerifyRunFault;
 use edi_schema::Kinds;
 use edi_words::{PairFiles, Request, SheetFiles, asked, is_standard};
 use std::alloc::Global;
@@ -110,10 +111,22 @@ pub fn answered<F: Folder, O: ByteOut, E: ByteOut>(
                 canon(alloc, folder, &kinds, &files, path, out, err)
             }
         }
-        Request::Compare { kinds, files } => compare(alloc, folder, &kinds, &files, out, err),
+        Request::Compare {
+            kinds,
+            files,
+            pairing,
+        } => match pairing {
+            Some(path) => pair(alloc, folder, &kinds, &files, path, out, err),
+            None => compare(alloc, folder, &kinds, &files, out, err),
+        },
         Request::Hash { kinds, files } => hash(alloc, folder, &kinds, &files, out, err),
         Request::Explain { kinds, files } => explain(alloc, folder, &kinds, &files, out, err),
         Request::Rule { word } => explain_rule(alloc, word, out, err),
+        Request::Verify {
+            kinds,
+            files,
+            pairing,
+        } => verify(alloc, folder, &kinds, &files, pairing, out, err),
         Request::Misused(misuse) => report::misused(err, misuse),
         Request::Answered(status) => status,
     }
@@ -237,6 +250,80 @@ fn compare<F: Folder, O: ByteOut, E: ByteOut>(
     ];
     let outcome = outcome_of(sheets::compare(alloc, folder, kinds, files));
     report::told(alloc, out, err, &outcome, &names)
+}
+
+// Whether two sheets state the same plan, and a pairing of them to a path.
+fn pair<F: Folder, O: ByteOut, E: ByteOut>(
+    alloc: Global,
+    folder: &mut F,
+    kinds: &Kinds<'_>,
+    files: &PairFiles<'_>,
+    path: &str,
+    out: &mut O,
+    err: &mut E,
+) -> u8
+    ensures status { IsPairStatus result }
+    ensures answer { IsPairingStatus (inputs_of F.Reader (F.holds folder.old) (F.closed folder.old) (F.standard folder.old) F.Reader.has_failed) (F.is_one folder.old) (seen (O.told out.old) (O.told out.new) (O.has_failed out.new)) (seen (E.told err.old) (E.told err.new) (E.has_failed err.new)) kinds.now files.now path.now
+        (Reaches F.Sink (F.holds folder.new path.now) (F.sinks folder.old path.now) F.Sink.told) (Stops F.Sink (IsUnmade F.NewFile (F.unwritable folder.new path.now) F.NewFile.has_failed) (F.sinks folder.old path.now) F.Sink.told F.Sink.has_failed) result }
+    ensures unmade { (result ≡ 1) ⊎ (result ≡ 2) → folder.new ≡ folder.old }
+{
+    let names = [
+        input_name(files.scd),
+        input_name(files.dic),
+        input_name(files.first),
+        input_name(files.second),
+        path.as_bytes(),
+    ];
+    let outcome = outcome_of_paired(sheets::pair(alloc, folder, kinds, files, path));
+    report::told(alloc, out, err, &outcome, &names)
+}
+
+// Whether a file states a pairing that carries the one plan onto the other.
+fn verify<F: Folder, O: ByteOut, E: ByteOut>(
+    alloc: Global,
+    folder: &F,
+    kinds: &Kinds<'_>,
+    files: &PairFiles<'_>,
+    pairing: &str,
+    out: &mut O,
+    err: &mut E,
+) -> u8
+    ensures status { IsPairStatus result }
+    ensures answer { IsVerifyStatus (inputs_of F.Reader (F.holds folder.now) (F.closed folder.now) (F.standard folder.now) F.Reader.has_failed) (seen (O.told out.old) (O.told out.new) (O.has_failed out.new)) (seen (E.told err.old) (E.told err.new) (E.has_failed err.new)) kinds.now files.now pairing.now result }
+{
+    let names = [
+        input_name(files.scd),
+        input_name(files.dic),
+        input_name(files.first),
+        input_name(files.second),
+        input_name(pairing),
+        b"standard output",
+    ];
+    let outcome = outcome_of_verified(sheets::verify(alloc, folder, kinds, files, pairing));
+    report::told(alloc, out, err, &outcome, &names)
+}
+
+// What a comparison to a pairing's file came to.
+fn outcome_of_paired(paired: Result<Option<u64>, RunFault>) -> Outcome
+    ensures { result ≡ paired_outcome paired }
+{
+    match paired {
+        Ok(None) => Outcome::Same,
+        Ok(Some(line)) => Outcome::Different(line),
+        Err(fault) => Outcome::Fault(fault),
+    }
+}
+
+// What the check of a pairing's file came to.
+fn outcome_of_verified(verified: Result<bool, VerifyRunFault>) -> Outcome
+    ensures { result ≡ verified_outcome verified }
+{
+    match verified {
+        Ok(true) => Outcome::Pairs,
+        Ok(false) => Outcome::Unpaired,
+        Err(VerifyRunFault::Run(fault)) => Outcome::Fault(fault),
+        Err(VerifyRunFault::Pairing { at }) => Outcome::WrongPairing(at),
+    }
 }
 
 // What a comparison came to.

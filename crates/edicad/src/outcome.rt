@@ -16,17 +16,25 @@ pub enum Outcome {
     Same,
     /// The canonical files of the two sheets first differ at this line, counted from 1.
     Different(u64),
+    /// The file states a pairing that carries the plan of the first sheet onto that of the second.
+    Pairs,
+    /// The file states a pairing that does not carry it.
+    Unpaired,
+    /// The file states no pairing: its first wrong line, counted from 1.
+    WrongPairing(u64),
     /// The run gave no answer.
     Fault(RunFault),
 }
 
-/// The exit status: 0 accepted or the same, 1 different, 2 refused, 4 not read or not written, 5 out of memory.
+/// The exit status: 0 accepted, the same or a pairing, 1 different or no pairing that carries, 2 refused, 4 not read or not
+/// written, 5 out of memory.
 pub fn status_of(outcome: &Outcome) -> u8
     ensures { result ≡ status_for outcome.now }
 {
     match outcome {
-        Outcome::Accepted | Outcome::Same => 0,
-        Outcome::Different(_) => 1,
+        Outcome::Accepted | Outcome::Same | Outcome::Pairs => 0,
+        Outcome::Different(_) | Outcome::Unpaired => 1,
+        Outcome::WrongPairing(_) => 2,
         Outcome::Fault(fault) => status_of_fault(fault),
     }
 }
@@ -63,7 +71,8 @@ fn sheet_status(fault: &Fault) -> u8
 
 /// The line that tells the outcome, ended by a line feed.
 ///
-/// The names are those of the inputs in their order, and of the output last; five names are those of a comparison.
+/// The names are those of the inputs in their order, and of the output last; five names are those of a comparison, six those
+/// of a pairing's check.
 pub fn line_of(alloc: Global, outcome: &Outcome, names: &[&[u8]]) -> Result<Vec<u8>, AllocError>
     requires { HasNames outcome.now names.now }
     ensures { IfOk result (λ line. line.items ≡ line_for outcome.now names.now) }
@@ -72,6 +81,9 @@ pub fn line_of(alloc: Global, outcome: &Outcome, names: &[&[u8]]) -> Result<Vec<
         Outcome::Accepted => named(alloc, b"accepted", b""),
         Outcome::Same => named(alloc, b"same", b""),
         Outcome::Different(line) => numbered(alloc, b"different at line ", *line),
+        Outcome::Pairs => named(alloc, b"pairs", b""),
+        Outcome::Unpaired => named(alloc, b"does not pair", b""),
+        Outcome::WrongPairing(line) => numbered(alloc, b"refused pairing line ", *line),
         Outcome::Fault(RunFault::Memory(_)) => named(alloc, b"out of memory", b""),
         Outcome::Fault(RunFault::Read { input }) => {
             named(alloc, b"cannot read ", name_of(names, *input as usize - 1))
@@ -159,7 +171,11 @@ fn source_words(file: Source) -> &'static [u8]
 fn first_words(count: usize) -> &'static [u8]
     ensures { result.now ≡ first_text count }
 {
-    if count == 5 { b"first " } else { b"" }
+    if count == 5 || count == 6 {
+        b"first "
+    } else {
+        b""
+    }
 }
 
 // The name at a place.

@@ -1,19 +1,23 @@
 //! The sheets that a command names.
-ghost use Rattle.std.specs.Prelude.{◌≡◌, ◌≤◌, ℕ, List, Option, length, take, OnOk, IfOk, IfErr, IfSome, IsTrue};
+ghost use Rattle.std.specs.Prelude.{◌≡◌, ◌≤◌, ℕ, List, MatchOption, Option, length, take, OnOk, IfOk, IfErr, IfSome, IsTrue, ⊤};
 ghost use Rattle.std.specs.Bool.{MatchBool};
 ghost use Rattle.std.specs.Io.KnownBytes.{Appends};
 ghost use Rattle.edi_compare.specs.Bundle.{OfParts};
 ghost use Rattle.edi_compare.specs.Runs.{BeforeWriting, InputFault, IsCanonOf, IsSheetUnder, IsVerdictOf, MatchFault, WritesAll, WritesFirst};
+ghost use Rattle.edi_compare.specs.declared.pairing.Verdict.TheVariants.{Different};
+ghost use Rattle.edi_pairing.specs.CompareRuns.{IsComparedUnder, IsPairingFileOf};
+ghost use Rattle.edi_pairing.specs.VerifyRuns.{IsVerifiedUnder, MatchRun, RefusesFile};
 ghost use Rattle.edicad.specs.Folders.{Goes};
 ghost use Rattle.edicad.specs.Outcome.{FaultHasNames};
 ghost use Rattle.edicad.specs.Outputs.{IsUnmade, IsWholeOrNew, Reaches, Stops};
 ghost use Rattle.edi_words.specs.Requests.{usual_kinds};
-ghost use Rattle.edicad.specs.SheetRuns.{CanonFault, FileFault, Gives, IsApart, IsInput, IsMissing, IsNoInput, Meets, OfCanon, OfFiles, OfPair, PairFileFault, inputs_of};
+ghost use Rattle.edicad.specs.SheetRuns.{CanonFault, FileFault, Gives, IsApart, IsInput, IsMissing, IsNoInput, IsNoPairInput, IsPairInput, Meets, OfCanon, OfFiles, OfFive, OfPair, OfPairing, PairFileFault, PairingFault, VerifyFileFault, inputs_of};
 
 use crate::folder::Folder;
 use crate::output;
 use edi_compare::{RunFault, Verdict, canon_of, run_bundle, run_check, run_compare};
 use edi_line::ByteOut;
+use edi_pairing::{Compared, VerifyRunFault, run_compare_to_file, run_verify};
 use edi_schema::Kinds;
 use edi_words::{PairFiles, SheetFiles, is_standard};
 use edi_write::{Written, put_all};
@@ -106,7 +110,7 @@ pub fn compare<F: Folder>(
     files: &PairFiles<'_>,
 ) -> Result<Verdict, RunFault>
     ensures ok { IfOk result (λ verdict. OfPair (inputs_of F.Reader (F.holds folder.now) (F.closed folder.now) (F.standard folder.now) F.Reader.has_failed) files.now (λ s d a b. IsVerdictOf kinds.now s d a b verdict)) }
-    ensures err { IfErr result (PairFileFault (inputs_of F.Reader (F.holds folder.now) (F.closed folder.now) (F.standard folder.now) F.Reader.has_failed) kinds.now files.now) }
+    ensures err { IfErr result (PairFileFault (inputs_of F.Reader (F.holds folder.now) (F.closed folder.now) (F.standard folder.now) F.Reader.has_failed) kinds.now files.now (λ _. ⊥)) }
     ensures names { IfErr result (λ e. FaultHasNames e 5) }
 {
     let mut scd = opened(folder, files.scd, 1)?;
@@ -114,6 +118,87 @@ pub fn compare<F: Folder>(
     let mut first = opened(folder, files.first, 3)?;
     let mut second = opened(folder, files.second, 4)?;
     run_compare(alloc, kinds, &mut scd, &mut dic, &mut first, &mut second)
+}
+
+/// Whether the two sheets of four files state the same plan, with the line at which their canonical files first differ,
+/// counted from 1, if they don't. If they do, a pairing that carries the first plan onto the second goes to a path that is none
+/// of the four; a file is replaced whole or not at all.
+pub fn pair<F: Folder>(
+    alloc: Global,
+    folder: &mut F,
+    kinds: &Kinds<'_>,
+    files: &PairFiles<'_>,
+    out: &str,
+) -> Result<Option<u64>, RunFault>
+    ensures ok { IfOk result (λ line. IsNoPairInput (F.is_one folder.old) files.now out.now × MatchOption line
+        (OfPairing (inputs_of F.Reader (F.holds folder.old) (F.closed folder.old) (F.standard folder.old) F.Reader.has_failed) kinds.now files.now (Reaches F.Sink (F.holds folder.new out.now) (F.sinks folder.old out.now) F.Sink.told))
+        (λ at. OfPair (inputs_of F.Reader (F.holds folder.old) (F.closed folder.old) (F.standard folder.old) F.Reader.has_failed) files.now (λ s d a b. IsVerdictOf kinds.now s d a b (Different at)) × (folder.new ≡ folder.old))) }
+    ensures err { IfErr result (PairingFault (inputs_of F.Reader (F.holds folder.old) (F.closed folder.old) (F.standard folder.old) F.Reader.has_failed) (F.is_one folder.old) kinds.now files.now out.now
+        (λ count. OfPairing (inputs_of F.Reader (F.holds folder.old) (F.closed folder.old) (F.standard folder.old) F.Reader.has_failed) kinds.now files.now (Stops F.Sink (IsUnmade F.NewFile (F.unwritable folder.new out.now) F.NewFile.has_failed)
+        (F.sinks folder.old out.now) F.Sink.told F.Sink.has_failed count))) }
+    ensures unmade { IfErr result (λ e. BeforeWriting e (folder.new ≡ folder.old)) }
+    ensures replaced { F.tells folder.old → Goes (F.moment folder.old) (F.moment folder.new) (F.left_since folder.old) (F.left_since folder.new)
+        (IsWholeOrNew out.now (F.moment folder.old) (F.left_since folder.old) (λ f. OfPair (inputs_of F.Reader (F.holds folder.old) (F.closed folder.old) (F.standard folder.old) F.Reader.has_failed) files.now (λ s d a b. IsPairingFileOf kinds.now s d a b f))) }
+    ensures names { IfErr result (λ e. FaultHasNames e 5) }
+{
+    if is_pair_input(folder, files, out) {
+        return Err(RunFault::Write(Written { count: 0 }));
+    }
+    match compare_to_file(alloc, folder, kinds, files) {
+        Ok(Compared::Same { file }) => match output::put(folder, out, &file) {
+            Ok(()) => Ok(None),
+            Err(fault) => Err(fault),
+        },
+        Ok(Compared::Different { line }) => Ok(Some(line)),
+        Err(fault) => Err(fault),
+    }
+}
+
+/// Whether a file states a pairing that carries the plan of the first sheet onto that of the second. All five files are
+/// opened before the first is read.
+pub fn verify<F: Folder>(
+    alloc: Global,
+    folder: &F,
+    kinds: &Kinds<'_>,
+    files: &PairFiles<'_>,
+    pairing: &str,
+) -> Result<bool, VerifyRunFault>
+    ensures ok { IfOk result (λ answer. OfFive (inputs_of F.Reader (F.holds folder.now) (F.closed folder.now) (F.standard folder.now) F.Reader.has_failed) files.now pairing.now (λ s d a b f. IsVerifiedUnder kinds.now s d a b f answer)) }
+    ensures err { IfErr result (λ e. MatchRun e (VerifyFileFault (inputs_of F.Reader (F.holds folder.now) (F.closed folder.now) (F.standard folder.now) F.Reader.has_failed) kinds.now files.now pairing.now) (λ at. OfFive (inputs_of F.Reader (F.holds folder.now) (F.closed folder.now) (F.standard folder.now) F.Reader.has_failed) files.now pairing.now (λ s d a b f. RefusesFile kinds.now s d a b f at))) }
+    ensures names { IfErr result (λ e. MatchRun e (λ f. FaultHasNames f 6) (λ _. ⊤)) }
+{
+    let mut scd = opened(folder, files.scd, 1)?;
+    let mut dic = opened(folder, files.dic, 2)?;
+    let mut first = opened(folder, files.first, 3)?;
+    let mut second = opened(folder, files.second, 4)?;
+    let mut file = opened(folder, pairing, 5)?;
+    run_verify(
+        alloc,
+        kinds,
+        &mut scd,
+        &mut dic,
+        &mut first,
+        &mut second,
+        &mut file,
+    )
+}
+
+// What comparing the two sheets of four files answers, with a pairing's file.
+fn compare_to_file<F: Folder>(
+    alloc: Global,
+    folder: &F,
+    kinds: &Kinds<'_>,
+    files: &PairFiles<'_>,
+) -> Result<Compared, RunFault>
+    ensures ok { IfOk result (λ compared. OfPair (inputs_of F.Reader (F.holds folder.now) (F.closed folder.now) (F.standard folder.now) F.Reader.has_failed) files.now (λ s d a b. IsComparedUnder kinds.now s d a b compared)) }
+    ensures err { IfErr result (PairFileFault (inputs_of F.Reader (F.holds folder.now) (F.closed folder.now) (F.standard folder.now) F.Reader.has_failed) kinds.now files.now (λ _. ⊥)) }
+    ensures names { IfErr result (λ e. FaultHasNames e 5) }
+{
+    let mut scd = opened(folder, files.scd, 1)?;
+    let mut dic = opened(folder, files.dic, 2)?;
+    let mut first = opened(folder, files.first, 3)?;
+    let mut second = opened(folder, files.second, 4)?;
+    run_compare_to_file(alloc, kinds, &mut scd, &mut dic, &mut first, &mut second)
 }
 
 // Writes all bytes.
@@ -166,6 +251,16 @@ fn is_input<F: Folder>(folder: &F, files: &SheetFiles<'_>, out: &str) -> bool
     ensures { MatchBool result (IsInput (F.is_one folder.now) files.now out.now) (IsNoInput (F.is_one folder.now) files.now out.now) }
 {
     meets(folder, files.scd, out) || meets(folder, files.dic, out) || meets(folder, files.vec, out)
+}
+
+// Whether a path is that of an input of a comparison, or leads to its file.
+fn is_pair_input<F: Folder>(folder: &F, files: &PairFiles<'_>, out: &str) -> bool
+    ensures { MatchBool result (IsPairInput (F.is_one folder.now) files.now out.now) (IsNoPairInput (F.is_one folder.now) files.now out.now) }
+{
+    meets(folder, files.scd, out)
+        || meets(folder, files.dic, out)
+        || meets(folder, files.first, out)
+        || meets(folder, files.second, out)
 }
 
 // Whether the path of an input is this one, or leads to its file.

@@ -76,6 +76,15 @@ fn tells_answers(rt: HostRuntime) -> Result<(), Fail> {
         &names,
         b"different at line 60\n",
         1,
+    )?;
+    is_told(&rt, &Outcome::Pairs, &names, b"pairs\n", 0)?;
+    is_told(&rt, &Outcome::Unpaired, &names, b"does not pair\n", 1)?;
+    is_told(
+        &rt,
+        &Outcome::WrongPairing(3),
+        &names,
+        b"refused pairing line 3\n",
+        2,
     )
 }
 

@@ -50,14 +50,26 @@ returns-in-canon g c =
       c.path.ensures,
     )
 
+pub compared-requires : goal.compared-requires
+compared-requires g c =
+    let text_is = c.get_str.ensures ∙ first_value-rows (found_of c.in-Some.given.now) _ in
+    subst (λ t. AreKindsOf t c.in-Some-kinds_of.kinds) text_is c.in-Some-kinds_of.ensures
+
 pub returns-in-compare : goal.returns-in-compare
 returns-in-compare g c =
+    let rows = rows_of (found_of c.in-Some.given.now) in
+    let met = pair_of _ _ _ _ c.in-Some.ensures.name c.in-Some.ensures.rows in
+    subst (λ m. Means m c.compared.result) (sym (met ∙ ap (λ name. Some (name, rows)) c.in-compare.is)) c.compared.ensures
+
+pub returns-in-verify : goal.returns-in-verify
+returns-in-verify g c =
     let text_is = c.get_str.ensures ∙ first_value-rows (found_of c.in-Some.given.now) _ in
     let rows = rows_of (found_of c.in-Some.given.now) in (
       rows,
-      pair_of _ _ _ _ c.in-Some.ensures.name c.in-Some.ensures.rows ∙ ap (λ name. Some (name, rows)) c.in-compare.is,
+      pair_of _ _ _ _ c.in-Some.ensures.name c.in-Some.ensures.rows ∙ ap (λ name. Some (name, rows)) c.in-verify.is,
       subst (λ t. AreKindsOf t c.in-Some-kinds_of.kinds) text_is c.in-Some-kinds_of.ensures,
       c.pair_files.ensures,
+      c.path-in-verify.ensures,
     )
 
 pub returns-in-Ok : goal.returns-in-Ok
@@ -85,6 +97,7 @@ returns-in_default-name g c =
       | inr (inl e) ↦ absurd (c.in_default-name.not-canon e)
       | inr (inr (inl e)) ↦ absurd (c.in_default-name.not-compare e)
       | inr (inr (inr (inl e))) ↦ absurd (c.in_default-name.not-hash e)
-      | inr (inr (inr (inr e))) ↦ e
+      | inr (inr (inr (inr (inl e)))) ↦ e
+      | inr (inr (inr (inr (inr e)))) ↦ absurd (c.in_default-name.not-verify e)
     ] in
     subst (λ m. Means m c.explained.result) (sym (met ∙ ap (λ name. Some (name, rows)) name_is)) c.explained.ensures

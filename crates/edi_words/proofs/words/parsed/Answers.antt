@@ -1,6 +1,6 @@
-use Rattle.std.proofs.Common.{◌≡◌, true, [], Result, Ok, Err, IfErr, OnOk, IfOk, map, string_bytes, refl, sym, subst, ap, ◌∙◌}
+use Rattle.std.proofs.Common.{◌≡◌, true, [], Result, Ok, Err, IfErr, OnOk, map, string_bytes, subst, ap, ◌∙◌}
 use Rattle.std.proofs.lemmas.Result.{IfOk-weaker}
-use Rattle.clap.specs.Words.{App, FailsBy, HasKind, HasMatchesOf, Kinds, app_of, fault_of, is_simple, is_simple_and_free, subcommand_of, subcommand_rows_of}
+use Rattle.clap.specs.Words.{App, FailsBy, HasKind, Kinds, fault_of, is_simple, is_simple_and_free, subcommand_of}
 use Rattle.clap.specs.declared.error.Error.{Error}
 use Rattle.edi_words.specs.Requests.{edicad}
 use Rattle.edi_words.proofs.words.parsed.Goals as goal

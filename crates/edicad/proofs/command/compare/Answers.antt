@@ -18,7 +18,7 @@ returns-clause-answer g c =
     let err = seen (g.E.ByteOut.told c.args.err.now) (g.E.ByteOut.told c.told.new.err) (g.E.ByteOut.has_failed c.told.new.err) in
     let names : List (List ℕ) = c.input_name.result.now ∷ c.input_name-2.result.now ∷ c.input_name-3.result.now ∷ c.input_name-4.result.now ∷ codes "standard output" ∷ [] in
     let s = c.told.result in
-    let are : names ≡ pair_names_of c.args.files.now = cc (c.input_name.ensures, c.input_name-2.ensures, c.input_name-3.ensures, c.input_name-4.ensures) in
+    let are : names ≡ pair_names_of c.args.files.now (codes "standard output") = cc (c.input_name.ensures, c.input_name-2.ensures, c.input_name-3.ensures, c.input_name-4.ensures) in
     compare_status inputs out err c.args.kinds.now c.args.files.now names are s c.compare.result c.compare.ensures.ok c.compare.ensures.err
     (subst (λ o. IsToldAs (status_for o) s) is c.told.ensures.status)
     (subst (λ o. s < 3 → Says out (ended (words_for o names))) is (λ few. (c.told.ensures.answer few).0))

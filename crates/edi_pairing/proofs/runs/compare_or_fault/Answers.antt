@@ -1,0 +1,21 @@
+use Rattle.std.proofs.Common.{ℕ, List}
+use Rattle.edi_schema.specs.Classes.{Classes}
+use Rattle.edi_schema.specs.Roles.{KindCodes}
+use Rattle.edi_schema.specs.SchemaRefusal.{IsGoodSchema}
+use Rattle.edi_compare.specs.Rules.{IsAccepted}
+use Rattle.edi_pairing.specs.CompareRuns.{IsComparedUnder}
+use Rattle.edi_pairing.specs.Verified.{IsComparedTo}
+use Rattle.edi_pairing.specs.declared.writing.Compared.{Compared}
+use Rattle.edi_pairing.specs.declared.writing.Compared.TheVariants.{Same, Different}
+use Rattle.edi_pairing.proofs.runs.compare_or_fault.Goals as goal
+
+-- what is answered under a schema is answered under its files
+under : (kinds : KindCodes) (scd dic a b : List ℕ) (s : Classes) (compared : Compared) → IsGoodSchema scd dic kinds s → IsAccepted s a → IsAccepted s b
+    → IsComparedTo s a b compared → IsComparedUnder kinds scd dic a b compared
+under kinds scd dic a b s (Same file) good first second h = (s, h.0, good, first, second, h.1, h.2)
+under kinds scd dic a b s (Different line) good first second h = (s, good, first, second, h)
+
+pub returns-in-Ok-clause-ok : goal.returns-in-Ok-clause-ok
+returns-in-Ok-clause-ok c =
+    under c.args.kinds.now c.args.scd.now c.args.dic.now c.args.first.now c.args.second.now c.in_ok-schema.schema c.in-Ok.compared c.in_ok-schema.ensures.ok
+    c.in-Ok.ensures.first c.in-Ok.ensures.second c.in-Ok.ensures.compared
