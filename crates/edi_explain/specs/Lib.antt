@@ -6,3 +6,4 @@ pub mod RowPartners
 pub mod Refusals
 pub mod Lines
 pub mod Explained
+pub mod inner
