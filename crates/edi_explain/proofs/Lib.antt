@@ -10,3 +10,5 @@ pub mod InTurn
 pub mod OneArc
 pub mod Alike
 pub mod Sought
+pub mod Quality
+pub mod Parts
