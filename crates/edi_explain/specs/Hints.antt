@@ -58,7 +58,7 @@ same_part a b = bytes_eq (name_of a) (name_of b)
 abbrev pub part_hint : List ℕ → Part → Option Part → List ℕ
 part_hint name wanted None = []
 part_hint name wanted (Some part) = if same_part part wanted then []
-    else codes "hint: " ++ name ++ codes " has the records of a " ++ name_of part ++ codes " file, and stands in the place of the " ++ name_of wanted ++ codes " file" ++ 10 ∷ []
+    else codes "hint: " ++ name ++ codes " is " ++ name_of part ++ codes " by its first record, and was given as " ++ name_of wanted ++ 10 ∷ []
 
 -- the hints on a file in the place of a part
 abbrev pub AreHints : List ℕ → List ℕ → Part → List ℕ → Type 0

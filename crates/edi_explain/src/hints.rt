@@ -130,11 +130,11 @@ fn push_part(
     }
     text.extend_from_slice(b"hint: ")?;
     text.extend_from_slice(name)?;
-    text.extend_from_slice(b" has the records of a ")?;
+    text.extend_from_slice(b" is ")?;
     text.extend_from_slice(name_of(part).as_bytes())?;
-    text.extend_from_slice(b" file, and stands in the place of the ")?;
+    text.extend_from_slice(b" by its first record, and was given as ")?;
     text.extend_from_slice(name_of(wanted).as_bytes())?;
-    text.extend_from_slice(b" file\n")
+    text.extend_from_slice(b"\n")
 }
 
 /// The lines that name the usual causes of a refusal that a file shows, where it stands in the place of a part.
