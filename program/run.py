@@ -131,11 +131,11 @@ def explains(room, sheet):
     """Explanations with their whole text, of rules too; words, files and streams that are bad."""
     report = room.report
     room.write("v", sheet)
-    held = b"accepted\nnodes: 1\narcs: 0\nfaces: 0\nobjects: 0\nlinks: 0\nx: 10.5 to 10.5\ny: 20 to 20\ncharacter set: IRV\n"
+    held = b"accepted\nnodes: 1\narcs: 0\nfaces: 0\nobjects: 0\nlinks: 0\nx: 10.5 to 10.5\ny: 20 to 20\ncharacter set: IRV\nquality zones left out: 0\n"
     room.expect("what an accepted sheet holds", ["explain", "s", "d", "v"], (0, held, b""))
     room.expect("the sheet on standard input, explained", ["explain", "s", "d", "-"], (0, held, b""), room.read("v"))
     room.write("empty", "BOMT 01:X\nEOMT 00:\n")
-    none = b"accepted\nnodes: 0\narcs: 0\nfaces: 0\nobjects: 0\nlinks: 0\ncharacter set: none\n"
+    none = b"accepted\nnodes: 0\narcs: 0\nfaces: 0\nobjects: 0\nlinks: 0\ncharacter set: none\nquality zones left out: 0\n"
     room.expect("what a sheet without records holds", ["explain", "s", "d", "empty"], (0, none, b""))
     node = "RTYSA03:PNO\nRIDSA0{0}:{1}\nSCPCP22:EDAB01;SeSD;PGE;NOD_id\nCORCC0{2}:{3};0;\n"
     spread = "BOMT 01:X\n" + node.format(1, "a", 8, "-0.50") + node.format(1, "b", 4, "7") + "EOMT 00:\n"
@@ -197,6 +197,52 @@ def pair_case(room, name, kinds, wanted):
         bad = (2, b"refused pairing line 1\n", b"") if wanted[0] == 1 else wanted
         room.expect(name + ": a file without a pairing", ["verify", *kinds, "s", "d", "a", "b", "p"], bad)
     os.remove(room.path("p"))
+
+
+def explains_partners(room):
+    """The earlier records of rules 307 and 501."""
+    front = "BOMT 01:X\nRTYSA03:PNO\nRIDSA01:a\nSCPCP22:EDAB01;SeSD;PGE;NOD_id\nCORCC04:0;0;\n"
+    front += "RTYSA03:PAR\nRIDSA01:c\nSCPCP22:EDAB01;SeSD;PGE;ARC_id\nCORCC04:0;0;\nCORCC04:1;0;\n"
+    link = "RTYSA03:LNK\nRIDSA01:{0}\nSCPCP22:EDAB01;SeSD;REL;{1}_id\nFTPCP17:EDAB01;SeT1;PAR;c\nFTPCP17:EDAB01;SeT1;PNO;a\n"
+    room.write("sides", front + link.format("k", "FIN") + link.format("m", "INI") + link.format("n", "INI") + "EOMT 00:\n")
+    sides = b"refused 307 record 5\nsides:21: LNK n: a link of a kind whose arc has an earlier link of that kind [307]\nsides:16: LNK m: the earlier link [307]\n"
+    room.expect("an arc with two links of a kind", ["explain", "s", "d", "sides"], (2, sides, b""))
+    record = "RTYSA03:FEA\nRIDSA01:{0}\nSCPCP27:EDAB01;SeSD;OBJ;PARCELLE_id\n"
+    told = record.format("o") + "ATPCP22:EDAB01;SeSD;ATT;NOM_id\nATVSA01:x\n"
+    room.write("objects", "BOMT 01:X\n" + told + record.format("p") + record.format("q") + "EOMT 00:\n")
+    objects = b"refused 501 record 3\nobjects:10: FEA q: an object alike an earlier one in class, attributes, extras and pieces [501]\nobjects:7: FEA p: the earlier object [501]\n"
+    room.expect("an object alike an earlier one", ["explain", "s", "d", "objects"], (2, objects, b""))
+
+
+def explains_hints(room, sheet):
+    """The usual causes of a refusal that the files show, and how many zones of quality an accepted sheet has."""
+    report = room.report
+    room.write("v", sheet)
+    node = "RTYSA03:PNO\nRIDSA01:a\nSCPCP22:EDAB01;SeSD;PGE;NOD_id\nCORCC04:7;0;\nQACSN02:00\nQAPSA02:NE\nNEXT 02:XT\n"
+    room.write("quality", "BOMT 01:X\nREMT 03:QAC\n" + node + "EOMT 00:\n")
+    report.holds("zones of quality", room.run(["explain", "s", "d", "quality"])[1].endswith(b"\nquality zones left out: 2\n"))
+
+    def hinted(name, words, wanted):
+        status, out, err = room.run(["explain", *words])
+        lines = [it for it in out.decode("latin-1").split("\n") if it.startswith("hint: ")]
+        report.check(name, (status, lines, err), (2, wanted, b""))
+
+    mark, end = " begins with a byte order mark, which has to go", " ends in a byte 0x1A, which has to go"
+    room.write("marked", b"\xef\xbb\xbf" + room.read("v"))
+    room.write("closed", room.read("v") + b"\x1a")
+    room.write("thf", "BOMT 01:X\nRTYSA03:GTS\nRIDSA01:a\nEOMT 00:\n")
+    room.write("odd", "BOMT 01:X\nRTYSA03:XXX\nRIDSA01:a\nEOMT 00:\n")
+    other = " is {0} by its first record, and was given as {1}"
+    hinted("a byte order mark", ["s", "d", "marked"], ["hint: marked" + mark])
+    hinted("a byte order mark before the classes", ["marked", "d", "v"], ["hint: marked" + mark])
+    hinted("a closing 0x1A", ["s", "d", "closed"], ["hint: closed" + end])
+    hinted("both", ["marked", "closed", "v"], ["hint: marked" + mark, "hint: closed" + end])
+    hinted("classes and words exchanged", ["d", "s", "v"], ["hint: d" + other.format("DIC", "SCD"), "hint: s" + other.format("SCD", "DIC")])
+    hinted("words and sheet exchanged", ["s", "v", "d"], ["hint: v" + other.format("VEC", "DIC"), "hint: d" + other.format("DIC", "VEC")])
+    hinted("another file of the delivery", ["s", "d", "thf"], ["hint: thf" + other.format("THF", "VEC")])
+    hinted("no known type", ["s", "d", "odd"], [])
+    room.write("cut", "BOMT 01:X\nRTYSA03:PNO\n")
+    hinted("nothing to hint at", ["s", "d", "cut"], [])
 
 
 def run_case(room, case):
@@ -636,6 +682,8 @@ def main():
         in_room(report, program, given, hashes, bytes_of("vec"), bytes_of("canonical"))
         in_room(report, program, given, explains, bytes_of("vec"))
         in_room(report, program, given, pairings, bytes_of("vec"))
+        in_room(report, program, given, explains_partners)
+        in_room(report, program, given, explains_hints, bytes_of("vec"))
         in_room(report, program, given, manual)
         in_room(report, program, given, terminal)
         in_room(report, program, given, hostile_folders, bytes_of("vec"))

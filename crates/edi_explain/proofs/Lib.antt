@@ -6,3 +6,9 @@ pub mod RuleTexts
 pub mod RowGroups
 pub mod Spans
 pub mod RuleWords
+pub mod InTurn
+pub mod OneArc
+pub mod Alike
+pub mod Sought
+pub mod Quality
+pub mod Parts

@@ -6,3 +6,6 @@ pub mod RowPartners
 pub mod Refusals
 pub mod Lines
 pub mod Explained
+pub mod Hints
+pub mod Skipped
+pub mod inner

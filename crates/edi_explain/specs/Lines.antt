@@ -44,8 +44,10 @@ sentence_of None = []
 abbrev pub earlier_sentence : ℕ → List ℕ
 earlier_sentence rule =
     if rule == 304 then codes "the first link with an end"
+    else if rule == 307 then codes "the earlier link"
     else if rule == 403 then codes "the earlier node"
     else if rule == 405 then codes "the earlier arc"
+    else if rule == 501 then codes "the earlier object"
     else codes "the earlier record"
 
 -- the line of a refused record, and that of the earlier one

@@ -1,11 +1,16 @@
 -- The earlier records that rules speak of.
-use Rattle.std.specs.Prelude.{◌≡◌, ◌⊎◌, ℕ, ◌<◌, ◌≤◌, List, length, reverse, slice_get, Option, Some, MatchOption}
+use Rattle.std.specs.Prelude.{◌≡◌, ◌≢◌, ◌⊎◌, ℕ, ◌<◌, ◌≤◌, List, length, reverse, slice_get, Option, Some, MatchOption, Any}
 use Rattle.edi_record.specs.declared.record.Kind.TheVariants.{Par}
 use Rattle.edi_record.specs.declared.record.Point.{Point}
 use Rattle.edi_record.specs.declared.record.Record.{Record}
 use Rattle.edi_plan.specs.PlanOf.{own_name}
 use Rattle.edi_plan.specs.Plans.{Drawing}
+use Rattle.edi_plan.specs.ReferenceRules.{HasRole, Names}
+use Rattle.edi_schema.specs.Classes.{Classes}
+use Rattle.edi_schema.specs.declared.role.Role.{Role}
+use Rattle.edi_schema.specs.declared.role.Role.TheVariants.{Plain}
 use Rattle.edi_topo.specs.TopologyRules.{AreAlikeNodes, HasPoints}
+use Rattle.edi_rank.specs.Alike.{AreAlike}
 
 -- the least number of which this holds
 pub record IsLeast (P : ℕ → Type 0) (n : ℕ) : Type 0 where
@@ -24,6 +29,15 @@ SharesName list place m = (q r : Record) × (m < place) × (slice_get list m ≡
 abbrev pub HasEnd : List Record → ℕ → ℕ → Type 0
 HasEnd list place m = (q : Record) × (m < place) × (slice_get list m ≡ Some q) × (0 < length q.ends) × (place < length list)
 
+-- two records have an end each that names one arc
+abbrev pub ShareArc : Classes → List Record → Record → Record → Type 0
+ShareArc s list q r = (a : ℕ) × Any (λ e. Names s list e a Par) q.ends × Any (λ e. Names s list e a Par) r.ends
+
+-- of rule 307: an earlier link of the kind of the one at this place, and of an arc of that one
+abbrev pub SharesSide : Classes → List Record → ℕ → ℕ → Type 0
+SharesSide s list place m = (q r : Record) × (role : Role) × (m < place) × (slice_get list m ≡ Some q) × (slice_get list place ≡ Some r)
+    × (role ≢ Plain) × HasRole s list q role × HasRole s list r role × ShareArc s list q r
+
 -- of rule 403: an earlier node alike the one at this place
 abbrev pub IsAlikeNode : Drawing → ℕ → ℕ → Type 0
 IsAlikeNode p place m = (m < place) × AreAlikeNodes p m place
@@ -32,3 +46,7 @@ IsAlikeNode p place m = (m < place) × AreAlikeNodes p m place
 abbrev pub SharesPoints : Drawing → ℕ → ℕ → Type 0
 SharesPoints p place m = (earlier points : List Point) × (m < place) × HasPoints p Par m earlier × HasPoints p Par place points
     × ((points ≡ earlier) ⊎ (points ≡ reverse earlier))
+
+-- of rule 501: an earlier object alike the one at this place
+abbrev pub IsAlikeObject : Drawing → ℕ → ℕ → Type 0
+IsAlikeObject p place m = (m < place) × AreAlike p m place

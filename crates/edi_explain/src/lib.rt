@@ -4,11 +4,16 @@
 pub mod counts;
 pub mod explained;
 pub mod extent;
+pub mod hints;
 mod lines;
+pub mod links;
+pub mod objects;
 pub mod partner;
 pub mod refused;
 pub mod rows;
+mod seeking;
 pub mod site;
+pub mod skipped;
 pub mod text;
 mod texts;
 
@@ -17,10 +22,14 @@ pub use explained::{
     NamedFile, describe_plan, explain_schema, explain_sheet, page_of, rule_of_word,
 };
 pub use extent::{Extent, Span, extent_of};
+pub use hints::{Part, hints_of, hints_on, part_of, part_of_type};
+pub use links::same_side;
+pub use objects::alike_object;
 pub use partner::{alike_node, first_link, namesake, same_arc};
 pub use refused::{Refused, earlier_record, refused_record, refused_row};
 pub use rows::row_namesake;
-pub use site::{RecordSite, record_site, site_among};
+pub use site::{RecordSite, record_site};
+pub use skipped::{describe_skipped, quality_zones};
 pub use text::{RuleText, rule_text};
 
 #[cfg(test)]

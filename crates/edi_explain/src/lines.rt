@@ -117,8 +117,10 @@ fn sentence_of_earlier(rule: u16) -> &'static str
 {
     match rule {
         304 => "the first link with an end",
+        307 => "the earlier link",
         403 => "the earlier node",
         405 => "the earlier arc",
+        501 => "the earlier object",
         _ => "the earlier record",
     }
 }

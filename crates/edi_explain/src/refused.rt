@@ -1,23 +1,27 @@
 //! The record that a refusal names, and the earlier one that its rule speaks of.
 
 ghost use Rattle.std.specs.Prelude.{◌≡◌, ◌≢◌, ◌⊎◌, ◌-◌, ◌<◌, ℕ, List, Option, IfOk, length};
-ghost use Rattle.edi_line.specs.Entry.{Entry, entries};
+ghost use Rattle.edi_line.specs.Entry.{Entry};
 ghost use Rattle.edi_line.specs.LineRules.{BreaksLineRule, IsZonesOf};
 ghost use Rattle.edi_line.specs.Refusal.{IsUnbroken};
 ghost use Rattle.edi_compare.specs.PlanOfFile.{IsPlanOfFile, IsSheetOf};
 ghost use Rattle.edi_compare.specs.Refused.{IsRefusal};
-ghost use Rattle.edi_compare.specs.Rules.{RecordsHold, ReferencesHold};
+ghost use Rattle.edi_compare.specs.Rules.{RecordsHold, ReferencesHold, TopologyHolds};
 ghost use Rattle.edi_compare.specs.declared.fault.Fault.TheVariants.{Entry as AtRecord};
-ghost use Rattle.edi_explain.specs.Partners.{HasEnd, IsAlikeNode, IsLeastIfAny, SharesName, SharesPoints};
-ghost use Rattle.edi_explain.specs.Refusals.{AreSites, IsEarlierIfAny, IsEarlierRowIfAny, IsRefusedAt, IsRowRefusedAt, IsSiteAtIfAny};
+ghost use Rattle.edi_explain.specs.Partners.{HasEnd, IsAlikeNode, IsAlikeObject, IsLeastIfAny, SharesName, SharesPoints, SharesSide};
+ghost use Rattle.edi_explain.specs.Refusals.{AreSites, IsEarlierIfAny, IsEarlierRowIfAny, IsRefusedAt, IsRowRefusedAt};
 
+use crate::links::same_side;
+use crate::objects::alike_object;
 use crate::partner::{alike_node, first_link, namesake, same_arc};
 use crate::rows::row_namesake;
-use crate::site::{RecordSite, site_among, site_at};
-use edi_line::{LineFault, Zone, zones};
+use crate::seeking::sites_in;
+use crate::site::RecordSite;
+use edi_line::{LineFault, zones};
 use edi_plan::{Plan, RefFault};
 use edi_record::{Record, RecordFault, Sheet, SheetFault, read_sheet};
 use edi_schema::Schema;
+use edi_topo::{Sound, TopoFault};
 use std::alloc::{AllocError, Global};
 
 /// Where the record of a refusal stands, and the earlier record that its rule speaks of.
@@ -25,18 +29,6 @@ use std::alloc::{AllocError, Global};
 pub struct Refused {
     pub here: Option<RecordSite>,
     pub earlier: Option<RecordSite>,
-}
-
-/// The zones of a file that breaks no rule of lines.
-fn zones_of<'a>(alloc: Global, bytes: &'a [u8]) -> Result<Vec<Zone<'a>>, AllocError>
-    requires { IsUnbroken (BreaksLineRule bytes.now) }
-    ensures { IfOk result (λ found. IsZonesOf bytes.now (entries found.items)) }
-{
-    match zones(alloc, bytes) {
-        Ok(found) => Ok(found),
-        Err(LineFault::Memory(error)) => Err(error),
-        Err(LineFault::Broken { .. }) => unreachable!(),
-    }
 }
 
 /// The records of a file that breaks no rule of lines or records.
@@ -67,6 +59,19 @@ fn plan_of(alloc: Global, schema: &Schema, bytes: &[u8]) -> Result<Plan, AllocEr
     }
 }
 
+/// The plan of a file that breaks no rule but perhaps that of objects.
+fn sound_of(alloc: Global, schema: &Schema, bytes: &[u8]) -> Result<Sound, AllocError>
+    requires { TopologyHolds schema.now bytes.now }
+    ensures { IfOk result (IsPlanOfFile schema.now bytes.now) }
+{
+    let plan = plan_of(alloc, schema, bytes)?;
+    match Sound::check(alloc, plan) {
+        Ok(sound) => Ok(sound),
+        Err(TopoFault::Memory(error)) => Err(error),
+        Err(TopoFault::Broken { .. }) => unreachable!(),
+    }
+}
+
 /// The first record with the name of the one at a place, if it comes before that one.
 fn namesake_before(records: &[Record], place: u64) -> Option<u64>
     ensures { IsLeastIfAny (SharesName records.now place) result }
@@ -88,6 +93,19 @@ fn link_before(records: &[Record], place: u64) -> Option<u64>
         return None;
     }
     match first_link(records, place as usize) {
+        Some(earlier) => Some(earlier as u64),
+        None => None,
+    }
+}
+
+/// The first link of the kind and of an arc of the one at a place, if it comes before that one.
+fn side_before(schema: &Schema, records: &[Record], place: u64) -> Option<u64>
+    ensures { IsLeastIfAny (SharesSide schema.now records.now place) result }
+{
+    if place >= records.len() as u64 {
+        return None;
+    }
+    match same_side(schema, records, place as usize) {
         Some(earlier) => Some(earlier as u64),
         None => None,
     }
@@ -119,7 +137,20 @@ fn arc_before(plan: &Plan, place: u64) -> Option<u64>
     }
 }
 
-/// The earlier record that a rule of references speaks of, by its name or by its subset.
+/// The first object alike the one at a place, if it comes before that one.
+fn object_before(alloc: Global, sound: &Sound, place: u64) -> Result<Option<u64>, AllocError>
+    ensures { IfOk result (IsLeastIfAny (IsAlikeObject sound.now place)) }
+{
+    if place >= u64::from(sound.plan().len()) {
+        return Ok(None);
+    }
+    match alike_object(alloc, sound, place as u32)? {
+        Some(earlier) => Ok(Some(u64::from(earlier))),
+        None => Ok(None),
+    }
+}
+
+/// The earlier record that a rule of references speaks of: by its name, by its subset, or by the side of an arc.
 fn earlier_in_sheet(
     alloc: Global,
     schema: &Schema,
@@ -128,15 +159,17 @@ fn earlier_in_sheet(
     place: u64,
 ) -> Result<Option<u64>, AllocError>
     requires holds { RecordsHold schema.now bytes.now }
-    requires rule { (rule ≡ 301) ⊎ (rule ≡ 304) }
+    requires rule { (rule ≡ 301) ⊎ ((rule ≡ 304) ⊎ (rule ≡ 307)) }
     ensures { IfOk result (IsEarlierIfAny schema.now bytes.now rule place) }
 {
     let sheet = sheet_of(alloc, schema, bytes)?;
     let records = sheet.list.as_slice();
     if rule == 301 {
         Ok(namesake_before(records, place))
-    } else {
+    } else if rule == 304 {
         Ok(link_before(records, place))
+    } else {
+        Ok(side_before(schema, records, place))
     }
 }
 
@@ -160,8 +193,22 @@ fn earlier_in_plan(
     }
 }
 
-/// The place of the earlier record that the rule of a refusal speaks of, counted from 0; `None` where the
-/// rule speaks of none. It is the least that breaks the rule with the refused record: 301, 304, 403, 405.
+/// The earlier record that the rule of objects speaks of: an alike object.
+fn earlier_object(
+    alloc: Global,
+    schema: &Schema,
+    bytes: &[u8],
+    place: u64,
+) -> Result<Option<u64>, AllocError>
+    requires { TopologyHolds schema.now bytes.now }
+    ensures { IfOk result (IsEarlierIfAny schema.now bytes.now 501 place) }
+{
+    let sound = sound_of(alloc, schema, bytes)?;
+    object_before(alloc, &sound, place)
+}
+
+/// The place of the earlier record that the rule of a refusal speaks of, counted from 0; `None` where the rule speaks of
+/// none. It is the least that breaks the rule with the refused record: 301, 304, 307, 403, 405, 501.
 pub fn earlier_record(
     alloc: Global,
     schema: &Schema,
@@ -174,32 +221,33 @@ pub fn earlier_record(
 {
     let place = number.saturating_sub(1);
     match rule {
-        301 | 304 => earlier_in_sheet(alloc, schema, bytes, rule, place),
+        301 | 304 | 307 => earlier_in_sheet(alloc, schema, bytes, rule, place),
         403 | 405 => earlier_in_plan(alloc, schema, bytes, rule, place),
+        501 => earlier_object(alloc, schema, bytes, place),
         _ => Ok(None),
     }
 }
 
-/// The sites of the record with a number and of the one at an earlier place, if there is one.
-fn sites_among(
+/// The sites of the record with a number and of the one at an earlier place, if there is one, in a file that breaks no
+/// rule of lines.
+fn sites_of(
     alloc: Global,
-    zones: &[Zone<'_>],
+    bytes: &[u8],
     number: u64,
     earlier: Option<u64>,
 ) -> Result<Refused, AllocError>
-    ensures { IfOk result (AreSites (entries zones.now) number earlier) }
+    requires { IsUnbroken (BreaksLineRule bytes.now) }
+    ensures { IfOk result (λ sites. (zones : List Entry) × IsZonesOf bytes.now zones × AreSites zones number earlier sites) }
 {
-    let earlier = match earlier {
-        Some(place) => site_at(alloc, zones, place)?,
-        None => None,
-    };
-    Ok(Refused {
-        here: site_among(alloc, zones, number)?,
-        earlier,
-    })
+    match sites_in(alloc, bytes, number, earlier) {
+        Ok(sites) => Ok(sites),
+        Err(LineFault::Memory(error)) => Err(error),
+        Err(LineFault::Broken { .. }) => unreachable!(),
+    }
 }
 
-/// Where the record of a refusal stands, and the earlier record that its rule speaks of.
+/// Where the record of a refusal stands, and the earlier record that its rule speaks of. The zones of one record are in
+/// memory at a time, and not beside the records or the plan.
 pub fn refused_record(
     alloc: Global,
     schema: &Schema,
@@ -211,18 +259,24 @@ pub fn refused_record(
     ensures { IfOk result (IsRefusedAt schema.now bytes.now rule number) }
 {
     let earlier = earlier_record(alloc, schema, bytes, rule, number)?;
-    let zones = zones_of(alloc, bytes)?;
-    sites_among(alloc, &zones, number, earlier)
+    sites_of(alloc, bytes, number, earlier)
 }
 
-/// The place of the earlier record of a schema's file that rule 602 speaks of.
-fn earlier_row(zones: &[Zone<'_>], rule: u16, place: u64) -> Option<u64>
-    ensures { IsEarlierRowIfAny (entries zones.now) rule place result }
+/// The place of the earlier record of a schema's file that rule 602 speaks of, in a file that breaks no rule of lines.
+fn earlier_row(
+    alloc: Global,
+    bytes: &[u8],
+    rule: u16,
+    place: u64,
+) -> Result<Option<u64>, AllocError>
+    requires { IsUnbroken (BreaksLineRule bytes.now) }
+    ensures { IfOk result (λ earlier. (zones : List Entry) × IsZonesOf bytes.now zones × IsEarlierRowIfAny zones rule place earlier) }
 {
-    if rule == 602 {
-        row_namesake(zones, place)
-    } else {
-        None
+    match zones(alloc, bytes) {
+        Ok(zones) if rule == 602 => Ok(row_namesake(&zones, place)),
+        Ok(_) => Ok(None),
+        Err(LineFault::Memory(error)) => Err(error),
+        Err(LineFault::Broken { .. }) => unreachable!(),
     }
 }
 
@@ -236,7 +290,6 @@ pub fn refused_row(
     requires { IsUnbroken (BreaksLineRule bytes.now) }
     ensures { IfOk result (IsRowRefusedAt bytes.now rule number) }
 {
-    let zones = zones_of(alloc, bytes)?;
-    let earlier = earlier_row(&zones, rule, number.saturating_sub(1));
-    sites_among(alloc, &zones, number, earlier)
+    let earlier = earlier_row(alloc, bytes, rule, number.saturating_sub(1))?;
+    sites_of(alloc, bytes, number, earlier)
 }

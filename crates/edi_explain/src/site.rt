@@ -1,13 +1,14 @@
 //! Where the records of a file stand.
 
-ghost use Rattle.std.specs.Prelude.{List, ◌≡◌, IfOk, IfErr, OnOk, option_map, slice_get, suc};
+ghost use Rattle.std.specs.Prelude.{List, ◌≡◌, IfOk, IfErr, OnOk, option_map, slice_get};
 ghost use Rattle.edi_line.specs.Entry.{Entry, entries};
 ghost use Rattle.edi_line.specs.LineRules.{BreaksLineRule, IsZonesOf};
 ghost use Rattle.edi_line.specs.Refusal.{IsLineRefusal, IsUnbroken};
 ghost use Rattle.edi_line.specs.Zones.{groups_of};
 ghost use Rattle.edi_explain.specs.Sites.{IsGroupSite, IsSiteIfAny};
 
-use edi_line::{LineFault, Text, Zone, zones};
+use crate::seeking::sites_in;
+use edi_line::{LineFault, Text, Zone};
 use edi_record::{first_value, group_here};
 use std::alloc::{AllocError, Global};
 
@@ -45,7 +46,7 @@ pub(crate) fn group_of<'a, 'b>(zones: &'b [Zone<'a>], place: u64) -> Option<&'b 
 }
 
 /// The site of the record of these zones, if one begins with the first.
-fn site_of(alloc: Global, group: &[Zone<'_>]) -> Result<Option<RecordSite>, AllocError>
+pub(crate) fn site_of(alloc: Global, group: &[Zone<'_>]) -> Result<Option<RecordSite>, AllocError>
     ensures { IfOk result (λ found. IsGroupSite (entries group.now) found) }
 {
     let [head, ..] = group else {
@@ -62,35 +63,6 @@ fn site_of(alloc: Global, group: &[Zone<'_>]) -> Result<Option<RecordSite>, Allo
     }))
 }
 
-/// Where the record at this place, counted from 0, stands among the zones of a file.
-pub(crate) fn site_at(
-    alloc: Global,
-    zones: &[Zone<'_>],
-    place: u64,
-) -> Result<Option<RecordSite>, AllocError>
-    ensures { IfOk result (IsSiteIfAny (entries zones.now) (suc place)) }
-{
-    match group_of(zones, place) {
-        Some(group) => site_of(alloc, group),
-        None => Ok(None),
-    }
-}
-
-/// Where the record with this number stands among the zones of a file, counted from 1 as refusals
-/// count them; `None` where there is no such record.
-pub fn site_among(
-    alloc: Global,
-    zones: &[Zone<'_>],
-    number: u64,
-) -> Result<Option<RecordSite>, AllocError>
-    ensures { IfOk result (IsSiteIfAny (entries zones.now) number) }
-{
-    if number == 0 {
-        return Ok(None);
-    }
-    site_at(alloc, zones, number - 1)
-}
-
 /// Where the record with this number stands in a file, counted from 1 as refusals count them; `None`
 /// where there is no such record. The fault is that of the file's lines (docs/FORMAT.md, "The rules
 /// of a sheet"): the least line that breaks one of the rules 101 to 110.
@@ -103,6 +75,6 @@ pub fn record_site(
     ensures sound { OnOk result (IsUnbroken (BreaksLineRule bytes.now)) }
     ensures least { IfErr result (IsLineRefusal (BreaksLineRule bytes.now)) }
 {
-    let zones = zones(alloc, bytes)?;
-    Ok(site_among(alloc, &zones, number)?)
+    let sites = sites_in(alloc, bytes, number, None)?;
+    Ok(sites.here)
 }

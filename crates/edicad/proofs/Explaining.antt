@@ -1,5 +1,5 @@
 -- What is said of a sheet, from what its parts say.
-use Rattle.std.proofs.Common.{◌≡◌, ◌++◌, ℕ, Bool, true, false, List, [], Option, Some, None, IfSome, codes, sym, subst, inl, inr}
+use Rattle.std.proofs.Common.{◌≡◌, ◌++◌, ℕ, Bool, true, false, List, [], Option, Some, None, IfSome, IsTrue, codes, sym, subst, inl, inr}
 use Rattle.std.specs.Bool.{MatchBool}
 use Rattle.edi_schema.specs.Classes.{Classes}
 use Rattle.edi_schema.specs.Roles.{KindCodes}
@@ -9,23 +9,28 @@ use Rattle.edi_plan.specs.Plans.{Drawing}
 use Rattle.edi_compare.specs.PlanOfFile.{IsPlanOfFile}
 use Rattle.edi_compare.specs.Refused.{IsProper, IsRefusal}
 use Rattle.edi_compare.specs.Rules.{IsAccepted}
+use Rattle.edi_compare.specs.Rules.Breaks.{of_lines}
+use Rattle.edi_line.specs.LineRules.{BreaksLineRule}
+use Rattle.edi_line.specs.Refusal.{IsUnbroken}
 use Rattle.edi_compare.specs.Runs.{IsProperSchemaFault, Told}
 use Rattle.edi_compare.specs.declared.fault.Fault.{Fault}
 use Rattle.edi_explain.specs.Explained.{DescribesPlan, ExplainsSchema, ExplainsSheet}
+use Rattle.edi_explain.specs.Hints.{AreHintsOfSheet}
+use Rattle.edi_explain.specs.Skipped.{DescribesSkipped}
 use Rattle.edi_words.specs.declared.words.SheetFiles.{SheetFiles}
-use Rattle.edicad.specs.Explains.{TellsAccepted, TellsRefusal}
+use Rattle.edicad.specs.Explains.{GiveHints, TellsAccepted, TellsCause, TellsPlan, TellsRefusal}
 use Rattle.edicad.specs.Outcome.{ended, schema_text, sheet_text}
 use Rattle.edicad.specs.Statuses.{input_name}
 
 module _ (kinds : KindCodes) (files : SheetFiles) (scd dic b : List ℕ) (said : Bool) (text : List ℕ) where
   abbrev pub Tells : Type 0
-  Tells = MatchBool said (TellsAccepted kinds scd dic b text) (TellsRefusal kinds files scd dic b text)
+  Tells = MatchBool said (TellsPlan kinds scd dic b text) (TellsCause kinds files scd dic b text)
 
-  yes : said ≡ true → TellsAccepted kinds scd dic b text → Tells
-  yes e h = subst (λ (a : Bool). MatchBool a (TellsAccepted kinds scd dic b text) (TellsRefusal kinds files scd dic b text)) (sym e) h
+  yes : said ≡ true → TellsPlan kinds scd dic b text → Tells
+  yes e h = subst (λ (a : Bool). MatchBool a (TellsPlan kinds scd dic b text) (TellsCause kinds files scd dic b text)) (sym e) h
 
-  no : said ≡ false → TellsRefusal kinds files scd dic b text → Tells
-  no e h = subst (λ (a : Bool). MatchBool a (TellsAccepted kinds scd dic b text) (TellsRefusal kinds files scd dic b text)) (sym e) h
+  no : said ≡ false → TellsCause kinds files scd dic b text → Tells
+  no e h = subst (λ (a : Bool). MatchBool a (TellsPlan kinds scd dic b text) (TellsCause kinds files scd dic b text)) (sym e) h
 
   module _ (s : Classes) (good : IsGoodSchema scd dic kinds s) where
     pub accepted_said : (p : Drawing) → IsAccepted s b → IsPlanOfFile s b p
@@ -43,6 +48,31 @@ module _ (kinds : KindCodes) (files : SheetFiles) (scd dic b : List ℕ) (said :
       let named = subst (λ (m : List ℕ). ExplainsSchema scd dic (input_name files.scd.now) m f h.2.0) second
       (subst (λ (n : List ℕ). ExplainsSchema scd dic n y f h.2.0) first h.2.1) in
       no h.0 (inl (f, h.2.0, (h.1, refusal), named, h.2.2))
+
+  -- an accepted sheet breaks no rule of lines
+  pub lines_hold : Tells → IsTrue said → IsUnbroken (BreaksLineRule b)
+  lines_hold h t = let plan = subst (λ (a : Bool). MatchBool a (TellsPlan kinds scd dic b text) (TellsCause kinds files scd dic b text)) t h in
+      λ rule at g. plan.4 rule at (of_lines g)
+
+-- the hints of the files that were read, by the names that they were given
+pub hints_named : (files : SheetFiles) (scd dic b x y z p q r lines : List ℕ) → x ≡ input_name files.scd.now → p ≡ scd → y ≡ input_name files.dic.now → q ≡ dic → z ≡ input_name files.vec.now → r ≡ b
+    → AreHintsOfSheet x p y q z r lines → GiveHints files scd dic b lines
+hints_named files scd dic b x y z p q r lines e f g h i j are =
+    let m = input_name files.scd.now in
+    let n = input_name files.dic.now in
+    subst (λ (v : List ℕ). AreHintsOfSheet m scd n dic (input_name files.vec.now) v lines) j
+    (subst (λ (v : List ℕ). AreHintsOfSheet m scd n dic v r lines) i
+    (subst (λ (v : List ℕ). AreHintsOfSheet m scd n v z r lines) h
+    (subst (λ (v : List ℕ). AreHintsOfSheet m scd v q z r lines) g
+    (subst (λ (v : List ℕ). AreHintsOfSheet m v y q z r lines) f
+    (subst (λ (v : List ℕ). AreHintsOfSheet v p y q z r lines) e are)))))
+
+-- what is said, with the lines behind it
+pub all_told : (kinds : KindCodes) (files : SheetFiles) (scd dic b : List ℕ) (said : Bool) (text lines all : List ℕ)
+    → MatchBool said (TellsPlan kinds scd dic b text) (TellsCause kinds files scd dic b text) → MatchBool said (DescribesSkipped b lines) (GiveHints files scd dic b lines) → all ≡ text ++ lines
+    → MatchBool said (TellsAccepted kinds scd dic b all) (TellsRefusal kinds files scd dic b all)
+all_told kinds files scd dic b true text lines all h k e = (text, lines, h, k, e)
+all_told kinds files scd dic b false text lines all h k e = (text, lines, h, k, e)
 
 -- a fact of the bytes that were read holds of what the inputs tell
 pub told_bytes : (a c e : Option (List ℕ)) (x y z : List ℕ) (P : List ℕ → List ℕ → List ℕ → Type 0) → IfSome a (λ t. x ≡ t) → IfSome c (λ t. y ≡ t) → IfSome e (λ t. z ≡ t)

@@ -11,16 +11,22 @@ use Rattle.edi_compare.specs.Rules.{IsAccepted}
 use Rattle.edi_compare.specs.Runs.{RefusesSchema, Seen}
 use Rattle.edi_compare.specs.declared.fault.Fault.{Fault}
 use Rattle.edi_explain.specs.Explained.{DescribesPlan, ExplainsSchema, ExplainsSheet, IsRuleWord, rule_page}
+use Rattle.edi_explain.specs.Hints.{AreHintsOfSheet}
+use Rattle.edi_explain.specs.Skipped.{DescribesSkipped}
 use Rattle.edi_explain.specs.declared.text.RuleText.{RuleText}
 use Rattle.edi_words.specs.declared.words.SheetFiles.{SheetFiles}
 use Rattle.edicad.specs.Outcome.{ended, schema_text, sheet_text}
 use Rattle.edicad.specs.SheetRuns.{FileFault, Inputs, OfFiles}
 use Rattle.edicad.specs.Statuses.{AreTried, MeansStatus, Says, Warns, input_name, names_of}
 
--- an accepted sheet: that it is accepted, and the lines on what it holds
-abbrev pub TellsAccepted : KindCodes → List ℕ → List ℕ → List ℕ → List ℕ → Type 0
-TellsAccepted kinds scd dic b text = (s : Classes) × (p : Drawing) × (lines : List ℕ) × IsGoodSchema scd dic kinds s × IsAccepted s b × IsPlanOfFile s b p
+-- an accepted sheet: that it is accepted, and the lines on its plan
+abbrev pub TellsPlan : KindCodes → List ℕ → List ℕ → List ℕ → List ℕ → Type 0
+TellsPlan kinds scd dic b text = (s : Classes) × (p : Drawing) × (lines : List ℕ) × IsGoodSchema scd dic kinds s × IsAccepted s b × IsPlanOfFile s b p
     × DescribesPlan p lines × (text ≡ ended (codes "accepted") ++ lines)
+
+-- and then the line on what is read and not compared
+abbrev pub TellsAccepted : KindCodes → List ℕ → List ℕ → List ℕ → List ℕ → Type 0
+TellsAccepted kinds scd dic b text = (plan skipped : List ℕ) × TellsPlan kinds scd dic b plan × DescribesSkipped b skipped × (text ≡ plan ++ skipped)
 
 -- a refused schema: the line of a check, and the lines that explain the refusal
 abbrev pub TellsSchema : KindCodes → SheetFiles → List ℕ → List ℕ → List ℕ → Type 0
@@ -33,8 +39,16 @@ TellsSheet kinds files scd dic b text = (f : Fault) × (s : Classes) × (lines :
     × ExplainsSheet s b (input_name files.vec.now) f lines × (text ≡ ended (sheet_text [] f) ++ lines)
 
 -- either of them
+abbrev pub TellsCause : KindCodes → SheetFiles → List ℕ → List ℕ → List ℕ → List ℕ → Type 0
+TellsCause kinds files scd dic b text = TellsSchema kinds files scd dic text ⊎ TellsSheet kinds files scd dic b text
+
+-- the hints that the three files give, by their names
+abbrev pub GiveHints : SheetFiles → List ℕ → List ℕ → List ℕ → List ℕ → Type 0
+GiveHints files scd dic b hints = AreHintsOfSheet (input_name files.scd.now) scd (input_name files.dic.now) dic (input_name files.vec.now) b hints
+
+-- a refusal, and then the hints
 abbrev pub TellsRefusal : KindCodes → SheetFiles → List ℕ → List ℕ → List ℕ → List ℕ → Type 0
-TellsRefusal kinds files scd dic b text = TellsSchema kinds files scd dic text ⊎ TellsSheet kinds files scd dic b text
+TellsRefusal kinds files scd dic b text = (cause hints : List ℕ) × TellsCause kinds files scd dic b cause × GiveHints files scd dic b hints × (text ≡ cause ++ hints)
 
 -- The status of a run that explains a sheet, as that of a check; the output gets the check's line and what explains it.
 pub record IsExplainStatus (inputs : Inputs) (out err : Seen) (kinds : KindCodes) (files : SheetFiles) (s : ℕ) : Type 0 where

@@ -2,12 +2,15 @@
 ghost use Rattle.std.specs.Prelude.{◌≡◌, ◌⊎◌, ◌++◌, ◌<◌, ℕ, List, [], false, true, IfErr, IfOk, IfSome, IsTrue, codes};
 ghost use Rattle.std.specs.Bool.{MatchBool};
 ghost use Rattle.std.specs.Io.KnownBytes.{Appends};
+ghost use Rattle.edi_line.specs.LineRules.{BreaksLineRule};
+ghost use Rattle.edi_line.specs.Refusal.{IsUnbroken};
 ghost use Rattle.edi_schema.specs.Roles.{KindCodes};
 ghost use Rattle.edi_schema.specs.SchemaRefusal.{IsSchemaRefusal};
 ghost use Rattle.edi_compare.specs.Refused.{IsProper, IsRefusal};
 ghost use Rattle.edi_compare.specs.Runs.{IsProperSchemaFault, IsTooLong, MatchFault, seen};
 ghost use Rattle.edi_explain.specs.Explained.{DescribesPlan, ExplainsSchema, ExplainsSheet};
-ghost use Rattle.edicad.specs.Explains.{IsExplainStatus, IsRuleStatus, TellsAccepted, TellsRefusal};
+ghost use Rattle.edi_explain.specs.Skipped.{DescribesSkipped};
+ghost use Rattle.edicad.specs.Explains.{GiveHints, IsExplainStatus, IsRuleStatus, TellsAccepted, TellsCause, TellsPlan, TellsRefusal};
 ghost use Rattle.edicad.specs.Outcome.{FaultHasNames, ended, schema_text, sheet_text, status_of_fault};
 ghost use Rattle.edicad.specs.SheetRuns.{FileFault, OfFiles, inputs_of};
 ghost use Rattle.edicad.specs.Statuses.{IsPageStatus, IsSheetStatus};
@@ -18,7 +21,10 @@ use crate::report;
 use crate::report::input_name;
 use crate::sheets::opened;
 use edi_compare::{Accepted, Fault, RunFault, accept};
-use edi_explain::{NamedFile, describe_plan, explain_schema, explain_sheet, page_of, rule_of_word};
+use edi_explain::{
+    NamedFile, describe_plan, describe_skipped, explain_schema, explain_sheet, hints_of, page_of,
+    rule_of_word,
+};
 use edi_line::{ByteIn, ByteOut, ReadFault, read_all};
 use edi_schema::{Kinds, Schema, SchemaFault};
 use edi_words::SheetFiles;
@@ -103,7 +109,7 @@ fn said<F: Folder>(
     let scd = whole(alloc, &mut scd, 1)?;
     let dic = whole(alloc, &mut dic, 2)?;
     let vec = whole(alloc, &mut vec, 3)?;
-    match said_of(alloc, kinds, files, &SheetBytes { scd, dic, vec }) {
+    match all_said(alloc, kinds, files, &SheetBytes { scd, dic, vec }) {
         Ok(said) => Ok(said),
         Err(error) => Err(RunFault::Memory(error)),
     }
@@ -123,8 +129,8 @@ fn whole<R: ByteIn>(alloc: Global, reader: &mut R, input: u8) -> Result<Vec<u8>,
     }
 }
 
-// What is said of a sheet that was read.
-fn said_of(
+// What is said of a sheet that was read, with the lines behind that.
+fn all_said(
     alloc: Global,
     kinds: &Kinds<'_>,
     files: &SheetFiles<'_>,
@@ -132,6 +138,52 @@ fn said_of(
 ) -> Result<Account, AllocError>
     ensures { IfOk result (λ said. MatchBool said.is_accepted (TellsAccepted kinds.now bytes.now.scd.items bytes.now.dic.items bytes.now.vec.items said.text.items)
         (TellsRefusal kinds.now files.now bytes.now.scd.items bytes.now.dic.items bytes.now.vec.items said.text.items)) }
+{
+    let mut said = said_of(alloc, kinds, files, bytes)?;
+    let lines = lines_behind(alloc, files, bytes, said.is_accepted)?;
+    said.text.extend_from_slice(&lines)?;
+    Ok(said)
+}
+
+// What is read of an accepted sheet and not compared; or what the files of a refused one hint at.
+fn lines_behind(
+    alloc: Global,
+    files: &SheetFiles<'_>,
+    bytes: &SheetBytes,
+    is_accepted: bool,
+) -> Result<Vec<u8>, AllocError>
+    requires { IsTrue is_accepted → IsUnbroken (BreaksLineRule bytes.now.vec.items) }
+    ensures { IfOk result (λ lines. MatchBool is_accepted (DescribesSkipped bytes.now.vec.items lines.items) (GiveHints files.now bytes.now.scd.items bytes.now.dic.items bytes.now.vec.items lines.items)) }
+{
+    if is_accepted {
+        return describe_skipped(alloc, &bytes.vec);
+    }
+    hints_of(
+        alloc,
+        &NamedFile {
+            name: input_name(files.scd),
+            bytes: &bytes.scd,
+        },
+        &NamedFile {
+            name: input_name(files.dic),
+            bytes: &bytes.dic,
+        },
+        &NamedFile {
+            name: input_name(files.vec),
+            bytes: &bytes.vec,
+        },
+    )
+}
+
+// What is said of a sheet that was read.
+fn said_of(
+    alloc: Global,
+    kinds: &Kinds<'_>,
+    files: &SheetFiles<'_>,
+    bytes: &SheetBytes,
+) -> Result<Account, AllocError>
+    ensures { IfOk result (λ said. MatchBool said.is_accepted (TellsPlan kinds.now bytes.now.scd.items bytes.now.dic.items bytes.now.vec.items said.text.items)
+        (TellsCause kinds.now files.now bytes.now.scd.items bytes.now.dic.items bytes.now.vec.items said.text.items)) }
 {
     match Schema::load(alloc, &bytes.scd, &bytes.dic, kinds) {
         Ok(schema) => match accept(alloc, &schema, &bytes.vec) {

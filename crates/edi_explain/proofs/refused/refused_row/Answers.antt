@@ -1,19 +1,19 @@
 use Rattle.std.proofs.Common.{◌-◌, List, subst}
 use Rattle.std.proofs.lemmas.Result.{IfOk-weaker}
-use Rattle.edi_line.specs.Entry.{entries}
-use Rattle.edi_line.specs.declared.zone.Zone.{Zone}
-use Rattle.edi_explain.specs.Refusals.{AreSites, IsEarlierRowIfAny}
+use Rattle.edi_line.specs.Entry.{Entry}
+use Rattle.edi_line.proofs.ZonesSaid.{zones_of_one}
+use Rattle.edi_explain.specs.Refusals.{IsEarlierRowIfAny}
 use Rattle.edi_explain.proofs.refused.refused_row.Goals as goal
 
 pub returns : goal.returns
 returns c =
-    let zones = c.in_ok-zones.zones.items in
-    let earlier = c.earlier_row-earlier.result in
-    let row = subst (λ n. IsEarlierRowIfAny (entries c.deref.result.now) c.args.rule n earlier) c.saturating_sub.ensures c.earlier_row-earlier.ensures in
-    IfOk-weaker c.sites_among.result _ _ (λ sites are. (
-      entries zones,
+    let e = c.in_ok-earlier.ensures in
+    let earlier = c.in_ok-earlier.earlier in
+    let row = subst (λ n. IsEarlierRowIfAny e.0 c.args.rule n earlier) c.saturating_sub.ensures e.2 in
+    IfOk-weaker c.sites_of.result _ _ (λ sites h. (
+      h.0,
       earlier,
-      c.in_ok-zones.ensures,
-      subst (λ (zs : List Zone). IsEarlierRowIfAny (entries zs) c.args.rule (c.args.number - 1) earlier) c.deref.ensures.value row,
-      subst (λ (zs : List Zone). AreSites (entries zs) c.args.number earlier sites) c.deref-2.ensures.value are,
-    )) c.sites_among.ensures
+      h.1,
+      subst (λ (zs : List Entry). IsEarlierRowIfAny zs c.args.rule (c.args.number - 1) earlier) (zones_of_one c.args.bytes.now e.0 h.0 e.1 h.1) row,
+      h.2,
+    )) c.sites_of.ensures

@@ -1,0 +1,70 @@
+-- The usual causes of a refusal that a file shows.
+use Rattle.std.specs.Prelude.{◌≡◌, ◌++◌, ◌||◌, ℕ, Bool, List, [], ◌∷◌, Option, Some, None, MatchOption, codes, nat_eq, bytes_eq, if◌then◌else◌}
+use Rattle.std.specs.List.{starts_with, ends_with}
+use Rattle.edi_line.specs.Entry.{Entry}
+use Rattle.edi_line.specs.LineRules.{BreaksLineRule, IsZonesOf}
+use Rattle.edi_line.specs.Refusal.{IsUnbroken}
+use Rattle.edi_explain.specs.Sites.{IsSiteOf}
+use Rattle.edi_explain.specs.declared.hints.Part.{Part}
+use Rattle.edi_explain.specs.declared.hints.Part.TheVariants.{Thf, Gen, Geo, Qal, Scd, Dic, Vec}
+use Rattle.edi_explain.specs.declared.site.RecordSite.{RecordSite}
+
+-- the part of a delivery whose records are of a type
+abbrev pub part_typed : List ℕ → Option Part
+part_typed rty =
+    if bytes_eq rty (codes "GTS") || bytes_eq rty (codes "GTL") then Some Thf
+    else (if bytes_eq rty (codes "DEG") || bytes_eq rty (codes "GSE") then Some Gen
+    else (if bytes_eq rty (codes "GEO") || bytes_eq rty (codes "RPR") then Some Geo
+    else (if bytes_eq rty (codes "QUP") then Some Qal
+    else (if bytes_eq rty (codes "OBJ") || (bytes_eq rty (codes "PGE") || (bytes_eq rty (codes "REL") || bytes_eq rty (codes "ATT"))) then Some Scd
+    else (if bytes_eq rty (codes "DID") || (bytes_eq rty (codes "DIA") || bytes_eq rty (codes "DIR")) then Some Dic
+    else (if bytes_eq rty (codes "PNO") || (bytes_eq rty (codes "PAR") || (bytes_eq rty (codes "PFE") || (bytes_eq rty (codes "FEA") || bytes_eq rty (codes "LNK")))) then Some Vec
+    else None))))))
+
+-- a file that breaks no rule of lines is a part by the type of its first record
+abbrev pub IsPart : List ℕ → Part → Type 0
+IsPart b part = IsUnbroken (BreaksLineRule b) × ((zones : List Entry) × (site : RecordSite) × IsZonesOf b zones × IsSiteOf zones 1 site × (part_typed site.rty ≡ Some part))
+
+-- the part that a file is, or it is none by its first record
+abbrev pub IsPartIfAny : List ℕ → Option Part → Type 0
+IsPartIfAny b found = MatchOption found ((part : Part) → ¬ (IsPart b part)) (IsPart b)
+
+abbrev pub name_of : Part → List ℕ
+name_of Thf = codes "THF"
+name_of Gen = codes "GEN"
+name_of Geo = codes "GEO"
+name_of Qal = codes "QAL"
+name_of Scd = codes "SCD"
+name_of Dic = codes "DIC"
+name_of Vec = codes "VEC"
+
+-- hint: FILE, and words
+abbrev pub hint_line : List ℕ → List ℕ → List ℕ
+hint_line name words = codes "hint: " ++ name ++ words ++ 10 ∷ []
+
+-- it begins with a byte order mark, as UTF-8 has it
+abbrev pub mark_hint : List ℕ → List ℕ → List ℕ
+mark_hint name b = if starts_with nat_eq b (239 ∷ 187 ∷ 191 ∷ []) then hint_line name (codes " begins with a byte order mark, which has to go") else []
+
+-- it ends in a byte 0x1A
+abbrev pub end_hint : List ℕ → List ℕ → List ℕ
+end_hint name b = if ends_with nat_eq b (26 ∷ []) then hint_line name (codes " ends in a byte 0x1A, which has to go") else []
+
+-- two parts are one
+abbrev pub same_part : Part → Part → Bool
+same_part a b = bytes_eq (name_of a) (name_of b)
+
+-- it is another part than the one in whose place it stands
+abbrev pub part_hint : List ℕ → Part → Option Part → List ℕ
+part_hint name wanted None = []
+part_hint name wanted (Some part) = if same_part part wanted then []
+    else codes "hint: " ++ name ++ codes " is " ++ name_of part ++ codes " by its first record, and was given as " ++ name_of wanted ++ 10 ∷ []
+
+-- the hints on a file in the place of a part
+abbrev pub AreHints : List ℕ → List ℕ → Part → List ℕ → Type 0
+AreHints name b wanted lines = (part : Option Part) × IsPartIfAny b part × (lines ≡ mark_hint name b ++ end_hint name b ++ part_hint name wanted part)
+
+-- the hints on the three files of a sheet, one after the other
+abbrev pub AreHintsOfSheet : List ℕ → List ℕ → List ℕ → List ℕ → List ℕ → List ℕ → List ℕ → Type 0
+AreHintsOfSheet scd_name scd dic_name dic vec_name vec lines = (of_scd of_dic of_vec : List ℕ) × AreHints scd_name scd Scd of_scd × AreHints dic_name dic Dic of_dic
+    × AreHints vec_name vec Vec of_vec × (lines ≡ of_scd ++ of_dic ++ of_vec)

@@ -1,0 +1,167 @@
+//! Usual causes of refusals that a file shows.
+
+ghost use Rattle.std.specs.Prelude.{◌≡◌, ◌++◌, IfOk, OnOk};
+ghost use Rattle.edi_explain.specs.Hints.{AreHints, AreHintsOfSheet, IsPartIfAny, end_hint, hint_line, mark_hint, name_of as name_of_part, part_hint, part_typed};
+
+use crate::explained::NamedFile;
+use crate::site::record_site;
+use edi_line::LineFault;
+use std::alloc::{AllocError, Global};
+
+/// Which file of a delivery a file is.
+#[derive(Clone, Copy, Debug, PartialEq, Eq)]
+pub enum Part {
+    /// The list of what is delivered.
+    Thf,
+    /// What the sheet covers, and its parts.
+    Gen,
+    /// The reference of the coordinates.
+    Geo,
+    /// The quality.
+    Qal,
+    /// The classes.
+    Scd,
+    /// The words of the classes.
+    Dic,
+    /// The records of the sheet.
+    Vec,
+}
+
+/// A byte order mark, as UTF-8 has it.
+const MARK: [u8; 3] = [0xEF, 0xBB, 0xBF];
+
+/// The byte with which some systems end a text.
+const END: [u8; 1] = [0x1A];
+
+/// The part of a delivery whose records are of a type (docs/FORMAT.md, "Hints").
+pub fn part_of_type(rty: &[u8]) -> Option<Part>
+    ensures { result ≡ part_typed rty.now }
+{
+    match rty {
+        b"GTS" | b"GTL" => Some(Part::Thf),
+        b"DEG" | b"GSE" => Some(Part::Gen),
+        b"GEO" | b"RPR" => Some(Part::Geo),
+        b"QUP" => Some(Part::Qal),
+        b"OBJ" | b"PGE" | b"REL" | b"ATT" => Some(Part::Scd),
+        b"DID" | b"DIA" | b"DIR" => Some(Part::Dic),
+        b"PNO" | b"PAR" | b"PFE" | b"FEA" | b"LNK" => Some(Part::Vec),
+        _ => None,
+    }
+}
+
+/// The part of a delivery that a file is by its first record; `None` where it has none, or one of another type, or a
+/// broken rule of lines.
+pub fn part_of(alloc: Global, bytes: &[u8]) -> Result<Option<Part>, AllocError>
+    ensures { IfOk result (IsPartIfAny bytes.now) }
+{
+    match record_site(alloc, bytes, 1) {
+        Ok(Some(site)) => Ok(part_of_type(site.rty.as_slice())),
+        Ok(None) => Ok(None),
+        Err(LineFault::Memory(error)) => Err(error),
+        Err(LineFault::Broken { .. }) => Ok(None),
+    }
+}
+
+/// What a part is called.
+fn name_of(part: Part) -> &'static str
+    ensures { result.now ≡ name_of_part part }
+{
+    match part {
+        Part::Thf => "THF",
+        Part::Gen => "GEN",
+        Part::Geo => "GEO",
+        Part::Qal => "QAL",
+        Part::Scd => "SCD",
+        Part::Dic => "DIC",
+        Part::Vec => "VEC",
+    }
+}
+
+/// Appends a hint on a file.
+fn push_hint(text: &mut Vec<u8>, name: &[u8], words: &str) -> Result<(), AllocError>
+    ensures { OnOk result (text.new.items ≡ text.old.items ++ hint_line name.now words.now) }
+{
+    text.extend_from_slice(b"hint: ")?;
+    text.extend_from_slice(name)?;
+    text.extend_from_slice(words.as_bytes())?;
+    text.extend_from_slice(b"\n")
+}
+
+/// Appends that a file begins with a byte order mark, if it does.
+fn push_mark(text: &mut Vec<u8>, file: &NamedFile<'_>) -> Result<(), AllocError>
+    ensures { OnOk result (text.new.items ≡ text.old.items ++ mark_hint file.now.name.now file.now.bytes.now) }
+{
+    if file.bytes.starts_with(&MARK) {
+        push_hint(
+            text,
+            file.name,
+            " begins with a byte order mark, which has to go",
+        )
+    } else {
+        Ok(())
+    }
+}
+
+/// Appends that a file ends in a byte 0x1A, if it does.
+fn push_end(text: &mut Vec<u8>, file: &NamedFile<'_>) -> Result<(), AllocError>
+    ensures { OnOk result (text.new.items ≡ text.old.items ++ end_hint file.now.name.now file.now.bytes.now) }
+{
+    if file.bytes.ends_with(&END) {
+        push_hint(text, file.name, " ends in a byte 0x1A, which has to go")
+    } else {
+        Ok(())
+    }
+}
+
+/// Appends which part a file is, if it is another than the one in whose place it stands.
+fn push_part(
+    text: &mut Vec<u8>,
+    name: &[u8],
+    wanted: Part,
+    part: Option<Part>,
+) -> Result<(), AllocError>
+    ensures { OnOk result (text.new.items ≡ text.old.items ++ part_hint name.now wanted part) }
+{
+    let Some(part) = part else {
+        return Ok(());
+    };
+    if part == wanted {
+        return Ok(());
+    }
+    text.extend_from_slice(b"hint: ")?;
+    text.extend_from_slice(name)?;
+    text.extend_from_slice(b" is ")?;
+    text.extend_from_slice(name_of(part).as_bytes())?;
+    text.extend_from_slice(b" by its first record, and was given as ")?;
+    text.extend_from_slice(name_of(wanted).as_bytes())?;
+    text.extend_from_slice(b"\n")
+}
+
+/// The lines that name the usual causes of a refusal that a file shows, where it stands in the place of a part.
+pub fn hints_on(alloc: Global, file: &NamedFile<'_>, wanted: Part) -> Result<Vec<u8>, AllocError>
+    ensures { IfOk result (λ lines. AreHints file.now.name.now file.now.bytes.now wanted lines.items) }
+{
+    let part = part_of(alloc, file.bytes)?;
+    let mut text = Vec::new(alloc);
+    push_mark(&mut text, file)?;
+    push_end(&mut text, file)?;
+    push_part(&mut text, file.name, wanted, part)?;
+    Ok(text)
+}
+
+/// The same of the three files of a sheet, one after the other.
+pub fn hints_of(
+    alloc: Global,
+    scd: &NamedFile<'_>,
+    dic: &NamedFile<'_>,
+    vec: &NamedFile<'_>,
+) -> Result<Vec<u8>, AllocError>
+    ensures { IfOk result (λ lines. AreHintsOfSheet scd.now.name.now scd.now.bytes.now dic.now.name.now dic.now.bytes.now vec.now.name.now vec.now.bytes.now lines.items) }
+{
+    let mut lines = hints_on(alloc, scd, Part::Scd)?;
+    let of_dic = hints_on(alloc, dic, Part::Dic)?;
+    let of_vec = hints_on(alloc, vec, Part::Vec)?;
+    lines.extend_from_slice(&of_dic)?;
+    lines.extend_from_slice(&of_vec)?;
+    Ok(lines)
+}

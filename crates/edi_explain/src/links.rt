@@ -1,0 +1,112 @@
+//! The earlier links that rule 307 speaks of.
+
+ghost use Rattle.std.specs.Prelude.{◌≡◌, ◌≢◌, ◌↔◌, ◌<◌, ℕ, List, IsTrue, MatchOption, Any, length};
+ghost use Rattle.edi_record.specs.declared.record.Kind.TheVariants.{Par};
+ghost use Rattle.edi_record.specs.declared.record.Record.{Record as Records};
+ghost use Rattle.edi_schema.specs.Classes.{Classes};
+ghost use Rattle.edi_schema.specs.declared.role.Role.{Role as Roles};
+ghost use Rattle.edi_schema.specs.declared.role.Role.TheVariants.{Plain};
+ghost use Rattle.edi_plan.specs.PlanOf.{own_name};
+ghost use Rattle.edi_plan.specs.ReferenceRules.{HasRole};
+ghost use Rattle.edi_explain.specs.Partners.{IsLeastIfAny, ShareArc, SharesSide};
+ghost use Rattle.edi_explain.specs.inner.Arcs.{IsArcNamed};
+
+use edi_record::{Kind, Name, Record};
+use edi_schema::{Role, Schema};
+
+/// The kind of a link, if it is one of the four.
+fn kind_of_link(schema: &Schema, record: &Record) -> Option<Role>
+    ensures { (list : List Records) → MatchOption result ((role : Roles) → role ≢ Plain → ¬ (HasRole schema.now list «record».now role)) (λ role. (role ≢ Plain) × HasRole schema.now list «record».now role) }
+{
+    if record.kind != Kind::Lnk {
+        return None;
+    }
+    let class = schema.class(&record.scp)?;
+    match schema.role(class) {
+        Role::Plain => None,
+        role => Some(role),
+    }
+}
+
+/// Whether a record is an arc of this name.
+fn is_arc_named(record: &Record, name: &Name) -> bool
+    ensures { IsTrue result ↔ ((own_name «record».now ≡ name.now) × («record».now.kind ≡ Par)) }
+{
+    record.kind == Kind::Par && name.rty.as_slice() == b"PAR".as_slice() && record.rid == name.rid
+}
+
+/// Whether an arc has this name.
+fn has_arc(records: &[Record], name: &Name) -> bool
+    ensures { IsTrue result ↔ ((a : ℕ) × IsArcNamed records.now name.now a) }
+{
+    for record in records {
+        if is_arc_named(record, name) {
+            return true;
+        }
+    }
+    false
+}
+
+/// Whether an end of a record has this target.
+fn has_target(record: &Record, target: &Name) -> bool
+    ensures { IsTrue result ↔ Any (λ e. e.target ≡ target.now) «record».now.ends }
+{
+    for end in record.ends.as_slice() {
+        if end.target == *target {
+            return true;
+        }
+    }
+    false
+}
+
+/// Whether two records have an end each that names one arc.
+fn share_arc(records: &[Record], earlier: &Record, record: &Record) -> bool
+    ensures { (s : Classes) → IsTrue result ↔ ShareArc s records.now earlier.now «record».now }
+{
+    for end in record.ends.as_slice() {
+        if has_target(earlier, &end.target) && has_arc(records, &end.target) {
+            return true;
+        }
+    }
+    false
+}
+
+/// Whether a record is a link of this kind, which is one of the four.
+fn is_of_kind(schema: &Schema, record: &Record, role: Role) -> bool
+    requires { role ≢ Plain }
+    ensures { (list : List Records) → IsTrue result ↔ HasRole schema.now list «record».now role }
+{
+    match kind_of_link(schema, record) {
+        Some(own) => own == role,
+        None => false,
+    }
+}
+
+/// Whether an earlier record is a link of this kind, which is one of the four, and of an arc of a record.
+fn is_of_side(
+    schema: &Schema,
+    records: &[Record],
+    role: Role,
+    earlier: &Record,
+    record: &Record,
+) -> bool
+    requires { role ≢ Plain }
+    ensures { IsTrue result ↔ (HasRole schema.now records.now earlier.now role × ShareArc schema.now records.now earlier.now «record».now) }
+{
+    is_of_kind(schema, earlier, role) && share_arc(records, earlier, record)
+}
+
+/// The first link of the kind of the one at a place and of an arc of that one, if it comes before that one: rule 307.
+/// Places are counted from 0, in file order. `None` also where the record isn't a link of one of the four kinds.
+pub fn same_side(schema: &Schema, records: &[Record], place: usize) -> Option<usize>
+    requires { place < length records.now }
+    ensures { IsLeastIfAny (SharesSide schema.now records.now place) result }
+{
+    let role = kind_of_link(schema, &records[place])?;
+    for earlier in 0..place {
+        if is_of_side(schema, records, role, &records[earlier], &records[place]) {
+            return Some(earlier);
+        }
+    }
+    None
+}
