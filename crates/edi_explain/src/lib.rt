@@ -31,6 +31,3 @@ pub use rows::row_namesake;
 pub use site::{RecordSite, record_site};
 pub use skipped::{describe_skipped, quality_zones};
 pub use text::{RuleText, rule_text};
-
-#[cfg(test)]
-mod tests;

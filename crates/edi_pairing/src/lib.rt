@@ -20,6 +20,3 @@ pub use runs::{run_compare_to_file, run_verify};
 pub use sheets::{NamedSheet, name_sheet};
 pub use verifying::verify;
 pub use writing::{Compared, compare_to_file, pairing_file, pairing_text};
-
-#[cfg(test)]
-mod tests;
