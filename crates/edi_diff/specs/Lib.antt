@@ -1,0 +1,6 @@
+pub mod Sites
+pub mod Changes
+pub mod Reports
+pub mod Lines
+pub mod Differences
+pub mod inner

@@ -1,0 +1,16 @@
+//! The text of what differs between two sheets.
+#![tactic(auto)]
+
+pub mod differing;
+mod lines;
+mod marks;
+pub mod parts;
+mod report;
+pub mod sheet;
+pub mod site;
+mod totals;
+
+pub use differing::{Difference, diff, difference_text};
+pub use parts::Parts;
+pub use sheet::{LocatedSheet, locate};
+pub use site::{Site, sites};
