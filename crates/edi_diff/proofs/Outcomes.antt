@@ -1,0 +1,114 @@
+-- Matchings as changes, and what leaves nothing out.
+use Rattle.std.proofs.Common.{◌≡◌, ℕ, zero, suc, ◌<◌, Bool, ◌||◌, true, false, IsTrue, List, [], ◌∷◌, length, get_or, Option, None, Some, refl, sym, ap, ◌∙◌, subst, eq-eqb, Result, Ok, Err, IfOk}
+use Rattle.std.proofs.lemmas.Bool.{eqb-true}
+use Rattle.std.specs.Option.{is_some}
+use Rattle.edi_schema.specs.Classes.{Classes}
+use Rattle.edi_plan.specs.Plans.{Drawing}
+use Rattle.edi_matching.specs.Matchings.{GoesTo, IsMatched, IsTotal, MatchingHolds}
+use Rattle.edi_matching.specs.declared.matching.Matching.{Matching}
+use Rattle.edi_diff.specs.Changes.{AreChanges, ArePartsOfEach}
+use Rattle.edi_diff.specs.Differences.{IsDifferenceText}
+use Rattle.edi_diff.specs.Lines.{is_reached, told_text, went_to}
+use Rattle.edi_diff.specs.Reports.{HasSites}
+use Rattle.edi_diff.specs.declared.parts.Parts.{Parts}
+use Rattle.edi_diff.specs.declared.sheet.LocatedSheet.{LocatedSheet}
+use Rattle.edi_diff.specs.inner.Tables.{AreMarks, IsFitting}
+
+-- nothing but the records that are the same
+pub no_changes : (s : Classes) (p q : Drawing) (m : Matching) → MatchingHolds s p q m → AreChanges p q m m
+no_changes s p q m h = record {
+  all_entered = h.all_entered;
+  all_directed = h.all_directed;
+  keeps = λ i j goes. goes;
+  directions = λ i matched. refl;
+  within = h.within;
+  apart = h.apart;
+  types = λ i j goes. (h.each i j goes).kind;
+}
+
+pub no_parts : (s : Classes) (p q : Drawing) (m : Matching) (parts : List Parts) → ArePartsOfEach s p q m m parts
+no_parts s p q m parts i j none goes = absurd (none (j, goes))
+
+pub fits : (first second : LocatedSheet) (kept became : Matching) (parts : List Parts) → HasSites first → HasSites second → length kept.to ≡ length first.accepted.list
+    → AreChanges first.accepted second.accepted kept became → IsFitting (record { first = first; second = second; kept = kept.to; became = became.to; parts = parts })
+fits first second kept became parts here there long are = record {
+  first_sites = here;
+  second_sites = there;
+  all_kept = long;
+  all_became = are.all_entered;
+  within = are.within;
+}
+
+-- ---- what leaves nothing out
+
+or_here : (a b : Bool) → a ≡ true → (a || b) ≡ true
+or_here true b e = refl
+or_here false b e = cc
+
+or_there : (a b : Bool) → b ≡ true → (a || b) ≡ true
+or_there true b e = refl
+or_there false b e = e
+
+pub goes_reached : (to : List (Option ℕ)) (i j : ℕ) → GoesTo to i j → is_reached to j ≡ true
+goes_reached [] i j e = cc
+goes_reached (None ∷ to) zero j e = cc
+goes_reached (Some k ∷ to) zero j e = let same : k ≡ j = cc in or_here (went_to j (Some k)) (is_reached to j) (eq-eqb k j same)
+goes_reached (x ∷ to) (suc i) j e = or_there (went_to j x) (is_reached to j) (goes_reached to i j e)
+
+here_or_there : (k : ℕ) (to : List (Option ℕ)) (j : ℕ) → (is_reached to j ≡ true → (i : ℕ) × GoesTo to i j) → is_reached (Some k ∷ to) j ≡ true → (i : ℕ) × GoesTo (Some k ∷ to) i j
+here_or_there k to j more e = go (went_to j (Some k)) refl e
+  where
+    go : (b : Bool) → went_to j (Some k) ≡ b → (b || is_reached to j) ≡ true → (i : ℕ) × GoesTo (Some k ∷ to) i j
+    go true is h = (zero, ap Some (eqb-true k j is))
+    go false is h = let w = more h in (suc w.0, w.1)
+
+pub reached_goes : (to : List (Option ℕ)) (j : ℕ) → is_reached to j ≡ true → (i : ℕ) × GoesTo to i j
+reached_goes [] j e = cc
+reached_goes (None ∷ to) j e = let w = reached_goes to j e in (suc w.0, w.1)
+reached_goes (Some k ∷ to) j e = here_or_there k to j (reached_goes to j) e
+
+pub total_told : (p q : Drawing) (m : Matching) (marks : List Bool) → length m.to ≡ length p.list → AreMarks m.to (length q.list) marks
+    → ((i : ℕ) → i < length m.to → IsMatched m.to i) → ((j : ℕ) → j < length marks → get_or marks j false ≡ true) → IsTotal p q m
+total_told p q m marks long are went marked = record {
+  each = λ i h. went i (subst (λ (n : ℕ). i < n) (sym long) h);
+  onto = λ j h. reached_goes m.to j (sym (are.each j h) ∙ marked j (subst (λ (n : ℕ). j < n) (sym are.long) h));
+}
+
+pub total_went : (p q : Drawing) (m : Matching) → length m.to ≡ length p.list → IsTotal p q m → (i : ℕ) → i < length m.to → IsMatched m.to i
+total_went p q m long total i h = total.each i (subst (λ (n : ℕ). i < n) long h)
+
+pub total_marked : (p q : Drawing) (m : Matching) (marks : List Bool) → AreMarks m.to (length q.list) marks → IsTotal p q m → (j : ℕ) → j < length marks → get_or marks j false ≡ true
+total_marked p q m marks are total j h =
+    let less : j < length q.list = subst (λ (n : ℕ). j < n) are.long h in
+    let w = total.onto j less in
+    are.each j less ∙ goes_reached m.to w.0 j w.1
+
+-- ---- the text
+
+pub text_told : {X E : Type 0} (s : Classes) (first second : LocatedSheet) (m : Matching) (brief : Bool) (r : Result X E) (items : X → List ℕ) (kept became : List (Option ℕ)) → MatchingHolds s first.accepted second.accepted m
+    → kept ≡ m.to → became ≡ m.to → IfOk r (λ text. items text ≡ told_text brief (record { first = first; second = second; kept = kept; became = became; parts = [] }))
+    → IfOk r (λ text. IsDifferenceText s first second m brief (items text))
+text_told s first second m brief (Err e) items kept became h is_kept is_became told = tt
+text_told s first second m brief (Ok text) items kept became h is_kept is_became told = record {
+  became = m;
+  parts = [];
+  changes = no_changes s first.accepted second.accepted m h;
+  are_parts = no_parts s first.accepted second.accepted m [];
+  is_text = told ∙ (ap (λ to. told_text brief (record { first = first; second = second; kept = to; became = became; parts = [] })) is_kept
+      ∙ ap (λ to. told_text brief (record { first = first; second = second; kept = m.to; became = to; parts = [] })) is_became);
+}
+
+pub some_there : (o : Option ℕ) → is_some o ≡ true → (j : ℕ) × (o ≡ Some j)
+some_there None none = cc
+some_there (Some j) none = (j, refl)
+
+pub none_gone : (o : Option ℕ) (j : ℕ) → o ≡ Some j → is_some o ≡ false → ⊥
+none_gone None j is none = cc
+none_gone (Some k) j is none = cc
+
+pub all_matched : (to others : List (Option ℕ)) → others ≡ to → ((i : ℕ) → i < length to → IsMatched to i) → (i : ℕ) → i < length others → IsMatched others i
+all_matched to others same h = subst (λ (xs : List (Option ℕ)). (i : ℕ) → i < length xs → IsMatched xs i) (sym same) h
+
+pub not_true : (b : Bool) → b ≡ false → IsTrue b → ⊥
+not_true true e t = cc
+not_true false e t = cc

@@ -1,0 +1,35 @@
+-- The sites of the records of a file.
+use Rattle.std.proofs.Common.{◌≡◌, ℕ, List, [], ◌∷◌, ◌++◌, length, sym, ap, ◌∙◌, refl, unwrap_or, codes}
+use Rattle.std.specs.List.{AllZip}
+use Rattle.edi_line.specs.Entry.{Entry, first}
+use Rattle.edi_line.specs.Zones.{groups_of}
+use Rattle.edi_line.proofs.ZonesSaid.{zones_of_one}
+use Rattle.edi_record.specs.Records.{States, values}
+use Rattle.edi_schema.specs.Classes.{Classes}
+use Rattle.edi_plan.specs.Plans.{Drawing}
+use Rattle.edi_plan.specs.PlanOf.{StatesPlanRecord}
+use Rattle.edi_plan.proofs.Built.{zip_length}
+use Rattle.edi_compare.specs.PlanOfFile.{IsPlanOfFile}
+use Rattle.edi_diff.specs.Sites.{AreSitesOf, IsSite}
+use Rattle.edi_diff.specs.declared.site.Site.{Site}
+
+pub site_push : (groups : List (List Entry)) (sites : List Site) (group : List Entry) (site : Site) → AllZip IsSite groups sites → IsSite group site → AllZip IsSite (groups ++ group ∷ []) (sites ++ site ∷ [])
+site_push [] [] g s h k = (k, tt)
+site_push [] (y ∷ sites) g s h k = absurd h
+site_push (x ∷ groups) [] g s h k = absurd h
+site_push (x ∷ groups) (y ∷ sites) g s h k = (h.0, site_push groups sites g s h.1 k)
+
+pub one_site : (group rest : List Entry) (head : Entry) (site : Site) → group ≡ head ∷ rest → site.line ≡ head.line → site.rid ≡ unwrap_or (first (values (codes "RID") group)) [] → IsSite group site
+one_site group rest head site cut line rid = record {
+  whole = record { line = head.line; rty = head.value; rid = first (values (codes "RID") group) };
+  is_site = record { head = head; rest = rest; is = cut; line = refl; rty = refl; rid = refl };
+  line = line;
+  rid = rid;
+}
+
+pub sites_long : (s : Classes) (b : List ℕ) (p : Drawing) (sites : List Site) → IsPlanOfFile s b p → AreSitesOf b sites → length sites ≡ length p.list
+sites_long s b p sites plan are =
+    let sheet = plan.0 in
+    let zones = plan.1.0 in
+    let same = ap groups_of (zones_of_one b are.0 zones are.1 plan.1.1) in
+    sym (zip_length IsSite (groups_of are.0) sites are.2) ∙ (ap length same ∙ (zip_length States (groups_of zones) sheet.list plan.1.2.records ∙ zip_length (StatesPlanRecord s sheet.list) sheet.list p.list plan.2.each))

@@ -1,0 +1,31 @@
+use Rattle.std.proofs.Common.{alloc_error}
+use Rattle.edi_compare.proofs.Refusals.{err_kept}
+use Rattle.edi_compare.specs.Refused.{IsPairRefusal}
+use Rattle.edi_compare.specs.declared.fault.CompareFault.TheVariants.{Memory}
+use Rattle.edi_diff.proofs.differing.diff.Goals as goal
+
+pub differences-requires-clause-first : goal.differences-requires-clause-first
+differences-requires-clause-first c = (c.args.a.now, c.in-Ok.ensures.accepted, c.in-Ok.ensures.plan)
+
+pub differences-requires-clause-second : goal.differences-requires-clause-second
+differences-requires-clause-second c = (c.args.b.now, c.in-Ok-locate.ensures.accepted, c.in-Ok-locate.ensures.plan)
+
+pub returns-in_err-text-clause-refusal : goal.returns-in_err-text-clause-refusal
+returns-in_err-text-clause-refusal c = err_kept _ (Memory alloc_error) (IsPairRefusal c.args.schema.now c.args.a.now c.args.b.now) c.from_residual-in_err-text.ensures.1 tt
+
+pub returns-in_err-same-clause-refusal : goal.returns-in_err-same-clause-refusal
+returns-in_err-same-clause-refusal c = err_kept _ (Memory alloc_error) (IsPairRefusal c.args.schema.now c.args.a.now c.args.b.now) c.from_residual-in_err-same.ensures.1 tt
+
+pub returns-clause-difference : goal.returns-clause-difference
+returns-clause-difference c = record {
+  first = c.in-Ok.sheet;
+  second = c.in-Ok-locate.sheet;
+  is_first = record { plan = c.in-Ok.ensures.plan; sites = c.in-Ok.ensures.sites };
+  is_second = record { plan = c.in-Ok-locate.ensures.plan; sites = c.in-Ok-locate.ensures.sites };
+  kept = c.in_ok-matching.matching;
+  holds = c.in_ok-matching.ensures.holds;
+  total = c.in_ok-matching.ensures.total;
+  partners = c.in_ok-matching.ensures.partners;
+  is_text = c.in_ok-text.ensures;
+  same = (λ t. c.in_ok-matching.ensures.total.0 (c.in_ok-same.ensures.0 t), λ same. c.in_ok-same.ensures.1 (c.in_ok-matching.ensures.total.1 same));
+}

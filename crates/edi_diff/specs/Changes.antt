@@ -1,0 +1,40 @@
+-- What became of the records of one sheet in another: they are the same, they changed, or they are gone.
+use Rattle.std.specs.Prelude.{◌≡◌, ◌↔◌, ℕ, List, IsTrue, IsPermutation, length, map, option_map, slice_index}
+use Rattle.std.specs.List.{AllByRecursion}
+use Rattle.edi_schema.specs.Classes.{Classes, partner_of}
+use Rattle.edi_plan.specs.Plans.{Drawing, IsPlace, record_at, origin_of, others_of}
+use Rattle.edi_plan.specs.declared.record.PlanRecord.{PlanRecord}
+use Rattle.edi_rank.specs.Labelling.{turned_at}
+use Rattle.edi_rank.specs.Same.{class_after, directed, moved}
+use Rattle.edi_matching.specs.Matchings.{GoesTo, IsMatched, targets_of}
+use Rattle.edi_matching.specs.declared.matching.Matching.{Matching}
+use Rattle.edi_diff.specs.Reports.{parts_at}
+use Rattle.edi_diff.specs.declared.parts.Parts.{Parts}
+
+-- Beside the records of p that are matched, some others go to records of q of their types, which they became; no two go to one.
+pub record AreChanges (p q : Drawing) (kept became : Matching) : Type 0 where
+  pub all_entered : length became.to ≡ length p.list
+  pub all_directed : length became.turned ≡ length p.list
+  pub keeps : (i j : ℕ) → GoesTo kept.to i j → GoesTo became.to i j
+  pub directions : (i : ℕ) → IsMatched kept.to i → turned_at became.turned i ≡ turned_at kept.turned i
+  pub within : (i j : ℕ) → GoesTo became.to i j → IsPlace q j
+  pub apart : (i k j : ℕ) → GoesTo became.to i j → GoesTo became.to k j → i ≡ k
+  pub types : (i j : ℕ) → GoesTo became.to i j → (record_at q j).kind ≡ (record_at p i).kind
+
+-- the ends of the record a became those of the record b
+pub record HasEndsOf (became : Matching) (a b : PlanRecord) : Type 0 where
+  pub all : AllByRecursion (λ e. IsMatched became.to e.target) a.ends
+  pub origin : origin_of b ≡ option_map (moved (slice_index (targets_of became.to))) (origin_of a)
+  pub others : IsPermutation (map (moved (slice_index (targets_of became.to))) (others_of a)) (others_of b)
+
+-- the parts in which the record a at the place i and the record b that it became differ, after the reversals
+pub record AreParts (s : Classes) (became : Matching) (i : ℕ) (a b : PlanRecord) (parts : Parts) : Type 0 where
+  pub class : IsTrue parts.class ↔ ¬ (b.class ≡ class_after (partner_of s) (turned_at became.turned) a)
+  pub attributes : IsTrue parts.attributes ↔ ¬ (IsPermutation a.attributes b.attributes)
+  pub extras : IsTrue parts.extras ↔ ¬ (b.extras ≡ a.extras)
+  pub points : IsTrue parts.points ↔ ¬ (b.points ≡ directed (turned_at became.turned i) a.points)
+  pub ends : IsTrue parts.ends ↔ ¬ (HasEndsOf became a b)
+
+-- the parts of each record that changed
+abbrev pub ArePartsOfEach : Classes → Drawing → Drawing → Matching → Matching → List Parts → Type 0
+ArePartsOfEach s p q kept became parts = (i j : ℕ) → ¬ (IsMatched kept.to i) → GoesTo became.to i j → AreParts s became i (record_at p i) (record_at q j) (parts_at parts i)

@@ -1,0 +1,43 @@
+-- What is answered of what differs between two sheets.
+use Rattle.std.specs.Prelude.{◌≡◌, ◌↔◌, ℕ, Bool, List, IsTrue}
+use Rattle.edi_schema.specs.Classes.{Classes}
+use Rattle.edi_rank.specs.Same.{Same}
+use Rattle.edi_compare.specs.PlanOfFile.{IsPlanOfFile}
+use Rattle.edi_matching.specs.Differences.{IsTotalIfSame, MatchesPartners}
+use Rattle.edi_matching.specs.Matchings.{MatchingHolds}
+use Rattle.edi_matching.specs.declared.matching.Matching.{Matching}
+use Rattle.edi_diff.specs.Changes.{AreChanges, ArePartsOfEach}
+use Rattle.edi_diff.specs.Lines.{told_text}
+use Rattle.edi_diff.specs.Sites.{AreSitesOf}
+use Rattle.edi_diff.specs.declared.differing.Difference.{Difference}
+use Rattle.edi_diff.specs.declared.parts.Parts.{Parts}
+use Rattle.edi_diff.specs.declared.sheet.LocatedSheet.{LocatedSheet}
+
+-- The text of what differs, or its last line alone, by a matching of the records that are the same: of the other records some
+-- became others, and the text names the parts in which these differ.
+pub record IsDifferenceText (s : Classes) (first second : LocatedSheet) (kept : Matching) (brief : Bool) (text : List ℕ) : Type 0 where
+  pub became : Matching
+  pub parts : List Parts
+  pub changes : AreChanges first.accepted second.accepted kept became
+  pub are_parts : ArePartsOfEach s first.accepted second.accepted kept became parts
+  pub is_text : text ≡ told_text brief (record { first = first; second = second; kept = kept.to; became = became.to; parts = parts })
+
+-- the plan of a file, and where its records stand
+pub record IsLocated (s : Classes) (b : List ℕ) (sheet : LocatedSheet) : Type 0 where
+  pub plan : IsPlanOfFile s b sheet.accepted
+  pub sites : AreSitesOf b sheet.sites
+
+-- What differs between two files: the text, by a matching that holds between their plans, that leaves nothing out exactly if
+-- these and their character sets are the same, and leaves out no node and no arc that has a partner; and whether the plans are
+-- the same.
+pub record IsDifference (s : Classes) (a b : List ℕ) (brief : Bool) (difference : Difference) : Type 0 where
+  pub first : LocatedSheet
+  pub second : LocatedSheet
+  pub is_first : IsLocated s a first
+  pub is_second : IsLocated s b second
+  pub kept : Matching
+  pub holds : MatchingHolds s first.accepted second.accepted kept
+  pub total : IsTotalIfSame s first.accepted second.accepted kept
+  pub partners : MatchesPartners first.accepted second.accepted kept
+  pub is_text : IsDifferenceText s first second kept brief difference.text.items
+  pub same : IsTrue difference.same ↔ Same s first.accepted second.accepted

@@ -1,0 +1,12 @@
+-- What the run over two sheets answers.
+use Rattle.std.specs.Prelude.{ℕ, Bool, List}
+use Rattle.edi_schema.specs.Classes.{Classes}
+use Rattle.edi_schema.specs.Roles.{KindCodes}
+use Rattle.edi_schema.specs.SchemaRefusal.{IsGoodSchema}
+use Rattle.edi_compare.specs.Rules.{IsAccepted}
+use Rattle.edi_diff.specs.Differences.{IsDifference}
+use Rattle.edi_diff.specs.declared.differing.Difference.{Difference}
+
+-- both sheets are accepted under the schema of the two files and the codes, and this is what differs between them
+abbrev pub IsDifferenceUnder : KindCodes → List ℕ → List ℕ → List ℕ → List ℕ → Bool → Difference → Type 0
+IsDifferenceUnder kinds scd dic a b brief difference = (s : Classes) × IsGoodSchema scd dic kinds s × IsAccepted s a × IsAccepted s b × IsDifference s a b brief difference

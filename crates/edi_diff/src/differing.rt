@@ -1,0 +1,107 @@
+//! What differs between two sheets.
+
+ghost use Rattle.std.specs.Prelude.{◌≡◌, IfErr, IfOk, OnOk};
+ghost use Rattle.edi_compare.specs.Pairings.{HasClasses};
+ghost use Rattle.edi_compare.specs.Refused.{IsPairRefusal};
+ghost use Rattle.edi_compare.specs.Rules.{IsAccepted};
+ghost use Rattle.edi_compare.specs.Faults.{of_first, of_second};
+ghost use Rattle.edi_matching.specs.Matchings.{MatchingHolds};
+ghost use Rattle.edi_diff.specs.Differences.{IsDifference, IsDifferenceText};
+ghost use Rattle.edi_diff.specs.Reports.{HasSites};
+
+use crate::marks::marks_of;
+use crate::report::Told;
+use crate::sheet::{LocatedSheet, locate};
+use crate::totals::is_same;
+use edi_compare::{CompareFault, Fault};
+use edi_matching::{Matching, differences};
+use edi_schema::Schema;
+use std::alloc::{AllocError, Global};
+
+/// What differs between two sheets.
+#[derive(Debug, Drop)]
+pub struct Difference {
+    /// Whether they state the same plan.
+    pub same: bool,
+    /// What differs (docs/FORMAT.md, "Differences").
+    pub text: Vec<u8>,
+}
+
+/// The text of what differs between two sheets (docs/FORMAT.md, "Differences"), by a matching of the records that are the
+/// same; or its last line alone. The only error is want of memory.
+pub fn difference_text(
+    alloc: Global,
+    schema: &Schema,
+    first: &LocatedSheet,
+    second: &LocatedSheet,
+    matching: &Matching,
+    brief: bool,
+) -> Result<Vec<u8>, AllocError>
+    requires classes { HasClasses schema.now first.now.accepted }
+    requires first_sites { HasSites first.now }
+    requires second_sites { HasSites second.now }
+    requires holds { MatchingHolds schema.now first.now.accepted second.now.accepted matching.now }
+    ensures { IfOk result (λ text. IsDifferenceText schema.now first.now second.now matching.now brief text.items) }
+{
+    let reached = marks_of(
+        alloc,
+        matching.to.as_slice(),
+        second.accepted.sound().plan().len(),
+    )?;
+    let told = Told {
+        first,
+        second,
+        kept: matching.to.as_slice(),
+        became: matching.to.as_slice(),
+        parts: &[],
+        reached: &reached,
+    };
+    told.text(alloc, brief)
+}
+
+/// What differs between two sheets under a schema, or its last line alone; or the refusal that `edi_compare::compare`
+/// gives: `CompareFault::First` where the first sheet is refused, `CompareFault::Second` where the first is accepted and
+/// the second is refused.
+pub fn diff(
+    alloc: Global,
+    schema: &Schema,
+    a: &[u8],
+    b: &[u8],
+    brief: bool,
+) -> Result<Difference, CompareFault>
+    ensures first { OnOk result (IsAccepted schema.now a.now) }
+    ensures second { OnOk result (IsAccepted schema.now b.now) }
+    ensures difference { IfOk result (IsDifference schema.now a.now b.now brief) }
+    ensures refusal { IfErr result (IsPairRefusal schema.now a.now b.now) }
+{
+    let first = match locate(alloc, schema, a) {
+        Ok(sheet) => sheet,
+        Err(fault) => return Err(first_refused(fault)),
+    };
+    let second = match locate(alloc, schema, b) {
+        Ok(sheet) => sheet,
+        Err(fault) => return Err(second_refused(fault)),
+    };
+    let matching = differences(alloc, schema, &first.accepted, &second.accepted)?;
+    let text = difference_text(alloc, schema, &first, &second, &matching, brief)?;
+    let same = is_same(alloc, &first, &second, &matching)?;
+    Ok(Difference { same, text })
+}
+
+fn first_refused(fault: Fault) -> CompareFault
+    ensures { result ≡ of_first fault }
+{
+    match fault {
+        Fault::Memory(error) => CompareFault::Memory(error),
+        Fault::Line { .. } | Fault::Entry { .. } => CompareFault::First(fault),
+    }
+}
+
+fn second_refused(fault: Fault) -> CompareFault
+    ensures { result ≡ of_second fault }
+{
+    match fault {
+        Fault::Memory(error) => CompareFault::Memory(error),
+        Fault::Line { .. } | Fault::Entry { .. } => CompareFault::Second(fault),
+    }
+}

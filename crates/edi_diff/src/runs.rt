@@ -1,0 +1,83 @@
+//! The run that tells what differs between two sheets.
+ghost use Rattle.std.specs.Prelude.{◌≡◌, IsTrue, IfOk, IfErr, IfSome, OnOk};
+ghost use Rattle.edi_compare.specs.Runs.{AfterReading, AreFourRead, ComparingFault, IsTooLong, MatchFault, PairFault, TellFour, WasRead, seen};
+ghost use Rattle.edi_diff.specs.Runs.{IsDifferenceUnder};
+
+use crate::differing::{Difference, diff};
+use edi_compare::{CompareFault, RunFault};
+use edi_line::{ByteIn, ReadFault, read_all};
+use edi_schema::{Kinds, Schema, SchemaFault};
+use std::alloc::Global;
+
+// How many bytes an input has at most.
+const MOST_BYTES: u64 = 4_294_967_296;
+
+/// Reads four files, and tells what differs between the third and the fourth, two sheets under the schema of the first
+/// two; or the last line of that alone. All are read before one is looked at, and the second sheet is looked at only if the
+/// first is accepted. The faults are those of `edi_compare::run_compare`.
+pub fn run_diff<S: ByteIn, D: ByteIn, A: ByteIn, B: ByteIn>(
+    alloc: Global,
+    kinds: &Kinds<'_>,
+    scd: &mut S,
+    dic: &mut D,
+    first: &mut A,
+    second: &mut B,
+    brief: bool,
+) -> Result<Difference, RunFault>
+    ensures ok { IfOk result (λ difference. TellFour (S.told scd.old) (D.told dic.old) (A.told first.old) (B.told second.old)
+        (λ s d a b. IsDifferenceUnder kinds.now s d a b brief difference)) }
+    ensures read { OnOk result (AreFourRead (seen (S.told scd.old) (S.told scd.new) (S.has_failed scd.new)) (seen (D.told dic.old) (D.told dic.new) (D.has_failed dic.new))
+        (seen (A.told first.old) (A.told first.new) (A.has_failed first.new)) (seen (B.told second.old) (B.told second.new) (B.has_failed second.new))) }
+    ensures err { IfErr result (ComparingFault kinds.now (seen (S.told scd.old) (S.told scd.new) (S.has_failed scd.new)) (seen (D.told dic.old) (D.told dic.new) (D.has_failed dic.new))
+        (seen (A.told first.old) (A.told first.new) (A.has_failed first.new)) (seen (B.told second.old) (B.told second.new) (B.has_failed second.new))
+        (record { dic = dic.new ≡ dic.old; first = first.new ≡ first.old; second = second.new ≡ second.old })) }
+    ensures after { IfErr result (λ e. AfterReading e (AreFourRead (seen (S.told scd.old) (S.told scd.new) (S.has_failed scd.new)) (seen (D.told dic.old) (D.told dic.new) (D.has_failed dic.new))
+        (seen (A.told first.old) (A.told first.new) (A.has_failed first.new)) (seen (B.told second.old) (B.told second.new) (B.has_failed second.new)))) }
+{
+    let scd = read_input(alloc, scd, 1)?;
+    let dic = read_input(alloc, dic, 2)?;
+    let first = read_input(alloc, first, 3)?;
+    let second = read_input(alloc, second, 4)?;
+    diff_or_fault(alloc, kinds, &scd, &dic, &first, &second, brief)
+}
+
+// The input of this number, whole.
+fn read_input<R: ByteIn>(alloc: Global, reader: &mut R, input: u8) -> Result<Vec<u8>, RunFault>
+    ensures all { IfOk result (λ bytes. IfSome (R.told reader.old) (λ told. bytes.items ≡ told)) }
+    ensures read { OnOk result (WasRead (R.told reader.old) (R.told reader.new) (R.has_failed reader.new)) }
+    ensures err { IfErr result (λ e. MatchFault e (λ n. (n ≡ input) × IsTrue (R.has_failed reader.new))
+        (λ n. (n ≡ input) × IsTooLong (R.told reader.old)) (λ _. ⊥) (λ _. ⊥) (λ _. ⊥) (λ _. ⊥)) }
+{
+    match read_all(alloc, reader, MOST_BYTES) {
+        Ok(bytes) => Ok(bytes),
+        Err(ReadFault::Memory(error)) => Err(RunFault::Memory(error)),
+        Err(ReadFault::Read) => Err(RunFault::Read { input }),
+        Err(ReadFault::TooLong) => Err(RunFault::TooLong { input }),
+    }
+}
+
+// What differs between two sheets under the schema of the two files.
+fn diff_or_fault(
+    alloc: Global,
+    kinds: &Kinds<'_>,
+    scd: &[u8],
+    dic: &[u8],
+    first: &[u8],
+    second: &[u8],
+    brief: bool,
+) -> Result<Difference, RunFault>
+    ensures ok { IfOk result (IsDifferenceUnder kinds.now scd.now dic.now first.now second.now brief) }
+    ensures err { IfErr result (PairFault kinds.now scd.now dic.now first.now second.now) }
+{
+    let schema = match Schema::load(alloc, scd, dic, kinds) {
+        Ok(schema) => schema,
+        Err(SchemaFault::Memory(error)) => return Err(RunFault::Memory(error)),
+        Err(fault) => return Err(RunFault::Schema(fault)),
+    };
+    match diff(alloc, &schema, first, second, brief) {
+        Ok(difference) => Ok(difference),
+        Err(CompareFault::Memory(error)) => Err(RunFault::Memory(error)),
+        Err(CompareFault::First(fault)) => Err(RunFault::First(fault)),
+        Err(CompareFault::Second(fault)) => Err(RunFault::Second(fault)),
+    }
+}

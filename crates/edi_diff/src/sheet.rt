@@ -1,0 +1,65 @@
+//! Accepted sheets, with where their records stand.
+
+ghost use Rattle.std.specs.Prelude.{◌≡◌, IfErr, IfOk, OnOk};
+ghost use Rattle.edi_compare.specs.Pairings.{HasClasses};
+ghost use Rattle.edi_compare.specs.PlanOfFile.{IsPlanOfFile};
+ghost use Rattle.edi_compare.specs.Refused.{IsRefusal};
+ghost use Rattle.edi_compare.specs.Rules.{IsAccepted};
+ghost use Rattle.edi_plan.specs.Places.{places_of};
+ghost use Rattle.edi_schema.specs.Classes.{Classes};
+ghost use Rattle.edi_diff.specs.Reports.{HasSites};
+ghost use Rattle.edi_diff.specs.Sites.{AreSitesOf};
+
+use crate::site::{Site, sites};
+use edi_compare::{Accepted, Fault, accept};
+use edi_line::{LineFault, Sequence};
+use edi_record::Kind;
+use edi_schema::Schema;
+use std::alloc::{AllocError, Global};
+
+/// An accepted sheet, with where its records stand in their file.
+#[derive(Drop)]
+pub struct LocatedSheet {
+    pub accepted: Accepted,
+    /// The site of each record, in file order.
+    pub sites: Sequence<Site>,
+}
+
+impl LocatedSheet {
+    /// The places of the records of a type, in file order.
+    pub(crate) fn places(&self, kind: Kind) -> &[u32]
+        ensures { result.now ≡ places_of kind self.now.accepted }
+    {
+        self.accepted.sound().plan().places(kind)
+    }
+}
+
+/// The plan of a sheet under a schema, and the sites of its records, if no rule is broken; or the refusal that
+/// `edi_compare::accept` gives. The file is read twice, so that its values are not in memory beside the plan.
+pub fn locate(alloc: Global, schema: &Schema, bytes: &[u8]) -> Result<LocatedSheet, Fault>
+    ensures accepted { OnOk result (IsAccepted schema.now bytes.now) }
+    ensures plan { IfOk result (λ sheet. IsPlanOfFile schema.now bytes.now sheet.accepted) }
+    ensures classes { IfOk result (λ sheet. HasClasses schema.now sheet.accepted) }
+    ensures sites { IfOk result (λ sheet. AreSitesOf bytes.now sheet.sites) }
+    ensures all { IfOk result HasSites }
+    ensures refusal { IfErr result (IsRefusal schema.now bytes.now) }
+{
+    let accepted = accept(alloc, schema, bytes)?;
+    let sites = sites_of(alloc, bytes)?;
+    Ok(LocatedSheet {
+        accepted,
+        sites: Sequence::from_vec(sites),
+    })
+}
+
+/// The sites of the records of an accepted sheet.
+fn sites_of(alloc: Global, bytes: &[u8]) -> Result<Vec<Site>, AllocError>
+    requires { (s : Classes) × IsAccepted s bytes.now }
+    ensures { IfOk result (λ sites. AreSitesOf bytes.now sites.items) }
+{
+    match sites(alloc, bytes) {
+        Ok(sites) => Ok(sites),
+        Err(LineFault::Memory(error)) => Err(error),
+        Err(LineFault::Broken { .. }) => unreachable!(),
+    }
+}

@@ -1,0 +1,71 @@
+//! Where the records of a file stand.
+
+ghost use Rattle.std.specs.Prelude.{◌≡◌, [], IfErr, IfOk, OnOk, codes, unwrap_or};
+ghost use Rattle.std.specs.List.{AllZip};
+ghost use Rattle.edi_line.specs.LineRules.{BreaksLineRule};
+ghost use Rattle.edi_line.specs.Refusal.{IsLineRefusal, IsUnbroken};
+ghost use Rattle.edi_line.specs.Entry.{entries, first};
+ghost use Rattle.edi_record.specs.Records.{values};
+ghost use Rattle.edi_diff.specs.Sites.{AreSitesOf, IsSite};
+
+use edi_line::{GroupOut, LineFault, Text, Zone, read_groups};
+use edi_record::first_value;
+use std::alloc::{AllocError, Global};
+
+const IDENTIFIER: [u8; 3] = *b"RID";
+
+/// Where a record of a file stands, and what it calls itself.
+#[derive(Debug, Drop)]
+pub struct Site {
+    /// The line of its RTY, counted from 1.
+    pub line: u64,
+    /// The value of its first RID, or nothing if it has none.
+    pub rid: Text,
+}
+
+/// The sites of the records that have come.
+#[derive(Drop)]
+struct SiteList {
+    list: Vec<Site>,
+}
+
+impl GroupOut for SiteList {
+    ghost Holds = { λ sites groups. AllZip IsSite groups sites.list.items };
+
+    fn take(&mut self, alloc: Global, group: &[Zone<'_>]) -> Result<(), AllocError> {
+        let [head, ..] = group else {
+            return Ok(());
+        };
+        let rid = Text::from_slice(alloc, identifier_of(group))?;
+        self.list.push(Site {
+            line: head.line,
+            rid,
+        })?;
+        Ok(())
+    }
+}
+
+/// The value of the first RID, or nothing.
+fn identifier_of<'b>(group: &'b [Zone<'_>]) -> &'b [u8]
+    ensures { result.now ≡ unwrap_or (first (values (codes "RID") (entries group.now))) [] }
+{
+    match first_value(group, IDENTIFIER) {
+        Some(value) => value,
+        None => b"",
+    }
+}
+
+/// The sites of the records of a file, in file order, read in one pass with the zones of one record in memory at a time.
+/// The fault is that of the file's lines (docs/FORMAT.md, "The rules of a sheet"): the least line that breaks one of the
+/// rules 101 to 110.
+pub fn sites(alloc: Global, bytes: &[u8]) -> Result<Vec<Site>, LineFault>
+    ensures sites { IfOk result (λ sites. AreSitesOf bytes.now sites.items) }
+    ensures sound { OnOk result (IsUnbroken (BreaksLineRule bytes.now)) }
+    ensures least { IfErr result (IsLineRefusal (BreaksLineRule bytes.now)) }
+{
+    let mut sites = SiteList {
+        list: Vec::new(alloc),
+    };
+    read_groups(alloc, bytes, &mut sites)?;
+    Ok(sites.list)
+}
