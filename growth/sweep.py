@@ -60,7 +60,7 @@ def sweep(name, words, library, out, lacks=lacks_memory):
         answer, met = run(words, library, number, out)
         if answer == wanted:
             if not met:
-                print(f"{name}: {number - 1} growths refused in turn, {memory} answered out of memory, {same} as with ample memory")
+                print(f"| {name} | {number - 1} | {memory} | {same} |", flush=True)
                 return
             same += 1
         elif met and lacks(answer, wanted):
@@ -81,24 +81,42 @@ def twice(folder, path):
     return copy
 
 
+def changed(folder, path):
+    """This sheet with another value of an attribute."""
+    with open(path, "rb") as file:
+        sheet = file.read()
+    other = os.path.join(folder, "changed.vec")
+    with open(other, "wb") as file:
+        file.write(sheet.replace(b":25.00", b":26.00"))
+    return other
+
+
 def main():
+    print("| run | growths refused | out of memory | as with ample memory |")
+    print("|---|---|---|---|")
     with tempfile.TemporaryDirectory() as folder:
         library = os.path.join(folder, "refuse.so")
         subprocess.run(["cc", "-O1", "-shared", "-fPIC", os.path.join(HERE, "refuse.c"), "-o", library, "-ldl"], check=True)
         out = os.path.join(folder, "out.vec")
-        files = [os.path.join(NODE, name) for name in ("schema.scd", "dictionary.dic", "sheet.vec")]
-        sweep("bundle", [], library, out)
-        sweep("check", ["check", *files], library, out)
-        sweep("canon", ["canon", *files, out], library, out)
-        pair = [os.path.join(PARCEL, name) for name in ("schema.scd", "dictionary.dic", "sheet.vec", "same_plan.vec")]
-        sweep("compare", ["compare", *pair], library, out)
-        sweep("compare, with a pairing", ["compare", "--pairing", out, *pair], library, out)
+        schema = [os.path.join(PARCEL, name) for name in ("schema.scd", "dictionary.dic")]
+        sheet, again = [os.path.join(PARCEL, name) for name in ("sheet.vec", "same_plan.vec")]
+        refused, other = twice(folder, sheet), changed(folder, sheet)
         pairing = os.path.join(folder, "pairing")
-        run(["compare", "--pairing", pairing, *pair], library, 0, out)
-        sweep("verify", ["verify", *pair, pairing], library, out)
-        sweep("hash", ["hash", *pair], library, out, lacks_lines)
-        sweep("explain", ["explain", *files], library, out)
-        sweep("explain, refused", ["explain", *files[:2], twice(folder, files[2])], library, out)
+        run(["compare", "--pairing", pairing, *schema, sheet, again], library, 0, out)
+        sweep("a bundle of one node", [], library, out)
+        sweep("check", ["check", *schema, sheet], library, out)
+        sweep("check, refused", ["check", *schema, refused], library, out)
+        sweep("canon", ["canon", *schema, sheet, out], library, out)
+        sweep("canon of another presentation", ["canon", *schema, again, out], library, out)
+        sweep("canon, refused", ["canon", *schema, refused, out], library, out)
+        sweep("compare, same", ["compare", *schema, sheet, again], library, out)
+        sweep("compare, different", ["compare", *schema, sheet, other], library, out)
+        sweep("compare, with a pairing", ["compare", "--pairing", out, *schema, sheet, again], library, out)
+        sweep("verify", ["verify", *schema, sheet, again, pairing], library, out)
+        sweep("verify, a pairing that doesn't carry", ["verify", *schema, sheet, other, pairing], library, out)
+        sweep("hash", ["hash", *schema, sheet, again], library, out, lacks_lines)
+        sweep("explain", ["explain", *schema, sheet], library, out)
+        sweep("explain, refused", ["explain", *schema, refused], library, out)
         sweep("explain, a rule", ["explain", "403"], library, out)
 
 
