@@ -2,7 +2,7 @@
 
 use crate::case::Case;
 use crate::setting::Setting;
-use crate::{devices, layers, lines, numbers, pairings, pairs, records, schemas, sheets};
+use crate::{devices, diffs, layers, lines, numbers, pairings, pairs, records, schemas, sheets};
 use anyhow::{Result, bail};
 use std::alloc::Global;
 
@@ -42,6 +42,7 @@ fn answer_under(
         "compare" => pairs::compared(alloc, setting, case),
         "pairing" => pairs::paired(alloc, setting, case),
         "check_pairing" => pairs::checked(alloc, setting, case),
+        "diff" => diffs::told(alloc, setting, case),
         "verify" => pairings::verified(alloc, setting, case),
         "failing reads" => devices::failing_reads(alloc, setting, case),
         "failing writes" => devices::failing_writes(alloc, setting, case),

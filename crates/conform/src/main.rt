@@ -4,6 +4,7 @@
 mod call;
 mod case;
 mod devices;
+mod diffs;
 mod layers;
 mod lines;
 mod numbers;
