@@ -5,9 +5,10 @@ use crate::refusals;
 use crate::setting::Setting;
 use anyhow::{Context, Result};
 use edi_compare::{RunFault, canon_of, run_bundle, run_canon, run_check, run_compare};
-use edi_line::{ReadFault, ScriptIn, ScriptOut, read_all};
+use edi_line::{ByteIn, FromRead, ReadFault, ScriptIn, ScriptOut, read_all};
 use edi_write::put_all;
 use std::alloc::Global;
+use std::io::{self, Read};
 
 /// What `read_all` answers. The first input is three numbers: the bytes that a read gives at most, the read that fails
 /// (0: none) and the limit; and `endless` where the second input, the bytes, begins again at its end.
@@ -49,6 +50,37 @@ pub(crate) fn write(alloc: Global, case: &Case<'_>) -> Result<String> {
     match answer {
         Ok(()) => Ok(format!(in alloc; "all went out:\n{out}\n")?),
         Err(written) => Ok(format!(in alloc; "{} bytes went out:\n{out}\n", written.count)?),
+    }
+}
+
+/// A reader that is interrupted once, and is at its end then.
+#[derive(Drop)]
+struct Interrupted {
+    is_past: bool,
+}
+
+impl Read for Interrupted {
+    fn read(&mut self, _buffer: &mut [u8]) -> io::Result<usize> {
+        if self.is_past {
+            return Ok(0);
+        }
+        self.is_past = true;
+        Err(io::Error::from(io::ErrorKind::Interrupted))
+    }
+}
+
+/// What comes of a read that is interrupted, of the next one, and of reading all.
+pub(crate) fn interrupted(alloc: Global) -> Result<String> {
+    let mut buffer = [0u8; 4];
+    let mut reader = FromRead::new(Interrupted { is_past: false });
+    let first = reader.read(&mut buffer).is_none();
+    let second = reader.read(&mut buffer).is_none();
+    let mut whole = FromRead::new(Interrupted { is_past: false });
+    match read_all(alloc, &mut whole, 100) {
+        Ok(bytes) => Ok(format!(in alloc; "{first} {second} {} bytes\n", bytes.len())?),
+        Err(ReadFault::Memory(fault)) => Err(fault.into()),
+        Err(ReadFault::TooLong) => Ok(format!(in alloc; "{first} {second} too long\n")?),
+        Err(ReadFault::Read) => Ok(format!(in alloc; "{first} {second} can't be read\n")?),
     }
 }
 

@@ -6,7 +6,6 @@ mod disk;
 mod explains;
 mod folder;
 mod hashes;
-#[cfg(test)]
 mod known;
 mod outcome;
 mod output;
@@ -34,6 +33,3 @@ fn awaits_bundle(rt: &HostRuntime) -> bool {
         Err(_) => false,
     }
 }
-
-#[cfg(test)]
-mod tests;
