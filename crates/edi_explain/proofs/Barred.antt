@@ -1,5 +1,5 @@
 -- Lines that bar others: by what they say, and by their first bytes.
-use Rattle.std.proofs.Common.{◌≡◌, ◌∙◌, ◌+◌, ◌-◌, ◌<◌, ◌≤◌, ◌⊎◌, ◌++◌, ◌∷◌, ◌&&◌, ◌||◌, inl, inr, ℕ, zero, suc, Bool, true, false, cond, List, [], Option, Some, None, Ok, Err, option_map, length, take, replicate, map, get_or, slice_get, refl, sym, ap, subst, arith, codes, bytes_eq, nat_eq, eqb-true, append_assoc}
+use Rattle.std.proofs.Common.{◌≡◌, ◌∙◌, ◌+◌, ◌-◌, ◌<◌, ◌≤◌, ◌⊎◌, ◌++◌, ◌∷◌, ◌&&◌, ◌||◌, inl, inr, ℕ, zero, suc, Bool, true, false, cond, List, [], Some, None, Ok, Err, option_map, length, take, replicate, map, get_or, slice_get, refl, sym, ap, arith, codes, bytes_eq, nat_eq, eqb-true, append_assoc}
 use Rattle.std.proofs.lemmas.Option.{slice_get-map, slice_get_within}
 use Rattle.std.proofs.lemmas.Slice.Eq.{bytes_eq-Decides}
 use Rattle.std.proofs.Math.Seq.{take-append_seam}
