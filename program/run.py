@@ -212,6 +212,14 @@ def explains_partners(room):
     room.write("objects", "BOMT 01:X\n" + told + record.format("p") + record.format("q") + "EOMT 00:\n")
     objects = b"refused 501 record 3\nobjects:10: FEA q: an object alike an earlier one in class, attributes, extras and pieces [501]\nobjects:7: FEA p: the earlier object [501]\n"
     room.expect("an object alike an earlier one", ["explain", "s", "d", "objects"], (2, objects, b""))
+    room.write("ends", "BOMT 01:X\n\nREMT 03:EOM\nEOMT 00:\n\nEOMT 00:\n")
+    ends = b"refused 107 line 6\nends:6: a zone after the first EOM [107]\nends:4: the earlier line [107]\n"
+    room.expect("a zone behind the end", ["explain", "s", "d", "ends"], (2, ends, b""))
+    room.write("sets", "BOMT 01:X\nRTYSA03:PNO\nRTYSA03:PNO\nCSET 03:IRV\nEOMT 00:\n")
+    sets = b"BOM after a BOM; a CSE after a CSE or after an RTY [108]\n"
+    room.expect("a character set behind a record", ["explain", "s", "d", "sets"], (2, b"refused 108 line 4\nsets:4: a " + sets + b"sets:2: the earlier line [108]\n", b""))
+    room.write("twice", "BOMT 01:X\nBOMT 01:X\nEOMT 00:\n")
+    room.expect("classes with two heads", ["explain", "twice", "d", "ends"], (2, b"refused scd 108 line 2\ntwice:2: a " + sets + b"twice:1: the earlier line [108]\n", b""))
 
 
 def explains_hints(room, sheet):

@@ -12,3 +12,4 @@ pub mod Alike
 pub mod Sought
 pub mod Quality
 pub mod Parts
+pub mod Barred

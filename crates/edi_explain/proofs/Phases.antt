@@ -2,6 +2,7 @@
 use Rattle.std.proofs.Common.{◌<◌, ◌≤◌, ℕ, List, arith}
 use Rattle.edi_line.specs.Entry.{Entry}
 use Rattle.edi_line.specs.LineRules.{BreaksLineRule}
+use Rattle.edi_line.specs.Refusal.{IsLeastBroken}
 use Rattle.edi_record.specs.RecordRules.{BreaksGroupRule}
 use Rattle.edi_record.specs.RecordRules.BreaksGroupRule.{lacks_kind, lacks_identifier, lacks_class as lacks_record_class, bad_attribute, wrong_count, bad_point, bad_end, unknown_pointer}
 use Rattle.edi_record.specs.declared.record.Record.{Record}
@@ -14,8 +15,8 @@ use Rattle.edi_topo.specs.TopologyRules.BreaksTopologyRule.{starts_elsewhere, en
 use Rattle.edi_compare.specs.Refused.{IsRefusal}
 use Rattle.edi_compare.specs.Rules.{Breaks, LinesHold, RecordsHold, ReferencesHold, TopologyHolds}
 use Rattle.edi_compare.specs.Rules.Breaks.{of_lines, of_records, of_references, of_topology, of_objects}
-use Rattle.edi_compare.specs.declared.fault.Fault.TheVariants.{Entry as AtRecord}
-use Rattle.edi_compare.proofs.Phases.{line_refusal}
+use Rattle.edi_compare.specs.declared.fault.Fault.TheVariants.{Entry as AtRecord, Line as AtLine}
+use Rattle.edi_compare.proofs.Phases.{line_refusal, object_refusal, record_refusal, reference_refusal, topology_refusal}
 
 group_below : (group : List Entry) (rule : ℕ) → BreaksGroupRule group rule → rule < 300
 group_below group rule (lacks_kind e h) = omega (arith, e)
@@ -93,3 +94,18 @@ module _ (s : Classes) (b : List ℕ) (rule at : ℕ) (is : IsRefusal s b (AtRec
   -- for the rule of objects, no rule of topology
   pub topology_holds : 500 ≤ rule → TopologyHolds s b
   topology_holds big = topology_of big is.1.is
+
+-- the least broken rule of lines
+pub line_least : (s : Classes) (b : List ℕ) (rule at : ℕ) → IsRefusal s b (AtLine rule at) → IsLeastBroken (BreaksLineRule b) rule at
+line_least s b rule at is = record { is = go is.1.is; least = λ r p h. is.1.least r p (of_lines h) }
+  where
+    go : Breaks s b rule at → BreaksLineRule b rule at
+    go (of_lines g) = g
+    go (of_records zones held z g) =
+        let late = record_refusal s b rule at held zones z (record { is = g; least = λ r p h. is.1.least r p (of_records zones held z h) }) in absurd (omega (arith, late.0, is.0))
+    go (of_references sheet held z g) =
+        let late = reference_refusal s b rule at held sheet z (record { is = g; least = λ r p h. is.1.least r p (of_references sheet held z h) }) in absurd (omega (arith, late.0, is.0))
+    go (of_topology plan held z g) =
+        let late = topology_refusal s b rule at held plan z (record { is = g; least = λ r p h. is.1.least r p (of_topology plan held z h) }) in absurd (omega (arith, late.0, is.0))
+    go (of_objects plan held z g) =
+        let late = object_refusal s b rule at held plan z (record { is = g; least = λ r p h. is.1.least r p (of_objects plan held z h) }) in absurd (omega (arith, late.0, is.0))

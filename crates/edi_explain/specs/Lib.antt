@@ -6,6 +6,7 @@ pub mod RowPartners
 pub mod Refusals
 pub mod Lines
 pub mod Explained
+pub mod Barring
 pub mod Hints
 pub mod Skipped
 pub mod inner

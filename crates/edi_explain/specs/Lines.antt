@@ -16,6 +16,15 @@ rule_mark rule = codes " [" ++ decimal rule ++ codes "]" ++ 10 ∷ []
 abbrev pub line_line : List ℕ → ℕ → List ℕ → ℕ → List ℕ
 line_line name line sentence rule = position_text name line ++ sentence ++ rule_mark rule
 
+-- the line that bars another, where there is one
+abbrev pub barring_text : List ℕ → Option ℕ → ℕ → List ℕ
+barring_text name (Some line) rule = line_line name line (codes "the earlier line") rule
+barring_text name None rule = []
+
+-- the line of a broken line, and that of the earlier one
+abbrev pub lines_of_line : List ℕ → ℕ → Option ℕ → List ℕ → ℕ → List ℕ
+lines_of_line name line earlier sentence rule = line_line name line sentence rule ++ barring_text name earlier rule
+
 -- an identifier behind a space, where there is one
 abbrev pub identifier_text : Option (List ℕ) → List ℕ
 identifier_text (Some rid) = codes " " ++ rid

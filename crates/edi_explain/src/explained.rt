@@ -9,9 +9,10 @@ ghost use Rattle.edi_explain.specs.Lines.{sentence_of};
 ghost use Rattle.edi_explain.specs.Rules.{IsTextIfAny, rules};
 ghost use Rattle.edi_explain.specs.declared.text.RuleText.{RuleText as Texts};
 
+use crate::barring::barring_line;
 use crate::counts::count_of;
 use crate::extent::{Extent, Span, extent_of};
-use crate::lines::{line_of_file, line_of_line, lines_of_refused, push_number};
+use crate::lines::{line_of_file, lines_of_broken, lines_of_refused, push_number};
 use crate::refused::{refused_record, refused_row};
 use crate::text::{RuleText, rule_text};
 use edi_compare::Fault;
@@ -52,7 +53,10 @@ pub fn explain_sheet(
 {
     match fault {
         Fault::Memory(error) => Err(*error),
-        Fault::Line { rule, at } => line_of_line(alloc, name, *at, sentence_for(*rule), *rule),
+        Fault::Line { rule, at } => {
+            let earlier = barring_line(bytes, *rule, *at);
+            lines_of_broken(alloc, name, *at, earlier, sentence_for(*rule), *rule)
+        }
         Fault::Entry { rule, at } => {
             let sites = refused_record(alloc, schema, bytes, *rule, *at)?;
             lines_of_refused(alloc, name, &sites, sentence_for(*rule), *rule)
@@ -84,8 +88,9 @@ pub fn explain_schema(
     match fault {
         SchemaFault::Memory(error) => Err(*error),
         SchemaFault::Line { file, rule, at } => {
-            let name = file_of(*file, scd, dic).name;
-            line_of_line(alloc, name, *at, sentence_for(*rule), *rule)
+            let broken = file_of(*file, scd, dic);
+            let earlier = barring_line(broken.bytes, *rule, *at);
+            lines_of_broken(alloc, broken.name, *at, earlier, sentence_for(*rule), *rule)
         }
         SchemaFault::Entry { file, rule, at } => {
             let refused = file_of(*file, scd, dic);

@@ -1,6 +1,7 @@
 //! What refusals speak of: records with their lines and identifiers, rules in words, and earlier records.
 #![tactic(auto)]
 
+pub mod barring;
 pub mod counts;
 pub mod explained;
 pub mod extent;
@@ -17,6 +18,7 @@ pub mod skipped;
 pub mod text;
 mod texts;
 
+pub use barring::barring_line;
 pub use counts::count_of;
 pub use explained::{
     NamedFile, describe_plan, explain_schema, explain_sheet, page_of, rule_of_word,

@@ -1,7 +1,7 @@
 //! Lines that say where something is refused and why.
 
 ghost use Rattle.std.specs.Prelude.{◌≡◌, ◌++◌, IfOk, OnOk, decimal};
-ghost use Rattle.edi_explain.specs.Lines.{earlier_sentence, file_line, identifier_text, line_line, line_of_site, lines_of_sites, position_text, record_line, rule_mark};
+ghost use Rattle.edi_explain.specs.Lines.{barring_text, earlier_sentence, file_line, identifier_text, line_line, line_of_site, lines_of_line, lines_of_sites, position_text, record_line, rule_mark};
 
 use crate::refused::Refused;
 use crate::site::RecordSite;
@@ -36,19 +36,49 @@ fn push_sentence(text: &mut Vec<u8>, sentence: &str, rule: u16) -> Result<(), Al
     text.extend_from_slice(b"]\n")
 }
 
-/// The line of a file with the sentence of the rule that it breaks.
-pub(crate) fn line_of_line(
-    alloc: Global,
+/// Appends the line of a file with a sentence.
+fn push_broken(
+    text: &mut Vec<u8>,
     name: &[u8],
     line: u64,
     sentence: &str,
     rule: u16,
+) -> Result<(), AllocError>
+    ensures { OnOk result (text.new.items ≡ text.old.items ++ line_line name.now line sentence.now rule) }
+{
+    push_position(text, name, line)?;
+    push_sentence(text, sentence, rule)
+}
+
+/// Appends the line that bars another, if there is one.
+fn push_barring(
+    text: &mut Vec<u8>,
+    name: &[u8],
+    earlier: Option<u64>,
+    rule: u16,
+) -> Result<(), AllocError>
+    ensures { OnOk result (text.new.items ≡ text.old.items ++ barring_text name.now earlier rule) }
+{
+    match earlier {
+        Some(line) => push_broken(text, name, line, "the earlier line", rule),
+        None => Ok(()),
+    }
+}
+
+/// The line of a file with the sentence of the rule that it breaks, and the earlier line that bars it, if there is one.
+pub(crate) fn lines_of_broken(
+    alloc: Global,
+    name: &[u8],
+    line: u64,
+    earlier: Option<u64>,
+    sentence: &str,
+    rule: u16,
 ) -> Result<Vec<u8>, AllocError>
-    ensures { IfOk result (λ text. text.items ≡ line_line name.now line sentence.now rule) }
+    ensures { IfOk result (λ text. text.items ≡ lines_of_line name.now line earlier sentence.now rule) }
 {
     let mut text = Vec::new(alloc);
-    push_position(&mut text, name, line)?;
-    push_sentence(&mut text, sentence, rule)?;
+    push_broken(&mut text, name, line, sentence, rule)?;
+    push_barring(&mut text, name, earlier, rule)?;
     Ok(text)
 }
 

@@ -1,19 +1,46 @@
 use Rattle.std.proofs.Common.{List, ℕ, ap₂, ◌∙◌, subst, sym}
 use Rattle.std.proofs.lemmas.Result.{IfOk-weaker}
 use Rattle.edi_line.specs.LineRules.{BreaksLineRule}
-use Rattle.edi_line.specs.Refusal.{IsUnbroken}
+use Rattle.edi_line.specs.Refusal.{IsLeastBroken, IsUnbroken}
+use Rattle.edi_schema.specs.Roles.{KindCodes}
+use Rattle.edi_schema.specs.declared.fault.SchemaFault.TheVariants.{Line}
 use Rattle.edi_schema.specs.SchemaRefusal.{IsSchemaRefusal}
 use Rattle.edi_schema.specs.SchemaRules.{LinesHold}
 use Rattle.edi_schema.specs.declared.fault.Source.{Source}
 use Rattle.edi_schema.specs.declared.fault.Source.TheVariants.{Scd, Dic}
+use Rattle.edi_explain.specs.Barring.{IsBarredBy}
+use Rattle.edi_explain.specs.Partners.{IsLeastIfAny}
 use Rattle.edi_explain.specs.Explained.{of_source}
-use Rattle.edi_explain.specs.Lines.{lines_of_sites}
+use Rattle.edi_explain.specs.Lines.{lines_of_line, lines_of_sites}
 use Rattle.edi_explain.specs.Refusals.{IsRowRefusedAt}
 use Rattle.edi_explain.proofs.explained.explain_schema.Goals as goal
 
 lines_of : (file : Source) (scd dic : List ℕ) → LinesHold scd dic → IsUnbroken (BreaksLineRule (of_source file scd dic))
 lines_of Scd scd dic h = h.0
 lines_of Dic scd dic h = h.1
+
+least_of : (file : Source) (scd dic : List ℕ) (kinds : KindCodes) (rule at : ℕ) → IsSchemaRefusal scd dic kinds (Line file rule at) → IsLeastBroken (BreaksLineRule (of_source file scd dic)) rule at
+least_of Scd scd dic kinds rule at h = h
+least_of Dic scd dic kinds rule at h = h.1
+
+pub barring_line-earlier-requires : goal.barring_line-earlier-requires
+barring_line-earlier-requires c =
+    let scd = c.args.scd.now.bytes.now in
+    let dic = c.args.dic.now.bytes.now in
+    let refusal = subst (IsSchemaRefusal scd dic c.requires.0) c.in-Line.is c.requires.1 in
+    subst (λ (b : List ℕ). IsLeastBroken (BreaksLineRule b) c.in-Line.rule c.in-Line.at) (sym c.file_of-broken.ensures.bytes) (least_of c.in-Line.file scd dic c.requires.0 c.in-Line.rule c.in-Line.at refusal)
+
+pub returns-in-Line : goal.returns-in-Line
+returns-in-Line c =
+    let said = c.sentence_for.ensures in
+    let earlier = c.barring_line-earlier.result in
+    rw c.in-Line.is (IfOk-weaker c.lines_of_broken.result _ _ (λ lines is. (
+      said.0,
+      earlier,
+      said.1,
+      subst (λ (b : List ℕ). IsLeastIfAny (IsBarredBy b c.in-Line.rule c.in-Line.at) earlier) c.file_of-broken.ensures.bytes c.barring_line-earlier.ensures,
+      is ∙ ap₂ (λ (n s : List ℕ). lines_of_line n c.in-Line.at earlier s c.in-Line.rule) c.file_of-broken.ensures.name said.2,
+    )) c.lines_of_broken.ensures)
 
 pub refused_row-requires : goal.refused_row-requires
 refused_row-requires c =
