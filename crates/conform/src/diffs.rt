@@ -11,10 +11,10 @@ use std::alloc::Global;
 /// What `diff` answers of two sheets: `same` or `different`, and the text. `run_diff` has to answer the same, with the last
 /// line of that text where no more is asked for.
 pub(crate) fn told(alloc: Global, setting: &Setting<'_>, case: &Case<'_>) -> Result<String> {
-    let schema = setting.schema(alloc)?;
+    let schema = setting.schema()?;
     let first = case.input(alloc, 0)?;
     let second = case.input(alloc, 1)?;
-    let answer = match diff(alloc, &schema, first.as_bytes(), second.as_bytes(), false) {
+    let answer = match diff(alloc, schema, first.as_bytes(), second.as_bytes(), false) {
         Ok(difference) => answer_of(alloc, &difference)?,
         Err(fault) => refusals::of_pair(alloc, fault)?,
     };
