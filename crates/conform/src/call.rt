@@ -19,7 +19,7 @@ pub(crate) fn answer(
         "feed" => lines::fed(alloc, case),
         "read_all" => devices::read(alloc, case),
         "put_all" => devices::write(alloc, case),
-        "interrupted read" => devices::interrupted(alloc),
+        "interrupted read" => devices::interrupted_read(alloc),
         "records" => records::stated(alloc, case),
         "ranks" => layers::of_keys(alloc, case),
         "kinds" => schemas::kinds(alloc, case),

@@ -70,7 +70,7 @@ impl Read for Interrupted {
 }
 
 /// What comes of a read that is interrupted, of the next one, and of reading all.
-pub(crate) fn interrupted(alloc: Global) -> Result<String> {
+pub(crate) fn interrupted_read(alloc: Global) -> Result<String> {
     let mut buffer = [0u8; 4];
     let mut reader = FromRead::new(Interrupted { is_past: false });
     let first = reader.read(&mut buffer).is_none();
