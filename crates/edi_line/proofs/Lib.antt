@@ -23,3 +23,4 @@ pub mod PrintedRules
 pub mod KnownFiles
 pub mod FirstByte
 pub mod HeldZones
+pub mod LentZones

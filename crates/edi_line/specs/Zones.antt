@@ -1,11 +1,13 @@
 -- The zones of lines, and the shape of a file.
 use Rattle.std.specs.Prelude.{◌≡◌, ℕ, ◌+◌, Bool, true, false, ◌||◌, List, [], ◌∷◌, ◌++◌, length, if◌then◌else◌, Option, Some, None, Ok, Err, filter, option_to_list, IfSome, codes}
 use Rattle.std.specs.List.{flat_map, AllByRecursion}
+use Rattle.std.specs.Cow.{IsOwnedSlice}
 use Rattle.edi_line.specs.Entry.{Entry, has_code, first}
-use Rattle.edi_line.specs.LineKinds.{kind_of, is_inner, is_zone, starts, bears, some_bears}
+use Rattle.edi_line.specs.LineKinds.{kind_of, is_inner, is_next, is_zone, starts, bears, some_bears}
 use Rattle.edi_line.specs.Made.{AreMadeFrom}
 use Rattle.edi_line.specs.Spelling.{Spelling, Reading}
 use Rattle.edi_line.specs.declared.order.ZoneKind.TheVariants.{Bom, Cse, Rty, Eom}
+use Rattle.edi_line.specs.declared.zone.Zone.{Zone}
 
 -- ---- the zones of lines
 
@@ -39,6 +41,22 @@ pub record IsZoneAt (front : List Reading) (line : Reading) (behind : List Readi
 -- a zone for each line that is neither blank nor NEX nor a remark, in the order of the lines
 abbrev pub IsZonesIn : List Reading → List Entry → Type 0
 IsZonesIn lines zones = AreMadeFrom (λ front line. bears is_zone line ≡ true) IsZoneAt [] lines zones
+
+-- a NEX line stands behind the line with this number, and neither a zone nor a remark between the two
+pub record IsContinued (lines : List Reading) (line : ℕ) : Type 0 where
+  pub front : List Reading
+  pub head : Reading
+  pub between : List Reading
+  pub next : Reading
+  pub rest : List Reading
+  pub cut : lines ≡ (front ++ head ∷ between) ++ next ∷ rest
+  pub numbered : line ≡ length front + 1
+  pub nothing_else : some_bears starts between ≡ false
+  pub continues : bears is_next next ≡ true
+
+-- the value is lent by the file, unless a NEX line continues it
+abbrev pub IsLentUnlessContinued : List Reading → Zone → Type 0
+IsLentUnlessContinued lines zone = IsOwnedSlice zone.value → IsContinued lines zone.line
 
 -- ---- shape
 

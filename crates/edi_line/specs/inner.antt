@@ -7,3 +7,4 @@ pub mod Held
 pub mod Feeding
 pub mod Groups
 pub mod Texts
+pub mod Lent

@@ -1,9 +1,9 @@
 //! The zones of a file.
 
-ghost use Rattle.std.specs.Prelude.{Option, Some, None, true, false, ◌≡◌, ℕ, List, ◌+◌, ◌^◌, ◌<◌, ◌≤◌, [], ◌∷◌, ◌++◌, length, map, OnOk, IfOk, IfErr, option_map};
+ghost use Rattle.std.specs.Prelude.{Option, Some, None, true, false, ◌≡◌, ℕ, List, ◌+◌, ◌^◌, ◌<◌, ◌≤◌, [], ◌∷◌, ◌++◌, length, map, OnOk, IfOk, IfErr, IfSome, option_map, option_to_list};
 ghost use Rattle.edi_line.specs.Bytes.{most_records};
 ghost use Rattle.edi_line.specs.Entry.{Entry, entry, entries};
-ghost use Rattle.edi_line.specs.Zones.{HasShape, IsFileOf, IsZonesIn, groups_of, charset_of, ends_group as zone_ends_group};
+ghost use Rattle.edi_line.specs.Zones.{HasShape, IsFileOf, IsLentUnlessContinued, IsZonesIn, groups_of, charset_of, ends_group as zone_ends_group};
 ghost use Rattle.edi_line.specs.inner.Groups.{has_group};
 ghost use Rattle.edi_line.specs.inner.Zones.{with_more, part_by};
 ghost use Rattle.edi_line.specs.LineKinds.{kind_of as kind_in};
@@ -12,6 +12,7 @@ ghost use Rattle.edi_line.specs.Refusal.{IsUnbroken, IsLineRefusal, IfBroken};
 ghost use Rattle.std.specs.List.{AllByRecursion};
 ghost use Rattle.std.specs.Cow.{cow_slice_items};
 ghost use Rattle.edi_line.specs.Printing.{IsPrintable, printed, numbered};
+ghost use Rattle.edi_line.specs.inner.Lent.{Lends, IsClosed, Leaves, LeavesAfter, begins_at};
 ghost use Rattle.edi_line.specs.inner.Held.{rule_of_kind, noted_kind, opened, Steps, Takes, Refuses, Stands, zoned, step, closed};
 ghost use Rattle.edi_line.specs.Spelling.{Reading, AreReadings};
 ghost use Rattle.edi_line.specs.inner.Spelling.{reading_of, spelling_shown};
@@ -50,6 +51,8 @@ impl<'a> Reader<'a> {
         requires line { self.old.line + 1 < 2 ^ 64 }
         requires records { self.old.order.records ≤ self.old.line }
         ensures ok { OnOk result (Takes self.old (reading_of content.now) self.new) }
+        ensures lends { OnOk result ((lines : List Reading) → length lines ≡ self.old.line → Lends lines self.old
+            → Lends (lines ++ reading_of content.now ∷ []) self.new) }
         ensures broken { IfErr result (IfBroken (Refuses self.old (reading_of content.now))) }
     {
         if let Some(spelled) = self.step(alloc, content)? {
@@ -81,6 +84,8 @@ impl<'a> Reader<'a> {
         requires line { self.old.line + 1 < 2 ^ 64 }
         requires records { self.old.order.records ≤ self.old.line }
         ensures ok { IfOk result (λ begun. Steps self.old (reading_of content.now) (option_map spelling_shown begun) self.new) }
+        ensures leaves { OnOk result (LeavesAfter (reading_of content.now) self.old self.new) }
+        ensures begun { IfOk result (λ begun. IfSome begun (λ s. self.new.open_zone ≡ None)) }
         ensures broken { IfErr result (IfBroken (Refuses self.old (reading_of content.now))) }
     {
         self.line += 1;
@@ -106,6 +111,8 @@ impl<'a> Reader<'a> {
         ensures order { OnOk result (self.new.order ≡ noted_kind self.old.order (kind_in spelled.entry.code)) }
         ensures zones { IfOk result (λ begun. opened self.old.line (option_map spelling_shown begun) (zoned self.new)
             ≡ step (part_by (kind_in spelled.entry.code) self.old.line (spelling_shown spelled.entry)) (zoned self.old)) }
+        ensures leaves { OnOk result (Leaves (kind_in spelled.entry.code) self.old self.new) }
+        ensures begun { IfOk result (λ begun. IfSome begun (λ s. self.new.open_zone ≡ None)) }
         ensures broken { IfErr result (IfBroken (λ rule at.
             (at ≡ self.old.line) × (rule_of_kind self.old.order (kind_in spelled.entry.code) ≡ Some rule))) }
     {
@@ -131,6 +138,8 @@ impl<'a> Reader<'a> {
         ensures order { OnOk result (self.new.order ≡ self.old.order) }
         ensures zones { IfOk result (λ begun. opened self.old.line (option_map spelling_shown begun) (zoned self.new)
             ≡ step (part_by kind self.old.line (spelling_shown spelled.entry)) (zoned self.old)) }
+        ensures leaves { OnOk result (Leaves kind self.old self.new) }
+        ensures begun { IfOk result (λ begun. IfSome begun (λ s. self.new.open_zone ≡ None)) }
     {
         match kind {
             ZoneKind::Next => self.lengthen(alloc, spelled.value)?,
@@ -149,6 +158,8 @@ impl<'a> Reader<'a> {
         ensures line { self.new.line ≡ self.old.line }
         ensures order { self.new.order ≡ self.old.order }
         ensures zones { zoned self.new ≡ opened self.old.line (Some (spelling_shown spelled.entry)) (zoned self.old) }
+        ensures done { self.new.zones ≡ self.old.zones }
+        ensures open_zone { IfSome self.new.open_zone (λ z. (z.line ≡ self.old.line) × (z.value ≡ value.entry)) }
     {
         self.open_zone = Some(Zone {
             line: self.line,
@@ -177,6 +188,7 @@ impl<'a> Reader<'a> {
         ensures line { OnOk result (self.new.line ≡ self.old.line) }
         ensures order { OnOk result (self.new.order ≡ self.old.order) }
         ensures zones { OnOk result (zoned self.new ≡ record { done = closed (zoned self.old); open_zone = None }) }
+        ensures closed { OnOk result (IsClosed self.old self.new) }
     {
         if let Some(zone) = self.open_zone.take() {
             self.zones.push(zone)?;
@@ -214,6 +226,7 @@ impl<'a> Reader<'a> {
     pub(crate) fn finish(mut self) -> Result<Vec<Zone<'a>>, LineFault>
         requires { self.line + 1 < 2 ^ 64 }
         ensures ok { IfOk result (λ zones. (entries zones.items ≡ closed (zoned self.entry)) × (self.entry.order.eom ≡ true)) }
+        ensures zones { IfOk result (λ zones. zones.items ≡ self.entry.zones.items ++ option_to_list self.entry.open_zone) }
         ensures broken { IfErr result (IfBroken (λ rule at. (rule ≡ 106) × (at ≡ self.entry.line + 1) × (self.entry.order.eom ≡ false))) }
     {
         if !self.order.eom {
@@ -236,7 +249,7 @@ fn ends_group(zone: &Zone<'_>) -> bool
 }
 
 /// The zones of a file in the order of its lines, without remarks: BOM, then CSE or nothing, then
-/// records each led by RTY, then EOM.
+/// records each led by RTY, then EOM. A value that no NEX line continues is lent by the file, and not copied.
 ///
 /// Where one of the rules 101 to 110 is broken, the fault names the least line with a broken rule,
 /// and the least rule that is broken there.
@@ -244,6 +257,8 @@ pub fn zones<'a>(alloc: Global, bytes: &'a [u8]) -> Result<Vec<Zone<'a>>, LineFa
     ensures zones { IfOk result (λ zones. IsZonesOf bytes.now (entries zones.items)) }
     ensures shape { IfOk result (λ zones. HasShape (entries zones.items)) }
     ensures few { IfOk result (λ zones. length (groups_of (entries zones.items)) ≤ most_records) }
+    ensures lent { IfOk result (λ zones. (readings : List Reading) → AreReadings bytes.now readings
+        → AllByRecursion (IsLentUnlessContinued readings) zones.items) }
     ensures sound { OnOk result (IsUnbroken (BreaksLineRule bytes.now)) }
     ensures least { IfErr result (IsLineRefusal (BreaksLineRule bytes.now)) }
 {
