@@ -150,9 +150,9 @@ module _ (b : List RecordName) (name : RecordName) where
         (ap (λ t. front ++ t) (sym cut.begins) ∙ (sym cut.joined ∙ line_behind text rest to turned behind e h)) in
         (parts.0, cut.begins ∙ (parts.1 ∙ ap (λ t. t ++ behind) (sym (end_begins turned))))
 
-    pub no_place : (text rest front end : List ℕ) → text ≡ front_of name ++ rest → IsCutAtMark rest front end → IsPlaceIfAny b (record { kind = name.kind; rid = front }) None
+    pub no_position : (text rest front end : List ℕ) → text ≡ front_of name ++ rest → IsCutAtMark rest front end → IsPlaceIfAny b (record { kind = name.kind; rid = front }) None
         → (to : ℕ) (turned : Bool) (behind : List ℕ) → ¬ (BeginsWith b name text to turned behind)
-    no_place text rest front end e cut none to turned behind h =
+    no_position text rest front end e cut none to turned behind h =
         let parts = line_cut text rest front end to turned behind e cut h in
         none to h.within (λ i. record { kind = h.typed i; rid = sym parts.0 i })
 

@@ -7,7 +7,7 @@ use Rattle.edi_line.specs.Refusal.{IsUnbroken}
 use Rattle.edi_line.specs.Zones.{groups_of}
 use Rattle.edi_record.specs.RecordRules.{IsOfKind}
 use Rattle.edi_record.specs.Records.{States, has_points, values}
-use Rattle.edi_record.specs.Texts.{IsPlace as IsPosition}
+use Rattle.edi_record.specs.Texts.{IsPosition}
 use Rattle.edi_record.specs.declared.record.Point.{Point}
 use Rattle.edi_record.specs.declared.record.Record.{Record}
 use Rattle.edi_record.specs.declared.sheet.Sheet.{Sheet}

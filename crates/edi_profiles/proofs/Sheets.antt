@@ -12,7 +12,7 @@ use Rattle.edi_line.proofs.KnownFiles.{unbroken_as, zones_as}
 use Rattle.edi_line.proofs.ZonesSaid.{zones_of_one}
 use Rattle.edi_record.specs.Records.{States}
 use Rattle.edi_record.specs.Rows.{node_group}
-use Rattle.edi_record.specs.Texts.{IsPlace as IsPosition}
+use Rattle.edi_record.specs.Texts.{IsPosition}
 use Rattle.edi_record.specs.inner.Records.{ReadsAs, set_after, value_after, attributes, sns_after, ends, placed}
 use Rattle.edi_record.specs.inner.Texts.{pointer, point}
 use Rattle.edi_record.specs.declared.record.Kind.TheVariants.{Pno}

@@ -4,7 +4,7 @@ use Rattle.edi_line.specs.Entry.{Entry}
 use Rattle.edi_line.specs.Zones.{groups_of}
 use Rattle.edi_record.specs.RecordRules.{BreaksRecordRule}
 use Rattle.edi_record.specs.RecordRules.BreaksGroupRule.{bad_point}
-use Rattle.edi_record.specs.RecordRules.HasBadPoint.{no_place}
+use Rattle.edi_record.specs.RecordRules.HasBadPoint.{no_position}
 use Rattle.edi_record.specs.Records.{States}
 use Rattle.edi_record.specs.declared.sheet.Sheet.{Sheet}
 use Rattle.edi_schema.specs.Classes.{Classes}
@@ -23,7 +23,7 @@ use Rattle.edi_profiles.proofs.Transfer.{zip_map}
 records_now : (zones : List Entry) (rule at : ℕ) → BreaksRecords today zones rule at → BreaksRecordRule zones rule at
 records_now zones rule at (inl h) = h
 records_now zones rule at (inr (e, (before, group, after, cut, place, (kind, is, has, any)))) =
-    record { before = before; group = group; after = after; cut = cut; place_is = place; breaks = bad_point e (no_place kind is has any) }
+    record { before = before; group = group; after = after; cut = cut; place_is = place; breaks = bad_point e (no_position kind is has any) }
 
 pub sheet_now : (b : List ℕ) (sheet : Sheet) → IsSheetBy today b sheet → IsSheetOf b sheet
 sheet_now b sheet g = (g.0, g.1, g.2)

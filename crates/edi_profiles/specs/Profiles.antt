@@ -15,7 +15,7 @@ use Rattle.edi_line.specs.Zones.{groups_of}
 use Rattle.edi_record.specs.Orders.{point_cmp, points_cmp}
 use Rattle.edi_record.specs.RecordRules.{BreaksRecordRule, IsOfKind}
 use Rattle.edi_record.specs.Records.{StatesSheet, has_points, values}
-use Rattle.edi_record.specs.Texts.{IsPlace as IsPosition}
+use Rattle.edi_record.specs.Texts.{IsPosition}
 use Rattle.edi_record.specs.declared.record.Kind.{Kind}
 use Rattle.edi_record.specs.declared.record.Kind.TheVariants.{Pno, Par, Pfe, Fea, Lnk}
 use Rattle.edi_record.specs.declared.record.Point.{Point}

@@ -44,11 +44,11 @@ place_at_Some p xs k e =
     let at : k ≡ position_or_len p xs = parts.1 in
     (at, omega (arith, at, ltb-true _ _ parts.0))
 
-pub no_place : {X : Type 0} (p : X → Bool) (xs : List X) → position p xs ≡ None → length xs ≤ position_or_len p xs
-no_place p xs e = ltb-false _ _ (none_test _ _ e)
+pub no_position : {X : Type 0} (p : X → Bool) (xs : List X) → position p xs ≡ None → length xs ≤ position_or_len p xs
+no_position p xs e = ltb-false _ _ (none_test _ _ e)
 
 pub place_at_None : {X : Type 0} (p : X → Bool) (xs : List X) → position p xs ≡ None → length xs ≡ position_or_len p xs
-place_at_None p xs e = omega (arith, no_place p xs e, prefix_len-le-length (λ x. not (p x)) xs)
+place_at_None p xs e = omega (arith, no_position p xs e, prefix_len-le-length (λ x. not (p x)) xs)
 
 -- ---- values
 

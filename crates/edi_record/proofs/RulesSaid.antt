@@ -16,10 +16,10 @@ use Rattle.edi_record.specs.RecordRefusal.{IsRecordRefusal}
 use Rattle.edi_record.specs.RecordRules.{just_one, is_identifier, has_no_identifier, IsOfKind, IsNoPointer, Counts, LacksKind, LacksClass, HasBadAttribute, CountsWrong, HasWrongCount, HasBadPoint, HasBadEnd, HasUnknownPointer, BreaksGroupRule, BreaksRecordRule}
 use Rattle.edi_record.specs.RecordRules.HasBadAttribute.{no_pointer as no_class_pointer, stray_value, second_set}
 use Rattle.edi_record.specs.RecordRules.HasWrongCount.{of_attributes, of_points, of_ends}
-use Rattle.edi_record.specs.RecordRules.HasBadPoint.{no_place, of_node, of_arc}
+use Rattle.edi_record.specs.RecordRules.HasBadPoint.{no_position, of_node, of_arc}
 use Rattle.edi_record.specs.RecordRules.HasBadEnd.{no_pointer as no_end_pointer, few as few_ends, stray_sense, second_sense}
 use Rattle.edi_record.specs.RecordRules.BreaksGroupRule.{lacks_kind, lacks_identifier, lacks_class, bad_attribute, wrong_count, bad_point, bad_end, unknown_pointer}
-use Rattle.edi_record.specs.Texts.{PointerText, IsPlace, IsCount}
+use Rattle.edi_record.specs.Texts.{PointerText, IsPosition, IsCount}
 use Rattle.edi_record.specs.inner.RecordRules.{kind_named, kind_in, in_kind, is_node, is_arc, has_no_kind, has_no_class, some_no_pointer, count_until, repeats, has_bad_attribute, counts_right, counts_wrong, has_wrong_count, has_bad_point, is_unknown_pointer, has_unknown_pointer, record_tests, FailsTest}
 use Rattle.edi_record.specs.inner.Records.{Placed, placed, is_open_after}
 use Rattle.edi_record.specs.inner.Texts.{pointer, point, count}
@@ -54,10 +54,10 @@ no_pointer_read text n = go (pointer text) refl
     go None e = refl
     go (Some p) e = absurd (n p ((pointer_is text p).0 e))
 
-no_place_said : (text : List ℕ) → is_none (point text) ≡ true → (p : Point) → ¬ (IsPlace text p)
+no_place_said : (text : List ℕ) → is_none (point text) ≡ true → (p : Point) → ¬ (IsPosition text p)
 no_place_said text e p h = let f : false ≡ true = sym (ap is_none ((place_is text p).1 h)) ∙ e in absurd cc
 
-no_place_read : (text : List ℕ) → ((p : Point) → ¬ (IsPlace text p)) → is_none (point text) ≡ true
+no_place_read : (text : List ℕ) → ((p : Point) → ¬ (IsPosition text p)) → is_none (point text) ≡ true
 no_place_read text n = go (point text) refl
   where
     go : (o : Option Point) → point text ≡ o → is_none o ≡ true
@@ -405,12 +405,12 @@ said_206 g e = go (or_cases _ _ e)
     go (inl h) =
         let p = and_parts _ _ h in
         let k = in_kind_said has_points g p.0 in
-        no_place k.0 k.1 k.2 (any_said (λ text. is_none (point text)) (λ text. (p : Point) → ¬ (IsPlace text p)) no_place_said (values (codes "COR") g) p.1)
+        no_position k.0 k.1 k.2 (any_said (λ text. is_none (point text)) (λ text. (p : Point) → ¬ (IsPosition text p)) no_place_said (values (codes "COR") g) p.1)
     go (inr h) = behind_first (or_cases _ _ h)
 
 read_206 : (g : List Entry) → HasBadPoint g → has_bad_point g ≡ true
-read_206 g (no_place kind k has h) =
-    or_left _ _ (and_from _ _ (in_kind_read has_points g kind k has) (any_read (λ text. is_none (point text)) (λ text. (p : Point) → ¬ (IsPlace text p)) no_place_read (values (codes "COR") g) h))
+read_206 g (no_position kind k has h) =
+    or_left _ _ (and_from _ _ (in_kind_read has_points g kind k has) (any_read (λ text. is_none (point text)) (λ text. (p : Point) → ¬ (IsPosition text p)) no_place_read (values (codes "COR") g) h))
 read_206 g (of_node k other) =
     or_right _ _ (or_left _ _ (and_from _ _ (in_kind_read is_node g Pno k refl) (ap not (false_from_ne_true _ (λ e. other (eqb-true (length (values (codes "COR") g)) 1 e))))))
 read_206 g (of_arc k few) = or_right _ _ (or_right _ _ (and_from _ _ (in_kind_read is_arc g Par k refl) (lt-ltb (length (values (codes "COR") g)) 2 few)))

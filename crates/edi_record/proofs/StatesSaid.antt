@@ -9,7 +9,7 @@ use Rattle.edi_line.specs.Entry.{Entry, has_code, first}
 use Rattle.edi_line.specs.Made.{AreMadeFrom}
 use Rattle.edi_line.proofs.Numbers.{number_unique}
 use Rattle.edi_record.specs.Records.{values, has_points, is_link, IsOpen, opens, closes, IsAttributeAt, points_at, IsEndAt, IsExtraAt, IsValueOf, may_be_number, IsExtraOf, States}
-use Rattle.edi_record.specs.Texts.{PointerText, IsPointer, PointsTo, IsPlace}
+use Rattle.edi_record.specs.Texts.{PointerText, IsPointer, PointsTo, IsPosition}
 use Rattle.edi_record.specs.inner.Records.{ReadsAs, Placed, placed, is_open_after, is_extra, value_of, extra, extras, attributes, ends}
 use Rattle.edi_record.specs.inner.Texts.{pointer, class_of, point}
 use Rattle.edi_record.specs.declared.name.Name.{Name}
@@ -301,7 +301,7 @@ states_said group r h = record {
   type = h.type;
   rid = h.rid;
   scp = class_said (values (codes "SCP") group) r.scp h.scp;
-  points = zip_found point IsPlace (λ text p e. (place_is text p).0 e) (cond (has_points r.kind) (values (codes "COR") group) []) r.points (sym (points_chosen (has_points r.kind) (values (codes "COR") group)) ∙ h.points);
+  points = zip_found point IsPosition (λ text p e. (place_is text p).0 e) (cond (has_points r.kind) (values (codes "COR") group) []) r.points (sym (points_chosen (has_points r.kind) (values (codes "COR") group)) ∙ h.points);
   ends = made_said points_at end_in ends ends_made IsEndAt end_said [] (cond (is_link r.kind) group []) r.ends (sym (ends_chosen (is_link r.kind) group) ∙ h.ends);
   attributes = made_said opens attribute_in attributes attributes_made IsAttributeAt attribute_said [] group r.attributes h.attributes;
   extras = subst (AreMadeFrom (IsExtraAt r.kind) IsExtraOf [] group) h.extras (extras_said r.kind false [] group open_none);
@@ -312,7 +312,7 @@ states_read group r h = record {
   type = h.type;
   rid = h.rid;
   scp = ap (map class_of) h.scp.1 ∙ ap (λ o. o ∷ []) (points_read h.scp.0 r.scp h.scp.2);
-  points = points_chosen (has_points r.kind) (values (codes "COR") group) ∙ found_zip point IsPlace (λ text p s. (place_is text p).1 s) (cond (has_points r.kind) (values (codes "COR") group) []) r.points h.points;
+  points = points_chosen (has_points r.kind) (values (codes "COR") group) ∙ found_zip point IsPosition (λ text p s. (place_is text p).1 s) (cond (has_points r.kind) (values (codes "COR") group) []) r.points h.points;
   ends = ends_chosen (is_link r.kind) group ∙ made_read points_at end_in ends ends_made IsEndAt end_read [] (cond (is_link r.kind) group []) r.ends h.ends;
   attributes = made_read opens attribute_in attributes attributes_made IsAttributeAt attribute_read [] group r.attributes h.attributes;
   extras = extras_read r.kind group r.extras h.extras;

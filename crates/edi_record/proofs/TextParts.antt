@@ -10,7 +10,7 @@ use Rattle.edi_line.specs.inner.Number.{number}
 use Rattle.std.proofs.lemmas.List.Sums.{fails_before_first}
 use Rattle.edi_line.proofs.Numbers.{position_at_Some, position_at_None}
 use Rattle.edi_line.proofs.NumberRead.{number_is, number_lacks, number_says, same_number}
-use Rattle.edi_record.specs.Texts.{shown, is_semicolon, PointerText, IsPointer, coordinates, IsPlace}
+use Rattle.edi_record.specs.Texts.{shown, is_semicolon, PointerText, IsPointer, coordinates, IsPosition}
 use Rattle.edi_record.specs.inner.Texts.{parts, pointer_of, pointer, flat_place, high_place, point_of, point, last_part, AreCut}
 use Rattle.edi_record.specs.declared.record.Point.{Point}
 use Rattle.edi_record.specs.declared.pointer.Pointer.{Pointer}
@@ -107,11 +107,11 @@ closed_again text a b e = e ∙ sym (append_assoc a (59 ∷ b) (59 ∷ []))
 closed_again_3 : (text a b c : List ℕ) → text ≡ a ++ 59 ∷ (b ++ 59 ∷ (c ++ 59 ∷ [])) → text ≡ (a ++ 59 ∷ (b ++ 59 ∷ c)) ++ 59 ∷ []
 closed_again_3 text a b c e = e ∙ simp append_assoc
 
-place_here : (text : List ℕ) (p : Point) → point text ≡ Some p → IsPlace text p
+place_here : (text : List ℕ) (p : Point) → point text ≡ Some p → IsPosition text p
 unfolding point
 place_here text p e = go (parts text) refl e
   where
-    go : (ps : List (List ℕ)) → parts text ≡ ps → point_of ps ≡ Some p → IsPlace text p
+    go : (ps : List (List ℕ)) → parts text ≡ ps → point_of ps ≡ Some p → IsPosition text p
     go (x ∷ y ∷ []) q e = record { numbers = x ∷ y ∷ []; is = inl (joined_again text (x ∷ y ∷ []) q); say = flat_here x y p e }
     go (x ∷ y ∷ [] ∷ []) q e = record { numbers = x ∷ y ∷ []; is = inr (closed_again text x y (joined_again text (x ∷ y ∷ [] ∷ []) q)); say = flat_here x y p e }
     go (x ∷ y ∷ (c ∷ z) ∷ []) q e = record { numbers = x ∷ y ∷ (c ∷ z) ∷ []; is = inl (joined_again text (x ∷ y ∷ (c ∷ z) ∷ []) q); say = high_here x y (c ∷ z) p e }
@@ -190,11 +190,11 @@ read_from text (a ∷ b ∷ []) x y (Some z) is h = absurd h.1.1
 read_from text (a ∷ b ∷ c ∷ ns) x y None is h = absurd h.1.1
 read_from text (a ∷ b ∷ c ∷ d ∷ ns) x y (Some z) is h = absurd h.1.1.1
 
-place_read : (text : List ℕ) (p : Point) → IsPlace text p → point text ≡ Some p
+place_read : (text : List ℕ) (p : Point) → IsPosition text p → point text ≡ Some p
 unfolding point
 place_read text p h = read_from text h.numbers p.x p.y p.z h.is h.say
 
-pub place_is : (text : List ℕ) (p : Point) → point text ≡ Some p ↔ IsPlace text p
+pub place_is : (text : List ℕ) (p : Point) → point text ≡ Some p ↔ IsPosition text p
 place_is text p = (place_here text p, place_read text p)
 
 -- ---- the first cut
@@ -320,7 +320,7 @@ is_nil t e is empty = nil_from_length t (eqb-true _ _ (sym is ∙ empty))
 pub pointer_one : (text : List ℕ) (p q : PointerText) → IsPointer text p → IsPointer text q → p ≡ q
 pointer_one text p q h k = let e : Some p ≡ Some q = sym ((pointer_is text p).1 h) ∙ (pointer_is text q).1 k in cc
 
-pub place_one : (text : List ℕ) (p q : Point) → IsPlace text p → IsPlace text q → p ≡ q
+pub place_one : (text : List ℕ) (p q : Point) → IsPosition text p → IsPosition text q → p ≡ q
 place_one text p q h k = let e : Some p ≡ Some q = sym ((place_is text p).1 h) ∙ (place_is text q).1 k in cc
 
 pub no_pointer : (text : List ℕ) → None ≡ pointer text → (p : PointerText) → ¬ (IsPointer text p)

@@ -95,14 +95,14 @@ bare_wrong_count g =
     (same_and (in_kind is_arc (bare g)) _ (in_kind is_arc g) _ (bare_in_kind is_arc is_arc g (λ kind. refl)) (bare_counts (codes "PTC") (codes "COR") g))
     (same_and (in_kind is_link (bare g)) _ (in_kind is_link g) _ (bare_in_kind is_link is_link g (λ kind. refl)) (bare_counts (codes "FTC") (codes "FTP") g)))
 
-no_place : List (List ℕ) → Bool
-no_place texts = list_any (λ text. is_none (point text)) texts
+no_position : List (List ℕ) → Bool
+no_position texts = list_any (λ text. is_none (point text)) texts
 
 bare_point : (g : List Entry) → has_bad_point (bare g) ≡ has_bad_point g
-unfolding no_place
+unfolding no_position
 bare_point g =
-    same_or (in_kind has_points (bare g) && no_place (values (codes "COR") (bare g))) _ (in_kind has_points g && no_place (values (codes "COR") g)) _
-    (same_and (in_kind has_points (bare g)) _ (in_kind has_points g) _ (bare_in_kind has_points has_points g (λ kind. refl)) (ap no_place (bare_values (codes "COR") g)))
+    same_or (in_kind has_points (bare g) && no_position (values (codes "COR") (bare g))) _ (in_kind has_points g && no_position (values (codes "COR") g)) _
+    (same_and (in_kind has_points (bare g)) _ (in_kind has_points g) _ (bare_in_kind has_points has_points g (λ kind. refl)) (ap no_position (bare_values (codes "COR") g)))
     (same_or (in_kind is_node (bare g) && not (eqb (length (values (codes "COR") (bare g))) 1)) _ (in_kind is_node g && not (eqb (length (values (codes "COR") g)) 1)) _
     (same_and (in_kind is_node (bare g)) _ (in_kind is_node g) _ (bare_in_kind is_node is_node g (λ kind. refl)) (ap (λ vs. not (eqb (length vs) 1)) (bare_values (codes "COR") g)))
     (same_and (in_kind is_arc (bare g)) _ (in_kind is_arc g) _ (bare_in_kind is_arc is_arc g (λ kind. refl)) (ap (λ vs. ltb (length vs) 2) (bare_values (codes "COR") g))))

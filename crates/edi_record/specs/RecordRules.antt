@@ -6,7 +6,7 @@ use Rattle.edi_line.specs.Zones.{groups_of}
 use Rattle.edi_record.specs.Bytes.{letter_p}
 use Rattle.edi_record.specs.Records.{values, has_points, IsSince, closes, IsOpen, points_at, IsExtraAt}
 use Rattle.edi_record.specs.Shapes.{kind_code}
-use Rattle.edi_record.specs.Texts.{is_semicolon, PointerText, IsPointer, IsPlace, IsCount}
+use Rattle.edi_record.specs.Texts.{is_semicolon, PointerText, IsPointer, IsPosition, IsCount}
 use Rattle.edi_record.specs.declared.record.Kind.{Kind}
 use Rattle.edi_record.specs.declared.record.Kind.TheVariants.{Pno, Par, Lnk}
 use Rattle.edi_record.specs.declared.record.Point.{Point}
@@ -67,7 +67,7 @@ module _ (group : List Entry) where
 
   -- 206: a COR of a node or an arc is no place; a node without exactly one COR; an arc with fewer than two
   pub data HasBadPoint : Type 0 where
-    no_place : (kind : Kind) → IsOfKind group kind → has_points kind ≡ true → Any (λ text. (p : Point) → ¬ (IsPlace text p)) (values (codes "COR") group) → HasBadPoint
+    no_position : (kind : Kind) → IsOfKind group kind → has_points kind ≡ true → Any (λ text. (p : Point) → ¬ (IsPosition text p)) (values (codes "COR") group) → HasBadPoint
     of_node : IsOfKind group Pno → length (values (codes "COR") group) ≢ 1 → HasBadPoint
     of_arc : IsOfKind group Par → length (values (codes "COR") group) < 2 → HasBadPoint
 

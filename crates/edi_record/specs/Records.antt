@@ -8,7 +8,7 @@ use Rattle.edi_line.specs.Number.{IsNumberText}
 use Rattle.edi_line.specs.Zones.{charset_of, groups_of, begins_group, before_end}
 use Rattle.edi_record.specs.Bytes.{letter_n, letter_r}
 use Rattle.edi_record.specs.Shapes.{kind_code}
-use Rattle.edi_record.specs.Texts.{IsPointer, PointsTo, IsPlace}
+use Rattle.edi_record.specs.Texts.{IsPointer, PointsTo, IsPosition}
 use Rattle.edi_record.specs.declared.record.Kind.{Kind}
 use Rattle.edi_record.specs.declared.record.Kind.TheVariants.{Pno, Par, Pfe, Fea, Lnk}
 use Rattle.edi_record.specs.declared.record.Record.{Record}
@@ -117,7 +117,7 @@ pub record States (group : List Entry) (r : Record) : Type 0 where
   pub type : values (codes "RTY") group ≡ kind_code r.kind ∷ []
   pub rid : values (codes "RID") group ≡ r.rid ∷ []
   pub scp : (text : List ℕ) × (values (codes "SCP") group ≡ text ∷ []) × PointsTo text r.scp
-  pub points : AllZip IsPlace (if has_points r.kind then values (codes "COR") group else []) r.points
+  pub points : AllZip IsPosition (if has_points r.kind then values (codes "COR") group else []) r.points
   pub ends : AreMadeFrom (λ front z. points_at z ≡ true) IsEndAt [] (if is_link r.kind then group else []) r.ends
   pub attributes : AreMadeFrom (λ front z. opens z ≡ true) IsAttributeAt [] group r.attributes
   pub extras : AreMadeFrom (IsExtraAt r.kind) IsExtraOf [] group r.extras

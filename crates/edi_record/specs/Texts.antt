@@ -34,13 +34,13 @@ pub record IsPointer (text : List ℕ) (p : PointerText) : Type 0 where
 abbrev pub PointsTo : List ℕ → Name → Type 0
 PointsTo text name = (lot subset : List ℕ) × IsPointer text (record { lot = lot; subset = subset; rty = name.rty; rid = name.rid })
 
--- ---- places
+-- ---- positions
 
 abbrev pub coordinates : Point → List ℤ
 coordinates p = p.x ∷ p.y ∷ option_to_list p.z
 
 -- the texts of the coordinates, with a semicolon between each two, with or without one at the end
-pub record IsPlace (text : List ℕ) (p : Point) : Type 0 where
+pub record IsPosition (text : List ℕ) (p : Point) : Type 0 where
   pub numbers : List (List ℕ)
   pub is : (text ≡ join_with_byte semicolon numbers) ⊎ (text ≡ join_with_byte semicolon numbers ++ semicolon ∷ [])
   pub say : AllZip IsNumberText numbers (coordinates p)

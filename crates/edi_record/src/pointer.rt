@@ -1,7 +1,7 @@
 //! Pointers.
 
 ghost use Rattle.std.specs.Prelude.{◌≡◌, IfOk, ℕ, List, Some, MatchOption, position, option_map, ◌==◌, ◌+◌};
-ghost use Rattle.edi_record.specs.Texts.{PointerText, shown, IsPointer, IsPlace, IsCount};
+ghost use Rattle.edi_record.specs.Texts.{PointerText, shown, IsPointer, IsPosition, IsCount};
 ghost use Rattle.edi_record.specs.inner.Texts.{AreCut};
 ghost use Rattle.edi_record.specs.declared.record.Point.{Point};
 
@@ -62,9 +62,9 @@ impl<'a> Pointer<'a> {
     }
 }
 
-/// A text has one list of parts, stands for one place, and counts one number.
+/// A text has one list of parts, states one position, and counts one number.
 pub fn texts_are_unique()
     ensures pointer { (text : List ℕ) (p q : PointerText) → IsPointer text p → IsPointer text q → p ≡ q }
-    ensures place { (text : List ℕ) (p q : Point) → IsPlace text p → IsPlace text q → p ≡ q }
+    ensures position { (text : List ℕ) (p q : Point) → IsPosition text p → IsPosition text q → p ≡ q }
     ensures count { (text : List ℕ) (m n : ℕ) → IsCount text m → IsCount text n → m ≡ n }
 {}

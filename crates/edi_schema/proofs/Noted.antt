@@ -92,9 +92,9 @@ module _ {X : Type 0} (p : X → Bool) where
 pub noted_more : (s : Classes) (e : Name × Class) (old new : ByRole (Option ℕ)) → AreNoted s old → IsWith old e.1.role (length s) new → is_some (of_role old e.1.role) ≡ false → AreNoted (s ++ e ∷ []) new
 noted_more s e old new noted write free = record { place = λ r kind. (by_role r kind).0; one = λ r kind. (by_role r kind).1 }
   where
-    no_place : (o : Option ℕ) → is_some o ≡ false → o ≡ None
-    no_place None h = refl
-    no_place (Some k) h = absurd cc
+    no_position : (o : Option ℕ) → is_some o ≡ false → o ≡ None
+    no_position None h = refl
+    no_position (Some k) h = absurd cc
 
     by_role : (r : Role) → is_plain r ≡ false → (of_role new r ≡ position (has_role r) (s ++ e ∷ [])) × (count_by (has_role r) (s ++ e ∷ []) ≤ 1)
     by_role r kind = go (same_role r e.1.role) refl
@@ -102,7 +102,7 @@ noted_more s e old new noted write free = record { place = λ r kind. (by_role r
         go : (b : Bool) → same_role r e.1.role ≡ b → (of_role new r ≡ position (has_role r) (s ++ e ∷ [])) × (count_by (has_role r) (s ++ e ∷ []) ≤ 1)
         go true h =
             let same : r ≡ e.1.role = one_role r e.1.role h in
-            let none : position (has_role r) s ≡ None = sym (noted.place r kind) ∙ (ap (of_role old) same ∙ no_place _ free) in
+            let none : position (has_role r) s ≡ None = sym (noted.place r kind) ∙ (ap (of_role old) same ∙ no_position _ free) in
             let count = count_push (has_role r) s e true h in
             (write r kind ∙ (ap (λ b. cond b (Some (length s)) (of_role old r)) h ∙ sym (position_push_new (has_role r) s e none h)), omega (arith, count, none_counted (has_role r) s none))
         go false h =

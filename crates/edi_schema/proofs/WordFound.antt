@@ -9,7 +9,7 @@ use Rattle.edi_record.specs.declared.name.Name.{Name}
 use Rattle.edi_record.specs.Texts.{shown}
 use Rattle.edi_record.specs.inner.Texts.{pointer, class_of}
 use Rattle.edi_record.specs.declared.pointer.Pointer.{Pointer}
-use Rattle.edi_record.proofs.GroupCuts.{place_at_Some, no_place}
+use Rattle.edi_record.proofs.GroupCuts.{place_at_Some, no_position}
 use Rattle.edi_schema.specs.Classes.{is_name}
 use Rattle.edi_schema.specs.Drafts.{Said, named, said, word_in}
 use Rattle.edi_schema.specs.declared.title.Title.{Title}
@@ -56,7 +56,7 @@ module _ (eq : Title → Title → Bool) (is : (a b : Title) → eq a b ≡ is_n
       → None ≡ position (eq t) ts → None ≡ option_map (λ word. word.word_type) (word_in (map said ds) text)
   word_lacks text p read rty rid none =
       let lengths : length ts ≡ length ds = omega (arith, length-map {A = Title} {B = Name}, length-map {A = Definition} {B = Name}, ap length same) in
-      let past : length ds ≤ position_or_len (eq t) ts = omega (arith, no_place (eq t) ts (sym none), lengths) in
+      let past : length ds ≤ position_or_len (eq t) ts = omega (arith, no_position (eq t) ts (sym none), lengths) in
       sym (ap (option_map (λ word. word.word_type)) (in_words text p read rty rid ∙ ap (option_map said) (slice_get_past ds (position_or_len (eq t) ts) past)))
 
 pub no_word : (words : List Said) (text : List ℕ) → None ≡ pointer text → None ≡ option_map (λ word. word.word_type) (word_in words text)

@@ -1,4 +1,4 @@
-use Rattle.edi_pairing.proofs.LineLemmas.{no_front, no_cut, no_place, no_end, line_read}
+use Rattle.edi_pairing.proofs.LineLemmas.{no_front, no_cut, no_position, no_end, line_read}
 use Rattle.edi_pairing.proofs.lines.read_line.Goals as goal
 
 pub returns-in_default : goal.returns-in_default
@@ -9,7 +9,7 @@ returns-in_default-cut_at_mark c = no_cut c.args.places.now c.args.name.now c.ar
 
 pub returns-in_default-find : goal.returns-in_default-find
 returns-in_default-find c =
-    no_place c.args.places.now c.args.name.now c.in_default-find.ensures.names c.args.text.now c.in-Some.rest.now c.in-Some-cut_at_mark.other.now c.in-Some-cut_at_mark.end.now c.in-Some.ensures c.in-Some-cut_at_mark.ensures c.in_default-find.ensures.place
+    no_position c.args.places.now c.args.name.now c.in_default-find.ensures.names c.args.text.now c.in-Some.rest.now c.in-Some-cut_at_mark.other.now c.in-Some-cut_at_mark.end.now c.in-Some.ensures c.in-Some-cut_at_mark.ensures c.in_default-find.ensures.place
 
 pub returns-in-None : goal.returns-in-None
 returns-in-None c =
