@@ -2,7 +2,9 @@
 
 use crate::case::Case;
 use crate::setting::Setting;
-use crate::{devices, diffs, layers, lines, numbers, pairings, pairs, records, schemas, sheets};
+use crate::{
+    devices, diffs, layers, lines, numbers, pairings, pairs, records, schemas, sheets, texts,
+};
 use anyhow::{Result, bail};
 use std::alloc::Global;
 
@@ -17,6 +19,9 @@ pub(crate) fn answer(
         "numbers" => numbers::numbers(alloc, case),
         "zones" => lines::cut(alloc, case),
         "feed" => lines::fed(alloc, case),
+        "zones in pieces" => lines::in_pieces(alloc, case),
+        "texts" => texts::compared(alloc, case),
+        "writers" => devices::passed_on(alloc, case),
         "read_all" => devices::read(alloc, case),
         "put_all" => devices::write(alloc, case),
         "interrupted read" => devices::interrupted_read(alloc),

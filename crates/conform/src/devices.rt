@@ -5,8 +5,8 @@ use crate::refusals;
 use crate::setting::Setting;
 use anyhow::{Context, Result};
 use edi_compare::{RunFault, canon_of, run_bundle, run_canon, run_check, run_compare};
-use edi_line::{ByteIn, FromRead, ReadFault, ScriptIn, ScriptOut, read_all};
-use edi_write::put_all;
+use edi_line::{ByteIn, FromRead, ReadFault, ScriptIn, ScriptOut, ToWrite, read_all};
+use edi_write::{Written, put_all};
 use std::alloc::Global;
 use std::io::{self, Read};
 
@@ -81,6 +81,30 @@ pub(crate) fn interrupted_read(alloc: Global) -> Result<String> {
         Err(ReadFault::Memory(fault)) => Err(fault.into()),
         Err(ReadFault::TooLong) => Ok(format!(in alloc; "{first} {second} too long\n")?),
         Err(ReadFault::Read) => Ok(format!(in alloc; "{first} {second} can't be read\n")?),
+    }
+}
+
+/// How many bytes went out to a writer of the standard library that has room, whether they are those of the case, and how
+/// many to one with room for four bytes.
+pub(crate) fn passed_on(alloc: Global, case: &Case<'_>) -> Result<String> {
+    let bytes = case.input(alloc, 0)?;
+    let mut taken = Vec::with_capacity(alloc, 100)?;
+    let all = taken_of(
+        put_all(&mut ToWrite::new(&mut taken), bytes.as_bytes()),
+        bytes.len(),
+    );
+    let same = taken.as_slice() == bytes.as_bytes();
+    let mut room = [0u8; 4];
+    let mut full = ToWrite::new(room.as_mut_slice());
+    let some = taken_of(put_all(&mut full, bytes.as_bytes()), bytes.len());
+    Ok(format!(in alloc; "{all} {same}, {some}\n")?)
+}
+
+// How many bytes of so many went out.
+fn taken_of(answer: Result<(), Written>, length: usize) -> u64 {
+    match answer {
+        Ok(()) => length as u64,
+        Err(written) => written.count,
     }
 }
 

@@ -19,13 +19,53 @@ pub(crate) fn cut(alloc: Global, case: &Case<'_>) -> Result<String> {
 
 /// What a feed answers to each piece, of which each is an input, and what it answers at the end: the zones, or the refusal.
 pub(crate) fn fed(alloc: Global, case: &Case<'_>) -> Result<String> {
+    let mut pieces = Vec::new(alloc);
+    for number in 0..case.len() {
+        pieces.push(case.input(alloc, number)?.into_bytes())?;
+    }
+    answers(alloc, &pieces)
+}
+
+/// The zones of a file, or its refusal; or in which pieces it is answered otherwise, of all two into which it can be cut.
+pub(crate) fn in_pieces(alloc: Global, case: &Case<'_>) -> Result<String> {
+    let file = case.input(alloc, 0)?;
+    let whole = cut(alloc, case)?;
+    let bytes = file.as_bytes();
+    for length in 0..=bytes.len() {
+        let (front, behind) = bytes.split_at(length);
+        let pieces = [front.to_vec(alloc)?, behind.to_vec(alloc)?];
+        if !answers(alloc, &pieces)?.as_str().ends_with(whole.as_str()) {
+            return Ok(format!(in alloc; "cut to {length} bytes it is answered otherwise\n")?);
+        }
+    }
+    if answers(alloc, &single_bytes(alloc, bytes)?)?
+        .as_str()
+        .ends_with(whole.as_str())
+    {
+        Ok(whole)
+    } else {
+        Ok(String::from_str(alloc, "byte by byte it is answered otherwise\n")?)
+    }
+}
+
+// A piece for each byte.
+fn single_bytes(alloc: Global, bytes: &[u8]) -> Result<Vec<Vec<u8>>> {
+    let mut pieces = Vec::new(alloc);
+    for byte in bytes {
+        pieces.push(Vec::from_slice(alloc, &[*byte])?)?;
+    }
+    Ok(pieces)
+}
+
+// What a feed answers to each of these pieces, and at the end.
+fn answers(alloc: Global, pieces: &[Vec<u8>]) -> Result<String> {
     let mut text = String::new(alloc);
     let mut feed = Feed::new(alloc);
     let mut length = 0usize;
-    for number in 0..case.len() {
-        let piece = case.input(alloc, number)?;
-        length = length_with(length, piece.len())?;
-        match feed.feed(piece.as_bytes()) {
+    for piece in pieces {
+        let bytes = piece.as_slice();
+        length = length_with(length, bytes.len())?;
+        match feed.feed(bytes) {
             Ok(()) => text.push_str("taken\n")?,
             Err(LineFault::Memory(fault)) => return stays_out_of_memory(alloc, feed, fault),
             Err(fault) => text.push_str(refusals::of_lines(alloc, fault)?.as_str())?,

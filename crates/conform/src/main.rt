@@ -16,6 +16,7 @@ mod refusals;
 mod schemas;
 mod setting;
 mod sheets;
+mod texts;
 
 use anyhow::{Context, Result};
 use case::{Case, CaseFile};

@@ -33,6 +33,3 @@ pub use spelling::readings_are_unique;
 pub use text::Text;
 pub use whole::{ReadFault, read_all};
 pub use zone::Zone;
-
-#[cfg(test)]
-mod tests;

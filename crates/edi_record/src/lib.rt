@@ -32,6 +32,3 @@ pub use reading::{
 };
 pub use record::{Attribute, End, Extra, Kind, Point, Record, Value};
 pub use sheet::Sheet;
-
-#[cfg(test)]
-mod tests;
