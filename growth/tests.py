@@ -20,7 +20,7 @@ CRATES = os.path.join(HERE, "..", "crates")
 DATA = os.path.join(CRATES, "conform", "data")
 # these make the calls of other files again for each byte, read or write: too many copies that run on for too long
 LOOPS = {"cuts.cases", "failing_reads.cases", "failing_writes.cases"}
-USUAL = ["conform", "edi_line", "edi_record", "edi_hash"]
+USUAL = ["conform", "edi_hash"]
 
 
 def sweep(name, program, word, library, files):
