@@ -199,6 +199,23 @@ def pair_case(room, name, kinds, wanted):
     os.remove(room.path("p"))
 
 
+def diff_case(room, name, kinds, wanted):
+    """What diff says of a pair: nothing exactly if compare says that both are the same, else lines and how many; or compare's fault."""
+    check = room.report.check
+    status, out, err = whole = room.run(["diff", *kinds, "s", "d", "a", "b"])
+    brief = room.run(["diff", "--brief", *kinds, "s", "d", "a", "b"])
+    if wanted[0] > 1:
+        check(name + ": diff", (whole, brief), (wanted, wanted))
+        return
+    rows = out.splitlines(keepends=True)
+    count = lambda mark: sum(it.startswith(mark) for it in rows)
+    last = f"{count(b'- ')} only in A, {count(b'+ ')} only in B, {count(b'~ ') - count(b'~ CSE ')} changed"
+    check(name + ": diff, status and errors", (status, err), (wanted[0], b""))
+    check(name + ": diff, last line", rows[-1:], [line(last)])
+    check(name + ": diff, more than a line", len(rows) > 1, wanted[0] == 1)
+    check(name + ": diff, brief", brief, (status, line(last), b""))
+
+
 def explains_partners(room):
     """The earlier records of rules 307 and 501."""
     front = "BOMT 01:X\nRTYSA03:PNO\nRIDSA01:a\nSCPCP22:EDAB01;SeSD;PGE;NOD_id\nCORCC04:0;0;\n"
@@ -271,6 +288,7 @@ def run_case(room, case):
         room.write("b", case["b"])
         room.expect(case["name"], ["compare", *kinds, "s", "d", "a", "b"], wanted)
         pair_case(room, case["name"], kinds, wanted)
+        diff_case(room, case["name"], kinds, wanted)
     else:
         room.write("v", case["vec"])
         room.expect(case["name"], ["check", *kinds, "s", "d", "v"], wanted)
@@ -308,11 +326,11 @@ def words(room):
     report = room.report
     for bad in (["paint"], ["check"], ["check", "s"], ["check", "s", "d"], ["canon", "s", "d", "v"], ["compare", "s", "d", "v"],
                 ["hash", "s", "d"], ["explain"], ["explain", "s", "d", "v", "v"], ["verify", "s", "d", "v", "v"], ["verify", "s", "d", "v", "v", "p", "p"], ["compare", "--pairing", "s", "d", "v", "v"],
-                ["verify", "--pairing", "p", "s", "d", "v", "v", "p"], ["check", "s", "d", "v", "v"], ["--paint"], ["check", "--paint", "s", "d", "v"], ["check", "--kinds"], ["help", "paint"]):
+                ["verify", "--pairing", "p", "s", "d", "v", "v", "p"], ["diff", "s", "d", "v"], ["diff", "--brief=yes", "s", "d", "v", "v"], ["diff", "--brief", "--brief", "s", "d", "v", "v"], ["compare", "--brief", "s", "d", "v", "v"], ["check", "s", "d", "v", "v"], ["--paint"], ["check", "--paint", "s", "d", "v"], ["check", "--kinds"], ["help", "paint"]):
         status, out, err = room.run(bad)
         report.check(f"{bad}: status and output", (status, out), (3, b""))
         report.holds(f"{bad}: says what is wrong", err.startswith(b"error: ") and err.endswith(b"\n"))
-    for asked in (["--help"], ["-h"], ["help"], ["help", "check"], ["check", "--help"], ["canon", "-h"], ["compare", "--help"], ["hash", "--help"], ["explain", "--help"], ["verify", "--help"]):
+    for asked in (["--help"], ["-h"], ["help"], ["help", "check"], ["check", "--help"], ["canon", "-h"], ["compare", "--help"], ["hash", "--help"], ["explain", "--help"], ["verify", "--help"], ["diff", "--help"]):
         status, out, err = room.run(asked)
         report.check(f"{asked}: status and output", (status, out), (0, b""))
         report.holds(f"{asked}: has the usage", b"Usage: edicad" in err and err.endswith(b"\n"))
@@ -320,9 +338,9 @@ def words(room):
     status, out, err = room.run(["--version"])
     report.check("--version", (status, out, err), (0, b"", b"edicad 0.1.0\n"))
     for kinds in ("A,B,C", "A,B,C,D,E", "A,A,B,C", "A,,C,D", ""):
-        for command in (["check", "absent", "absent", "absent"], ["canon", "absent", "absent", "absent", "o"], ["compare", "absent", "absent", "absent", "absent"], ["hash", "absent", "absent", "absent"], ["verify", *["absent"] * 5]):
+        for command in (["check", "absent", "absent", "absent"], ["canon", "absent", "absent", "absent", "o"], ["compare", "absent", "absent", "absent", "absent"], ["hash", "absent", "absent", "absent"], ["verify", *["absent"] * 5], ["diff", *["absent"] * 4]):
             room.expect(f"{command[0]} with the kinds {kinds!r}", [command[0], "--kinds", kinds, *command[1:]], (3, b"", b"bad kinds\n"))
-    for twice in (["check", "-", "-", "v"], ["check", "-", "d", "-"], ["canon", "s", "-", "-", "o"], ["compare", "s", "d", "-", "-"], ["verify", "s", "d", "-", "v", "-"], ["verify", "-", "d", "v", "v", "-"],
+    for twice in (["check", "-", "-", "v"], ["check", "-", "d", "-"], ["canon", "s", "-", "-", "o"], ["compare", "s", "d", "-", "-"], ["verify", "s", "d", "-", "v", "-"], ["verify", "-", "d", "v", "v", "-"], ["diff", "s", "d", "-", "-"],
                   ["hash", "s", "d", "-", "v", "-"], ["hash", "s", "-", "v", "-"]):
         room.expect(f"{twice}", twice, (3, b"", b"only one input can be -\n"))
     status, out, err = room.run([b"\xff"])
@@ -535,6 +553,53 @@ def pairings(room, sheet):
     report.check("the pairing of a sheet with itself", room.read("p"), b"edicad pairing 1\nPNO;Noeud_1;Noeud_1\n")
 
 
+def as_compare(room, words, status, **how):
+    """What diff answers where compare has this status, 2 or more: the same, with --brief too."""
+    wanted = room.run(["compare", *words], **how)
+    room.report.check(f"compare of {words}, status", wanted[0], status)
+    for flag in ([], ["--brief"]):
+        room.expect(f"diff of {[*flag, *words]}", ["diff", *flag, *words], wanted, **how)
+
+
+def differences(room):
+    """What differs between two sheets: the lines, the statuses and what is missing or refused."""
+    parcel = os.path.join(HERE, "..", "examples", "parcel")
+    for name, file in (("s", "schema.scd"), ("d", "dictionary.dic"), ("a", "sheet.vec"), ("same", "same_plan.vec")):
+        with open(os.path.join(parcel, file), "rb") as source:
+            room.write(name, source.read())
+    room.write("b", room.read("a").replace(b"ATVSA04:A 12", b"ATVSA04:A 13"))
+    room.write("bad", "")
+    sheets = ["s", "d", "a", "b"]
+    nothing = (0, b"0 only in A, 0 only in B, 0 changed\n", b"")
+    counts = b"2 only in A, 2 only in B, 0 changed\n"
+    found = (1, b"- FEA Objet_1 (line 39)\n+ FEA Objet_1 (line 39)\n- LNK Lien_7 (line 98)\n+ LNK Lien_7 (line 98)\n" + counts, b"")
+    room.expect("no difference", ["diff", "s", "d", "a", "a"], nothing)
+    room.expect("no difference between two exports", ["diff", "s", "d", "a", "same"], nothing)
+    room.expect("no difference, in brief", ["diff", "--brief", "s", "d", "a", "same"], nothing)
+    room.expect("another value", ["diff", *sheets], found)
+    room.expect("another value, in brief", ["diff", *sheets, "--brief"], (1, counts, b""))
+    room.expect("another value, with the usual kinds", ["diff", "--kinds", "IND,FND,LPO,RPO", *sheets], found)
+    room.write("set", room.read("a").replace(b"CSET 03:IRV\n", b""))
+    room.expect("another character set", ["diff", "s", "d", "a", "set"], (1, b"~ CSE IRV none\n" + nothing[1], b""))
+    room.expect("another character set, in brief", ["diff", "--brief", "s", "d", "a", "set"], (1, nothing[1], b""))
+    for at, name in enumerate(sheets):
+        words = list(sheets)
+        words[at] = "-"
+        room.expect(f"diff with {name} on standard input", ["diff", *words], found, room.read(name))
+        for other in ("x", "."):
+            words[at] = other
+            as_compare(room, words, 4)
+            as_compare(room, [*words[:3], "y"], 4)
+    for words in (["bad", "d", "a", "b"], ["s", "bad", "a", "b"], ["s", "d", "bad", "bad"], ["s", "d", "a", "bad"], ["--kinds", "XA,XB,XC,IND", *sheets]):
+        as_compare(room, words, 2)
+    room.expect("the second sheet is refused", ["diff", "s", "d", "a", "bad"], (2, b"refused second 106 line 1\n", b""))
+    with open("/dev/full", "wb") as full:
+        for words in (sheets, ["s", "d", "a", "same"], ["--brief", *sheets]):
+            status, _, err = room.run(["diff", *words], stdout=full)
+            room.report.check(f"diff of {words} to a full output", (status, err.split(b"\n")[0]), (4, b"cannot write standard output"))
+        as_compare(room, ["s", "d", "bad", "b"], 4, stdout=full)
+
+
 def terminal(room):
     """Without words on a terminal, a line says what is awaited."""
     awaited = b"reading SCD, DIC and VEC from the terminal, one after the other; edicad --help says more\n"
@@ -551,7 +616,7 @@ def manual(room):
     """The manual page has the usage lines that the program prints."""
     with open(os.path.join(HERE, "..", "docs", "edicad.1"), encoding="utf-8") as file:
         page = [re.sub(r"\\f[BIR]|\\&", "", it).replace("\\-", "-").strip() for it in file]
-    for words in (["--help"], ["check", "--help"], ["canon", "--help"], ["compare", "--help"], ["hash", "--help"], ["explain", "--help"], ["verify", "--help"]):
+    for words in (["--help"], ["check", "--help"], ["canon", "--help"], ["compare", "--help"], ["hash", "--help"], ["explain", "--help"], ["verify", "--help"], ["diff", "--help"]):
         usage = [it[len("Usage: "):] for it in room.run(words)[2].decode().splitlines() if it.startswith("Usage: ")]
         room.report.check(f"{words}: its usage is on the manual page", [it for it in usage if it not in page], [])
         room.report.check(f"{words}: one line of usage", len(usage), 1)
@@ -690,6 +755,7 @@ def main():
         in_room(report, program, given, hashes, bytes_of("vec"), bytes_of("canonical"))
         in_room(report, program, given, explains, bytes_of("vec"))
         in_room(report, program, given, pairings, bytes_of("vec"))
+        in_room(report, program, given, differences)
         in_room(report, program, given, explains_partners)
         in_room(report, program, given, explains_hints, bytes_of("vec"))
         in_room(report, program, given, manual)

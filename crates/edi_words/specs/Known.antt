@@ -1,7 +1,7 @@
 -- Known words.
 use Rattle.std.specs.Prelude.{◌==◌, List, [], ◌∷◌, Option, map, option_map, codes}
 use Rattle.std.specs.List.{slice_split}
-use Rattle.clap.specs.Words.{Text, first_of, subcommand_of}
+use Rattle.clap.specs.Words.{Text, first_of, one_of, subcommand_of}
 use Rattle.edi_words.specs.Requests.{edicad, values_at}
 
 -- the words of a line, parted by spaces (32)
@@ -19,6 +19,10 @@ values_of line = option_map (λ met. (
 -- the values of a line's option for a pairing's file, and of its argument FILE
 abbrev pub pairing_of : Text → Option (List (Option Text))
 pairing_of line = option_map (λ met. first_of (codes "pairing") met.1 ∷ first_of (codes "FILE") met.1 ∷ []) (subcommand_of edicad (words_in line))
+
+-- the value of a line's flag for the last line alone
+abbrev pub brief_of : Text → Option (Option Text)
+brief_of line = option_map (λ met. one_of (codes "brief") met.1) (subcommand_of edicad (words_in line))
 
 -- the subcommand of a line, with the values of its last argument VEC
 abbrev pub sheets_of : Text → Option (Text × List Text)

@@ -4,12 +4,13 @@ use Rattle.std.specs.List.{slice_split}
 use Rattle.std.specs.Str.{bytes_eq}
 use Rattle.std.proofs.Common.{Bor}
 use Rattle.clap.specs.Lexer.{usize_max}
-use Rattle.clap.specs.Words.{App, IsAmong, Row, Rule, Text, all_of, fault_of, first_of, new_app, new_rule, subcommand_of, with_rule, with_subcommand}
+use Rattle.clap.specs.Words.{App, IsAmong, Row, Rule, Text, all_of, fault_of, first_of, new_app, new_rule, one_of, subcommand_of, with_rule, with_subcommand}
+use Rattle.clap.specs.declared.builder.action.ArgAction.TheVariants.{SetTrue}
 use Rattle.clap.specs.declared.error.kind.ErrorKind.{ErrorKind}
 use Rattle.clap.specs.declared.error.kind.ErrorKind.TheVariants.{OutOfMemory, DisplayHelp, DisplayVersion}
 use Rattle.edi_schema.specs.Roles.{KindCodes, AreKindCodes}
 use Rattle.edi_words.specs.declared.words.Request.{Request}
-use Rattle.edi_words.specs.declared.words.Request.TheVariants.{Bundle, Check, Canon, Compare, Hash, Explain, Verify, Misused, Answered}
+use Rattle.edi_words.specs.declared.words.Request.TheVariants.{Bundle, Check, Canon, Compare, Hash, Explain, Verify, Diff, Misused, Answered}
 use Rattle.edi_words.specs.declared.words.Request.TheVariants as asks
 use Rattle.edi_words.specs.declared.words.Misuse.{Misuse}
 use Rattle.edi_words.specs.declared.words.Misuse.TheVariants.{BadKinds, TwoStandard, NoSheet, StandardPairing}
@@ -24,6 +25,10 @@ kinds_rule = record (new_rule (codes "kinds")) { long = Some (codes "kinds"); va
 -- the option with the file that a pairing goes to, which has one value
 abbrev pub pairing_rule : Rule
 pairing_rule = record (new_rule (codes "pairing")) { long = Some (codes "pairing"); value_names = 1 }
+
+-- the flag for the last line alone, which has no value
+abbrev pub brief_rule : Rule
+brief_rule = record (new_rule (codes "brief")) { long = Some (codes "brief"); action = Some SetTrue }
 
 -- a file that has to be named
 abbrev pub file_rule : Text → Rule
@@ -62,12 +67,16 @@ explain_command = with_rule (with_rule (with_rule (with_rule (new_app (codes "ex
 abbrev pub verify_command : App
 verify_command = with_rule (with_rule (with_rule (schema_command (codes "verify")) (file_rule (codes "A"))) (file_rule (codes "B"))) (file_rule (codes "FILE"))
 
+-- the subcommand that tells what differs between two sheets
+abbrev pub diff_command : App
+diff_command = with_rule (with_rule (with_rule (schema_command (codes "diff")) (file_rule (codes "A"))) (file_rule (codes "B"))) brief_rule
+
 -- a command that says its version
 abbrev pub versioned : App → App
 versioned a = record a { top = record a.top { has_version = true } }
 
 abbrev pub edicad : App
-edicad = with_subcommand (with_subcommand (with_subcommand (with_subcommand (with_subcommand (with_subcommand (versioned (new_app (codes "edicad"))) check_command.top) canon_command.top) compare_command.top) hash_command.top) explain_command.top) verify_command.top
+edicad = with_subcommand (with_subcommand (with_subcommand (with_subcommand (with_subcommand (with_subcommand (with_subcommand (versioned (new_app (codes "edicad"))) check_command.top) canon_command.top) compare_command.top) hash_command.top) explain_command.top) verify_command.top) diff_command.top
 
 -- IND, FND, LPO and RPO
 abbrev pub usual_kinds : KindCodes
@@ -90,6 +99,10 @@ value_at id rows = unwrap_or (first_of id rows) []
 -- the values of an argument
 abbrev pub values_at : Text → List Row → List (List ℕ)
 values_at id rows = unwrap_or (all_of id rows) []
+
+-- the value of a flag with this text, which is true where it is given, and false where it isn't
+abbrev pub IsFlag : Option Text → Bool → Type 0
+IsFlag text value = (text ≡ None → value ≡ false) × (text ≡ Some (codes "true") → value ≡ true) × (text ≡ Some (codes "false") → value ≡ false)
 
 -- the arguments give these codes
 abbrev pub GiveKinds : List Row → KindCodes → Type 0
@@ -159,9 +172,9 @@ misuse_text TwoStandard = codes "only one input can be -"
 misuse_text NoSheet = codes "explain takes RULE, or SCD, DIC and VEC"
 misuse_text StandardPairing = codes "--pairing takes a file, and not -"
 
--- the subcommand, if there is one, is check, canon, compare, hash, explain or verify
+-- the subcommand, if there is one, is check, canon, compare, hash, explain, verify or diff
 abbrev pub IsOwn : Option (Text × List Row) → Type 0
-IsOwn met = IfSome met (λ p. (p.0 ≡ codes "check") ⊎ ((p.0 ≡ codes "canon") ⊎ ((p.0 ≡ codes "compare") ⊎ ((p.0 ≡ codes "hash") ⊎ ((p.0 ≡ codes "explain") ⊎ (p.0 ≡ codes "verify"))))))
+IsOwn met = IfSome met (λ p. (p.0 ≡ codes "check") ⊎ ((p.0 ≡ codes "canon") ⊎ ((p.0 ≡ codes "compare") ⊎ ((p.0 ≡ codes "hash") ⊎ ((p.0 ≡ codes "explain") ⊎ ((p.0 ≡ codes "verify") ⊎ (p.0 ≡ codes "diff")))))))
 
 -- the file that the option names, if it is given, and which isn't standard output
 abbrev pub IsPairingFile : List Row → Option (Bor (List ℕ)) → Type 0
@@ -182,6 +195,8 @@ Means met (asks.Rule word) = (rows : List Row) × (met ≡ Some (codes "explain"
     × (is_given (codes "DIC") rows ≡ false)
 Means met (Verify kinds files pairing) = (rows : List Row) × (met ≡ Some (codes "verify", rows)) × GiveKinds rows kinds × ArePairFiles rows files
     × (pairing.now ≡ value_at (codes "FILE") rows)
+Means met (Diff kinds files brief) = (rows : List Row) × (met ≡ Some (codes "diff", rows)) × GiveKinds rows kinds × ArePairFiles rows files
+    × IsFlag (one_of (codes "brief") rows) brief
 Means met (Misused misuse) = (name : Text) × (rows : List Row) × (met ≡ Some (name, rows)) × IsMisuse name rows misuse
 Means met (Answered status) = status ≡ 5
 

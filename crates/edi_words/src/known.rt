@@ -2,7 +2,7 @@
 ghost use Rattle.std.specs.Prelude.{◌≡◌, [], ◌∷◌, None, Some, codes};
 ghost use Rattle.clap.specs.Words.{fault_of, subcommand_of};
 ghost use Rattle.clap.specs.declared.error.ErrorKind.TheVariants.{DisplayHelp, DisplayVersion, InvalidSubcommand, MissingRequiredArgument, UnknownArgument};
-ghost use Rattle.edi_words.specs.Known.{pairing_of, sheets_of, values_of, words_in};
+ghost use Rattle.edi_words.specs.Known.{brief_of, pairing_of, sheets_of, values_of, words_in};
 ghost use Rattle.edi_words.specs.Requests.{edicad};
 
 /// Known words ask for what they should.
@@ -23,6 +23,10 @@ pub fn known_words_are_asked()
         ≡ Some (codes "verify", None ∷ Some (codes "s") ∷ Some (codes "d") ∷ None ∷ None ∷ Some (codes "a") ∷ Some (codes "b") ∷ []) }
     ensures pairing_checked { pairing_of (codes "edicad verify s d a b f") ≡ Some (None ∷ Some (codes "f") ∷ []) }
     ensures pairing_written { pairing_of (codes "edicad compare --pairing f s d a b") ≡ Some (Some (codes "f") ∷ None ∷ []) }
+    ensures diff { values_of (codes "edicad diff s d a b")
+        ≡ Some (codes "diff", None ∷ Some (codes "s") ∷ Some (codes "d") ∷ None ∷ None ∷ Some (codes "a") ∷ Some (codes "b") ∷ []) }
+    ensures whole { brief_of (codes "edicad diff s d a b") ≡ Some (Some (codes "false")) }
+    ensures brief { brief_of (codes "edicad diff --brief s d a b") ≡ Some (Some (codes "true")) }
     ensures no_bundle_fault { fault_of edicad (words_in (codes "edicad")) ≡ [] }
     ensures no_check_fault { fault_of edicad (words_in (codes "edicad check s d v")) ≡ [] }
     ensures no_canon_fault { fault_of edicad (words_in (codes "edicad canon s --kinds=A,B,C,D d v o")) ≡ [] }
@@ -32,6 +36,8 @@ pub fn known_words_are_asked()
     ensures no_rule_fault { fault_of edicad (words_in (codes "edicad explain 403")) ≡ [] }
     ensures no_verify_fault { fault_of edicad (words_in (codes "edicad verify s d a b f")) ≡ [] }
     ensures no_pairing_fault { fault_of edicad (words_in (codes "edicad compare --pairing f s d a b")) ≡ [] }
+    ensures no_diff_fault { fault_of edicad (words_in (codes "edicad diff s d a b")) ≡ [] }
+    ensures no_brief_fault { fault_of edicad (words_in (codes "edicad diff --brief s d a b")) ≡ [] }
     ensures no_sheet { fault_of edicad (words_in (codes "edicad hash s d")) ≡ MissingRequiredArgument ∷ [] }
     ensures help { fault_of edicad (words_in (codes "edicad --help")) ≡ DisplayHelp ∷ [] }
     ensures version { fault_of edicad (words_in (codes "edicad --version")) ≡ DisplayVersion ∷ [] }

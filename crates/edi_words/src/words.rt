@@ -1,11 +1,11 @@
 //! What the words of the command line ask for.
 ghost use Rattle.std.specs.Prelude.{◌≡◌, ◌↔◌, ◌<◌, ◌≤◌, ◌^◌, IsTrue, IfErr, IfOk, MatchOption, OnOk, Some, [], codes, length, map, option_map, string_bytes};
-ghost use Rattle.clap.specs.Words.{HasKind, app_of, fault_of, found_of, kind_of, new_rule, rows_of, rule_of, subcommand_of, subcommand_rows_of, with_rule};
+ghost use Rattle.clap.specs.Words.{HasKind, app_of, fault_of, found_of, kind_of, new_rule, one_of, rows_of, rule_of, subcommand_of, subcommand_rows_of, with_rule};
 ghost use Rattle.edi_schema.specs.Roles.{KindCodes};
-ghost use Rattle.edi_words.specs.Requests.{AreKindsIn, AreKindsOf, AreManyFiles, ArePairFiles, AreSheetFiles, IsAsked, GiveKinds, IsOwn, Means, canon_command, check_command, compare_command, edicad, explain_command, file_rule, files_rule, hash_command, is_given, is_standard_path, kinds_rule, pairing_rule, schema_command, standard_at, standard_count, standard_in, status_of_kind, subject_rule, value_at, values_at, verify_command};
+ghost use Rattle.edi_words.specs.Requests.{AreKindsIn, AreKindsOf, AreManyFiles, ArePairFiles, AreSheetFiles, IsAsked, IsFlag, GiveKinds, IsOwn, Means, brief_rule, canon_command, check_command, compare_command, diff_command, edicad, explain_command, file_rule, files_rule, hash_command, is_given, is_standard_path, kinds_rule, pairing_rule, schema_command, standard_at, standard_count, standard_in, status_of_kind, subject_rule, value_at, values_at, verify_command};
 
 use clap::error::ErrorKind;
-use clap::{Arg, ArgMatches, Command, Error};
+use clap::{Arg, ArgAction, ArgMatches, Command, Error};
 use edi_schema::Kinds;
 use std::alloc::{AllocError, Global};
 
@@ -99,6 +99,12 @@ pub enum Request<'a> {
         files: PairFiles<'a>,
         pairing: &'a str,
     },
+    /// What differs between two sheets, or only how many records differ.
+    Diff {
+        kinds: Kinds<'a>,
+        files: PairFiles<'a>,
+        brief: bool,
+    },
     /// Nothing that can be meant.
     Misused(Misuse),
     /// Nothing more: the words were answered on standard error, and this is the exit status.
@@ -152,7 +158,8 @@ fn command<'a>(alloc: Global) -> Result<Command<'a>, AllocError>
         .subcommand(compare(alloc)?)?
         .subcommand(hash(alloc)?)?
         .subcommand(explain(alloc)?)?
-        .subcommand(verify(alloc)?)
+        .subcommand(verify(alloc)?)?
+        .subcommand(diff(alloc)?)
 }
 
 // The subcommand that checks a sheet.
@@ -215,6 +222,14 @@ fn verify<'a>(alloc: Global) -> Result<Command<'a>, AllocError>
         "FILE",
         "The pairing, as compare --pairing writes it",
     )
+}
+
+// The subcommand that tells what differs between two sheets.
+fn diff<'a>(alloc: Global) -> Result<Command<'a>, AllocError>
+    ensures { IfOk result (λ c. app_of c ≡ diff_command) }
+{
+    let over_schema = over_schema(alloc, "diff")?.about("Says what differs between two sheets");
+    with_pair(alloc, over_schema)?.arg(brief_flag(alloc))
 }
 
 // A command with two more sheets.
@@ -321,6 +336,16 @@ fn pairing_option<'a>(alloc: Global) -> Arg<'a>
         .help("Where a pairing goes if the plans are the same")
 }
 
+// The flag that asks for the last line alone.
+fn brief_flag<'a>(alloc: Global) -> Arg<'a>
+    ensures { rule_of result ≡ brief_rule }
+{
+    Arg::new(alloc, "brief")
+        .long("brief")
+        .action(ArgAction::SetTrue)
+        .help("Only how many records differ")
+}
+
 // What words in good form ask for.
 fn meant<'a, R: Eprint + AllocGlobal>(rt: &R, matches: &ArgMatches<'a>) -> Request<'a>
     requires { IsOwn (subcommand_rows_of matches.now) }
@@ -354,6 +379,11 @@ fn meant<'a, R: Eprint + AllocGlobal>(rt: &R, matches: &ArgMatches<'a>) -> Reque
             kinds,
             files: pair_files(given),
             pairing: path(given, "FILE"),
+        },
+        "diff" => Request::Diff {
+            kinds,
+            files: pair_files(given),
+            brief: flag(given, "brief"),
         },
         _ => explained(given, kinds),
     }
@@ -389,6 +419,13 @@ fn explained<'a>(given: &ArgMatches<'a>, kinds: Kinds<'a>) -> Request<'a>
             files: sheet_files(given),
         },
     }
+}
+
+// Whether a flag is given.
+fn flag(given: &ArgMatches<'_>, name: &str) -> bool
+    ensures { IsFlag (one_of name.now (rows_of (found_of given.now))) result }
+{
+    given.get_flag(name)
 }
 
 // Whether an argument is given.

@@ -7,9 +7,9 @@ use Rattle.edicad.specs.Hashes.{IsHashStatus}
 use Rattle.edicad.specs.Outcome.{ended}
 use Rattle.edi_words.specs.Requests.{is_standard_path, misuse_text}
 use Rattle.edicad.specs.SheetRuns.{Inputs}
-use Rattle.edicad.specs.Statuses.{IsBundleStatus, IsCanonStatus, IsCompareStatus, IsFileStatus, IsPairingStatus, IsSendStatus, IsVerifyStatus, Warns}
+use Rattle.edicad.specs.Statuses.{IsBundleStatus, IsCanonStatus, IsCompareStatus, IsDiffStatus, IsFileStatus, IsPairingStatus, IsSendStatus, IsVerifyStatus, Warns}
 use Rattle.edi_words.specs.declared.words.Request.{Request}
-use Rattle.edi_words.specs.declared.words.Request.TheVariants.{Bundle, Check, Canon, Compare, Hash, Explain, Rule, Verify, Misused, Answered}
+use Rattle.edi_words.specs.declared.words.Request.TheVariants.{Bundle, Check, Canon, Compare, Hash, Explain, Rule, Verify, Diff, Misused, Answered}
 
 -- The status of what was asked for, over what is known of the inputs, which bytes were put where, and what the two streams
 -- have before and after.
@@ -24,5 +24,6 @@ IsAnswered inputs is_one Puts Stops out err (Hash kinds files) s = IsHashStatus 
 IsAnswered inputs is_one Puts Stops out err (Explain kinds files) s = IsExplainStatus inputs out err kinds files s
 IsAnswered inputs is_one Puts Stops out err (Rule word) s = IsRuleStatus out err word.now s
 IsAnswered inputs is_one Puts Stops out err (Verify kinds files pairing) s = IsVerifyStatus inputs out err kinds files pairing.now s
+IsAnswered inputs is_one Puts Stops out err (Diff kinds files brief) s = IsDiffStatus inputs out err kinds files brief s
 IsAnswered inputs is_one Puts Stops out err (Misused misuse) s = (s ≡ 3) × Warns err (ended (misuse_text misuse))
 IsAnswered inputs is_one Puts Stops out err (Answered status) s = s ≡ status

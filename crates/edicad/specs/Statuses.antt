@@ -11,13 +11,15 @@ use Rattle.edi_compare.specs.declared.pairing.Verdict.TheVariants.{Same, Differe
 use Rattle.edi_compare.specs.Bundle.{OfParts}
 use Rattle.edi_compare.specs.Runs.{InputFault, IsSheetUnder, IsVerdictOf, RefusesSchema, RefusesSecond, RefusesSheet, Seen, WritesAll, WritesFirst}
 use Rattle.edicad.specs.Outcome.{ended, schema_text, sheet_text, status_of_fault, words_of_fault}
+use Rattle.edi_diff.specs.Runs.{IsDifferenceUnder}
+use Rattle.edi_diff.specs.declared.differing.Difference.{Difference}
 use Rattle.edi_words.specs.Requests.{IsAsked, is_standard_path, usual_kinds}
 use Rattle.edi_pairing.specs.VerifyRuns.{IsVerifiedUnder, RefusesFile}
 use Rattle.edicad.specs.SheetRuns.{AreFiveThere, AreFourThere, AreThere, CanonFault, FileFault, FirstMissing, FirstOfFiveMissing, FirstOfFourMissing, Inputs, IsInput, IsPairInput, OfCanon, OfFiles, OfFive, OfPair, OfPairing, PairFileFault, PairingFault, VerifyFileFault}
 use Rattle.edi_words.specs.declared.words.PairFiles.{PairFiles}
 use Rattle.edi_words.specs.declared.words.SheetFiles.{SheetFiles}
 use Rattle.edi_words.specs.declared.words.Request.{Request}
-use Rattle.edi_words.specs.declared.words.Request.TheVariants.{Bundle, Check, Canon, Compare, Hash, Explain, Rule, Verify, Misused, Answered}
+use Rattle.edi_words.specs.declared.words.Request.TheVariants.{Bundle, Check, Canon, Compare, Hash, Explain, Rule, Verify, Diff, Misused, Answered}
 
 -- of a run over sheets, each for itself: accepted, refused, not read or not written, out of memory
 abbrev pub IsSheetStatus : ℕ → Type 0
@@ -41,6 +43,7 @@ IsStatusOf (Hash kinds files) s = IsSheetStatus s
 IsStatusOf (Explain kinds files) s = IsSheetStatus s
 IsStatusOf (Rule word) s = IsPageStatus s
 IsStatusOf (Verify kinds files pairing) s = IsPairStatus s
+IsStatusOf (Diff kinds files brief) s = IsPairStatus s
 IsStatusOf (Misused misuse) s = s ≡ 3
 IsStatusOf (Answered status) s = s ≡ status
 
@@ -172,6 +175,20 @@ pub record IsVerifyStatus (inputs : Inputs) (out err : Seen) (kinds : KindCodes)
   pub unpaired : s ≡ 1 → OfFive inputs files pairing (λ scd dic a b f. IsVerifiedUnder kinds scd dic a b f false) × Says out (ended (codes "does not pair"))
   pub means : MeansStatus (OfFive inputs files pairing (λ scd dic a b f. IsVerifiedUnder kinds scd dic a b f true) × Says out (ended (codes "pairs")))
       (SaysVerifyRefusal inputs out kinds files pairing) (VerifyFileFault inputs kinds files pairing) (verify_names_of files pairing) out err s
+
+-- this differs between the two sheets, the plans are the same or not, and the text of the difference went out
+abbrev pub TellsDifference : Inputs → Seen → KindCodes → PairFiles → Bool → Bool → Type 0
+TellsDifference inputs out kinds files brief same =
+    (difference : Difference) × OfPair inputs files (λ scd dic a b. IsDifferenceUnder kinds scd dic a b brief difference) × (difference.same ≡ same)
+    × Says out difference.text.items
+
+-- The status of a run that tells what differs between two sheets: 0 only where the plans are the same, 1 only where they are
+-- not, and the output gets the text of the difference; 2 only where a sheet is refused, which is said.
+pub record IsDiffStatus (inputs : Inputs) (out err : Seen) (kinds : KindCodes) (files : PairFiles) (brief : Bool) (s : ℕ) : Type 0 where
+  pub tried : AreFourThere inputs files ⊎ ((n : ℕ) × FirstOfFourMissing inputs files n)
+  pub different : s ≡ 1 → TellsDifference inputs out kinds files brief false
+  pub means : MeansStatus (TellsDifference inputs out kinds files brief true) (OfPair inputs files (SaysPairRefusal out kinds))
+      (PairFileFault inputs kinds files (λ _. ⊥)) (pair_names_of files (codes "standard output")) out err s
 
 -- the status once the line was printed: that of the outcome, 5 without memory for the line, 4 where it can't be printed
 abbrev pub IsToldAs : ℕ → ℕ → Type 0

@@ -1,12 +1,14 @@
 //! What the program does with its words.
-ghost use Rattle.std.specs.Prelude.{◌≡◌, ◌⊎◌, ℕ, List, Option, map, string_bytes, codes};
+ghost use Rattle.std.specs.Prelude.{◌≡◌, ◌⊎◌, ◌<◌, ℕ, IsTrue, List, Option, map, string_bytes, codes};
+ghost use Rattle.std.specs.Bool.{MatchBool};
+ghost use Rattle.std.specs.Io.KnownBytes.{Appends};
 ghost use Rattle.edi_compare.specs.Runs.{seen};
 ghost use Rattle.edicad.specs.Answered.{IsAnswered};
 ghost use Rattle.edicad.specs.Outcome.{ended, outcome_for, paired_outcome, verified_outcome};
 ghost use Rattle.edicad.specs.Outputs.{IsUnmade, Reaches, Stops};
 ghost use Rattle.edi_words.specs.Requests.{IsAsked};
 ghost use Rattle.edicad.specs.SheetRuns.{inputs_of};
-ghost use Rattle.edicad.specs.Statuses.{HasStatus, IsBundleStatus, IsCanonStatus, IsCompareStatus, IsFileStatus, IsPairStatus, IsPairingStatus, IsSendStatus, IsSheetStatus, IsStatus, IsStatusOf, IsVerifyStatus, Warns};
+ghost use Rattle.edicad.specs.Statuses.{HasStatus, IsBundleStatus, IsCanonStatus, IsCompareStatus, IsDiffStatus, IsFileStatus, IsPairStatus, IsPairingStatus, IsSendStatus, IsSheetStatus, IsStatus, IsStatusOf, IsVerifyStatus, Warns};
 ghost use Rattle.edi_words.specs.declared.words.Request.{Request};
 
 use crate::disk::Disk;
@@ -18,13 +20,17 @@ use crate::report::input_name;
 use crate::system::{CommandLine, Errors, Words};
 use crate::{report, sheets};
 use edi_compare::{RunFault, Verdict};
+use edi_diff::Difference;
 use edi_line::{ByteOut, ToWrite};
 use edi_pairing::VerifyRunFault;
 use edi_schema::Kinds;
 use edi_words::{PairFiles, Request, SheetFiles, asked, is_standard};
+use edi_write::put_all;
 use std::alloc::Global;
 use std::io;
 use std::rt::Runtime;
+
+const DIFFERENT_STATUS: u8 = 1;
 
 /// Does what the words of the command line ask for, and gives the exit status.
 pub fn run<R: Runtime + AllocGlobal>(rt: &R) -> u8
@@ -127,6 +133,11 @@ pub fn answered<F: Folder, O: ByteOut, E: ByteOut>(
             files,
             pairing,
         } => verify(alloc, folder, &kinds, &files, pairing, out, err),
+        Request::Diff {
+            kinds,
+            files,
+            brief,
+        } => diff(alloc, folder, &kinds, &files, brief, out, err),
         Request::Misused(misuse) => report::misused(err, misuse),
         Request::Answered(status) => status,
     }
@@ -301,6 +312,44 @@ fn verify<F: Folder, O: ByteOut, E: ByteOut>(
     ];
     let outcome = outcome_of_verified(sheets::verify(alloc, folder, kinds, files, pairing));
     report::told(alloc, out, err, &outcome, &names)
+}
+
+// What differs between two sheets, or the last line of that alone.
+fn diff<F: Folder, O: ByteOut, E: ByteOut>(
+    alloc: Global,
+    folder: &F,
+    kinds: &Kinds<'_>,
+    files: &PairFiles<'_>,
+    brief: bool,
+    out: &mut O,
+    err: &mut E,
+) -> u8
+    ensures status { IsPairStatus result }
+    ensures answer { IsDiffStatus (inputs_of F.Reader (F.holds folder.now) (F.closed folder.now) (F.standard folder.now) F.Reader.has_failed) (seen (O.told out.old) (O.told out.new) (O.has_failed out.new)) (seen (E.told err.old) (E.told err.new) (E.has_failed err.new)) kinds.now files.now brief result }
+{
+    let names = [
+        input_name(files.scd),
+        input_name(files.dic),
+        input_name(files.first),
+        input_name(files.second),
+        b"standard output",
+    ];
+    match sheets::diff(alloc, folder, kinds, files, brief) {
+        Ok(difference) => put_difference(&difference, out, err),
+        Err(fault) => report::told(alloc, out, err, &Outcome::Fault(fault), &names),
+    }
+}
+
+// Writes what differs, and gives the status.
+fn put_difference<O: ByteOut, E: ByteOut>(difference: &Difference, out: &mut O, err: &mut E) -> u8
+    ensures status { (result ≡ 4) ⊎ MatchBool difference.now.same (result ≡ 0) (result ≡ 1) }
+    ensures written { result < 3 → Appends (O.told out.old) (O.told out.new) difference.now.text.items }
+    ensures unwritten { result ≡ 4 → IsTrue (O.has_failed out.new) }
+{
+    if put_all(out, &difference.text).is_err() {
+        return report::unwritten(err);
+    }
+    if difference.same { 0 } else { DIFFERENT_STATUS }
 }
 
 // What a comparison to a pairing's file came to.

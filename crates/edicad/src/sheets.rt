@@ -5,6 +5,7 @@ ghost use Rattle.std.specs.Io.KnownBytes.{Appends};
 ghost use Rattle.edi_compare.specs.Bundle.{OfParts};
 ghost use Rattle.edi_compare.specs.Runs.{BeforeWriting, InputFault, IsCanonOf, IsSheetUnder, IsVerdictOf, MatchFault, WritesAll, WritesFirst};
 ghost use Rattle.edi_compare.specs.declared.pairing.Verdict.TheVariants.{Different};
+ghost use Rattle.edi_diff.specs.Runs.{IsDifferenceUnder};
 ghost use Rattle.edi_pairing.specs.CompareRuns.{IsComparedUnder, IsPairingFileOf};
 ghost use Rattle.edi_pairing.specs.VerifyRuns.{IsVerifiedUnder, MatchRun, RefusesFile};
 ghost use Rattle.edicad.specs.Folders.{Goes};
@@ -16,6 +17,7 @@ ghost use Rattle.edicad.specs.SheetRuns.{CanonFault, FileFault, Gives, IsApart, 
 use crate::folder::Folder;
 use crate::output;
 use edi_compare::{RunFault, Verdict, canon_of, run_bundle, run_check, run_compare};
+use edi_diff::{Difference, run_diff};
 use edi_line::ByteOut;
 use edi_pairing::{Compared, VerifyRunFault, run_compare_to_file, run_verify};
 use edi_schema::Kinds;
@@ -118,6 +120,34 @@ pub fn compare<F: Folder>(
     let mut first = opened(folder, files.first, 3)?;
     let mut second = opened(folder, files.second, 4)?;
     run_compare(alloc, kinds, &mut scd, &mut dic, &mut first, &mut second)
+}
+
+/// What differs between the two sheets of four files, or the last line of that alone. All are opened before the first is
+/// read.
+pub fn diff<F: Folder>(
+    alloc: Global,
+    folder: &F,
+    kinds: &Kinds<'_>,
+    files: &PairFiles<'_>,
+    brief: bool,
+) -> Result<Difference, RunFault>
+    ensures ok { IfOk result (λ difference. OfPair (inputs_of F.Reader (F.holds folder.now) (F.closed folder.now) (F.standard folder.now) F.Reader.has_failed) files.now (λ s d a b. IsDifferenceUnder kinds.now s d a b brief difference)) }
+    ensures err { IfErr result (PairFileFault (inputs_of F.Reader (F.holds folder.now) (F.closed folder.now) (F.standard folder.now) F.Reader.has_failed) kinds.now files.now (λ _. ⊥)) }
+    ensures names { IfErr result (λ e. FaultHasNames e 5) }
+{
+    let mut scd = opened(folder, files.scd, 1)?;
+    let mut dic = opened(folder, files.dic, 2)?;
+    let mut first = opened(folder, files.first, 3)?;
+    let mut second = opened(folder, files.second, 4)?;
+    run_diff(
+        alloc,
+        kinds,
+        &mut scd,
+        &mut dic,
+        &mut first,
+        &mut second,
+        brief,
+    )
 }
 
 /// Whether the two sheets of four files state the same plan, with the line at which their canonical files first differ,

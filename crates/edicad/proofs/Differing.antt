@@ -1,0 +1,64 @@
+-- The status of a run that tells what differs between two sheets.
+use Rattle.std.proofs.Common.{◌≡◌, ◌≢◌, ◌⊎◌, ◌<◌, ◌≤◌, ℕ, Bool, true, false, List, IsTrue, codes, refl, subst, inl, inr, arith}
+use Rattle.std.specs.Bool.{MatchBool}
+use Rattle.edi_schema.specs.Roles.{KindCodes}
+use Rattle.edi_compare.specs.declared.fault.RunFault.{RunFault}
+use Rattle.edi_compare.specs.Runs.{Seen}
+use Rattle.edi_diff.specs.Runs.{IsDifferenceUnder}
+use Rattle.edi_diff.specs.declared.differing.Difference.{Difference}
+use Rattle.edi_words.specs.declared.words.PairFiles.{PairFiles}
+use Rattle.edicad.specs.Outcome.{ended, status_of_fault, words_of_fault}
+use Rattle.edicad.specs.SheetRuns.{Inputs, OfPair, PairFileFault}
+use Rattle.edicad.specs.Statuses.{IsDiffStatus, IsToldAs, Says, Warns, pair_names_of}
+use Rattle.edicad.proofs.Refusals.{fault_status, means_fault, not_one, pair_refused, pair_tried, told_fault, were_four}
+
+-- the status of a difference whose text is put
+abbrev pub IsPutAs : Bool → ℕ → Type 0
+IsPutAs same s = (s ≡ 4) ⊎ MatchBool same (s ≡ 0) (s ≡ 1)
+
+same_of_zero : (b : Bool) (s : ℕ) → IsPutAs b s → s ≡ 0 → b ≡ true
+same_of_zero b s (inl four) zero = absurd (omega (arith, four, zero))
+same_of_zero true s (inr h) zero = refl
+same_of_zero false s (inr h) zero = absurd (omega (arith, h, zero))
+
+other_of_one : (b : Bool) (s : ℕ) → IsPutAs b s → s ≡ 1 → b ≡ false
+other_of_one b s (inl four) one = absurd (omega (arith, four, one))
+other_of_one true s (inr h) one = absurd (omega (arith, h, one))
+other_of_one false s (inr h) one = refl
+
+never_two : (b : Bool) (s : ℕ) → IsPutAs b s → s ≢ 2
+never_two b s (inl four) two = absurd (omega (arith, four, two))
+never_two true s (inr h) two = absurd (omega (arith, h, two))
+never_two false s (inr h) two = absurd (omega (arith, h, two))
+
+never_five : (b : Bool) (s : ℕ) → IsPutAs b s → s ≢ 5
+never_five b s (inl four) five = absurd (omega (arith, four, five))
+never_five true s (inr h) five = absurd (omega (arith, h, five))
+never_five false s (inr h) five = absurd (omega (arith, h, five))
+
+module _ (inputs : Inputs) (out err : Seen) (kinds : KindCodes) (files : PairFiles) (brief : Bool) (s : ℕ) where
+  pub put_status : (difference : Difference) → OfPair inputs files (λ scd dic a b. IsDifferenceUnder kinds scd dic a b brief difference)
+      → IsPutAs difference.same s → (s < 3 → Says out difference.text.items) → (s ≡ 4 → IsTrue out.failed) → IsDiffStatus inputs out err kinds files brief s
+  put_status difference h status written failed = record {
+    tried = inl (were_four inputs files _ h);
+    different = λ one. (difference, h, other_of_one difference.same s status one, written (omega (arith, one)));
+    means = record {
+      done = λ zero. (difference, h, same_of_zero difference.same s status zero, written (omega (arith, zero)));
+      refused = λ two. absurd (never_two difference.same s status two);
+      failed = λ four. inl (failed four);
+      memory = λ five. absurd (never_five difference.same s status five);
+    };
+  }
+
+  pub untold_status : (names : List (List ℕ)) → names ≡ pair_names_of files (codes "standard output") → (e : RunFault) → PairFileFault inputs kinds files (λ _. ⊥) e
+      → IsToldAs (status_of_fault e) s → (s < 3 → Says out (ended (words_of_fault e names))) → (status_of_fault e < 3 → s ≡ 4 → IsTrue out.failed)
+      → (3 ≤ status_of_fault e → s ≡ 4 → Warns err (ended (words_of_fault e names))) → (s ≡ 5 → Warns err (ended (codes "out of memory")))
+      → IsDiffStatus inputs out err kinds files brief s
+  untold_status names are e h told line stopped warned memory = record {
+    tried = pair_tried inputs kinds files (λ _. ⊥) e h;
+    different = λ one. absurd (not_one s (told_fault (status_of_fault e) s (fault_status e) told) one);
+    means = means_fault _ _ _ (pair_names_of files (codes "standard output")) out err s e (λ big four. h)
+        (λ is two. pair_refused out kinds (pair_names_of files (codes "standard output")) refl inputs files (λ _. ⊥) e h is (subst (λ n. Says out (ended (words_of_fault e n))) are (line (omega (arith, two))))) told
+        stopped
+        (subst (λ n. 3 ≤ status_of_fault e → s ≡ 4 → Warns err (ended (words_of_fault e n))) are warned) memory;
+  }
