@@ -253,6 +253,31 @@ def explains_hints(room, sheet):
     hinted("nothing to hint at", ["s", "d", "cut"], [])
 
 
+def explains_lengths(room):
+    """Files that were turned into UTF-8 and kept their lengths, and others that 103 refuses."""
+    hint = b" seems to have been turned into UTF-8: its lengths count characters, so take the file as it was delivered\n"
+    broken = b":3: a byte other than a space follows the value [103]\n"
+    front, end = "BOMT 01:X\nRTYSA03:PNO\n", "\nEOMT 00:\n"
+
+    def told(name, value, hints):
+        room.write("turned", (front + value + end).encode("utf-8"))
+        hinted = b"hint: turned" + hint if hints else b""
+        room.expect(name, ["explain", "s", "d", "turned"], (2, b"refused 103 line 3\nturned" + broken + hinted, b""))
+
+    told("a length that counts characters", "RIDSA07:Ch\u00e2teau", True)
+    told("the same with spaces behind the value", "RIDSA07:Ch\u00e2teau  \r", True)
+    told("characters of three and four bytes", "RIDSA03:\u20ac\u20ac\U0001f600", True)
+    told("a value that ends in a space", "RIDSA04:\u00e9\u00e9\u00e9 ", True)
+    told("fewer than the characters", "RIDSA06:Ch\u00e2teau", False)
+    told("fewer than the characters, and a space behind them", "RIDSA06:Ch\u00e2teau ", False)
+    told("as many bytes as characters", "RIDSA06:Chateau", False)
+    room.write("counted", (front + "RIDSA08:Ch\u00e2teau\n").encode("utf-8"))
+    room.expect("a length that counts bytes", ["explain", "s", "d", "counted"], (2, b"refused 106 line 4\ncounted:4: there is no EOM [106]\n", b""))
+    room.write("classes", room.read("s").replace(b"\n", "\nREMT 03:\u00e9t\u00e9\n".encode("utf-8"), 1))
+    status, out, err = room.run(["explain", "classes", "d", "counted"])
+    room.report.check("classes that were turned into UTF-8", (status, out.split(b"\n")[0], out.endswith(b" [103]\nhint: classes" + hint), err), (2, b"refused scd 103 line 2", True, b""))
+
+
 def run_case(room, case):
     """A sheet, or a pair, and its answer."""
     if case["call"] == "hash":
@@ -692,6 +717,7 @@ def main():
         in_room(report, program, given, pairings, bytes_of("vec"))
         in_room(report, program, given, explains_partners)
         in_room(report, program, given, explains_hints, bytes_of("vec"))
+        in_room(report, program, given, explains_lengths)
         in_room(report, program, given, manual)
         in_room(report, program, given, terminal)
         in_room(report, program, given, hostile_folders, bytes_of("vec"))

@@ -13,3 +13,5 @@ pub mod Sought
 pub mod Quality
 pub mod Parts
 pub mod Barred
+pub mod Miscounted
+pub mod Counted

@@ -78,7 +78,7 @@ fn name_of(part: Part) -> &'static str
 }
 
 /// Appends a hint on a file.
-fn push_hint(text: &mut Vec<u8>, name: &[u8], words: &str) -> Result<(), AllocError>
+pub(crate) fn push_hint(text: &mut Vec<u8>, name: &[u8], words: &str) -> Result<(), AllocError>
     ensures { OnOk result (text.new.items ≡ text.old.items ++ hint_line name.now words.now) }
 {
     text.extend_from_slice(b"hint: ")?;

@@ -2,10 +2,12 @@
 #![tactic(auto)]
 
 pub mod barring;
+mod contents;
 pub mod counts;
 pub mod explained;
 pub mod extent;
 pub mod hints;
+mod lengths;
 mod lines;
 pub mod links;
 pub mod objects;
