@@ -131,11 +131,11 @@ def explains(room, sheet):
     """Explanations with their whole text, of rules too; words, files and streams that are bad."""
     report = room.report
     room.write("v", sheet)
-    held = b"accepted\nnodes: 1\narcs: 0\nfaces: 0\nobjects: 0\nlinks: 0\nx: 10.5 to 10.5\ny: 20 to 20\ncharacter set: IRV\nquality zones left out: 0\n"
+    held = b"accepted\nnodes: 1\narcs: 0\nfaces: 0\nobjects: 0\nlinks: 0\nx: 10.5 to 10.5\ny: 20 to 20\ncharacter set: IRV\nquality zones left out: 0\nremarks left out: 0\n"
     room.expect("what an accepted sheet holds", ["explain", "s", "d", "v"], (0, held, b""))
     room.expect("the sheet on standard input, explained", ["explain", "s", "d", "-"], (0, held, b""), room.read("v"))
     room.write("empty", "BOMT 01:X\nEOMT 00:\n")
-    none = b"accepted\nnodes: 0\narcs: 0\nfaces: 0\nobjects: 0\nlinks: 0\ncharacter set: none\nquality zones left out: 0\n"
+    none = b"accepted\nnodes: 0\narcs: 0\nfaces: 0\nobjects: 0\nlinks: 0\ncharacter set: none\nquality zones left out: 0\nremarks left out: 0\n"
     room.expect("what a sheet without records holds", ["explain", "s", "d", "empty"], (0, none, b""))
     node = "RTYSA03:PNO\nRIDSA0{0}:{1}\nSCPCP22:EDAB01;SeSD;PGE;NOD_id\nCORCC0{2}:{3};0;\n"
     spread = "BOMT 01:X\n" + node.format(1, "a", 8, "-0.50") + node.format(1, "b", 4, "7") + "EOMT 00:\n"
@@ -223,12 +223,14 @@ def explains_partners(room):
 
 
 def explains_hints(room, sheet):
-    """The usual causes of a refusal that the files show, and how many zones of quality an accepted sheet has."""
+    """The usual causes of a refusal that the files show, and how many zones of quality and remarks an accepted sheet has."""
     report = room.report
     room.write("v", sheet)
     node = "RTYSA03:PNO\nRIDSA01:a\nSCPCP22:EDAB01;SeSD;PGE;NOD_id\nCORCC04:7;0;\nQACSN02:00\nQAPSA02:NE\nNEXT 02:XT\n"
     room.write("quality", "BOMT 01:X\nREMT 03:QAC\n" + node + "EOMT 00:\n")
-    report.holds("zones of quality", room.run(["explain", "s", "d", "quality"])[1].endswith(b"\nquality zones left out: 2\n"))
+    report.holds("zones of quality", room.run(["explain", "s", "d", "quality"])[1].endswith(b"\nquality zones left out: 2\nremarks left out: 1\n"))
+    room.write("remarks", "REMT 03:BOM\nBOMT 01:X\n\n" + node.replace("NEXT", "REMT 00:  \r\nREMT 02:QA\nNEXT") + "REMT 03:END\nEOMT 00:\nREMT 03:REM\n\nREMT 00:")
+    report.holds("remarks", room.run(["explain", "s", "d", "remarks"])[1].endswith(b"\nquality zones left out: 2\nremarks left out: 6\n"))
 
     def hinted(name, words, wanted):
         status, out, err = room.run(["explain", *words])

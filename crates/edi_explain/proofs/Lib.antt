@@ -15,3 +15,4 @@ pub mod Parts
 pub mod Barred
 pub mod Miscounted
 pub mod Counted
+pub mod Remarks
