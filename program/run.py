@@ -131,11 +131,11 @@ def explains(room, sheet):
     """Explanations with their whole text, of rules too; words, files and streams that are bad."""
     report = room.report
     room.write("v", sheet)
-    held = b"accepted\nnodes: 1\narcs: 0\nfaces: 0\nobjects: 0\nlinks: 0\nx: 10.5 to 10.5\ny: 20 to 20\ncharacter set: IRV\nquality zones left out: 0\n"
+    held = b"accepted\nnodes: 1\narcs: 0\nfaces: 0\nobjects: 0\nlinks: 0\nx: 10.5 to 10.5\ny: 20 to 20\ncharacter set: IRV\nquality zones left out: 0\nremarks left out: 0\n"
     room.expect("what an accepted sheet holds", ["explain", "s", "d", "v"], (0, held, b""))
     room.expect("the sheet on standard input, explained", ["explain", "s", "d", "-"], (0, held, b""), room.read("v"))
     room.write("empty", "BOMT 01:X\nEOMT 00:\n")
-    none = b"accepted\nnodes: 0\narcs: 0\nfaces: 0\nobjects: 0\nlinks: 0\ncharacter set: none\nquality zones left out: 0\n"
+    none = b"accepted\nnodes: 0\narcs: 0\nfaces: 0\nobjects: 0\nlinks: 0\ncharacter set: none\nquality zones left out: 0\nremarks left out: 0\n"
     room.expect("what a sheet without records holds", ["explain", "s", "d", "empty"], (0, none, b""))
     node = "RTYSA03:PNO\nRIDSA0{0}:{1}\nSCPCP22:EDAB01;SeSD;PGE;NOD_id\nCORCC0{2}:{3};0;\n"
     spread = "BOMT 01:X\n" + node.format(1, "a", 8, "-0.50") + node.format(1, "b", 4, "7") + "EOMT 00:\n"
@@ -240,12 +240,14 @@ def explains_partners(room):
 
 
 def explains_hints(room, sheet):
-    """The usual causes of a refusal that the files show, and how many zones of quality an accepted sheet has."""
+    """The usual causes of a refusal that the files show, and how many zones of quality and remarks an accepted sheet has."""
     report = room.report
     room.write("v", sheet)
     node = "RTYSA03:PNO\nRIDSA01:a\nSCPCP22:EDAB01;SeSD;PGE;NOD_id\nCORCC04:7;0;\nQACSN02:00\nQAPSA02:NE\nNEXT 02:XT\n"
     room.write("quality", "BOMT 01:X\nREMT 03:QAC\n" + node + "EOMT 00:\n")
-    report.holds("zones of quality", room.run(["explain", "s", "d", "quality"])[1].endswith(b"\nquality zones left out: 2\n"))
+    report.holds("zones of quality", room.run(["explain", "s", "d", "quality"])[1].endswith(b"\nquality zones left out: 2\nremarks left out: 1\n"))
+    room.write("remarks", "REMT 03:BOM\nBOMT 01:X\n\n" + node.replace("NEXT", "REMT 00:  \r\nREMT 02:QA\nNEXT") + "REMT 03:END\nEOMT 00:\nREMT 03:REM\n\nREMT 00:")
+    report.holds("remarks", room.run(["explain", "s", "d", "remarks"])[1].endswith(b"\nquality zones left out: 2\nremarks left out: 6\n"))
 
     def hinted(name, words, wanted):
         status, out, err = room.run(["explain", *words])
@@ -259,15 +261,49 @@ def explains_hints(room, sheet):
     room.write("odd", "BOMT 01:X\nRTYSA03:XXX\nRIDSA01:a\nEOMT 00:\n")
     other = " is {0} by its first record, and was given as {1}"
     hinted("a byte order mark", ["s", "d", "marked"], ["hint: marked" + mark])
-    hinted("a byte order mark before the classes", ["marked", "d", "v"], ["hint: marked" + mark])
+    hinted("a byte order mark before a sheet in the place of the classes", ["marked", "d", "v"], ["hint: marked" + mark, "hint: marked" + other.format("VEC", "SCD")])
     hinted("a closing 0x1A", ["s", "d", "closed"], ["hint: closed" + end])
-    hinted("both", ["marked", "closed", "v"], ["hint: marked" + mark, "hint: closed" + end])
+    both = ["hint: marked" + mark, "hint: marked" + other.format("VEC", "SCD"), "hint: closed" + end, "hint: closed" + other.format("VEC", "DIC")]
+    hinted("both", ["marked", "closed", "v"], both)
+    room.write("marked classes", b"\xef\xbb\xbf" + room.read("s"))
+    hinted("a byte order mark before the classes", ["marked classes", "d", "v"], ["hint: marked classes" + mark])
     hinted("classes and words exchanged", ["d", "s", "v"], ["hint: d" + other.format("DIC", "SCD"), "hint: s" + other.format("SCD", "DIC")])
     hinted("words and sheet exchanged", ["s", "v", "d"], ["hint: v" + other.format("VEC", "DIC"), "hint: d" + other.format("DIC", "VEC")])
     hinted("another file of the delivery", ["s", "d", "thf"], ["hint: thf" + other.format("THF", "VEC")])
     hinted("no known type", ["s", "d", "odd"], [])
+    room.write("broken", "BOMT 01:X\nRTYSA04:GTS\nRTYSA03:QUP\nRTYSA03:GTS\n")
+    hinted("a file that breaks a rule of lines before its first type", ["s", "d", "broken"], ["hint: broken" + other.format("QAL", "VEC")])
+    room.write("odd first", "BOMT 01:X\nRTYSA03:XXX\nRTYSA03:GTS\nRIDSA01:a\nEOMT 00:\n")
+    hinted("a known type behind one that isn't known", ["s", "d", "odd first"], [])
+    room.write("short", "BOMT 01:X\nRTYSA03:GT")
+    hinted("a type of two bytes", ["s", "d", "short"], [])
     room.write("cut", "BOMT 01:X\nRTYSA03:PNO\n")
     hinted("nothing to hint at", ["s", "d", "cut"], [])
+
+
+def explains_lengths(room):
+    """Files that were turned into UTF-8 and kept their lengths, and others that 103 refuses."""
+    hint = b" seems to have been turned into UTF-8: its lengths count characters, so take the file as it was delivered\n"
+    broken = b":3: a byte other than a space follows the value [103]\n"
+    front, end = "BOMT 01:X\nRTYSA03:PNO\n", "\nEOMT 00:\n"
+
+    def told(name, value, hints):
+        room.write("turned", (front + value + end).encode("utf-8"))
+        hinted = b"hint: turned" + hint if hints else b""
+        room.expect(name, ["explain", "s", "d", "turned"], (2, b"refused 103 line 3\nturned" + broken + hinted, b""))
+
+    told("a length that counts characters", "RIDSA07:Ch\u00e2teau", True)
+    told("the same with spaces behind the value", "RIDSA07:Ch\u00e2teau  \r", True)
+    told("characters of three and four bytes", "RIDSA03:\u20ac\u20ac\U0001f600", True)
+    told("a value that ends in a space", "RIDSA04:\u00e9\u00e9\u00e9 ", True)
+    told("fewer than the characters", "RIDSA06:Ch\u00e2teau", False)
+    told("fewer than the characters, and a space behind them", "RIDSA06:Ch\u00e2teau ", False)
+    told("as many bytes as characters", "RIDSA06:Chateau", False)
+    room.write("counted", (front + "RIDSA08:Ch\u00e2teau\n").encode("utf-8"))
+    room.expect("a length that counts bytes", ["explain", "s", "d", "counted"], (2, b"refused 106 line 4\ncounted:4: there is no EOM [106]\n", b""))
+    room.write("classes", room.read("s").replace(b"\n", "\nREMT 03:\u00e9t\u00e9\n".encode("utf-8"), 1))
+    status, out, err = room.run(["explain", "classes", "d", "counted"])
+    room.report.check("classes that were turned into UTF-8", (status, out.split(b"\n")[0], out.endswith(b" [103]\nhint: classes" + hint), err), (2, b"refused scd 103 line 2", True, b""))
 
 
 def run_case(room, case):
@@ -758,6 +794,7 @@ def main():
         in_room(report, program, given, differences)
         in_room(report, program, given, explains_partners)
         in_room(report, program, given, explains_hints, bytes_of("vec"))
+        in_room(report, program, given, explains_lengths)
         in_room(report, program, given, manual)
         in_room(report, program, given, terminal)
         in_room(report, program, given, hostile_folders, bytes_of("vec"))

@@ -65,6 +65,9 @@ rty_tested = tested (codes "RTY") (λ n. first_solid 82 _ n (λ e. omega (arith,
 eom_tested : (c : List ℕ) → IsFine c → has_zone (codes "EOM") (reading_of c) ≡ bytes_eq (codes "EOM") (take 3 c)
 eom_tested = tested (codes "EOM") (λ n. first_solid 69 _ n (λ e. omega (arith, e)))
 
+pub remark_tested : (c : List ℕ) → IsFine c → has_zone (codes "REM") (reading_of c) ≡ bytes_eq (codes "REM") (take 3 c)
+remark_tested = tested (codes "REM") (λ n. first_solid 82 _ n (λ e. omega (arith, e)))
+
 pub bars_same : (rule : ℕ) (c d : List ℕ) → IsFine c → IsFine d → bars rule (reading_of c) (reading_of d) ≡ bars_text rule c d
 bars_same rule c d fine fine' = rw (eom_tested c fine, bom_tested d fine', bom_tested c fine, cse_tested d fine', cse_tested c fine, rty_tested c fine) refl
 

@@ -13,3 +13,6 @@ pub mod Sought
 pub mod Quality
 pub mod Parts
 pub mod Barred
+pub mod Miscounted
+pub mod Counted
+pub mod Remarks

@@ -1,30 +1,125 @@
--- The part that a file is by its first record.
-use Rattle.std.proofs.Common.{◌≡◌, ◌∙◌, List, Option, Some, None, ℕ, sym, ap, subst, slice_get}
-use Rattle.edi_line.specs.Entry.{Entry}
-use Rattle.edi_line.specs.LineRules.{BreaksLineRule, IsZonesOf}
-use Rattle.edi_line.specs.Refusal.{IsUnbroken}
-use Rattle.edi_line.specs.Zones.{groups_of}
-use Rattle.edi_line.proofs.ZonesSaid.{zones_of_one}
-use Rattle.edi_explain.proofs.Names.{same_some}
-use Rattle.edi_explain.specs.Hints.{IsPart, IsPartIfAny, part_typed}
-use Rattle.edi_explain.specs.Sites.{IsSiteOf}
+-- The part that a file is by its first line of a type.
+use Rattle.std.proofs.Common.{◌≡◌, ◌∙◌, ◌<◌, ◌≤◌, ◌⊎◌, inl, inr, ◌++◌, ◌∷◌, ℕ, Bool, true, false, cond, List, [], Option, Some, None, MatchOption, length, take, drop, refl, sym, ap, subst, arith, codes, bytes_eq, nat_eq}
+use Rattle.std.specs.List.{AllByRecursion, starts_with}
+use Rattle.std.proofs.lemmas.Bool.{cases_lt, false_from_ne_true}
+use Rattle.std.proofs.lemmas.List.{length-take-le, take-append-drop, take_at, take_all}
+use Rattle.std.proofs.lemmas.Slice.Eq.{bytes_eq-Decides}
+use Rattle.edi_line.proofs.Cut.{lines_exist, lines_unique}
+use Rattle.edi_line.specs.inner.Lines.{lines_of}
+use Rattle.edi_explain.specs.Hints.{IsPartAmong, IsPartIfAny, part_typed, type_head}
+use Rattle.edi_explain.specs.inner.Hints.{part_in}
 use Rattle.edi_explain.specs.declared.hints.Part.{Part}
-use Rattle.edi_explain.specs.declared.site.RecordSite.{RecordSite}
 
--- a record has one site
-one_type : (zones : List Entry) (number : ℕ) (s t : RecordSite) → IsSiteOf zones number s → IsSiteOf zones number t → s.rty ≡ t.rty
-one_type zones number s t h k =
-    let places : h.place ≡ k.place = cc (h.number_is, k.number_is) in
-    let groups : h.group ≡ k.group = same_some (sym h.there ∙ (ap (slice_get (groups_of zones)) places ∙ k.there)) in
-    let heads : h.has_site.head ≡ k.has_site.head = cc (h.has_site.is, k.has_site.is, groups) in
-    h.has_site.rty ∙ (ap (λ (e : Entry). e.value) heads ∙ sym k.has_site.rty)
+-- only three bytes are a type
+no_type : (value : List ℕ) → length value < 3 → part_typed value ≡ None
+no_type value few =
+    rw (
+      other (codes "GTS") refl,
+      other (codes "GTL") refl,
+      other (codes "DEG") refl,
+      other (codes "GSE") refl,
+      other (codes "GEO") refl,
+      other (codes "RPR") refl,
+      other (codes "QUP") refl,
+      other (codes "OBJ") refl,
+      other (codes "PGE") refl,
+      other (codes "REL") refl,
+      other (codes "ATT") refl,
+      other (codes "DID") refl,
+      other (codes "DIA") refl,
+      other (codes "DIR") refl,
+      other (codes "PNO") refl,
+      other (codes "PAR") refl,
+      other (codes "PFE") refl,
+      other (codes "FEA") refl,
+      other (codes "LNK") refl,
+    ) refl
+  where
+    other : (code : List ℕ) → length code ≡ 3 → bytes_eq value code ≡ false
+    other code three = false_from_ne_true _ (λ e. omega (arith, few, three, ap length ((bytes_eq-Decides value code).0 e)))
 
-module _ (b : List ℕ) (zones : List Entry) (z : IsZonesOf b zones) where
-  pub part_found : (site : RecordSite) (found : Option Part) → IsUnbroken (BreaksLineRule b) → IsSiteOf zones 1 site → found ≡ part_typed site.rty → IsPartIfAny b found
-  part_found site (Some part) unbroken s e = (unbroken, (zones, site, z, s, sym e))
-  part_found site None unbroken s e = λ part h.
-      let same : site.rty ≡ h.1.1.rty = one_type zones 1 site h.1.1 s (subst (λ zs. IsSiteOf zs 1 h.1.1) (zones_of_one b h.1.0 zones h.1.2 z) h.1.3) in
-      let none : None ≡ Some part = e ∙ (ap part_typed same ∙ h.1.4) in cc
+three_typed : (value : List ℕ) (part : Part) → part_typed (take 3 value) ≡ Some part → length (take 3 value) ≡ 3
+three_typed value part e = go (cases_lt (length value) 3)
+  where
+    go : (length value < 3) ⊎ (3 ≤ length value) → length (take 3 value) ≡ 3
+    go (inr enough) = length-take-le 3 value enough
+    go (inl few) = let none : None ≡ Some part = sym (no_type (take 3 value) (subst (λ v. length v < 3) (sym (take_all 3 value (omega (arith, few)))) few)) ∙ e in absurd cc
 
-  pub no_part : ((site : RecordSite) → ¬ (IsSiteOf zones 1 site)) → (part : Part) → ¬ (IsPart b part)
-  no_part none part h = none h.1.1 (subst (λ zs. IsSiteOf zs 1 h.1.1) (zones_of_one b h.1.0 zones h.1.2 z) h.1.3)
+begun : (line : List ℕ) → starts_with nat_eq line type_head ≡ true → line ≡ type_head ++ (take 3 (drop 8 line) ++ drop 3 (drop 8 line))
+begun line e =
+    sym (take-append-drop 8 line) ∙ (ap (λ xs. xs ++ drop 8 line) (sym ((bytes_eq-Decides type_head (take 8 line)).0 e))
+    ∙ ap (λ xs. type_head ++ xs) (sym (take-append-drop 3 (drop 8 line))))
+
+by_head : (line : List ℕ) (lines : List (List ℕ)) → starts_with nat_eq line type_head ≡ true → (found : Option Part) → found ≡ part_typed (take 3 (drop 8 line))
+    → MatchOption found ((part : Part) → ¬ (IsPartAmong (line ∷ lines) part)) (IsPartAmong (line ∷ lines))
+by_head line lines begins (Some part) e = record {
+  before = [];
+  value = take 3 (drop 8 line);
+  rest = drop 3 (drop 8 line);
+  after = lines;
+  cut = ap (λ l. l ∷ lines) (begun line begins);
+  first = tt;
+  three = three_typed (drop 8 line) part (sym e);
+  typed = sym e;
+}
+by_head line lines begins None e = λ part h. go part h.before h.value h.rest h.after h.cut h.first h.three h.typed
+  where
+    go : (part : Part) (before : List (List ℕ)) (value rest : List ℕ) (after : List (List ℕ)) → line ∷ lines ≡ before ++ (type_head ++ (value ++ rest)) ∷ after
+        → AllByRecursion (λ l. starts_with nat_eq l type_head ≡ false) before → length value ≡ 3 → part_typed value ≡ Some part → ⊥
+    go part [] value rest after cut first three typed =
+        let here : line ≡ type_head ++ (value ++ rest) = cc in
+        let none : None ≡ Some part = e ∙ (ap (λ l. part_typed (take 3 (drop 8 l))) here ∙ (ap part_typed (take_at value rest 3 three) ∙ typed)) in
+        cc
+    go part (other ∷ before) value rest after cut first three typed =
+        let here : line ≡ other = cc in
+        let no : true ≡ false = sym begins ∙ (ap (λ l. starts_with nat_eq l type_head) here ∙ first.0) in
+        cc
+
+later : (line : List ℕ) (lines : List (List ℕ)) → starts_with nat_eq line type_head ≡ false → (found : Option Part)
+    → MatchOption found ((part : Part) → ¬ (IsPartAmong lines part)) (IsPartAmong lines)
+    → MatchOption found ((part : Part) → ¬ (IsPartAmong (line ∷ lines) part)) (IsPartAmong (line ∷ lines))
+later line lines begins (Some part) h = record {
+  before = line ∷ h.before;
+  value = h.value;
+  rest = h.rest;
+  after = h.after;
+  cut = ap (λ ls. line ∷ ls) h.cut;
+  first = (begins, h.first);
+  three = h.three;
+  typed = h.typed;
+}
+later line lines begins None none = λ part h. go part h.before h.value h.rest h.after h.cut h.first h.three h.typed
+  where
+    go : (part : Part) (before : List (List ℕ)) (value rest : List ℕ) (after : List (List ℕ)) → line ∷ lines ≡ before ++ (type_head ++ (value ++ rest)) ∷ after
+        → AllByRecursion (λ l. starts_with nat_eq l type_head ≡ false) before → length value ≡ 3 → part_typed value ≡ Some part → ⊥
+    go part [] value rest after cut first three typed =
+        let here : line ≡ type_head ++ (value ++ rest) = cc in
+        let yes : false ≡ true = sym begins ∙ ap (λ l. starts_with nat_eq l type_head) here in
+        cc
+    go part (other ∷ before) value rest after cut first three typed =
+        let more : lines ≡ before ++ (type_head ++ (value ++ rest)) ∷ after = cc in
+        none part (record { before = before; value = value; rest = rest; after = after; cut = more; first = first.1; three = three; typed = typed })
+
+among : (lines : List (List ℕ)) → MatchOption (part_in lines) ((part : Part) → ¬ (IsPartAmong lines part)) (IsPartAmong lines)
+among [] = λ part h. go (type_head ++ (h.value ++ h.rest)) h.after h.before h.cut
+  where
+    go : (x : List ℕ) (after before : List (List ℕ)) → [] ≡ before ++ x ∷ after → ⊥
+    go x after [] e = cc
+    go x after (l ∷ before) e = cc
+among (line ∷ lines) = go (starts_with nat_eq line type_head) refl (among lines)
+  where
+    go : (b : Bool) → starts_with nat_eq line type_head ≡ b → MatchOption (part_in lines) ((part : Part) → ¬ (IsPartAmong lines part)) (IsPartAmong lines)
+        → MatchOption (cond b (part_typed (take 3 (drop 8 line))) (part_in lines)) ((part : Part) → ¬ (IsPartAmong (line ∷ lines) part)) (IsPartAmong (line ∷ lines))
+    go true e rest = by_head line lines e (part_typed (take 3 (drop 8 line))) refl
+    go false e rest = later line lines e (part_in lines) rest
+
+pub head_found : (line : List ℕ) (lines : List (List ℕ)) → starts_with nat_eq line type_head ≡ true → part_in (line ∷ lines) ≡ part_typed (take 3 (drop 8 line))
+head_found line lines e = ap (λ b. cond b (part_typed (take 3 (drop 8 line))) (part_in lines)) e
+
+-- the part that reading line by line finds is the one that the file is, if it is any
+pub part_found : (bytes : List ℕ) (found : Option Part) → found ≡ part_in (lines_of bytes) → IsPartIfAny bytes found
+part_found bytes found e = go found (subst (λ (o : Option Part). MatchOption o ((part : Part) → ¬ (IsPartAmong (lines_of bytes) part)) (IsPartAmong (lines_of bytes))) (sym e) (among (lines_of bytes)))
+  where
+    go : (o : Option Part) → MatchOption o ((part : Part) → ¬ (IsPartAmong (lines_of bytes) part)) (IsPartAmong (lines_of bytes)) → IsPartIfAny bytes o
+    go (Some part) h = (lines_of bytes, lines_exist bytes, h)
+    go None none = λ part h. none part (subst (λ ls. IsPartAmong ls part) (lines_unique bytes h.0 h.1) h.2)

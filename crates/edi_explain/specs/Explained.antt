@@ -1,5 +1,5 @@
 -- What is said of a refusal, of a plan and of a rule.
-use Rattle.std.specs.Prelude.{◌≡◌, ◌++◌, ℕ, List, [], ◌∷◌, Option, Some, None, codes, decimal, count_by, true}
+use Rattle.std.specs.Prelude.{◌≡◌, ◌↔◌, ◌++◌, ℕ, Bool, IsTrue, List, [], ◌∷◌, Option, Some, None, codes, decimal, count_by, true}
 use Rattle.edi_line.specs.Number.{plain_text}
 use Rattle.edi_record.specs.declared.record.Kind.{Kind}
 use Rattle.edi_record.specs.declared.record.Kind.TheVariants.{Pno, Par, Pfe, Fea, Lnk}
@@ -12,6 +12,7 @@ use Rattle.edi_schema.specs.declared.fault.SchemaFault.TheVariants as schema
 use Rattle.edi_compare.specs.declared.fault.Fault.{Fault}
 use Rattle.edi_compare.specs.declared.fault.Fault.TheVariants.{Memory, Line, Entry}
 use Rattle.edi_explain.specs.Extents.{IsExtentIfAny, points_of}
+use Rattle.edi_explain.specs.Lengths.{CountsCharacters, length_hint}
 use Rattle.edi_explain.specs.Lines.{file_line, lines_of_line, lines_of_sites, sentence_of}
 use Rattle.edi_explain.specs.Barring.{IsBarredBy}
 use Rattle.edi_explain.specs.Partners.{IsLeastIfAny}
@@ -22,12 +23,17 @@ use Rattle.edi_explain.specs.declared.extent.Span.{Span}
 use Rattle.edi_explain.specs.declared.refused.Refused.{Refused}
 use Rattle.edi_explain.specs.declared.text.RuleText.{RuleText}
 
--- The lines that explain the refusal of the sheet b, whose file has this name: the broken line with the sentence of its
--- rule, and the earlier line that bars it; or the record with that sentence, and then the earlier record that the rule speaks of.
+-- The lines that explain the refusal of the file b by a rule of lines: the broken line with the sentence of the rule, the
+-- earlier line that bars it, and a hint where 103 is broken since the stated length counts characters.
+abbrev pub ExplainsLine : List ℕ → List ℕ → ℕ → ℕ → List ℕ → Type 0
+ExplainsLine b name rule at lines = (text : Option RuleText) × (earlier : Option ℕ) × (counts : Bool) × IsTextIfAny rules rule text × IsLeastIfAny (IsBarredBy b rule at) earlier
+    × (IsTrue counts ↔ ((rule ≡ 103) × CountsCharacters b at)) × (lines ≡ lines_of_line name at earlier (sentence_of text) rule ++ length_hint name counts)
+
+-- The lines that explain the refusal of the sheet b, whose file has this name: those of the broken line; or the record with
+-- the sentence of its rule, and then the earlier record that the rule speaks of.
 abbrev pub ExplainsSheet : Classes → List ℕ → List ℕ → Fault → List ℕ → Type 0
 ExplainsSheet s b name (Memory e) lines = ⊥
-ExplainsSheet s b name (Line rule at) lines = (text : Option RuleText) × (earlier : Option ℕ) × IsTextIfAny rules rule text × IsLeastIfAny (IsBarredBy b rule at) earlier
-    × (lines ≡ lines_of_line name at earlier (sentence_of text) rule)
+ExplainsSheet s b name (Line rule at) lines = ExplainsLine b name rule at lines
 ExplainsSheet s b name (Entry rule at) lines = (text : Option RuleText) × (sites : Refused) × IsTextIfAny rules rule text × IsRefusedAt s b rule at sites
     × (lines ≡ lines_of_sites name sites (sentence_of text) rule)
 
@@ -39,8 +45,7 @@ of_source Dic scd dic = dic
 -- the same of the refusal of two files of a schema, whose names are given; 604 is of the first file
 abbrev pub ExplainsSchema : List ℕ → List ℕ → List ℕ → List ℕ → SchemaFault → List ℕ → Type 0
 ExplainsSchema scd dic scd_name dic_name (schema.Memory e) lines = ⊥
-ExplainsSchema scd dic scd_name dic_name (schema.Line file rule at) lines = (text : Option RuleText) × (earlier : Option ℕ) × IsTextIfAny rules rule text
-    × IsLeastIfAny (IsBarredBy (of_source file scd dic) rule at) earlier × (lines ≡ lines_of_line (of_source file scd_name dic_name) at earlier (sentence_of text) rule)
+ExplainsSchema scd dic scd_name dic_name (schema.Line file rule at) lines = ExplainsLine (of_source file scd dic) (of_source file scd_name dic_name) rule at lines
 ExplainsSchema scd dic scd_name dic_name (schema.Entry file rule at) lines = (text : Option RuleText) × (sites : Refused) × IsTextIfAny rules rule text
     × IsRowRefusedAt (of_source file scd dic) rule at sites × (lines ≡ lines_of_sites (of_source file scd_name dic_name) sites (sentence_of text) rule)
 ExplainsSchema scd dic scd_name dic_name schema.Kinds lines = (text : Option RuleText) × IsTextIfAny rules 604 text × (lines ≡ file_line scd_name (sentence_of text) 604)

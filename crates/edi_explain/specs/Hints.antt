@@ -1,13 +1,9 @@
 -- The usual causes of a refusal that a file shows.
-use Rattle.std.specs.Prelude.{◌≡◌, ◌++◌, ◌||◌, ℕ, Bool, List, [], ◌∷◌, Option, Some, None, MatchOption, codes, nat_eq, bytes_eq, if◌then◌else◌}
-use Rattle.std.specs.List.{starts_with, ends_with}
-use Rattle.edi_line.specs.Entry.{Entry}
-use Rattle.edi_line.specs.LineRules.{BreaksLineRule, IsZonesOf}
-use Rattle.edi_line.specs.Refusal.{IsUnbroken}
-use Rattle.edi_explain.specs.Sites.{IsSiteOf}
+use Rattle.std.specs.Prelude.{◌≡◌, ◌++◌, ◌||◌, ℕ, Bool, false, List, [], ◌∷◌, Option, Some, None, MatchOption, codes, length, nat_eq, bytes_eq, if◌then◌else◌}
+use Rattle.std.specs.List.{AllByRecursion, starts_with, ends_with}
+use Rattle.edi_line.specs.Lines.{IsLinesOf}
 use Rattle.edi_explain.specs.declared.hints.Part.{Part}
 use Rattle.edi_explain.specs.declared.hints.Part.TheVariants.{Thf, Gen, Geo, Qal, Scd, Dic, Vec}
-use Rattle.edi_explain.specs.declared.site.RecordSite.{RecordSite}
 
 -- the part of a delivery whose records are of a type
 abbrev pub part_typed : List ℕ → Option Part
@@ -21,11 +17,26 @@ part_typed rty =
     else (if bytes_eq rty (codes "PNO") || (bytes_eq rty (codes "PAR") || (bytes_eq rty (codes "PFE") || (bytes_eq rty (codes "FEA") || bytes_eq rty (codes "LNK")))) then Some Vec
     else None))))))
 
--- a file that breaks no rule of lines is a part by the type of its first record
-abbrev pub IsPart : List ℕ → Part → Type 0
-IsPart b part = IsUnbroken (BreaksLineRule b) × ((zones : List Entry) × (site : RecordSite) × IsZonesOf b zones × IsSiteOf zones 1 site × (part_typed site.rty ≡ Some part))
+-- with this a line begins that states the type of a record, in three bytes
+abbrev pub type_head : List ℕ
+type_head = codes "RTYSA03:"
 
--- the part that a file is, or it is none by its first record
+-- these lines are of a part by the first of them that begins so, and its value
+pub record IsPartAmong (lines : List (List ℕ)) (part : Part) : Type 0 where
+  pub before : List (List ℕ)
+  pub value : List ℕ
+  pub rest : List ℕ
+  pub after : List (List ℕ)
+  pub cut : lines ≡ before ++ (type_head ++ (value ++ rest)) ∷ after
+  pub first : AllByRecursion (λ line. starts_with nat_eq line type_head ≡ false) before
+  pub three : length value ≡ 3
+  pub typed : part_typed value ≡ Some part
+
+-- a file is a part by its first line that states a type
+abbrev pub IsPart : List ℕ → Part → Type 0
+IsPart b part = (lines : List (List ℕ)) × IsLinesOf b lines × IsPartAmong lines part
+
+-- the part that a file is, or it is none
 abbrev pub IsPartIfAny : List ℕ → Option Part → Type 0
 IsPartIfAny b found = MatchOption found ((part : Part) → ¬ (IsPart b part)) (IsPart b)
 

@@ -8,5 +8,6 @@ pub mod Lines
 pub mod Explained
 pub mod Barring
 pub mod Hints
+pub mod Lengths
 pub mod Skipped
 pub mod inner

@@ -1,10 +1,12 @@
 //! What is said of a refusal, of a plan and of a rule.
 
 ghost use Rattle.std.specs.Prelude.{◌≡◌, ◌↔◌, ◌++◌, ◌∷◌, [], ℕ, Option, IsTrue, IfOk, MatchOption, OnOk, codes, decimal, option_copied};
+ghost use Rattle.edi_line.specs.LineRules.{BreaksLineRule};
+ghost use Rattle.edi_line.specs.Refusal.{IsLeastBroken};
 ghost use Rattle.edi_schema.specs.Roles.{KindCodes};
 ghost use Rattle.edi_schema.specs.SchemaRefusal.{IsSchemaRefusal};
 ghost use Rattle.edi_compare.specs.Refused.{IsRefusal};
-ghost use Rattle.edi_explain.specs.Explained.{DescribesPlan, ExplainsSchema, ExplainsSheet, IsRuleWord, charset_line, count_line, count_lines, extent_lines, of_source, reason_lines, rule_page, span_line, worded_line};
+ghost use Rattle.edi_explain.specs.Explained.{DescribesPlan, ExplainsLine, ExplainsSchema, ExplainsSheet, IsRuleWord, charset_line, count_line, count_lines, extent_lines, of_source, reason_lines, rule_page, span_line, worded_line};
 ghost use Rattle.edi_explain.specs.Lines.{sentence_of};
 ghost use Rattle.edi_explain.specs.Rules.{IsTextIfAny, rules};
 ghost use Rattle.edi_explain.specs.declared.text.RuleText.{RuleText as Texts};
@@ -12,6 +14,7 @@ ghost use Rattle.edi_explain.specs.declared.text.RuleText.{RuleText as Texts};
 use crate::barring::barring_line;
 use crate::counts::count_of;
 use crate::extent::{Extent, Span, extent_of};
+use crate::lengths::{counts_characters, push_length_hint};
 use crate::lines::{line_of_file, lines_of_broken, lines_of_refused, push_number};
 use crate::refused::{refused_record, refused_row};
 use crate::text::{RuleText, rule_text};
@@ -39,8 +42,27 @@ fn sentence_for(rule: u16) -> &'static str
     }
 }
 
+/// The lines that explain the refusal of a file by a rule of lines: where the broken line is, with the sentence of the rule;
+/// the earlier line that bars it; and a hint where its length counts characters.
+fn explain_line(
+    alloc: Global,
+    file: &NamedFile<'_>,
+    rule: u16,
+    at: u64,
+) -> Result<Vec<u8>, AllocError>
+    requires { IsLeastBroken (BreaksLineRule file.now.bytes.now) rule at }
+    ensures { IfOk result (λ lines. ExplainsLine file.now.bytes.now file.now.name.now rule at lines.items) }
+{
+    let earlier = barring_line(file.bytes, rule, at);
+    let counts = counts_characters(file.bytes, rule, at);
+    let mut lines = lines_of_broken(alloc, file.name, at, earlier, sentence_for(rule), rule)?;
+    push_length_hint(&mut lines, file.name, counts)?;
+    Ok(lines)
+}
+
 /// The lines that explain the refusal of a sheet, whose file has this name: where the broken line or record is,
-/// with the sentence of the rule; and the earlier record that the rule speaks of.
+/// with the sentence of the rule; and the earlier line or record that the rule speaks of. Where a line's length counts
+/// characters, and not bytes, a hint says so.
 pub fn explain_sheet(
     alloc: Global,
     schema: &Schema,
@@ -53,10 +75,7 @@ pub fn explain_sheet(
 {
     match fault {
         Fault::Memory(error) => Err(*error),
-        Fault::Line { rule, at } => {
-            let earlier = barring_line(bytes, *rule, *at);
-            lines_of_broken(alloc, name, *at, earlier, sentence_for(*rule), *rule)
-        }
+        Fault::Line { rule, at } => explain_line(alloc, &NamedFile { name, bytes }, *rule, *at),
         Fault::Entry { rule, at } => {
             let sites = refused_record(alloc, schema, bytes, *rule, *at)?;
             lines_of_refused(alloc, name, &sites, sentence_for(*rule), *rule)
@@ -89,8 +108,7 @@ pub fn explain_schema(
         SchemaFault::Memory(error) => Err(*error),
         SchemaFault::Line { file, rule, at } => {
             let broken = file_of(*file, scd, dic);
-            let earlier = barring_line(broken.bytes, *rule, *at);
-            lines_of_broken(alloc, broken.name, *at, earlier, sentence_for(*rule), *rule)
+            explain_line(alloc, &broken, *rule, *at)
         }
         SchemaFault::Entry { file, rule, at } => {
             let refused = file_of(*file, scd, dic);

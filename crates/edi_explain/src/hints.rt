@@ -1,11 +1,10 @@
 //! Usual causes of refusals that a file shows.
 
-ghost use Rattle.std.specs.Prelude.{◌≡◌, ◌++◌, IfOk, OnOk};
+ghost use Rattle.std.specs.Prelude.{◌≡◌, ◌++◌, IfOk, OnOk, drop, take};
 ghost use Rattle.edi_explain.specs.Hints.{AreHints, AreHintsOfSheet, IsPartIfAny, end_hint, hint_line, mark_hint, name_of as name_of_part, part_hint, part_typed};
 
+use crate::contents::first_line;
 use crate::explained::NamedFile;
-use crate::site::record_site;
-use edi_line::LineFault;
 use std::alloc::{AllocError, Global};
 
 /// Which file of a delivery a file is.
@@ -33,6 +32,9 @@ const MARK: [u8; 3] = [0xEF, 0xBB, 0xBF];
 /// The byte with which some systems end a text.
 const END: [u8; 1] = [0x1A];
 
+/// With this a line begins that states the type of a record.
+const TYPE_HEAD: [u8; 8] = *b"RTYSA03:";
+
 /// The part of a delivery whose records are of a type (docs/FORMAT.md, "Hints").
 pub fn part_of_type(rty: &[u8]) -> Option<Part>
     ensures { result ≡ part_typed rty.now }
@@ -49,17 +51,30 @@ pub fn part_of_type(rty: &[u8]) -> Option<Part>
     }
 }
 
-/// The part of a delivery that a file is by its first record; `None` where it has none, or one of another type, or a
-/// broken rule of lines.
-pub fn part_of(alloc: Global, bytes: &[u8]) -> Result<Option<Part>, AllocError>
-    ensures { IfOk result (IsPartIfAny bytes.now) }
+/// The part that the line of a type is of.
+fn part_of_line(line: &[u8]) -> Option<Part>
+    ensures { result ≡ part_typed (take 3 (drop 8 line.now)) }
 {
-    match record_site(alloc, bytes, 1) {
-        Ok(Some(site)) => Ok(part_of_type(site.rty.as_slice())),
-        Ok(None) => Ok(None),
-        Err(LineFault::Memory(error)) => Err(error),
-        Err(LineFault::Broken { .. }) => Ok(None),
+    match line.get(8..11) {
+        Some(rty) => part_of_type(rty),
+        None => None,
     }
+}
+
+/// The part of a delivery that a file is by its first line that begins `RTYSA03:`; `None` where it has none, or one of
+/// another type. The bytes behind that line are not looked at.
+pub fn part_of(bytes: &[u8]) -> Option<Part>
+    ensures { IsPartIfAny bytes.now result }
+{
+    let mut rest = bytes;
+    while !rest.is_empty() {
+        let (line, behind) = first_line(rest);
+        if line.starts_with(&TYPE_HEAD) {
+            return part_of_line(line);
+        }
+        rest = behind;
+    }
+    None
 }
 
 /// What a part is called.
@@ -78,7 +93,7 @@ fn name_of(part: Part) -> &'static str
 }
 
 /// Appends a hint on a file.
-fn push_hint(text: &mut Vec<u8>, name: &[u8], words: &str) -> Result<(), AllocError>
+pub(crate) fn push_hint(text: &mut Vec<u8>, name: &[u8], words: &str) -> Result<(), AllocError>
     ensures { OnOk result (text.new.items ≡ text.old.items ++ hint_line name.now words.now) }
 {
     text.extend_from_slice(b"hint: ")?;
@@ -141,7 +156,7 @@ fn push_part(
 pub fn hints_on(alloc: Global, file: &NamedFile<'_>, wanted: Part) -> Result<Vec<u8>, AllocError>
     ensures { IfOk result (λ lines. AreHints file.now.name.now file.now.bytes.now wanted lines.items) }
 {
-    let part = part_of(alloc, file.bytes)?;
+    let part = part_of(file.bytes);
     let mut text = Vec::new(alloc);
     push_mark(&mut text, file)?;
     push_end(&mut text, file)?;

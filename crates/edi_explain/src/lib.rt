@@ -2,10 +2,12 @@
 #![tactic(auto)]
 
 pub mod barring;
+mod contents;
 pub mod counts;
 pub mod explained;
 pub mod extent;
 pub mod hints;
+mod lengths;
 mod lines;
 pub mod links;
 pub mod objects;
@@ -31,5 +33,5 @@ pub use partner::{alike_node, first_link, namesake, same_arc};
 pub use refused::{Refused, earlier_record, refused_record, refused_row};
 pub use rows::row_namesake;
 pub use site::{RecordSite, record_site};
-pub use skipped::{describe_skipped, quality_zones};
+pub use skipped::{describe_skipped, quality_zones, remark_lines};
 pub use text::{RuleText, rule_text};

@@ -8,10 +8,8 @@ use Rattle.edi_schema.specs.SchemaRefusal.{IsSchemaRefusal}
 use Rattle.edi_schema.specs.SchemaRules.{LinesHold}
 use Rattle.edi_schema.specs.declared.fault.Source.{Source}
 use Rattle.edi_schema.specs.declared.fault.Source.TheVariants.{Scd, Dic}
-use Rattle.edi_explain.specs.Barring.{IsBarredBy}
-use Rattle.edi_explain.specs.Partners.{IsLeastIfAny}
-use Rattle.edi_explain.specs.Explained.{of_source}
-use Rattle.edi_explain.specs.Lines.{lines_of_line, lines_of_sites}
+use Rattle.edi_explain.specs.Explained.{ExplainsLine, of_source}
+use Rattle.edi_explain.specs.Lines.{lines_of_sites}
 use Rattle.edi_explain.specs.Refusals.{IsRowRefusedAt}
 use Rattle.edi_explain.proofs.explained.explain_schema.Goals as goal
 
@@ -23,24 +21,17 @@ least_of : (file : Source) (scd dic : List ℕ) (kinds : KindCodes) (rule at : �
 least_of Scd scd dic kinds rule at h = h
 least_of Dic scd dic kinds rule at h = h.1
 
-pub barring_line-earlier-requires : goal.barring_line-earlier-requires
-barring_line-earlier-requires c =
+pub explain_line-requires : goal.explain_line-requires
+explain_line-requires c =
     let scd = c.args.scd.now.bytes.now in
     let dic = c.args.dic.now.bytes.now in
     let refusal = subst (IsSchemaRefusal scd dic c.requires.0) c.in-Line.is c.requires.1 in
     subst (λ (b : List ℕ). IsLeastBroken (BreaksLineRule b) c.in-Line.rule c.in-Line.at) (sym c.file_of-broken.ensures.bytes) (least_of c.in-Line.file scd dic c.requires.0 c.in-Line.rule c.in-Line.at refusal)
 
 pub returns-in-Line : goal.returns-in-Line
-returns-in-Line c =
-    let said = c.sentence_for.ensures in
-    let earlier = c.barring_line-earlier.result in
-    rw c.in-Line.is (IfOk-weaker c.lines_of_broken.result _ _ (λ lines is. (
-      said.0,
-      earlier,
-      said.1,
-      subst (λ (b : List ℕ). IsLeastIfAny (IsBarredBy b c.in-Line.rule c.in-Line.at) earlier) c.file_of-broken.ensures.bytes c.barring_line-earlier.ensures,
-      is ∙ ap₂ (λ (n s : List ℕ). lines_of_line n c.in-Line.at earlier s c.in-Line.rule) c.file_of-broken.ensures.name said.2,
-    )) c.lines_of_broken.ensures)
+returns-in-Line c = rw c.in-Line.is (IfOk-weaker c.explain_line.result _ _ (λ lines said.
+    subst (λ (b : List ℕ). ExplainsLine b (of_source c.in-Line.file c.args.scd.now.name.now c.args.dic.now.name.now) c.in-Line.rule c.in-Line.at lines.items) c.file_of-broken.ensures.bytes
+    (subst (λ (n : List ℕ). ExplainsLine c.file_of-broken.result.bytes.now n c.in-Line.rule c.in-Line.at lines.items) c.file_of-broken.ensures.name said)) c.explain_line.ensures)
 
 pub refused_row-requires : goal.refused_row-requires
 refused_row-requires c =
@@ -51,7 +42,7 @@ refused_row-requires c =
 
 pub returns-in_ok-sites-in-Entry : goal.returns-in_ok-sites-in-Entry
 returns-in_ok-sites-in-Entry c =
-    let said = c.sentence_for-in-Entry.ensures in
+    let said = c.sentence_for.ensures in
     let sites = c.in_ok-sites-in-Entry.sites in
     rw c.in-Entry.is (IfOk-weaker c.lines_of_refused.result _ _ (λ lines is. (
       said.0,

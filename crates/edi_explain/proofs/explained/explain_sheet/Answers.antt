@@ -2,28 +2,19 @@ use Rattle.std.proofs.Common.{List, ℕ, ap, subst, ◌∙◌}
 use Rattle.std.proofs.lemmas.Result.{IfOk-weaker}
 use Rattle.edi_compare.specs.Refused.{IsRefusal}
 use Rattle.edi_explain.proofs.Phases.{line_least}
-use Rattle.edi_explain.specs.Lines.{lines_of_line, lines_of_sites}
+use Rattle.edi_explain.specs.Lines.{lines_of_sites}
 use Rattle.edi_explain.proofs.explained.explain_sheet.Goals as goal
 
-pub barring_line-earlier-requires : goal.barring_line-earlier-requires
-barring_line-earlier-requires c =
+pub explain_line-requires : goal.explain_line-requires
+explain_line-requires c =
     line_least c.args.schema.now c.args.bytes.now c.in-Line.rule c.in-Line.at (subst (IsRefusal c.args.schema.now c.args.bytes.now) c.in-Line.is c.requires)
 
 pub returns-in-Line : goal.returns-in-Line
-returns-in-Line c =
-    let said = c.sentence_for.ensures in
-    let earlier = c.barring_line-earlier.result in
-    rw c.in-Line.is (IfOk-weaker c.lines_of_broken.result _ _ (λ lines is. (
-      said.0,
-      earlier,
-      said.1,
-      c.barring_line-earlier.ensures,
-      is ∙ ap (λ (s : List ℕ). lines_of_line c.args.name.now c.in-Line.at earlier s c.in-Line.rule) said.2,
-    )) c.lines_of_broken.ensures)
+returns-in-Line c = rw c.in-Line.is c.explain_line.ensures
 
 pub returns-in_ok-sites-in-Entry : goal.returns-in_ok-sites-in-Entry
 returns-in_ok-sites-in-Entry c =
-    let said = c.sentence_for-in-Entry.ensures in
+    let said = c.sentence_for.ensures in
     let sites = c.in_ok-sites-in-Entry.sites in
     rw c.in-Entry.is (IfOk-weaker c.lines_of_refused.result _ _ (λ lines is. (
       said.0,

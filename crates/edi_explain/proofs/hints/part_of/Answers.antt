@@ -1,28 +1,21 @@
-use Rattle.std.proofs.Common.{◌∙◌, List, Option, ℕ, ap, subst}
-use Rattle.edi_line.specs.Entry.{Entry}
-use Rattle.edi_line.specs.LineRules.{BreaksLineRule, IsZonesOf}
-use Rattle.edi_line.specs.Refusal.{IsLineRefusal}
-use Rattle.edi_explain.specs.Hints.{part_typed}
-use Rattle.edi_explain.specs.Sites.{IsSiteIfAny}
-use Rattle.edi_explain.specs.declared.site.RecordSite.{RecordSite}
-use Rattle.edi_explain.proofs.Parts.{part_found, no_part}
+use Rattle.std.proofs.Common.{◌≡◌, ◌∙◌, ◌∷◌, List, [], ℕ, true, None, length, nat_eq, refl, sym, ap, arith, rules}
+use Rattle.std.specs.List.{starts_with}
+use Rattle.edi_line.specs.inner.Lines.{lines_of}
+use Rattle.edi_explain.specs.Hints.{type_head}
+use Rattle.edi_explain.specs.inner.Hints.{part_in}
+use Rattle.edi_explain.proofs.Parts.{head_found, part_found}
 use Rattle.edi_explain.proofs.hints.part_of.Goals as goal
 
--- where the first record of the file stands, if it has one
-abbrev FirstSite : List ℕ → Option RecordSite → Type 0
-FirstSite b found = (zones : List Entry) × IsZonesOf b zones × IsSiteIfAny zones 1 found
+pub returns-then-starts_with : goal.returns-then-starts_with
+returns-then-starts_with c =
+    let line = c.first_line.result.0.now in
+    let begins : starts_with nat_eq line type_head ≡ true = sym c.starts_with.ensures.value ∙ c.if-starts_with.true in
+    part_found c.args.bytes.now c.part_of_line.result
+    (c.part_of_line.ensures ∙ (sym (head_found line (lines_of c.first_line.result.1.now) begins) ∙ (ap part_in (sym c.first_line.ensures.lines) ∙ sym c.loop-rest.invariant)))
 
-pub returns-in-Ok-Some : goal.returns-in-Ok-Some
-returns-in-Ok-Some c =
-    let h = subst (FirstSite c.args.bytes.now) c.in-Ok-Some.field-0-is c.in-Ok-Some.ensures.site in
-    part_found c.args.bytes.now h.0 h.1 c.in-Ok-Some.site c.part_of_type.result c.in-Ok-Some.ensures.sound h.2 (c.part_of_type.ensures ∙ ap part_typed c.as_slice.ensures)
+no_lines : (bytes : List ℕ) → length bytes ≡ 0 → None ≡ part_in (lines_of bytes)
+no_lines [] e = refl
+no_lines (x ∷ xs) e = absurd (omega (arith, e))
 
-pub returns-in-Ok-None : goal.returns-in-Ok-None
-returns-in-Ok-None c =
-    let h = subst (FirstSite c.args.bytes.now) c.in-Ok-None.field-0-is c.in-Ok-None.ensures.site in
-    no_part c.args.bytes.now h.0 h.1 h.2
-
-pub returns-in-Err-Broken : goal.returns-in-Err-Broken
-returns-in-Err-Broken c = λ part h.
-    let least = subst (IsLineRefusal (BreaksLineRule c.args.bytes.now)) c.in-Err-Broken.field-0-is c.in-Err-Broken.ensures.least in
-    h.0 _ _ least.is
+pub returns : goal.returns
+returns c = part_found c.args.bytes.now None (no_lines c.loop-rest.rest.now (search rules) ∙ sym c.loop-rest.invariant)

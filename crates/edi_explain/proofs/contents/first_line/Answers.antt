@@ -1,7 +1,7 @@
 use Rattle.std.proofs.Common.{List, ℕ, ◌∷◌, sym, ◌∙◌, ap₂}
 use Rattle.edi_line.specs.inner.Lines.{lines_of}
 use Rattle.edi_line.proofs.Cut.{first_at_feed, first_of_one}
-use Rattle.edi_explain.proofs.barring.first_line.Goals as goal
+use Rattle.edi_explain.proofs.contents.first_line.Goals as goal
 
 pub returns-in-Some-clause-lines : goal.returns-in-Some-clause-lines
 returns-in-Some-clause-lines c =

@@ -1,0 +1,79 @@
+-- The remarks of a file, line by line.
+use Rattle.std.proofs.Common.{◌≡◌, ◌∙◌, ◌+◌, ◌++◌, ◌∷◌, inl, ℕ, Bool, true, false, cond, List, [], Some, None, Ok, Err, length, map, refl, sym, ap, subst, arith, codes, bytes_eq, nat_eq, append_assoc}
+use Rattle.std.specs.List.{AllByRecursion, starts_with}
+use Rattle.edi_schema.proofs.Paired.{count-cons}
+use Rattle.std.proofs.lemmas.Slice.Eq.{bytes_eq-Decides}
+use Rattle.edi_line.proofs.Readings.{readings_exist, rule_said}
+use Rattle.edi_line.specs.LineKinds.{bears, is_remark, kind_of}
+use Rattle.edi_line.specs.LineRules.{BreaksAt, BreaksLineRule}
+use Rattle.edi_line.specs.Lines.{content_of}
+use Rattle.edi_line.specs.Refusal.{IsUnbroken}
+use Rattle.edi_line.specs.Spelling.{Reading}
+use Rattle.edi_line.specs.inner.Lines.{contents_of, lines_of}
+use Rattle.edi_line.specs.inner.Spelling.{reading_of}
+use Rattle.edi_line.specs.inner.Zones.{readings_of}
+use Rattle.edi_explain.proofs.Barred.{IsFine, next_content, remark_tested}
+use Rattle.edi_explain.specs.Barring.{has_zone}
+use Rattle.edi_explain.specs.Skipped.{HasRemarks, remarks_in}
+
+-- the kinds of the four codes, of NEX and of others, by codes that have them
+no_remark : (a b c d e : Bool) → is_remark (cond a (kind_of (codes "BOM")) (cond b (kind_of (codes "CSE")) (cond c (kind_of (codes "RTY")) (cond d (kind_of (codes "EOM")) (cond e (kind_of (codes "NEX")) (cond false (kind_of (codes "REM")) (kind_of []))))))) ≡ false
+no_remark true b c d e = refl
+no_remark false true c d e = refl
+no_remark false false true d e = refl
+no_remark false false false true e = refl
+no_remark false false false false true = refl
+no_remark false false false false false = refl
+
+remark_code : (code : List ℕ) → is_remark (kind_of code) ≡ bytes_eq code (codes "REM")
+remark_code code = go (bytes_eq code (codes "REM")) refl
+  where
+    go : (b : Bool) → bytes_eq code (codes "REM") ≡ b → is_remark (kind_of code) ≡ b
+    go true e = ap (λ c. is_remark (kind_of c)) ((bytes_eq-Decides code (codes "REM")).0 e)
+    go false e =
+        ap (λ r. is_remark (cond (bytes_eq code (codes "BOM")) (kind_of (codes "BOM")) (cond (bytes_eq code (codes "CSE")) (kind_of (codes "CSE")) (cond (bytes_eq code (codes "RTY")) (kind_of (codes "RTY"))
+        (cond (bytes_eq code (codes "EOM")) (kind_of (codes "EOM")) (cond (bytes_eq code (codes "NEX")) (kind_of (codes "NEX")) (cond r (kind_of (codes "REM")) (kind_of [])))))))) e
+        ∙ no_remark (bytes_eq code (codes "BOM")) (bytes_eq code (codes "CSE")) (bytes_eq code (codes "RTY")) (bytes_eq code (codes "EOM")) (bytes_eq code (codes "NEX"))
+
+remark_zone : (r : Reading) → bears is_remark r ≡ has_zone (codes "REM") r
+remark_zone (Ok (Some s)) = remark_code s.code
+remark_zone (Ok None) = refl
+remark_zone (Err rule) = refl
+
+-- a line that breaks no rule of its own is a remark by its first bytes
+pub remark_read : (content : List ℕ) → IsFine content → bears is_remark (reading_of content) ≡ starts_with nat_eq content (codes "REM")
+remark_read content fine = remark_zone (reading_of content) ∙ remark_tested content fine
+
+-- the contents of a file that breaks no rule of lines
+abbrev pub AreFine : List ℕ → Type 0
+AreFine bytes = AllByRecursion IsFine (contents_of bytes)
+
+module _ (bytes : List ℕ) (unbroken : IsUnbroken (BreaksLineRule bytes)) where
+  fine_behind : (before : List Reading) (contents : List (List ℕ)) → readings_of bytes ≡ before ++ map reading_of contents → AllByRecursion IsFine contents
+  fine_behind before [] e = tt
+  fine_behind before (content ∷ contents) e = (
+    λ rule wrong.
+        let breaks : BreaksAt (readings_of bytes) rule (length before + 1) = record { before = before; line = reading_of content; after = map reading_of contents; cut = e; place_is = refl; breaks = inl wrong } in
+        unbroken rule (length before + 1) (rule_said bytes rule (length before + 1) (inl breaks)),
+    fine_behind (before ++ reading_of content ∷ []) contents (e ∙ sym (append_assoc before (reading_of content ∷ []) (map reading_of contents))),
+  )
+
+  pub all_fine : AreFine bytes
+  all_fine = fine_behind [] (contents_of bytes) refl
+
+-- the first line, and the remarks behind it
+pub remarks_more : (bytes line behind : List ℕ) → lines_of bytes ≡ line ∷ lines_of behind → (b : Bool) → bears is_remark (reading_of (content_of line)) ≡ b
+    → remarks_in (readings_of bytes) ≡ cond b 1 0 + remarks_in (readings_of behind)
+remarks_more bytes line behind e b f =
+    ap (λ cs. remarks_in (map reading_of cs)) (next_content bytes line behind e)
+    ∙ (count-cons (bears is_remark) (reading_of (content_of line)) (readings_of behind) ∙ ap (λ t. cond t 1 0 + remarks_in (readings_of behind)) f)
+
+pub fine_step : (bytes line behind : List ℕ) → lines_of bytes ≡ line ∷ lines_of behind → AreFine bytes → IsFine (content_of line) × AreFine behind
+fine_step bytes line behind e h = subst (AllByRecursion IsFine) (next_content bytes line behind e) h
+
+pub no_remarks : (bytes : List ℕ) → length bytes ≡ 0 → remarks_in (readings_of bytes) ≡ 0
+no_remarks [] e = refl
+no_remarks (x ∷ xs) e = absurd (omega (arith, e))
+
+pub remarks_counted : (bytes : List ℕ) (count : ℕ) → count ≡ remarks_in (readings_of bytes) → HasRemarks bytes count
+remarks_counted bytes count e = (readings_of bytes, readings_exist bytes, e)
