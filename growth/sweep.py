@@ -106,6 +106,7 @@ def main():
         sweep("a bundle of one node", [], library, out)
         sweep("check", ["check", *schema, sheet], library, out)
         sweep("check, refused", ["check", *schema, refused], library, out)
+        sweep("check, no such file", ["check", *schema, os.path.join(folder, "none.vec")], library, out)
         sweep("canon", ["canon", *schema, sheet, out], library, out)
         sweep("canon of another presentation", ["canon", *schema, again, out], library, out)
         sweep("canon, refused", ["canon", *schema, refused, out], library, out)

@@ -83,6 +83,16 @@ def line(text):
     return text.encode("latin-1") + b"\n"
 
 
+def unread(name, why="no such file"):
+    """The line of an input that can't be read, and the line that says why."""
+    return line(f"cannot read {name}") + line(f"edicad: {name}: {why}")
+
+
+def unwritten(name, why):
+    """The same of an output that can't be written."""
+    return line(f"cannot write {name}") + line(f"edicad: {name}: {why}")
+
+
 def status_of(answer):
     return 2 if answer.startswith("refused") else 1 if answer.startswith("different") else 0
 
@@ -162,7 +172,7 @@ def explains(room, sheet):
     status, out, err = room.run(lone)
     report.check("a refusal of the kinds", (status, out.split(b"\n")[0], out.split(b"\n")[1][:3], err), (2, b"refused kinds 604", b"s: ", b""))
     for name, command in (("s", ["x", "d", "v"]), ("d", ["s", "x", "v"]), ("v", ["s", "d", "x"])):
-        room.expect(f"explain without {name}", ["explain", *command], (4, b"", b"cannot read x\n"))
+        room.expect(f"explain without {name}", ["explain", *command], (4, b"", unread("x")))
     room.expect("two inputs by -", ["explain", "-", "d", "-"], (3, b"", b"only one input can be -\n"))
     room.expect("two files of three", ["explain", "s", "d"], (3, b"", b"explain takes RULE, or SCD, DIC and VEC\n"))
     room.expect("bad kinds", ["explain", "--kinds", "A", "s", "d", "v"], (3, b"", b"bad kinds\n"))
@@ -389,10 +399,12 @@ def files(room, sheet, canonical):
     room.write("v", sheet)
     for name, command in (("s", ["check", "x", "d", "v"]), ("d", ["check", "s", "x", "v"]), ("v", ["check", "s", "d", "x"]),
                           ("first", ["compare", "s", "d", "x", "v"]), ("second", ["compare", "s", "d", "v", "x"]), ("canon", ["canon", "s", "d", "x", "o"])):
-        room.expect(f"a missing file, {name}", command, (4, b"", b"cannot read x\n"))
-    room.expect("the first missing file is named", ["check", "s", "x", "y"], (4, b"", b"cannot read x\n"))
-    room.expect("all are opened before one is read", ["check", ".", "d", "y"], (4, b"", b"cannot read y\n"))
-    room.expect("a folder can't be read", ["check", "s", "d", "."], (4, b"", b"cannot read .\n"))
+        room.expect(f"a missing file, {name}", command, (4, b"", unread("x")))
+    room.expect("the first missing file is named", ["check", "s", "x", "y"], (4, b"", unread("x")))
+    room.expect("all are opened before one is read", ["check", ".", "d", "y"], (4, b"", unread("y")))
+    room.expect("a folder can't be read", ["check", "s", "d", "."], (4, b"", unread(".", "is a folder")))
+    room.expect("a file where a folder is named", ["check", "s", "s/x", "v"], (4, b"", unread("s/x", "no such folder")))
+    room.expect("a file in a folder that is missing", ["check", "s", "none/x", "v"], (4, b"", unread("none/x")))
     report.check("no OUT of missing files", room.read("o"), None)
     room.expect("OUT is made", ["canon", "s", "d", "v", "o"], (0, b"accepted\n", b""))
     report.check("OUT that is made", room.read("o"), canonical)
@@ -404,8 +416,9 @@ def files(room, sheet, canonical):
     os.mkdir(room.path("folder"))
     room.expect("OUT in a folder", ["canon", "s", "d", "v", "folder/o"], (0, b"accepted\n", b""))
     report.check("OUT in a folder: bytes", room.read("folder/o"), canonical)
-    room.expect("OUT is a folder", ["canon", "s", "d", "v", "folder"], (4, b"", b"cannot write folder\n"))
-    room.expect("OUT in no folder", ["canon", "s", "d", "v", "none/o"], (4, b"", b"cannot write none/o\n"))
+    room.expect("OUT is a folder", ["canon", "s", "d", "v", "folder"], (4, b"", unwritten("folder", "is a folder")))
+    room.expect("OUT in a file", ["canon", "s", "d", "v", "s/o"], (4, b"", unwritten("s/o", "no such folder")))
+    room.expect("OUT in no folder", ["canon", "s", "d", "v", "none/o"], (4, b"", unwritten("none/o", "no such folder")))
     for name in ("s", "d", "v"):
         before = room.read(name)
         for out in (name, "./" + name, "folder/../" + name):
@@ -423,7 +436,7 @@ def files(room, sheet, canonical):
     room.expect("OUT is a link", ["canon", "s", "d", "v", "near"], (0, b"accepted\n", b""))
     report.check("a link stays, and its file is replaced", (os.path.islink(room.path("near")), room.read("far")), (True, canonical))
     os.symlink("nowhere", room.path("broken"))
-    room.expect("OUT is a link to nothing", ["canon", "s", "d", "v", "broken"], (4, b"", b"cannot write broken\n"))
+    room.expect("OUT is a link to nothing", ["canon", "s", "d", "v", "broken"], (4, b"", unwritten("broken", "no such file")))
     room.write(".edicad-0.tmp", "left behind")
     room.expect("what a stopped run left is no hindrance", ["canon", "s", "d", "v", "o2"], (0, b"accepted\n", b""))
     report.check("OUT beside what a stopped run left", (room.read("o2"), room.read(".edicad-0.tmp")), (canonical, b"left behind"))
@@ -465,7 +478,7 @@ def standard_streams(room, sheet, canonical):
     report.check("a closed stream of errors", room.run(["check", "s", "d", "x"], preexec_fn=lambda: os.close(2))[0], 4)
     room.expect("a closed input", ["check", "s", "d", "-"], (4, b"", b"cannot read standard input\n"), preexec_fn=lambda: os.close(0))
     room.expect("a closed input of the bundle", [], (4, b"", b"cannot read standard input\n"), preexec_fn=lambda: os.close(0))
-    room.expect("OUT is a full device", ["canon", "s", "d", "v", "/dev/full"], (4, b"", b"cannot write /dev/full\n"))
+    room.expect("OUT is a full device", ["canon", "s", "d", "v", "/dev/full"], (4, b"", unwritten("/dev/full", "no space left")))
     room.expect("OUT is a device", ["canon", "s", "d", "v", "/dev/null"], (0, b"accepted\n", b""))
     report.holds("a device stays", not os.path.isfile("/dev/null"))
     os.mkfifo(room.path("pipe"))
@@ -486,17 +499,20 @@ def hashes(room, sheet, canonical):
     room.expect("a sheet and its canonical file have one digest", ["hash", "s", "d", "v", "w"], (0, both, b""))
     checked = subprocess.run(["sha256sum", "-c"], cwd=room.folder, input=one + b"  w\n", capture_output=True).stdout
     report.check("sha256sum -c takes the line of a canonical file", checked, b"w: OK\n")
-    room.expect("the first missing file of a schema", ["hash", "x", "y", "v"], (4, b"", b"cannot read x\n"))
-    room.expect("the second missing file of a schema", ["hash", "s", "y", "v"], (4, b"", b"cannot read y\n"))
+    room.expect("the first missing file of a schema", ["hash", "x", "y", "v"], (4, b"", unread("x")))
+    room.expect("the second missing file of a schema", ["hash", "s", "y", "v"], (4, b"", unread("y")))
     room.expect("a refused schema", ["hash", "bad", "d", "x"], (2, b"refused scd 106 line 1\n", b""))
-    room.expect("the greatest status", ["hash", "s", "d", "x", "bad", "v"], (4, one + b"  v\n", b"x: cannot read\nbad: refused 106 line 1\n"))
-    room.expect("a folder among the sheets", ["hash", "s", "d", ".", "v"], (4, one + b"  v\n", b".: cannot read\n"))
+    room.expect("the greatest status", ["hash", "s", "d", "x", "bad", "v"], (4, one + b"  v\n", b"x: cannot read\nedicad: x: no such file\nbad: refused 106 line 1\n"))
+    room.expect("a folder among the sheets", ["hash", "s", "d", ".", "v"], (4, one + b"  v\n", b".: cannot read\nedicad: .: is a folder\n"))
+    room.expect("a reason is that of its own sheet", ["hash", "s", "d", "x", ".", "s/x", "v"],
+                (4, one + b"  v\n", b"x: cannot read\nedicad: x: no such file\n.: cannot read\nedicad: .: is a folder\ns/x: cannot read\nedicad: s/x: no such folder\n"))
+    room.expect("the name of a reason has its escapes", ["hash", "s", "d", "a\nb"], (4, b"", b"\\a\\nb: cannot read\nedicad: a\\nb: no such file\n"))
     room.expect("the schema on standard input", ["hash", "-", "d", "v", "w"], (0, both, b""), room.read("s"))
     room.expect("a closed input", ["hash", "s", "d", "-", "v"], (4, one + b"  v\n", b"-: cannot read\n"), preexec_fn=lambda: os.close(0))
     many = ["v"] * 3000
     room.expect("many sheets", ["hash", "s", "d", *many], (0, (one + b"  v\n") * 3000, b""))
     with open("/dev/full", "wb") as full:
-        room.expect("digests to a full output", ["hash", "s", "d", "x", "v", "bad"], (4, None, b"x: cannot read\ncannot write standard output\n"), stdout=full)
+        room.expect("digests to a full output", ["hash", "s", "d", "x", "v", "bad"], (4, None, b"x: cannot read\nedicad: x: no such file\ncannot write standard output\n"), stdout=full)
         report.check("faults to a full stream", room.run(["hash", "s", "d", "bad", "v"], stderr=full)[:2], (2, one + b"  v\n"))
         report.check("a refused schema to a full output", room.run(["hash", "bad", "d", "v"], stdout=full)[0], 4)
     report.check("a closed output", room.run(["hash", "s", "d", "v"], preexec_fn=lambda: os.close(1))[0], 4)
@@ -548,11 +564,11 @@ def pairings(room, sheet):
         words[at] = "-"
         room.expect(f"verify with {name} on standard input", ["verify", *words], (0, b"pairs\n", b""), room.read(name))
         words[at] = "x"
-        room.expect(f"verify without {name}", ["verify", *words], (4, b"", b"cannot read x\n"))
+        room.expect(f"verify without {name}", ["verify", *words], (4, b"", unread("x")))
         words[at] = "."
-        room.expect(f"verify with a folder for {name}", ["verify", *words], (4, b"", b"cannot read .\n"))
+        room.expect(f"verify with a folder for {name}", ["verify", *words], (4, b"", unread(".", "is a folder")))
         if name != "p":
-            room.expect(f"all are opened before one is read, {name}", ["verify", *words[:4], "y"], (4, b"", b"cannot read y\n"))
+            room.expect(f"all are opened before one is read, {name}", ["verify", *words[:4], "y"], (4, b"", unread("y")))
     refusals = ((["bad", "d", "a", "b"], b"refused scd 106 line 1\n"), (["s", "bad", "a", "b"], b"refused dic 106 line 1\n"),
                 (["s", "d", "bad", "bad"], b"refused first 106 line 1\n"), (["s", "d", "a", "bad"], b"refused second 106 line 1\n"),
                 (["--kinds", "XA,XB,XC,IND", "s", "d", "a", "b"], b"refused kinds 604\n"))
@@ -561,7 +577,7 @@ def pairings(room, sheet):
         room.expect(f"verify of {words}", ["verify", *words, "bad"], (2, said, b""))
         room.expect(f"a pairing of {words}", ["compare", "--pairing", "kept", *words], (2, said, b""))
     room.expect("a pairing of different sheets", ["compare", "--pairing", "kept", "s", "d", "a", "c"], (1, b"different at line 5\n", b""))
-    room.expect("a pairing of a missing sheet", ["compare", "--pairing", "kept", "s", "d", "a", "x"], (4, b"", b"cannot read x\n"))
+    room.expect("a pairing of a missing sheet", ["compare", "--pairing", "kept", "s", "d", "a", "x"], (4, b"", unread("x")))
     room.expect("a pairing to -", ["compare", "--pairing", "-", *sheets], (3, b"", b"--pairing takes a file, and not -\n"))
     report.check("FILE of other answers", (room.read("kept"), room.read("-")), (b"kept", None))
     room.expect("a new FILE of different sheets", ["compare", "--pairing", "new", "s", "d", "a", "c"], (1, b"different at line 5\n", b""))
@@ -576,8 +592,8 @@ def pairings(room, sheet):
     room.expect("a FILE of the name -", ["compare", "--pairing", "./-", *sheets], same)
     report.check("the FILE of the name -", room.read("-"), pairing)
     room.expect("a sheet on standard input", ["compare", "--pairing", "p", "s", "d", "-", "b"], same, room.read("a"))
-    room.expect("FILE in no folder", ["compare", "--pairing", "none/p", *sheets], (4, b"", b"cannot write none/p\n"))
-    room.expect("FILE is a full device", ["compare", "--pairing", "/dev/full", *sheets], (4, b"", b"cannot write /dev/full\n"))
+    room.expect("FILE in no folder", ["compare", "--pairing", "none/p", *sheets], (4, b"", unwritten("none/p", "no such folder")))
+    room.expect("FILE is a full device", ["compare", "--pairing", "/dev/full", *sheets], (4, b"", unwritten("/dev/full", "no space left")))
     room.expect("FILE is the device of standard output", ["compare", "--pairing", "/dev/stdout", *sheets], (0, pairing + b"same\n", b""))
     with open("/dev/full", "wb") as full:
         for words in (["compare", "--pairing", "p", *sheets], ["verify", *sheets, "p"], ["verify", *sheets, "a"]):
@@ -674,23 +690,28 @@ def hostile_folders(room, sheet):
     room.write("locked/o", "old")
     os.chmod(room.path("locked/o"), 0o666)
     os.chmod(room.path("locked"), 0o555)
-    room.expect("OUT in a folder that is read-only", ["canon", "s", "d", "v", "locked/o"], (4, b"", b"cannot write locked/o\n"), preexec_fn=nobody)
-    room.expect("a new OUT in a folder that is read-only", ["canon", "s", "d", "v", "locked/new"], (4, b"", b"cannot write locked/new\n"), preexec_fn=nobody)
+    room.expect("OUT in a folder that is read-only", ["canon", "s", "d", "v", "locked/o"], (4, b"", unwritten("locked/o", "not permitted")), preexec_fn=nobody)
+    room.expect("a new OUT in a folder that is read-only", ["canon", "s", "d", "v", "locked/new"], (4, b"", unwritten("locked/new", "not permitted")), preexec_fn=nobody)
     report.check("a folder that is read-only", (sorted(os.listdir(room.path("locked"))), room.read("locked/o")), (["o"], b"old"))
     os.chmod(room.path("locked"), 0o755)
     os.mkdir(room.path("open"))
     os.chmod(room.path("open"), 0o777)
     room.write("open/o", "old")
     os.chmod(room.path("open/o"), 0o444)
-    room.expect("OUT is read-only", ["canon", "s", "d", "v", "open/o"], (4, b"", b"cannot write open/o\n"), preexec_fn=nobody)
+    room.expect("OUT is read-only", ["canon", "s", "d", "v", "open/o"], (4, b"", unwritten("open/o", "not permitted")), preexec_fn=nobody)
     report.check("OUT that is read-only", (os.listdir(room.path("open")), room.read("open/o")), (["o"], b"old"))
+
+    room.write("secret", sheet)
+    os.chmod(room.path("secret"), 0)
+    room.expect("a file that may not be read", ["check", "s", "d", "secret"], (4, b"", unread("secret", "not permitted")), preexec_fn=nobody)
+    room.expect("a sheet that may not be read", ["hash", "s", "d", "secret"], (4, b"", b"secret: cannot read\nedicad: secret: not permitted\n"), preexec_fn=nobody)
 
     def limited():
         signal.signal(signal.SIGXFSZ, signal.SIG_IGN)
         resource.setrlimit(resource.RLIMIT_FSIZE, (40, 40))
 
     room.write("o", "old")
-    room.expect("a file that can't grow", ["canon", "s", "d", "v", "o"], (4, b"", b"cannot write o\n"), preexec_fn=limited)
+    room.expect("a file that can't grow", ["canon", "s", "d", "v", "o"], (4, b"", unwritten("o", "file too large")), preexec_fn=limited)
     report.check("OUT where a file can't grow", (room.read("o"), drafts(room.folder)), (b"old", []))
     full_disk(room, sheet)
 
@@ -713,8 +734,10 @@ def full_disk(room, sheet):
         except OSError:
             pass
         os.close(file)
-        room.expect("OUT on a full disk", ["canon", "s", "d", "v", "disk/o"], (4, b"", b"cannot write disk/o\n"))
+        room.expect("OUT on a full disk", ["canon", "s", "d", "v", "disk/o"], (4, b"", unwritten("disk/o", "no space left")))
         report.check("OUT of a full disk", (room.read("disk/o"), sorted(os.listdir(disk))), (b"old", ["fill", "o"]))
+        if subprocess.run(["mount", "-o", "remount,ro", disk], capture_output=True).returncode == 0:
+            room.expect("OUT on a disk that is read-only", ["canon", "s", "d", "v", "disk/o"], (4, b"", unwritten("disk/o", "read-only file system")))
     finally:
         subprocess.run(["umount", disk], check=True)
 

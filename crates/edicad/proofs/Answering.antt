@@ -14,6 +14,7 @@ use Rattle.edi_compare.specs.declared.fault.RunFault.{RunFault}
 use Rattle.edi_compare.specs.declared.fault.RunFault.TheVariants.{Memory, Read, TooLong, Schema, First, Second, Write}
 use Rattle.edicad.specs.Hashes.{AreAnswered, IsCutOff, IsStep, RefusesFiles, SchemaFault, Step, StepsOn, StopsAt, TriesSchema, worst_of}
 use Rattle.edicad.specs.Outcome.{ended, schema_text, status_of_fault, words_of_fault}
+use Rattle.edicad.specs.Reasons.{Why}
 use Rattle.edicad.specs.SheetRuns.{Inputs}
 use Rattle.edicad.specs.Statuses.{GoesOut, IsSheetStatus, Says}
 use Rattle.edi_words.specs.declared.words.ManyFiles.{ManyFiles}
@@ -81,27 +82,27 @@ max_status a b (inr (inr (inr e))) (inr (inl f)) = inr (inr (inr (omega (arith, 
 max_status a b (inr (inr (inr e))) (inr (inr (inl f))) = inr (inr (inr (omega (arith, e, f))))
 max_status a b (inr (inr (inr e))) (inr (inr (inr f))) = inr (inr (inr (omega (arith, e, f))))
 
-pub none_answered : (inputs : Inputs) (s : Classes) (o : Option (List ℕ)) (of : Bool) (a : Option (List ℕ)) (af : Bool) → AreAnswered inputs s (seen o o of) (seen a a af) [] 0
-none_answered inputs s o of a af = ([], tt, appends_nothing o, inl (appends_nothing a), refl)
+pub none_answered : (inputs : Inputs) (why : Why) (s : Classes) (o : Option (List ℕ)) (of : Bool) (a : Option (List ℕ)) (af : Bool) → AreAnswered inputs why s (seen o o of) (seen a a af) [] 0
+none_answered inputs why s o of a af = ([], tt, appends_nothing o, inl (appends_nothing a), refl)
 
 -- over what the streams tell before the first sheet, before this one and after it
-module _ (inputs : Inputs) (s : Classes) (o p q : Option (List ℕ)) (pf qf : Bool) (a b c : Option (List ℕ)) (bf cf : Bool) where
-  pub answered_more : (paths : List (List ℕ)) (path : List ℕ) (worst status : ℕ) → AreAnswered inputs s (seen o p pf) (seen a b bf) paths worst
-      → StepsOn inputs s path (seen p q qf) (seen b c cf) status → (IsTrue bf → IsTrue cf)
-      → AreAnswered inputs s (seen o q qf) (seen a c cf) (paths ++ path ∷ []) (max worst status)
+module _ (inputs : Inputs) (why : Why) (s : Classes) (o p q : Option (List ℕ)) (pf qf : Bool) (a b c : Option (List ℕ)) (bf cf : Bool) where
+  pub answered_more : (paths : List (List ℕ)) (path : List ℕ) (worst status : ℕ) → AreAnswered inputs why s (seen o p pf) (seen a b bf) paths worst
+      → StepsOn inputs why s path (seen p q qf) (seen b c cf) status → (IsTrue bf → IsTrue cf)
+      → AreAnswered inputs why s (seen o q qf) (seen a c cf) (paths ++ path ∷ []) (max worst status)
   answered_more paths path worst status h k stays =
       let steps = h.0 in
       let step = k.0 in (
         steps ++ step ∷ [],
-        zip_push (IsStep inputs s) paths steps path step h.1 k.1,
+        zip_push (IsStep inputs why s) paths steps path step h.1 k.1,
         subst (Appends o q) (sym (said_push (λ (t : Step). t.out) steps step)) (appends_more o p q _ _ h.2 k.3),
         subst (GoesOut a c cf) (sym (said_push (λ (t : Step). t.err) steps step)) (goes_more a b c bf cf _ _ h.3 k.4 stays),
         ap (λ w. max w status) h.4 ∙ (ap (max (worst_of steps)) (sym k.2) ∙ sym (fold-append (λ w (t : Step). max w t.status) 0 steps (step ∷ []))),
       )
 
-  pub cut_off : (paths done more : List (List ℕ)) (path : List ℕ) (worst status : ℕ) → paths ≡ done ++ path ∷ more → AreAnswered inputs s (seen o p pf) (seen a b bf) done worst
+  pub cut_off : (paths done more : List (List ℕ)) (path : List ℕ) (worst status : ℕ) → paths ≡ done ++ path ∷ more → AreAnswered inputs why s (seen o p pf) (seen a b bf) done worst
       → StopsAt inputs s path (seen p q qf) → GoesOut b c cf (ended (codes "cannot write standard output")) → (IsTrue bf → IsTrue cf) → status ≡ 4
-      → IsCutOff inputs s (seen o q qf) (seen a c cf) paths status
+      → IsCutOff inputs why s (seen o q qf) (seen a c cf) paths status
   cut_off paths done more path worst status is h k said stays four = (
     done,
     path,

@@ -1,5 +1,5 @@
 -- The status of a run that tells what differs between two sheets.
-use Rattle.std.proofs.Common.{◌≡◌, ◌≢◌, ◌⊎◌, ◌<◌, ◌≤◌, ℕ, Bool, true, false, List, IsTrue, codes, refl, subst, inl, inr, arith}
+use Rattle.std.proofs.Common.{◌≡◌, ◌≢◌, ◌⊎◌, ◌<◌, ◌≤◌, ℕ, Bool, true, false, IsTrue, codes, refl, inl, inr, arith}
 use Rattle.std.specs.Bool.{MatchBool}
 use Rattle.edi_schema.specs.Roles.{KindCodes}
 use Rattle.edi_compare.specs.declared.fault.RunFault.{RunFault}
@@ -9,7 +9,9 @@ use Rattle.edi_diff.specs.declared.differing.Difference.{Difference}
 use Rattle.edi_words.specs.declared.words.PairFiles.{PairFiles}
 use Rattle.edicad.specs.Outcome.{ended, status_of_fault, words_of_fault}
 use Rattle.edicad.specs.SheetRuns.{Inputs, OfPair, PairFileFault}
-use Rattle.edicad.specs.Statuses.{IsDiffStatus, IsToldAs, Says, Warns, pair_names_of}
+use Rattle.edicad.specs.Reasons.{Why}
+use Rattle.edicad.specs.Statuses.{IsDiffStatus, IsToldAs, Says, Warns, WarnsWhy, pair_paths_of}
+use Rattle.edicad.specs.declared.outcome.Outcome.TheVariants as outcome
 use Rattle.edicad.proofs.Refusals.{fault_status, means_fault, not_one, pair_refused, pair_tried, told_fault, were_four}
 
 -- the status of a difference whose text is put
@@ -36,9 +38,9 @@ never_five b s (inl four) five = absurd (omega (arith, four, five))
 never_five true s (inr h) five = absurd (omega (arith, h, five))
 never_five false s (inr h) five = absurd (omega (arith, h, five))
 
-module _ (inputs : Inputs) (out err : Seen) (kinds : KindCodes) (files : PairFiles) (brief : Bool) (s : ℕ) where
+module _ (inputs : Inputs) (why : Why) (out err : Seen) (kinds : KindCodes) (files : PairFiles) (brief : Bool) (s : ℕ) where
   pub put_status : (difference : Difference) → OfPair inputs files (λ scd dic a b. IsDifferenceUnder kinds scd dic a b brief difference)
-      → IsPutAs difference.same s → (s < 3 → Says out difference.text.items) → (s ≡ 4 → IsTrue out.failed) → IsDiffStatus inputs out err kinds files brief s
+      → IsPutAs difference.same s → (s < 3 → Says out difference.text.items) → (s ≡ 4 → IsTrue out.failed) → IsDiffStatus inputs why out err kinds files brief s
   put_status difference h status written failed = record {
     tried = inl (were_four inputs files _ h);
     different = λ one. (difference, h, other_of_one difference.same s status one, written (omega (arith, one)));
@@ -50,15 +52,14 @@ module _ (inputs : Inputs) (out err : Seen) (kinds : KindCodes) (files : PairFil
     };
   }
 
-  pub untold_status : (names : List (List ℕ)) → names ≡ pair_names_of files (codes "standard output") → (e : RunFault) → PairFileFault inputs kinds files (λ _. ⊥) e
-      → IsToldAs (status_of_fault e) s → (s < 3 → Says out (ended (words_of_fault e names))) → (status_of_fault e < 3 → s ≡ 4 → IsTrue out.failed)
-      → (3 ≤ status_of_fault e → s ≡ 4 → Warns err (ended (words_of_fault e names))) → (s ≡ 5 → Warns err (ended (codes "out of memory")))
-      → IsDiffStatus inputs out err kinds files brief s
-  untold_status names are e h told line stopped warned memory = record {
+  pub untold_status : (e : RunFault) → PairFileFault inputs kinds files (λ _. ⊥) e
+      → IsToldAs (status_of_fault e) s → (s < 3 → Says out (ended (words_of_fault e (pair_paths_of files (codes "-"))))) → (status_of_fault e < 3 → s ≡ 4 → IsTrue out.failed)
+      → (3 ≤ status_of_fault e → s ≡ 4 → WarnsWhy why err (outcome.Fault e) (pair_paths_of files (codes "-"))) → (s ≡ 5 → Warns err (ended (codes "out of memory")))
+      → IsDiffStatus inputs why out err kinds files brief s
+  untold_status e h told line stopped warned memory = record {
     tried = pair_tried inputs kinds files (λ _. ⊥) e h;
     different = λ one. absurd (not_one s (told_fault (status_of_fault e) s (fault_status e) told) one);
-    means = means_fault _ _ _ (pair_names_of files (codes "standard output")) out err s e (λ big four. h)
-        (λ is two. pair_refused out kinds (pair_names_of files (codes "standard output")) refl inputs files (λ _. ⊥) e h is (subst (λ n. Says out (ended (words_of_fault e n))) are (line (omega (arith, two))))) told
-        stopped
-        (subst (λ n. 3 ≤ status_of_fault e → s ≡ 4 → Warns err (ended (words_of_fault e n))) are warned) memory;
+    means = means_fault _ _ _ why (pair_paths_of files (codes "-")) out err s e (λ big four. h)
+        (λ is two. pair_refused out kinds (pair_paths_of files (codes "-")) refl inputs files (λ _. ⊥) e h is (line (omega (arith, two)))) told
+        stopped warned memory;
   }

@@ -14,8 +14,9 @@ use Rattle.edi_words.specs.declared.words.PairFiles.{PairFiles}
 use Rattle.edicad.specs.Folders.{Leavings}
 use Rattle.edicad.specs.Outcome.{FaultHasNames, HasNames, ended, paired_outcome, status_for, status_of_fault, verified_outcome, words_for, words_of_fault}
 use Rattle.edicad.specs.Outputs.{IsWholeOrNew}
+use Rattle.edicad.specs.Reasons.{Why}
 use Rattle.edicad.specs.SheetRuns.{AreFiveThere, AreFourThere, FirstOfFiveMissing, FirstOfFourMissing, Gives, HoldsTooMuch, Inputs, IsNoPairInput, IsPairInput, OfFive, OfPair, OfPairing, PairFileFault, PairingFault, VerifyFileFault, verify_path_at}
-use Rattle.edicad.specs.Statuses.{IsPairingStatus, IsToldAs, IsVerifyStatus, Says, SaysPairRefusal, SaysVerifyRefusal, Warns, pair_names_of, verify_names_of}
+use Rattle.edicad.specs.Statuses.{IsPairingStatus, IsToldAs, IsVerifyStatus, Says, SaysPairRefusal, SaysVerifyRefusal, Warns, WarnsWhy, pair_paths_of, verify_paths_of}
 use Rattle.edicad.proofs.Canonical.{pair_map}
 use Rattle.edicad.proofs.Faults.{if_err_map, tell_both_told_four, told_four}
 use Rattle.edicad.proofs.Refusals.{fault_status, match_refused, means_answer, means_fault, not_one, not_one_of_zero, not_zero_of_one, pair_refused, pair_tried, told_fault, were_four}
@@ -70,39 +71,38 @@ pairing_tried inputs is_one kinds files path W e (inl input) = inl input.0
 pairing_tried inputs is_one kinds files path W e (inr h) = inr (pair_tried inputs kinds files W e h.1)
 
 pairing_refused : (inputs : Inputs) (is_one : List ℕ → List ℕ → Bool → Type 0) (kinds : KindCodes) (files : PairFiles) (path : List ℕ) (W : ℕ → Type 0) (out : Seen) (e : RunFault)
-    → PairingFault inputs is_one kinds files path W e → status_of_fault e ≡ 2 → Says out (ended (words_of_fault e (pair_names_of files path)))
+    → PairingFault inputs is_one kinds files path W e → status_of_fault e ≡ 2 → Says out (ended (words_of_fault e (pair_paths_of files path)))
     → OfPair inputs files (SaysPairRefusal out kinds)
 pairing_refused inputs is_one kinds files path W out e (inl input) two line = absurd (omega (arith, ap status_of_fault input.1, two))
-pairing_refused inputs is_one kinds files path W out e (inr h) two line = pair_refused out kinds (pair_names_of files path) refl inputs files W e h.1 two line
+pairing_refused inputs is_one kinds files path W out e (inr h) two line = pair_refused out kinds (pair_paths_of files path) refl inputs files W e h.1 two line
 
 -- the status of a comparison to a pairing's file
-module _ (inputs : Inputs) (is_one : List ℕ → List ℕ → Bool → Type 0) (out err : Seen) (kinds : KindCodes) (files : PairFiles) (path : List ℕ)
-    (Puts : List ℕ → Type 0) (Stops : ℕ → List ℕ → Type 0) (Kept : Type 0) (names : List (List ℕ)) (are : names ≡ pair_names_of files path) (s : ℕ) where
+module _ (inputs : Inputs) (is_one : List ℕ → List ℕ → Bool → Type 0) (why : Why) (out err : Seen) (kinds : KindCodes) (files : PairFiles) (path : List ℕ)
+    (Puts : List ℕ → Type 0) (Stops : ℕ → List ℕ → Type 0) (Kept : Type 0) (s : ℕ) where
   pub pairing_status : (r : Result (Option ℕ) RunFault)
       → IfOk r (λ line. IsNoPairInput is_one files path × MatchOption line (OfPairing inputs kinds files Puts)
       (λ at. OfPair inputs files (λ scd dic a b. IsVerdictOf kinds scd dic a b (Different at)) × Kept))
       → IfErr r (PairingFault inputs is_one kinds files path (λ count. OfPairing inputs kinds files (Stops count)))
       → IsToldAs (status_for (paired_outcome r)) s
-      → (s < 3 → Says out (ended (words_for (paired_outcome r) names))) → (status_for (paired_outcome r) < 3 → s ≡ 4 → IsTrue out.failed)
-      → (3 ≤ status_for (paired_outcome r) → s ≡ 4 → Warns err (ended (words_for (paired_outcome r) names))) → (s ≡ 5 → Warns err (ended (codes "out of memory")))
-      → IsPairingStatus inputs is_one out err kinds files path Puts Stops s
+      → (s < 3 → Says out (ended (words_for (paired_outcome r) (pair_paths_of files path)))) → (status_for (paired_outcome r) < 3 → s ≡ 4 → IsTrue out.failed)
+      → (3 ≤ status_for (paired_outcome r) → s ≡ 4 → WarnsWhy why err (paired_outcome r) (pair_paths_of files path)) → (s ≡ 5 → Warns err (ended (codes "out of memory")))
+      → IsPairingStatus inputs is_one why out err kinds files path Puts Stops s
   pairing_status (Ok None) h fault told line stopped warned memory = record {
     tried = inr (inl (were_four inputs files _ h.1));
     different = λ one. absurd (not_one_of_zero s one told);
-    means = means_answer _ _ _ (pair_names_of files path) out err s 0 (omega arith) (λ zero. (h.1, line (omega (arith, zero)))) told stopped memory;
+    means = means_answer _ _ _ why (pair_paths_of files path) out err s 0 (omega arith) (λ zero. (h.1, line (omega (arith, zero)))) told stopped memory;
   }
   pairing_status (Ok (Some at)) h fault told line stopped warned memory = record {
     tried = inr (inl (were_four inputs files _ h.1.0));
     different = λ one. (at, h.1.0, line (omega (arith, one)));
-    means = means_answer _ _ _ (pair_names_of files path) out err s 1 (omega arith) (λ zero. absurd (not_zero_of_one s zero told)) told stopped memory;
+    means = means_answer _ _ _ why (pair_paths_of files path) out err s 1 (omega arith) (λ zero. absurd (not_zero_of_one s zero told)) told stopped memory;
   }
   pairing_status (Err e) ok h told line stopped warned memory = record {
     tried = pairing_tried inputs is_one kinds files path _ e h;
     different = λ one. absurd (not_one s (told_fault (status_of_fault e) s (fault_status e) told) one);
-    means = means_fault _ _ _ (pair_names_of files path) out err s e (λ big four. h)
-        (λ is two. pairing_refused inputs is_one kinds files path _ out e h is (subst (λ n. Says out (ended (words_of_fault e n))) are (line (omega (arith, two))))) told
-        stopped
-        (subst (λ n. 3 ≤ status_of_fault e → s ≡ 4 → Warns err (ended (words_of_fault e n))) are warned) memory;
+    means = means_fault _ _ _ why (pair_paths_of files path) out err s e (λ big four. h)
+        (λ is two. pairing_refused inputs is_one kinds files path _ out e h is (line (omega (arith, two)))) told
+        stopped warned memory;
   }
 
 -- ---- a pairing's file, checked
@@ -203,12 +203,12 @@ verify_tried inputs kinds files pairing e (inl missing) = inr (missing.0, missin
 verify_tried inputs kinds files pairing e (inr h) = inl h.0
 
 verify_refused : (inputs : Inputs) (kinds : KindCodes) (files : PairFiles) (pairing : List ℕ) (out : Seen) (e : RunFault) → VerifyFileFault inputs kinds files pairing e
-    → status_of_fault e ≡ 2 → Says out (ended (words_of_fault e (verify_names_of files pairing))) → SaysVerifyRefusal inputs out kinds files pairing
+    → status_of_fault e ≡ 2 → Says out (ended (words_of_fault e (verify_paths_of files pairing))) → SaysVerifyRefusal inputs out kinds files pairing
 verify_refused inputs kinds files pairing out e (inl missing) two line = absurd (omega (arith, ap status_of_fault missing.2, two))
-verify_refused inputs kinds files pairing out e (inr h) two line = inl (match_refused out kinds (verify_names_of files pairing) refl inputs files _ _ (λ _. ⊥) e h.1 two line)
+verify_refused inputs kinds files pairing out e (inr h) two line = inl (match_refused out kinds (verify_paths_of files pairing) refl inputs files _ _ (λ _. ⊥) e h.1 two line)
 
 -- the status of a pairing's check
-module _ (inputs : Inputs) (out err : Seen) (kinds : KindCodes) (files : PairFiles) (pairing : List ℕ) (names : List (List ℕ)) (are : names ≡ verify_names_of files pairing) (s : ℕ) where
+module _ (inputs : Inputs) (why : Why) (out err : Seen) (kinds : KindCodes) (files : PairFiles) (pairing : List ℕ) (s : ℕ) where
   were_five : (P : List ℕ → List ℕ → List ℕ → List ℕ → List ℕ → Type 0) → OfFive inputs files pairing P → AreFiveThere inputs files pairing
   were_five P h = (((h.0, h.5), (h.1, h.6), (h.2, h.7), (h.3, h.8)), (h.4, h.9))
 
@@ -220,26 +220,25 @@ module _ (inputs : Inputs) (out err : Seen) (kinds : KindCodes) (files : PairFil
   pub verify_status : (r : Result Bool VerifyRunFault) → IfOk r (λ answer. OfFive inputs files pairing (λ scd dic a b f. IsVerifiedUnder kinds scd dic a b f answer))
       → IfErr r (λ e. MatchRun e (VerifyFileFault inputs kinds files pairing) (λ at. OfFive inputs files pairing (λ s d a b f. RefusesFile kinds s d a b f at)))
       → IsToldAs (status_for (verified_outcome r)) s
-      → (s < 3 → Says out (ended (words_for (verified_outcome r) names))) → (status_for (verified_outcome r) < 3 → s ≡ 4 → IsTrue out.failed)
-      → (3 ≤ status_for (verified_outcome r) → s ≡ 4 → Warns err (ended (words_for (verified_outcome r) names))) → (s ≡ 5 → Warns err (ended (codes "out of memory")))
-      → IsVerifyStatus inputs out err kinds files pairing s
+      → (s < 3 → Says out (ended (words_for (verified_outcome r) (verify_paths_of files pairing)))) → (status_for (verified_outcome r) < 3 → s ≡ 4 → IsTrue out.failed)
+      → (3 ≤ status_for (verified_outcome r) → s ≡ 4 → WarnsWhy why err (verified_outcome r) (verify_paths_of files pairing)) → (s ≡ 5 → Warns err (ended (codes "out of memory")))
+      → IsVerifyStatus inputs why out err kinds files pairing s
   verify_status (Ok true) h fault told line stopped warned memory = record {
     tried = inl (were_five _ h);
     unpaired = λ one. absurd (not_one_of_zero s one told);
-    means = means_answer _ _ _ (verify_names_of files pairing) out err s 0 (omega arith) (λ zero. (h, line (omega (arith, zero)))) told stopped memory;
+    means = means_answer _ _ _ why (verify_paths_of files pairing) out err s 0 (omega arith) (λ zero. (h, line (omega (arith, zero)))) told stopped memory;
   }
   verify_status (Ok false) h fault told line stopped warned memory = record {
     tried = inl (were_five _ h);
     unpaired = λ one. (h, line (omega (arith, one)));
-    means = means_answer _ _ _ (verify_names_of files pairing) out err s 1 (omega arith) (λ zero. absurd (not_zero_of_one s zero told)) told stopped memory;
+    means = means_answer _ _ _ why (verify_paths_of files pairing) out err s 1 (omega arith) (λ zero. absurd (not_zero_of_one s zero told)) told stopped memory;
   }
   verify_status (Err (Run e)) ok h told line stopped warned memory = record {
     tried = verify_tried inputs kinds files pairing e h;
     unpaired = λ one. absurd (not_one s (told_fault (status_of_fault e) s (fault_status e) told) one);
-    means = means_fault _ _ _ (verify_names_of files pairing) out err s e (λ big four. h)
-        (λ is two. verify_refused inputs kinds files pairing out e h is (subst (λ n. Says out (ended (words_of_fault e n))) are (line (omega (arith, two))))) told
-        stopped
-        (subst (λ n. 3 ≤ status_of_fault e → s ≡ 4 → Warns err (ended (words_of_fault e n))) are warned) memory;
+    means = means_fault _ _ _ why (verify_paths_of files pairing) out err s e (λ big four. h)
+        (λ is two. verify_refused inputs kinds files pairing out e h is (line (omega (arith, two)))) told
+        stopped warned memory;
   }
   verify_status (Err (OfPairingFile at)) ok h told line stopped warned memory = record {
     tried = inl (were_five _ h);

@@ -14,8 +14,10 @@ use Rattle.edi_compare.specs.Runs.{BeforeWriting, InputFault, IsVerdictOf, Seen}
 use Rattle.edi_words.specs.declared.words.PairFiles.{PairFiles}
 use Rattle.edi_words.specs.declared.words.SheetFiles.{SheetFiles}
 use Rattle.edicad.specs.Outcome.{FaultHasNames, HasNames, ended, first_text, outcome_for, sheet_text, status_for, status_of_fault, status_of_schema, status_of_sheet, words_for, words_of_fault}
+use Rattle.edicad.specs.Reasons.{Why}
+use Rattle.edicad.specs.declared.outcome.Outcome.TheVariants as outcome
 use Rattle.edicad.specs.SheetRuns.{AreFourThere, CanonFault, FileFault, FirstOfFourMissing, Inputs, IsInput, MatchPairFault, OfFiles, OfPair, PairFileFault}
-use Rattle.edicad.specs.Statuses.{AreTried, IsCompareStatus, IsToldAs, MeansStatus, Says, SaysPairRefusal, SaysRefusal, Warns, pair_names_of}
+use Rattle.edicad.specs.Statuses.{AreTried, IsCompareStatus, IsToldAs, MeansStatus, Says, SaysPairRefusal, SaysRefusal, Warns, WarnsWhy, pair_paths_of}
 use Rattle.edicad.proofs.Canonical.{files_map, pair_map, parts_map}
 
 -- a run that ends with 2 has an outcome of status 2
@@ -128,10 +130,10 @@ not_one s (inr (inl e)) one = absurd (omega (arith, e, one))
 not_one s (inr (inr e)) one = absurd (omega (arith, e, one))
 
 -- what a status says of a run that has no answer
-module _ (Done Refused : Type 0) (IsFault : RunFault → Type 0) (names : List (List ℕ)) (out err : Seen) (s : ℕ) where
+module _ (Done Refused : Type 0) (IsFault : RunFault → Type 0) (why : Why) (paths : List (List ℕ)) (out err : Seen) (s : ℕ) where
   failure : (e : RunFault) → (3 ≤ status_of_fault e → s ≡ 4 → IsFault e) → IsToldAs (status_of_fault e) s → (status_of_fault e < 3 → s ≡ 4 → IsTrue out.failed)
-      → (3 ≤ status_of_fault e → s ≡ 4 → Warns err (ended (words_of_fault e names))) → s ≡ 4 → IsFaultStatus (status_of_fault e)
-      → IsTrue out.failed ⊎ ((f : RunFault) × IsFault f × (status_of_fault f ≡ 4) × Warns err (ended (words_of_fault f names)))
+      → (3 ≤ status_of_fault e → s ≡ 4 → WarnsWhy why err (outcome.Fault e) paths) → s ≡ 4 → IsFaultStatus (status_of_fault e)
+      → IsTrue out.failed ⊎ ((f : RunFault) × IsFault f × (status_of_fault f ≡ 4) × WarnsWhy why err (outcome.Fault f) paths)
   failure e h told stopped warned four (inl two) = inl (stopped (omega (arith, two)) four)
   failure e h told stopped warned four (inr (inl is)) = inr (e, h (omega (arith, is)) four, is, warned (omega (arith, is)) four)
   failure e h (inl is) stopped warned four (inr (inr five)) = absurd (omega (arith, is, four, five))
@@ -139,8 +141,8 @@ module _ (Done Refused : Type 0) (IsFault : RunFault → Type 0) (names : List (
   failure e h (inr (inr is)) stopped warned four (inr (inr five)) = absurd (omega (arith, is.0, five))
 
   pub means_fault : (e : RunFault) → (3 ≤ status_of_fault e → s ≡ 4 → IsFault e) → (status_of_fault e ≡ 2 → s ≡ 2 → Refused) → IsToldAs (status_of_fault e) s
-      → (status_of_fault e < 3 → s ≡ 4 → IsTrue out.failed) → (3 ≤ status_of_fault e → s ≡ 4 → Warns err (ended (words_of_fault e names)))
-      → (s ≡ 5 → Warns err (ended (codes "out of memory"))) → MeansStatus Done Refused IsFault names out err s
+      → (status_of_fault e < 3 → s ≡ 4 → IsTrue out.failed) → (3 ≤ status_of_fault e → s ≡ 4 → WarnsWhy why err (outcome.Fault e) paths)
+      → (s ≡ 5 → Warns err (ended (codes "out of memory"))) → MeansStatus Done Refused IsFault why paths out err s
   means_fault e h refuses told stopped warned memory = record {
     done = λ zero. absurd (not_zero s (told_fault (status_of_fault e) s (fault_status e) told) zero);
     refused = λ two. refuses (told_two (status_of_fault e) s told two) two;
@@ -150,7 +152,7 @@ module _ (Done Refused : Type 0) (IsFault : RunFault → Type 0) (names : List (
 
   -- and of one that has an answer, which is said
   pub means_answer : (status : ℕ) → status < 2 → (s ≡ 0 → Done) → IsToldAs status s → (status < 3 → s ≡ 4 → IsTrue out.failed)
-      → (s ≡ 5 → Warns err (ended (codes "out of memory"))) → MeansStatus Done Refused IsFault names out err s
+      → (s ≡ 5 → Warns err (ended (codes "out of memory"))) → MeansStatus Done Refused IsFault why paths out err s
   means_answer status small done told stopped memory = record {
     done = done;
     refused = λ two. absurd (omega (arith, small, told_two status s told two));
@@ -174,34 +176,33 @@ not_one_of_zero s one (inr (inl e)) = absurd (omega (arith, e, one))
 not_one_of_zero s one (inr (inr e)) = absurd (omega (arith, e.1, one))
 
 -- the status of a comparison
-module _ (inputs : Inputs) (out err : Seen) (kinds : KindCodes) (files : PairFiles) (names : List (List ℕ)) (are : names ≡ pair_names_of files (codes "standard output")) (s : ℕ) where
+module _ (inputs : Inputs) (why : Why) (out err : Seen) (kinds : KindCodes) (files : PairFiles) (s : ℕ) where
   of_fault : (e : RunFault) → PairFileFault inputs kinds files (λ _. ⊥) e → IsToldAs (status_of_fault e) s
-      → (s < 3 → Says out (ended (words_of_fault e names))) → (status_of_fault e < 3 → s ≡ 4 → IsTrue out.failed)
-      → (3 ≤ status_of_fault e → s ≡ 4 → Warns err (ended (words_of_fault e names))) → (s ≡ 5 → Warns err (ended (codes "out of memory")))
-      → IsCompareStatus inputs out err kinds files s
+      → (s < 3 → Says out (ended (words_of_fault e (pair_paths_of files (codes "-"))))) → (status_of_fault e < 3 → s ≡ 4 → IsTrue out.failed)
+      → (3 ≤ status_of_fault e → s ≡ 4 → WarnsWhy why err (outcome.Fault e) (pair_paths_of files (codes "-"))) → (s ≡ 5 → Warns err (ended (codes "out of memory")))
+      → IsCompareStatus inputs why out err kinds files s
   of_fault e h told line stopped warned memory = record {
     tried = pair_tried inputs kinds files (λ _. ⊥) e h;
     different = λ one. absurd (not_one s (told_fault (status_of_fault e) s (fault_status e) told) one);
-    means = means_fault _ _ _ (pair_names_of files (codes "standard output")) out err s e (λ big four. h)
-        (λ is two. pair_refused out kinds (pair_names_of files (codes "standard output")) refl inputs files (λ _. ⊥) e h is (subst (λ n. Says out (ended (words_of_fault e n))) are (line (omega (arith, two))))) told
-        stopped
-        (subst (λ n. 3 ≤ status_of_fault e → s ≡ 4 → Warns err (ended (words_of_fault e n))) are warned) memory;
+    means = means_fault _ _ _ why (pair_paths_of files (codes "-")) out err s e (λ big four. h)
+        (λ is two. pair_refused out kinds (pair_paths_of files (codes "-")) refl inputs files (λ _. ⊥) e h is (line (omega (arith, two)))) told
+        stopped warned memory;
   }
 
   pub compare_status : (r : Result Verdict RunFault) → IfOk r (λ v. OfPair inputs files (λ scd dic a b. IsVerdictOf kinds scd dic a b v))
       → IfErr r (PairFileFault inputs kinds files (λ _. ⊥)) → IsToldAs (status_for (outcome_for r)) s
-      → (s < 3 → Says out (ended (words_for (outcome_for r) names))) → (status_for (outcome_for r) < 3 → s ≡ 4 → IsTrue out.failed)
-      → (3 ≤ status_for (outcome_for r) → s ≡ 4 → Warns err (ended (words_for (outcome_for r) names))) → (s ≡ 5 → Warns err (ended (codes "out of memory")))
-      → IsCompareStatus inputs out err kinds files s
+      → (s < 3 → Says out (ended (words_for (outcome_for r) (pair_paths_of files (codes "-"))))) → (status_for (outcome_for r) < 3 → s ≡ 4 → IsTrue out.failed)
+      → (3 ≤ status_for (outcome_for r) → s ≡ 4 → WarnsWhy why err (outcome_for r) (pair_paths_of files (codes "-"))) → (s ≡ 5 → Warns err (ended (codes "out of memory")))
+      → IsCompareStatus inputs why out err kinds files s
   compare_status (Ok (verdict.Same pairing)) h fault told line stopped warned memory = record {
     tried = inl (were_four inputs files _ h);
     different = λ one. absurd (not_one_of_zero s one told);
-    means = means_answer _ _ _ (pair_names_of files (codes "standard output")) out err s 0 (omega arith) (λ zero. ((pairing, h), line (omega (arith, zero)))) told stopped memory;
+    means = means_answer _ _ _ why (pair_paths_of files (codes "-")) out err s 0 (omega arith) (λ zero. ((pairing, h), line (omega (arith, zero)))) told stopped memory;
   }
   compare_status (Ok (verdict.Different at)) h fault told line stopped warned memory = record {
     tried = inl (were_four inputs files _ h);
     different = λ one. (at, h, line (omega (arith, one)));
-    means = means_answer _ _ _ (pair_names_of files (codes "standard output")) out err s 1 (omega arith) (λ zero. absurd (not_zero_of_one s zero told)) told stopped memory;
+    means = means_answer _ _ _ why (pair_paths_of files (codes "-")) out err s 1 (omega arith) (λ zero. absurd (not_zero_of_one s zero told)) told stopped memory;
   }
   compare_status (Err e) ok h told line stopped warned memory = of_fault e h told line stopped warned memory
 

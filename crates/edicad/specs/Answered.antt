@@ -5,25 +5,26 @@ use Rattle.edi_compare.specs.Runs.{Seen}
 use Rattle.edicad.specs.Explains.{IsExplainStatus, IsRuleStatus}
 use Rattle.edicad.specs.Hashes.{IsHashStatus}
 use Rattle.edicad.specs.Outcome.{ended}
+use Rattle.edicad.specs.Reasons.{Why}
 use Rattle.edi_words.specs.Requests.{is_standard_path, misuse_text}
 use Rattle.edicad.specs.SheetRuns.{Inputs}
 use Rattle.edicad.specs.Statuses.{IsBundleStatus, IsCanonStatus, IsCompareStatus, IsDiffStatus, IsFileStatus, IsPairingStatus, IsSendStatus, IsVerifyStatus, Warns}
 use Rattle.edi_words.specs.declared.words.Request.{Request}
 use Rattle.edi_words.specs.declared.words.Request.TheVariants.{Bundle, Check, Canon, Compare, Hash, Explain, Rule, Verify, Diff, Misused, Answered}
 
--- The status of what was asked for, over what is known of the inputs, which bytes were put where, and what the two streams
--- have before and after.
-abbrev pub IsAnswered : Inputs → (List ℕ → List ℕ → Bool → Type 0) → (List ℕ → List ℕ → Type 0) → (List ℕ → ℕ → List ℕ → Type 0) → Seen → Seen → Request → ℕ → Type 0
-IsAnswered inputs is_one Puts Stops out err Bundle s = IsBundleStatus inputs out err s
-IsAnswered inputs is_one Puts Stops out err (Check kinds files) s = IsFileStatus inputs out err kinds files s
-IsAnswered inputs is_one Puts Stops out err (Canon kinds files path) s = MatchBool (is_standard_path path.now) (IsSendStatus inputs out err kinds files s)
-    (IsCanonStatus inputs is_one out err kinds files path.now (Puts path.now) (Stops path.now) s)
-IsAnswered inputs is_one Puts Stops out err (Compare kinds files pairing) s = MatchOption pairing (IsCompareStatus inputs out err kinds files s)
-    (λ path. IsPairingStatus inputs is_one out err kinds files path.now (Puts path.now) (Stops path.now) s)
-IsAnswered inputs is_one Puts Stops out err (Hash kinds files) s = IsHashStatus inputs out err kinds files s
-IsAnswered inputs is_one Puts Stops out err (Explain kinds files) s = IsExplainStatus inputs out err kinds files s
-IsAnswered inputs is_one Puts Stops out err (Rule word) s = IsRuleStatus out err word.now s
-IsAnswered inputs is_one Puts Stops out err (Verify kinds files pairing) s = IsVerifyStatus inputs out err kinds files pairing.now s
-IsAnswered inputs is_one Puts Stops out err (Diff kinds files brief) s = IsDiffStatus inputs out err kinds files brief s
-IsAnswered inputs is_one Puts Stops out err (Misused misuse) s = (s ≡ 3) × Warns err (ended (misuse_text misuse))
-IsAnswered inputs is_one Puts Stops out err (Answered status) s = s ≡ status
+-- The status of what was asked for, over what is known of the inputs, why a path can't be read or written, which bytes were put
+-- where, and what the two streams have before and after.
+abbrev pub IsAnswered : Inputs → (List ℕ → List ℕ → Bool → Type 0) → Why → (List ℕ → List ℕ → Type 0) → (List ℕ → ℕ → List ℕ → Type 0) → Seen → Seen → Request → ℕ → Type 0
+IsAnswered inputs is_one why Puts Stops out err Bundle s = IsBundleStatus inputs why out err s
+IsAnswered inputs is_one why Puts Stops out err (Check kinds files) s = IsFileStatus inputs why out err kinds files s
+IsAnswered inputs is_one why Puts Stops out err (Canon kinds files path) s = MatchBool (is_standard_path path.now) (IsSendStatus inputs why out err kinds files s)
+    (IsCanonStatus inputs is_one why out err kinds files path.now (Puts path.now) (Stops path.now) s)
+IsAnswered inputs is_one why Puts Stops out err (Compare kinds files pairing) s = MatchOption pairing (IsCompareStatus inputs why out err kinds files s)
+    (λ path. IsPairingStatus inputs is_one why out err kinds files path.now (Puts path.now) (Stops path.now) s)
+IsAnswered inputs is_one why Puts Stops out err (Hash kinds files) s = IsHashStatus inputs why out err kinds files s
+IsAnswered inputs is_one why Puts Stops out err (Explain kinds files) s = IsExplainStatus inputs why out err kinds files s
+IsAnswered inputs is_one why Puts Stops out err (Rule word) s = IsRuleStatus out err word.now s
+IsAnswered inputs is_one why Puts Stops out err (Verify kinds files pairing) s = IsVerifyStatus inputs why out err kinds files pairing.now s
+IsAnswered inputs is_one why Puts Stops out err (Diff kinds files brief) s = IsDiffStatus inputs why out err kinds files brief s
+IsAnswered inputs is_one why Puts Stops out err (Misused misuse) s = (s ≡ 3) × Warns err (ended (misuse_text misuse))
+IsAnswered inputs is_one why Puts Stops out err (Answered status) s = s ≡ status

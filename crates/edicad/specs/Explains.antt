@@ -15,9 +15,10 @@ use Rattle.edi_explain.specs.Hints.{AreHintsOfSheet}
 use Rattle.edi_explain.specs.Skipped.{DescribesSkipped}
 use Rattle.edi_explain.specs.declared.text.RuleText.{RuleText}
 use Rattle.edi_words.specs.declared.words.SheetFiles.{SheetFiles}
-use Rattle.edicad.specs.Outcome.{ended, schema_text, sheet_text}
+use Rattle.edicad.specs.Outcome.{ended, input_name, schema_text, sheet_text}
+use Rattle.edicad.specs.Reasons.{Why}
 use Rattle.edicad.specs.SheetRuns.{FileFault, Inputs, OfFiles}
-use Rattle.edicad.specs.Statuses.{AreTried, MeansStatus, Says, Warns, input_name, names_of}
+use Rattle.edicad.specs.Statuses.{AreTried, MeansStatus, Says, Warns, paths_of}
 
 -- an accepted sheet: that it is accepted, and the lines on its plan
 abbrev pub TellsPlan : KindCodes → List ℕ → List ℕ → List ℕ → List ℕ → Type 0
@@ -51,11 +52,11 @@ abbrev pub TellsRefusal : KindCodes → SheetFiles → List ℕ → List ℕ →
 TellsRefusal kinds files scd dic b text = (cause hints : List ℕ) × TellsCause kinds files scd dic b cause × GiveHints files scd dic b hints × (text ≡ cause ++ hints)
 
 -- The status of a run that explains a sheet, as that of a check; the output gets the check's line and what explains it.
-pub record IsExplainStatus (inputs : Inputs) (out err : Seen) (kinds : KindCodes) (files : SheetFiles) (s : ℕ) : Type 0 where
+pub record IsExplainStatus (inputs : Inputs) (why : Why) (out err : Seen) (kinds : KindCodes) (files : SheetFiles) (s : ℕ) : Type 0 where
   pub tried : AreTried inputs files
   pub means : MeansStatus (OfFiles inputs files (λ scd dic b. (text : List ℕ) × TellsAccepted kinds scd dic b text × Says out text))
       (OfFiles inputs files (λ scd dic b. (text : List ℕ) × TellsRefusal kinds files scd dic b text × Says out text))
-      (FileFault inputs kinds files (λ _. ⊥)) (names_of files (codes "standard output")) out err s
+      (FileFault inputs kinds files (λ _. ⊥)) why (paths_of files (codes "-")) out err s
 
 -- The status of a run that explains a rule: 0 only where its page went out, 3 only where the word is no rule's number.
 pub record IsRuleStatus (out err : Seen) (word : List ℕ) (s : ℕ) : Type 0 where

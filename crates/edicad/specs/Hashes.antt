@@ -16,8 +16,10 @@ use Rattle.edi_compare.specs.Under.{OfTwo}
 use Rattle.edi_compare.specs.declared.fault.RunFault.{RunFault}
 use Rattle.edi_compare.specs.declared.fault.RunFault.TheVariants.{Read}
 use Rattle.edicad.specs.Outcome.{ended, schema_text, sheet_fault_text, status_of_fault}
+use Rattle.edicad.specs.Reasons.{IsReasonOf, Why, reason_line}
+use Rattle.edicad.specs.declared.reason.Reason.{Reason}
 use Rattle.edicad.specs.SheetRuns.{Gives, HoldsTooMuch, Inputs, IsMissing, IsThere}
-use Rattle.edicad.specs.Statuses.{MeansStatus, Says, Warns, input_name}
+use Rattle.edicad.specs.Statuses.{MeansStatus, Says, Warns}
 use Rattle.edi_words.specs.declared.words.ManyFiles.{ManyFiles}
 
 -- the digest of the canonical file of the sheet b
@@ -78,17 +80,19 @@ pub record Step : Type 0 where
   pub err : List ℕ
   pub status : ℕ
 
--- What a sheet adds: its digest's line, or its fault's line on errors; without memory for the line, words that say so.
-abbrev pub IsStep : Inputs → Classes → List ℕ → Step → Type 0
-IsStep inputs s path step =
+-- What a sheet adds: its digest's line, or its fault's line on errors, and then that of the fault's reason; without memory for
+-- the lines, words that say so.
+abbrev pub IsStep : Inputs → Why → Classes → List ℕ → Step → Type 0
+IsStep inputs why s path step =
     ((digest : List ℕ) × IsAnswerOf inputs s path (Ok digest) × (step ≡ record { out = digest_line digest path; err = []; status = 0 }))
-    ⊎ (((e : RunFault) × IsAnswerOf inputs s path (Err e) × (step ≡ record { out = []; err = fault_line e path; status = status_of_fault e }))
+    ⊎ (((e : RunFault) × (reason : Option Reason) × IsAnswerOf inputs s path (Err e) × IsReasonOf why e path reason
+    × (step ≡ record { out = []; err = fault_line e path ++ reason_line (shown path) reason; status = status_of_fault e }))
     ⊎ ((answer : Result (List ℕ) RunFault) × IsAnswerOf inputs s path answer × (step ≡ record { out = []; err = ended (codes "out of memory"); status = 5 })))
 
 -- the streams got what a sheet adds, and this is its status
-abbrev pub StepsOn : Inputs → Classes → List ℕ → Seen → Seen → ℕ → Type 0
-StepsOn inputs s path out err status =
-    (step : Step) × IsStep inputs s path step × (step.status ≡ status) × Says out step.out × Warns err step.err
+abbrev pub StepsOn : Inputs → Why → Classes → List ℕ → Seen → Seen → ℕ → Type 0
+StepsOn inputs why s path out err status =
+    (step : Step) × IsStep inputs why s path step × (step.status ≡ status) × Says out step.out × Warns err step.err
 
 -- the output failed in the line of the sheet of a path, of which so many bytes went out
 abbrev pub StopsAt : Inputs → Classes → List ℕ → Seen → Type 0
@@ -107,20 +111,20 @@ abbrev pub said_err : List Step → List ℕ
 said_err steps = flat_map (λ (step : Step). step.err) steps
 
 -- Each sheet was answered, in order: the streams got what the sheets add, and the status is the greatest of theirs.
-abbrev pub AreAnswered : Inputs → Classes → Seen → Seen → List (List ℕ) → ℕ → Type 0
-AreAnswered inputs s out err paths status =
-    (steps : List Step) × AllZip (IsStep inputs s) paths steps × Says out (said_out steps) × Warns err (said_err steps) × (status ≡ worst_of steps)
+abbrev pub AreAnswered : Inputs → Why → Classes → Seen → Seen → List (List ℕ) → ℕ → Type 0
+AreAnswered inputs why s out err paths status =
+    (steps : List Step) × AllZip (IsStep inputs why s) paths steps × Says out (said_out steps) × Warns err (said_err steps) × (status ≡ worst_of steps)
 
 -- Each sheet before that of a path was answered, and the output failed in the line of that one.
-abbrev pub IsCutOff : Inputs → Classes → Seen → Seen → List (List ℕ) → ℕ → Type 0
-IsCutOff inputs s out err paths status =
+abbrev pub IsCutOff : Inputs → Why → Classes → Seen → Seen → List (List ℕ) → ℕ → Type 0
+IsCutOff inputs why s out err paths status =
     (done : List (List ℕ)) × (path : List ℕ) × (more : List (List ℕ)) × (steps : List Step) × (digest : List ℕ) × (count : ℕ)
-    × (paths ≡ done ++ path ∷ more) × AllZip (IsStep inputs s) done steps × IsAnswerOf inputs s path (Ok digest)
+    × (paths ≡ done ++ path ∷ more) × AllZip (IsStep inputs why s) done steps × IsAnswerOf inputs s path (Ok digest)
     × Says out (said_out steps ++ take count (digest_line digest path)) × IsTrue out.failed
     × Warns err (said_err steps ++ ended (codes "cannot write standard output")) × (status ≡ 4)
 
-abbrev pub AnswersAll : Inputs → Classes → Seen → Seen → List (List ℕ) → ℕ → Type 0
-AnswersAll inputs s out err paths status = AreAnswered inputs s out err paths status ⊎ IsCutOff inputs s out err paths status
+abbrev pub AnswersAll : Inputs → Why → Classes → Seen → Seen → List (List ℕ) → ℕ → Type 0
+AnswersAll inputs why s out err paths status = AreAnswered inputs why s out err paths status ⊎ IsCutOff inputs why s out err paths status
 
 -- the schema of the two files, where they tell what they hold
 abbrev pub GivesSchema : Inputs → KindCodes → ManyFiles → Classes → Type 0
@@ -152,14 +156,14 @@ abbrev pub TriesSchema : Inputs → ManyFiles → Type 0
 TriesSchema inputs files = (IsThere inputs files.scd.now × IsThere inputs files.dic.now)
     ⊎ ((n : ℕ) × OfTwo n (IsThere inputs files.scd.now) (IsMissing inputs files.scd.now) (IsMissing inputs files.dic.now))
 
--- the names of the two files, and of the output
-abbrev pub schema_names_of : ManyFiles → List (List ℕ)
-schema_names_of files = input_name files.scd.now ∷ input_name files.dic.now ∷ codes "standard output" ∷ []
+-- the paths of the two files, and of the output
+abbrev pub schema_paths_of : ManyFiles → List (List ℕ)
+schema_paths_of files = files.scd.now ∷ files.dic.now ∷ codes "-" ∷ []
 
 -- The status of a run over many sheets. The schema is loaded, and each sheet was answered under it or the output failed; or
 -- there is none, which is said as by a check. No status comes before the files were opened.
-abbrev pub IsHashStatus : Inputs → Seen → Seen → KindCodes → ManyFiles → ℕ → Type 0
-IsHashStatus inputs out err kinds files status =
-    ((s : Classes) × GivesSchema inputs kinds files s × AnswersAll inputs s out err (map (λ p. p.now) files.sheets.items) status)
+abbrev pub IsHashStatus : Inputs → Why → Seen → Seen → KindCodes → ManyFiles → ℕ → Type 0
+IsHashStatus inputs why out err kinds files status =
+    ((s : Classes) × GivesSchema inputs kinds files s × AnswersAll inputs why s out err (map (λ p. p.now) files.sheets.items) status)
     ⊎ (TriesSchema inputs files
-    × MeansStatus ⊥ (RefusesFiles inputs kinds files (λ f. Says out (ended (schema_text f)))) (SchemaFault inputs kinds files) (schema_names_of files) out err status)
+    × MeansStatus ⊥ (RefusesFiles inputs kinds files (λ f. Says out (ended (schema_text f)))) (SchemaFault inputs kinds files) why (schema_paths_of files) out err status)

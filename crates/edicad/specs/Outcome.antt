@@ -14,6 +14,7 @@ use Rattle.edi_compare.specs.declared.fault.RunFault.{RunFault}
 use Rattle.edi_compare.specs.declared.fault.RunFault.TheVariants.{Memory, Read, TooLong, Schema, First, Second, Write}
 use Rattle.edi_pairing.specs.declared.fault.VerifyRunFault.{VerifyRunFault}
 use Rattle.edi_pairing.specs.declared.fault.VerifyRunFault.TheVariants as verifying
+use Rattle.edi_words.specs.Requests.{is_standard_path}
 use Rattle.edicad.specs.declared.outcome.Outcome.{Outcome}
 use Rattle.edicad.specs.declared.outcome.Outcome.TheVariants.{Accepted, Same, Different, Pairs, Unpaired, WrongPairing, Fault}
 
@@ -46,11 +47,18 @@ status_for Unpaired = 1
 status_for (WrongPairing line) = 2
 status_for (Fault fault) = status_of_fault fault
 
--- the name at a place
-abbrev pub name_at : List (List ℕ) → ℕ → List ℕ
-name_at [] n = []
-name_at (name ∷ names) zero = name
-name_at (name ∷ names) (suc n) = name_at names n
+-- the path at a place
+abbrev pub path_in : List (List ℕ) → ℕ → List ℕ
+path_in [] n = []
+path_in (path ∷ paths) zero = path
+path_in (path ∷ paths) (suc n) = path_in paths n
+
+-- the name of an input, and of an output
+abbrev pub input_name : List ℕ → List ℕ
+input_name path = if is_standard_path path then codes "standard input" else path
+
+abbrev pub output_name : List ℕ → List ℕ
+output_name path = if is_standard_path path then codes "standard output" else path
 
 abbrev pub source_text : Source → List ℕ
 source_text Scd = codes "scd "
@@ -68,18 +76,28 @@ sheet_text which (sheet.Memory e) = codes "out of memory"
 sheet_text which (sheet.Line rule at) = codes "refused " ++ which ++ decimal rule ++ codes " line " ++ decimal at
 sheet_text which (sheet.Entry rule at) = codes "refused " ++ which ++ decimal rule ++ codes " record " ++ decimal at
 
--- five names are those of a comparison, and six those of a pairing's check: both have a first sheet
+-- five paths are those of a comparison, and six those of a pairing's check: both have a first sheet
 abbrev pub first_text : ℕ → List ℕ
 first_text count = if (count == 5) || (count == 6) then codes "first " else []
 
+-- the path of a fault, by those of the inputs and then of the output
+abbrev pub path_of_fault : RunFault → List (List ℕ) → List ℕ
+path_of_fault (Memory e) paths = []
+path_of_fault (Read input) paths = path_in paths (input - 1)
+path_of_fault (TooLong input) paths = path_in paths (input - 1)
+path_of_fault (Schema f) paths = []
+path_of_fault (First f) paths = []
+path_of_fault (Second f) paths = []
+path_of_fault (Write w) paths = path_in paths (length paths - 1)
+
 abbrev pub words_of_fault : RunFault → List (List ℕ) → List ℕ
-words_of_fault (Memory e) names = codes "out of memory"
-words_of_fault (Read input) names = codes "cannot read " ++ name_at names (input - 1)
-words_of_fault (TooLong input) names = codes "too long " ++ name_at names (input - 1)
-words_of_fault (Schema f) names = schema_text f
-words_of_fault (First f) names = sheet_text (first_text (length names)) f
-words_of_fault (Second f) names = sheet_text (codes "second ") f
-words_of_fault (Write w) names = codes "cannot write " ++ name_at names (length names - 1)
+words_of_fault (Memory e) paths = codes "out of memory"
+words_of_fault (Read input) paths = codes "cannot read " ++ input_name (path_in paths (input - 1))
+words_of_fault (TooLong input) paths = codes "too long " ++ input_name (path_in paths (input - 1))
+words_of_fault (Schema f) paths = schema_text f
+words_of_fault (First f) paths = sheet_text (first_text (length paths)) f
+words_of_fault (Second f) paths = sheet_text (codes "second ") f
+words_of_fault (Write w) paths = codes "cannot write " ++ output_name (path_in paths (length paths - 1))
 
 -- what is wrong with a sheet, where its name stands before it
 abbrev pub sheet_fault_text : RunFault → List ℕ
@@ -92,23 +110,33 @@ sheet_fault_text (Second f) = sheet_text [] f
 sheet_fault_text (Write w) = codes "cannot write"
 
 abbrev pub words_for : Outcome → List (List ℕ) → List ℕ
-words_for Accepted names = codes "accepted"
-words_for Same names = codes "same"
-words_for (Different line) names = codes "different at line " ++ decimal line
-words_for Pairs names = codes "pairs"
-words_for Unpaired names = codes "does not pair"
-words_for (WrongPairing line) names = codes "refused pairing line " ++ decimal line
-words_for (Fault fault) names = words_of_fault fault names
+words_for Accepted paths = codes "accepted"
+words_for Same paths = codes "same"
+words_for (Different line) paths = codes "different at line " ++ decimal line
+words_for Pairs paths = codes "pairs"
+words_for Unpaired paths = codes "does not pair"
+words_for (WrongPairing line) paths = codes "refused pairing line " ++ decimal line
+words_for (Fault fault) paths = words_of_fault fault paths
+
+-- the path of an outcome, which a fault alone has
+abbrev pub path_for : Outcome → List (List ℕ) → List ℕ
+path_for Accepted paths = []
+path_for Same paths = []
+path_for (Different line) paths = []
+path_for Pairs paths = []
+path_for Unpaired paths = []
+path_for (WrongPairing line) paths = []
+path_for (Fault fault) paths = path_of_fault fault paths
 
 abbrev pub texts : List (Bor (List ℕ)) → List (List ℕ)
-texts names = map (λ (name : Bor (List ℕ)). name.now) names
+texts paths = map (λ (path : Bor (List ℕ)). path.now) paths
 
 -- with a line feed
 abbrev pub ended : List ℕ → List ℕ
 ended words = words ++ 10 ∷ []
 
 abbrev pub line_for : Outcome → List (Bor (List ℕ)) → List ℕ
-line_for outcome names = ended (words_for outcome (texts names))
+line_for outcome paths = ended (words_for outcome (texts paths))
 
 -- an input has its name before the output's, and the output has one
 abbrev pub FaultHasNames : RunFault → ℕ → Type 0

@@ -1,5 +1,5 @@
 -- The exit statuses.
-use Rattle.std.specs.Prelude.{◌≡◌, ◌⊎◌, ◌<◌, ◌++◌, ℕ, Bool, true, false, List, [], ◌∷◌, Option, IfSome, IsTrue, codes, if◌then◌else◌}
+use Rattle.std.specs.Prelude.{◌≡◌, ◌⊎◌, ◌<◌, ◌++◌, ℕ, Bool, true, false, List, [], ◌∷◌, Option, IfSome, IsTrue, codes}
 use Rattle.std.specs.Fmt.{decimal}
 use Rattle.std.specs.Io.KnownBytes.{Appends}
 use Rattle.edi_schema.specs.Roles.{KindCodes}
@@ -10,10 +10,14 @@ use Rattle.edi_compare.specs.declared.pairing.Pairing.{Pairing}
 use Rattle.edi_compare.specs.declared.pairing.Verdict.TheVariants.{Same, Different}
 use Rattle.edi_compare.specs.Bundle.{OfParts}
 use Rattle.edi_compare.specs.Runs.{InputFault, IsSheetUnder, IsVerdictOf, RefusesSchema, RefusesSecond, RefusesSheet, Seen, WritesAll, WritesFirst}
-use Rattle.edicad.specs.Outcome.{ended, schema_text, sheet_text, status_of_fault, words_of_fault}
+use Rattle.edicad.specs.Outcome.{ended, schema_text, sheet_text, status_of_fault}
+use Rattle.edicad.specs.Reasons.{IsReason, Why, lines_for}
+use Rattle.edicad.specs.declared.outcome.Outcome.{Outcome}
+use Rattle.edicad.specs.declared.outcome.Outcome.TheVariants as outcome
+use Rattle.edicad.specs.declared.reason.Reason.{Reason}
 use Rattle.edi_diff.specs.Runs.{IsDifferenceUnder}
 use Rattle.edi_diff.specs.declared.differing.Difference.{Difference}
-use Rattle.edi_words.specs.Requests.{IsAsked, is_standard_path, usual_kinds}
+use Rattle.edi_words.specs.Requests.{IsAsked, usual_kinds}
 use Rattle.edi_pairing.specs.VerifyRuns.{IsVerifiedUnder, RefusesFile}
 use Rattle.edicad.specs.SheetRuns.{AreFiveThere, AreFourThere, AreThere, CanonFault, FileFault, FirstMissing, FirstOfFiveMissing, FirstOfFourMissing, Inputs, IsInput, IsPairInput, OfCanon, OfFiles, OfFive, OfPair, OfPairing, PairFileFault, PairingFault, VerifyFileFault}
 use Rattle.edi_words.specs.declared.words.PairFiles.{PairFiles}
@@ -67,31 +71,26 @@ GoesOut old new failed text = Appends old new text ⊎ IsTrue failed
 abbrev pub Warns : Seen → List ℕ → Type 0
 Warns stream text = GoesOut stream.before stream.after stream.failed text
 
--- the name of an input, and of OUT
-abbrev pub input_name : List ℕ → List ℕ
-input_name path = if is_standard_path path then codes "standard input" else path
+-- a stream got the line of an outcome and then that of its reason, or it has failed
+abbrev pub WarnsWhy : Why → Seen → Outcome → List (List ℕ) → Type 0
+WarnsWhy why stream outcome paths = (reason : Option Reason) × IsReason why outcome paths reason × Warns stream (lines_for outcome paths reason)
 
-abbrev pub output_name : List ℕ → List ℕ
-output_name path = if is_standard_path path then codes "standard output" else path
+-- the paths that a line may name: of the inputs, and then of the output
+abbrev pub paths_of : SheetFiles → List ℕ → List (List ℕ)
+paths_of files out = files.scd.now ∷ files.dic.now ∷ files.vec.now ∷ out ∷ []
 
--- the names that a line may have: of the inputs, and then of the output
-abbrev pub names_of : SheetFiles → List ℕ → List (List ℕ)
-names_of files out = input_name files.scd.now ∷ input_name files.dic.now ∷ input_name files.vec.now ∷ out ∷ []
+abbrev pub pair_paths_of : PairFiles → List ℕ → List (List ℕ)
+pair_paths_of files out = files.scd.now ∷ files.dic.now ∷ files.first.now ∷ files.second.now ∷ out ∷ []
 
-abbrev pub pair_names_of : PairFiles → List ℕ → List (List ℕ)
-pair_names_of files out =
-    input_name files.scd.now ∷ input_name files.dic.now ∷ input_name files.first.now ∷ input_name files.second.now ∷ out ∷ []
+abbrev pub verify_paths_of : PairFiles → List ℕ → List (List ℕ)
+verify_paths_of files pairing = files.scd.now ∷ files.dic.now ∷ files.first.now ∷ files.second.now ∷ pairing ∷ codes "-" ∷ []
 
-abbrev pub verify_names_of : PairFiles → List ℕ → List (List ℕ)
-verify_names_of files pairing =
-    input_name files.scd.now ∷ input_name files.dic.now ∷ input_name files.first.now ∷ input_name files.second.now ∷ input_name pairing ∷ codes "standard output" ∷ []
-
--- What a status of a run says: 0 that it is done, 2 that something is refused, 4 that a file could not be read or written
--- or the output failed, 5 that memory ran out. The last two are said on the stream of errors.
-pub record MeansStatus (Done Refused : Type 0) (IsFault : RunFault → Type 0) (names : List (List ℕ)) (out err : Seen) (s : ℕ) : Type 0 where
+-- What a status of a run says: 0 that it is done, 2 that something is refused, 4 that a file could not be read or written,
+-- and why if that is known, or the output failed, 5 that memory ran out. The last two are said on the stream of errors.
+pub record MeansStatus (Done Refused : Type 0) (IsFault : RunFault → Type 0) (why : Why) (paths : List (List ℕ)) (out err : Seen) (s : ℕ) : Type 0 where
   pub done : s ≡ 0 → Done
   pub refused : s ≡ 2 → Refused
-  pub failed : s ≡ 4 → IsTrue out.failed ⊎ ((e : RunFault) × IsFault e × (status_of_fault e ≡ 4) × Warns err (ended (words_of_fault e names)))
+  pub failed : s ≡ 4 → IsTrue out.failed ⊎ ((e : RunFault) × IsFault e × (status_of_fault e ≡ 4) × WarnsWhy why err (outcome.Fault e) paths)
   pub memory : s ≡ 5 → Warns err (ended (codes "out of memory"))
 
 -- the schema or the sheet is refused, and the line of the refusal went out
@@ -106,34 +105,34 @@ AreTried inputs files = AreThere inputs files ⊎ ((n : ℕ) × FirstMissing inp
 
 -- The status of a run over files, with what the streams have before and after: 0 only of an accepted sheet, 2 only of a
 -- refused one, and each is said. No status comes before the files were opened.
-pub record IsFileStatus (inputs : Inputs) (out err : Seen) (kinds : KindCodes) (files : SheetFiles) (s : ℕ) : Type 0 where
+pub record IsFileStatus (inputs : Inputs) (why : Why) (out err : Seen) (kinds : KindCodes) (files : SheetFiles) (s : ℕ) : Type 0 where
   pub tried : AreTried inputs files
   pub means : MeansStatus (OfFiles inputs files (IsSheetUnder kinds) × Says out (ended (codes "accepted"))) (OfFiles inputs files (SaysRefusal out kinds))
-      (FileFault inputs kinds files (λ _. ⊥)) (names_of files (codes "standard output")) out err s
+      (FileFault inputs kinds files (λ _. ⊥)) why (paths_of files (codes "-")) out err s
 
 -- The same of a run that puts the canonical file at a path: Puts says of bytes that they are there, and Stops why they
 -- are not.
-pub record IsCanonStatus (inputs : Inputs) (is_one : List ℕ → List ℕ → Bool → Type 0) (out err : Seen) (kinds : KindCodes) (files : SheetFiles) (path : List ℕ)
+pub record IsCanonStatus (inputs : Inputs) (is_one : List ℕ → List ℕ → Bool → Type 0) (why : Why) (out err : Seen) (kinds : KindCodes) (files : SheetFiles) (path : List ℕ)
     (Puts : List ℕ → Type 0) (Stops : ℕ → List ℕ → Type 0) (s : ℕ) : Type 0 where
   pub tried : IsInput is_one files path ⊎ AreTried inputs files
   pub means : MeansStatus (OfCanon inputs kinds files Puts × Says out (ended (codes "accepted"))) (OfFiles inputs files (SaysRefusal out kinds))
-      (CanonFault inputs is_one kinds files path (λ count. OfCanon inputs kinds files (Stops count))) (names_of files path) out err s
+      (CanonFault inputs is_one kinds files path (λ count. OfCanon inputs kinds files (Stops count))) why (paths_of files path) out err s
 
 -- The same of a run that sends the canonical file to the output, which gets nothing else.
-pub record IsSendStatus (inputs : Inputs) (out err : Seen) (kinds : KindCodes) (files : SheetFiles) (s : ℕ) : Type 0 where
+pub record IsSendStatus (inputs : Inputs) (why : Why) (out err : Seen) (kinds : KindCodes) (files : SheetFiles) (s : ℕ) : Type 0 where
   pub tried : AreTried inputs files
   pub means : MeansStatus (OfFiles inputs files (λ scd dic vec. WritesAll kinds scd dic vec out.before out.after)) (OfFiles inputs files (SaysRefusal out kinds))
       (FileFault inputs kinds files (λ count. IsTrue out.failed × OfFiles inputs files (λ scd dic vec. WritesFirst kinds scd dic vec count out.before out.after)))
-      (names_of files (codes "standard output")) out err s
+      why (paths_of files (codes "-")) out err s
 
 -- The status of a run over a bundle: 0 only where its canonical file went out, 2 only of a refused sheet.
-abbrev pub IsBundleStatus : Inputs → Seen → Seen → ℕ → Type 0
-IsBundleStatus inputs out err s = (told : Option (List ℕ)) × (failed : Bool) × inputs.standard told × (IsTrue failed → inputs.failed)
+abbrev pub IsBundleStatus : Inputs → Why → Seen → Seen → ℕ → Type 0
+IsBundleStatus inputs why out err s = (told : Option (List ℕ)) × (failed : Bool) × inputs.standard told × (IsTrue failed → inputs.failed)
     × MeansStatus (IfSome told (λ b. OfParts b (λ scd dic vec. WritesAll usual_kinds scd dic vec out.before out.after)))
     (IfSome told (λ b. OfParts b (SaysRefusal out usual_kinds)))
     (InputFault usual_kinds told failed (λ count. IsTrue out.failed × IfSome told (λ b. OfParts b (λ scd dic vec.
     WritesFirst usual_kinds scd dic vec count out.before out.after))))
-    (codes "standard input" ∷ codes "standard output" ∷ []) out err s
+    why (codes "-" ∷ codes "-" ∷ []) out err s
 
 -- the schema, the first sheet, or the second where the first is accepted, is refused, and the line of the refusal went out
 abbrev pub SaysPairRefusal : Seen → KindCodes → List ℕ → List ℕ → List ℕ → List ℕ → Type 0
@@ -144,23 +143,23 @@ SaysPairRefusal out kinds scd dic a b =
 
 -- The status of a run over two sheets: 0 only where a pairing carries the one plan onto the other, 1 only where the plans
 -- are not the same, 2 only where a sheet is refused, and each is said.
-pub record IsCompareStatus (inputs : Inputs) (out err : Seen) (kinds : KindCodes) (files : PairFiles) (s : ℕ) : Type 0 where
+pub record IsCompareStatus (inputs : Inputs) (why : Why) (out err : Seen) (kinds : KindCodes) (files : PairFiles) (s : ℕ) : Type 0 where
   pub tried : AreFourThere inputs files ⊎ ((n : ℕ) × FirstOfFourMissing inputs files n)
   pub different : s ≡ 1 → (line : ℕ) × OfPair inputs files (λ scd dic a b. IsVerdictOf kinds scd dic a b (Different line))
       × Says out (ended (codes "different at line " ++ decimal line))
   pub means : MeansStatus
       (((pairing : Pairing) × OfPair inputs files (λ scd dic a b. IsVerdictOf kinds scd dic a b (Same pairing))) × Says out (ended (codes "same")))
-      (OfPair inputs files (SaysPairRefusal out kinds)) (PairFileFault inputs kinds files (λ _. ⊥)) (pair_names_of files (codes "standard output")) out err s
+      (OfPair inputs files (SaysPairRefusal out kinds)) (PairFileFault inputs kinds files (λ _. ⊥)) why (pair_paths_of files (codes "-")) out err s
 
 -- The same of a run that puts a pairing at a path where the plans are the same: Puts says of bytes that they are there, and
 -- Stops why they are not.
-pub record IsPairingStatus (inputs : Inputs) (is_one : List ℕ → List ℕ → Bool → Type 0) (out err : Seen) (kinds : KindCodes) (files : PairFiles) (path : List ℕ)
+pub record IsPairingStatus (inputs : Inputs) (is_one : List ℕ → List ℕ → Bool → Type 0) (why : Why) (out err : Seen) (kinds : KindCodes) (files : PairFiles) (path : List ℕ)
     (Puts : List ℕ → Type 0) (Stops : ℕ → List ℕ → Type 0) (s : ℕ) : Type 0 where
   pub tried : IsPairInput is_one files path ⊎ (AreFourThere inputs files ⊎ ((n : ℕ) × FirstOfFourMissing inputs files n))
   pub different : s ≡ 1 → (line : ℕ) × OfPair inputs files (λ scd dic a b. IsVerdictOf kinds scd dic a b (Different line))
       × Says out (ended (codes "different at line " ++ decimal line))
   pub means : MeansStatus (OfPairing inputs kinds files Puts × Says out (ended (codes "same"))) (OfPair inputs files (SaysPairRefusal out kinds))
-      (PairingFault inputs is_one kinds files path (λ count. OfPairing inputs kinds files (Stops count))) (pair_names_of files path) out err s
+      (PairingFault inputs is_one kinds files path (λ count. OfPairing inputs kinds files (Stops count))) why (pair_paths_of files path) out err s
 
 -- the schema or a sheet is refused, or the pairing's file where both sheets are accepted, and the line of the refusal went out
 abbrev pub SaysVerifyRefusal : Inputs → Seen → KindCodes → PairFiles → List ℕ → Type 0
@@ -170,11 +169,11 @@ SaysVerifyRefusal inputs out kinds files pairing =
 
 -- The status of a run that checks a pairing's file: 0 only where it states a pairing that carries the one plan onto the other,
 -- 1 only where it states one that doesn't, 2 only where a sheet or the file is refused, and each is said.
-pub record IsVerifyStatus (inputs : Inputs) (out err : Seen) (kinds : KindCodes) (files : PairFiles) (pairing : List ℕ) (s : ℕ) : Type 0 where
+pub record IsVerifyStatus (inputs : Inputs) (why : Why) (out err : Seen) (kinds : KindCodes) (files : PairFiles) (pairing : List ℕ) (s : ℕ) : Type 0 where
   pub tried : AreFiveThere inputs files pairing ⊎ ((n : ℕ) × FirstOfFiveMissing inputs files pairing n)
   pub unpaired : s ≡ 1 → OfFive inputs files pairing (λ scd dic a b f. IsVerifiedUnder kinds scd dic a b f false) × Says out (ended (codes "does not pair"))
   pub means : MeansStatus (OfFive inputs files pairing (λ scd dic a b f. IsVerifiedUnder kinds scd dic a b f true) × Says out (ended (codes "pairs")))
-      (SaysVerifyRefusal inputs out kinds files pairing) (VerifyFileFault inputs kinds files pairing) (verify_names_of files pairing) out err s
+      (SaysVerifyRefusal inputs out kinds files pairing) (VerifyFileFault inputs kinds files pairing) why (verify_paths_of files pairing) out err s
 
 -- this differs between the two sheets, the plans are the same or not, and the text of the difference went out
 abbrev pub TellsDifference : Inputs → Seen → KindCodes → PairFiles → Bool → Bool → Type 0
@@ -184,11 +183,11 @@ TellsDifference inputs out kinds files brief same =
 
 -- The status of a run that tells what differs between two sheets: 0 only where the plans are the same, 1 only where they are
 -- not, and the output gets the text of the difference; 2 only where a sheet is refused, which is said.
-pub record IsDiffStatus (inputs : Inputs) (out err : Seen) (kinds : KindCodes) (files : PairFiles) (brief : Bool) (s : ℕ) : Type 0 where
+pub record IsDiffStatus (inputs : Inputs) (why : Why) (out err : Seen) (kinds : KindCodes) (files : PairFiles) (brief : Bool) (s : ℕ) : Type 0 where
   pub tried : AreFourThere inputs files ⊎ ((n : ℕ) × FirstOfFourMissing inputs files n)
   pub different : s ≡ 1 → TellsDifference inputs out kinds files brief false
   pub means : MeansStatus (TellsDifference inputs out kinds files brief true) (OfPair inputs files (SaysPairRefusal out kinds))
-      (PairFileFault inputs kinds files (λ _. ⊥)) (pair_names_of files (codes "standard output")) out err s
+      (PairFileFault inputs kinds files (λ _. ⊥)) why (pair_paths_of files (codes "-")) out err s
 
 -- the status once the line was printed: that of the outcome, 5 without memory for the line, 4 where it can't be printed
 abbrev pub IsToldAs : ℕ → ℕ → Type 0

@@ -16,7 +16,6 @@ use crate::explains::{explain, explain_rule};
 use crate::folder::Folder;
 use crate::hashes::hash;
 use crate::outcome::Outcome;
-use crate::report::input_name;
 use crate::system::{CommandLine, Errors, Words};
 use crate::{report, sheets};
 use edi_compare::{RunFault, Verdict};
@@ -52,7 +51,7 @@ pub fn run_line<R: Eprint + AllocGlobal, W: Words, F: Folder, O: ByteOut, E: Byt
     err: &mut E,
 ) -> u8
     ensures { ((words : List (List ℕ)) × W.gives line.now words × HasStatus words result
-        × ((request : Request) × IsAsked words request × IsAnswered (inputs_of F.Reader (F.holds folder.old) (F.closed folder.old) (F.standard folder.old) F.Reader.has_failed) (F.is_one folder.old)
+        × ((request : Request) × IsAsked words request × IsAnswered (inputs_of F.Reader (F.holds folder.old) (F.closed folder.old) (F.standard folder.old) F.Reader.has_failed) (F.is_one folder.old) (F.why folder.new)
         (λ path. Reaches F.Sink (F.holds folder.new path) (F.sinks folder.old path) F.Sink.told) (λ path. Stops F.Sink (IsUnmade F.NewFile (F.unwritable folder.new path) F.NewFile.has_failed) (F.sinks folder.old path) F.Sink.told F.Sink.has_failed) (seen (O.told out.old) (O.told out.new) (O.has_failed out.new)) (seen (E.told err.old) (E.told err.new) (E.has_failed err.new)) request result))
         ⊎ (((result ≡ 3) × Warns (seen (E.told err.old) (E.told err.new) (E.has_failed err.new)) (ended (codes "error: the words are not all UTF-8")))
         ⊎ ((result ≡ 5) × Warns (seen (E.told err.old) (E.told err.new) (E.has_failed err.new)) (ended (codes "out of memory")))) }
@@ -84,7 +83,7 @@ pub fn run_over<R: Eprint + AllocGlobal, F: Folder, O: ByteOut, E: ByteOut>(
     words: &[String],
 ) -> u8
     ensures status { HasStatus (map string_bytes words.now) result }
-    ensures answer { (request : Request) × IsAsked (map string_bytes words.now) request × IsAnswered (inputs_of F.Reader (F.holds folder.old) (F.closed folder.old) (F.standard folder.old) F.Reader.has_failed) (F.is_one folder.old)
+    ensures answer { (request : Request) × IsAsked (map string_bytes words.now) request × IsAnswered (inputs_of F.Reader (F.holds folder.old) (F.closed folder.old) (F.standard folder.old) F.Reader.has_failed) (F.is_one folder.old) (F.why folder.new)
         (λ path. Reaches F.Sink (F.holds folder.new path) (F.sinks folder.old path) F.Sink.told) (λ path. Stops F.Sink (IsUnmade F.NewFile (F.unwritable folder.new path) F.NewFile.has_failed) (F.sinks folder.old path) F.Sink.told F.Sink.has_failed) (seen (O.told out.old) (O.told out.new) (O.has_failed out.new)) (seen (E.told err.old) (E.told err.new) (E.has_failed err.new)) request result }
 {
     let request = asked(rt, words);
@@ -100,7 +99,7 @@ pub fn answered<F: Folder, O: ByteOut, E: ByteOut>(
     request: Request<'_>,
 ) -> u8
     ensures status { IsStatusOf request.entry result }
-    ensures answer { IsAnswered (inputs_of F.Reader (F.holds folder.old) (F.closed folder.old) (F.standard folder.old) F.Reader.has_failed) (F.is_one folder.old)
+    ensures answer { IsAnswered (inputs_of F.Reader (F.holds folder.old) (F.closed folder.old) (F.standard folder.old) F.Reader.has_failed) (F.is_one folder.old) (F.why folder.new)
         (λ path. Reaches F.Sink (F.holds folder.new path) (F.sinks folder.old path) F.Sink.told) (λ path. Stops F.Sink (IsUnmade F.NewFile (F.unwritable folder.new path) F.NewFile.has_failed) (F.sinks folder.old path) F.Sink.told F.Sink.has_failed) (seen (O.told out.old) (O.told out.new) (O.has_failed out.new)) (seen (E.told err.old) (E.told err.new) (E.has_failed err.new)) request.entry result }
 {
     match request {
@@ -151,17 +150,11 @@ fn bundle<F: Folder, O: ByteOut, E: ByteOut>(
     err: &mut E,
 ) -> u8
     ensures status { IsSheetStatus result }
-    ensures answer { IsBundleStatus (inputs_of F.Reader (F.holds folder.now) (F.closed folder.now) (F.standard folder.now) F.Reader.has_failed) (seen (O.told out.old) (O.told out.new) (O.has_failed out.new)) (seen (E.told err.old) (E.told err.new) (E.has_failed err.new)) result }
+    ensures answer { IsBundleStatus (inputs_of F.Reader (F.holds folder.now) (F.closed folder.now) (F.standard folder.now) F.Reader.has_failed) (F.why folder.now) (seen (O.told out.old) (O.told out.new) (O.has_failed out.new)) (seen (E.told err.old) (E.told err.new) (E.has_failed err.new)) result }
 {
     match sheets::bundle(alloc, folder, out) {
         Ok(()) => 0,
-        Err(fault) => report::told(
-            alloc,
-            out,
-            err,
-            &Outcome::Fault(fault),
-            &[b"standard input", b"standard output"],
-        ),
+        Err(fault) => report::told(alloc, folder, out, err, &Outcome::Fault(fault), &["-", "-"]),
     }
 }
 
@@ -175,17 +168,12 @@ fn check<F: Folder, O: ByteOut, E: ByteOut>(
     err: &mut E,
 ) -> u8
     ensures status { IsSheetStatus result }
-    ensures answer { IsFileStatus (inputs_of F.Reader (F.holds folder.now) (F.closed folder.now) (F.standard folder.now) F.Reader.has_failed) (seen (O.told out.old) (O.told out.new) (O.has_failed out.new)) (seen (E.told err.old) (E.told err.new) (E.has_failed err.new)) kinds.now files.now result }
+    ensures answer { IsFileStatus (inputs_of F.Reader (F.holds folder.now) (F.closed folder.now) (F.standard folder.now) F.Reader.has_failed) (F.why folder.now) (seen (O.told out.old) (O.told out.new) (O.has_failed out.new)) (seen (E.told err.old) (E.told err.new) (E.has_failed err.new)) kinds.now files.now result }
 {
-    let names = [
-        input_name(files.scd),
-        input_name(files.dic),
-        input_name(files.vec),
-        b"standard output",
-    ];
+    let paths = [files.scd, files.dic, files.vec, "-"];
     match sheets::check(alloc, folder, kinds, files) {
-        Ok(()) => report::told(alloc, out, err, &Outcome::Accepted, &names),
-        Err(fault) => report::told(alloc, out, err, &Outcome::Fault(fault), &names),
+        Ok(()) => report::told(alloc, folder, out, err, &Outcome::Accepted, &paths),
+        Err(fault) => report::told(alloc, folder, out, err, &Outcome::Fault(fault), &paths),
     }
 }
 
@@ -200,19 +188,14 @@ fn canon<F: Folder, O: ByteOut, E: ByteOut>(
     err: &mut E,
 ) -> u8
     ensures status { IsSheetStatus result }
-    ensures answer { IsCanonStatus (inputs_of F.Reader (F.holds folder.old) (F.closed folder.old) (F.standard folder.old) F.Reader.has_failed) (F.is_one folder.old) (seen (O.told out.old) (O.told out.new) (O.has_failed out.new)) (seen (E.told err.old) (E.told err.new) (E.has_failed err.new)) kinds.now files.now path.now
+    ensures answer { IsCanonStatus (inputs_of F.Reader (F.holds folder.old) (F.closed folder.old) (F.standard folder.old) F.Reader.has_failed) (F.is_one folder.old) (F.why folder.new) (seen (O.told out.old) (O.told out.new) (O.has_failed out.new)) (seen (E.told err.old) (E.told err.new) (E.has_failed err.new)) kinds.now files.now path.now
         (Reaches F.Sink (F.holds folder.new path.now) (F.sinks folder.old path.now) F.Sink.told) (Stops F.Sink (IsUnmade F.NewFile (F.unwritable folder.new path.now) F.NewFile.has_failed) (F.sinks folder.old path.now) F.Sink.told F.Sink.has_failed) result }
     ensures unmade { result ≡ 2 → folder.new ≡ folder.old }
 {
-    let names = [
-        input_name(files.scd),
-        input_name(files.dic),
-        input_name(files.vec),
-        path.as_bytes(),
-    ];
+    let paths = [files.scd, files.dic, files.vec, path];
     match sheets::canon(alloc, folder, kinds, files, path) {
-        Ok(()) => report::told(alloc, out, err, &Outcome::Accepted, &names),
-        Err(fault) => report::told(alloc, out, err, &Outcome::Fault(fault), &names),
+        Ok(()) => report::told(alloc, folder, out, err, &Outcome::Accepted, &paths),
+        Err(fault) => report::told(alloc, folder, out, err, &Outcome::Fault(fault), &paths),
     }
 }
 
@@ -226,17 +209,12 @@ fn send<F: Folder, O: ByteOut, E: ByteOut>(
     err: &mut E,
 ) -> u8
     ensures status { IsSheetStatus result }
-    ensures answer { IsSendStatus (inputs_of F.Reader (F.holds folder.now) (F.closed folder.now) (F.standard folder.now) F.Reader.has_failed) (seen (O.told out.old) (O.told out.new) (O.has_failed out.new)) (seen (E.told err.old) (E.told err.new) (E.has_failed err.new)) kinds.now files.now result }
+    ensures answer { IsSendStatus (inputs_of F.Reader (F.holds folder.now) (F.closed folder.now) (F.standard folder.now) F.Reader.has_failed) (F.why folder.now) (seen (O.told out.old) (O.told out.new) (O.has_failed out.new)) (seen (E.told err.old) (E.told err.new) (E.has_failed err.new)) kinds.now files.now result }
 {
-    let names = [
-        input_name(files.scd),
-        input_name(files.dic),
-        input_name(files.vec),
-        b"standard output",
-    ];
+    let paths = [files.scd, files.dic, files.vec, "-"];
     match sheets::send(alloc, folder, kinds, files, out) {
         Ok(()) => 0,
-        Err(fault) => report::told(alloc, out, err, &Outcome::Fault(fault), &names),
+        Err(fault) => report::told(alloc, folder, out, err, &Outcome::Fault(fault), &paths),
     }
 }
 
@@ -250,17 +228,11 @@ fn compare<F: Folder, O: ByteOut, E: ByteOut>(
     err: &mut E,
 ) -> u8
     ensures status { IsPairStatus result }
-    ensures answer { IsCompareStatus (inputs_of F.Reader (F.holds folder.now) (F.closed folder.now) (F.standard folder.now) F.Reader.has_failed) (seen (O.told out.old) (O.told out.new) (O.has_failed out.new)) (seen (E.told err.old) (E.told err.new) (E.has_failed err.new)) kinds.now files.now result }
+    ensures answer { IsCompareStatus (inputs_of F.Reader (F.holds folder.now) (F.closed folder.now) (F.standard folder.now) F.Reader.has_failed) (F.why folder.now) (seen (O.told out.old) (O.told out.new) (O.has_failed out.new)) (seen (E.told err.old) (E.told err.new) (E.has_failed err.new)) kinds.now files.now result }
 {
-    let names = [
-        input_name(files.scd),
-        input_name(files.dic),
-        input_name(files.first),
-        input_name(files.second),
-        b"standard output",
-    ];
+    let paths = [files.scd, files.dic, files.first, files.second, "-"];
     let outcome = outcome_of(sheets::compare(alloc, folder, kinds, files));
-    report::told(alloc, out, err, &outcome, &names)
+    report::told(alloc, folder, out, err, &outcome, &paths)
 }
 
 // Whether two sheets state the same plan, and a pairing of them to a path.
@@ -274,19 +246,13 @@ fn pair<F: Folder, O: ByteOut, E: ByteOut>(
     err: &mut E,
 ) -> u8
     ensures status { IsPairStatus result }
-    ensures answer { IsPairingStatus (inputs_of F.Reader (F.holds folder.old) (F.closed folder.old) (F.standard folder.old) F.Reader.has_failed) (F.is_one folder.old) (seen (O.told out.old) (O.told out.new) (O.has_failed out.new)) (seen (E.told err.old) (E.told err.new) (E.has_failed err.new)) kinds.now files.now path.now
+    ensures answer { IsPairingStatus (inputs_of F.Reader (F.holds folder.old) (F.closed folder.old) (F.standard folder.old) F.Reader.has_failed) (F.is_one folder.old) (F.why folder.new) (seen (O.told out.old) (O.told out.new) (O.has_failed out.new)) (seen (E.told err.old) (E.told err.new) (E.has_failed err.new)) kinds.now files.now path.now
         (Reaches F.Sink (F.holds folder.new path.now) (F.sinks folder.old path.now) F.Sink.told) (Stops F.Sink (IsUnmade F.NewFile (F.unwritable folder.new path.now) F.NewFile.has_failed) (F.sinks folder.old path.now) F.Sink.told F.Sink.has_failed) result }
     ensures unmade { (result ≡ 1) ⊎ (result ≡ 2) → folder.new ≡ folder.old }
 {
-    let names = [
-        input_name(files.scd),
-        input_name(files.dic),
-        input_name(files.first),
-        input_name(files.second),
-        path.as_bytes(),
-    ];
+    let paths = [files.scd, files.dic, files.first, files.second, path];
     let outcome = outcome_of_paired(sheets::pair(alloc, folder, kinds, files, path));
-    report::told(alloc, out, err, &outcome, &names)
+    report::told(alloc, folder, out, err, &outcome, &paths)
 }
 
 // Whether a file states a pairing that carries the one plan onto the other.
@@ -300,18 +266,18 @@ fn verify<F: Folder, O: ByteOut, E: ByteOut>(
     err: &mut E,
 ) -> u8
     ensures status { IsPairStatus result }
-    ensures answer { IsVerifyStatus (inputs_of F.Reader (F.holds folder.now) (F.closed folder.now) (F.standard folder.now) F.Reader.has_failed) (seen (O.told out.old) (O.told out.new) (O.has_failed out.new)) (seen (E.told err.old) (E.told err.new) (E.has_failed err.new)) kinds.now files.now pairing.now result }
+    ensures answer { IsVerifyStatus (inputs_of F.Reader (F.holds folder.now) (F.closed folder.now) (F.standard folder.now) F.Reader.has_failed) (F.why folder.now) (seen (O.told out.old) (O.told out.new) (O.has_failed out.new)) (seen (E.told err.old) (E.told err.new) (E.has_failed err.new)) kinds.now files.now pairing.now result }
 {
-    let names = [
-        input_name(files.scd),
-        input_name(files.dic),
-        input_name(files.first),
-        input_name(files.second),
-        input_name(pairing),
-        b"standard output",
+    let paths = [
+        files.scd,
+        files.dic,
+        files.first,
+        files.second,
+        pairing,
+        "-",
     ];
     let outcome = outcome_of_verified(sheets::verify(alloc, folder, kinds, files, pairing));
-    report::told(alloc, out, err, &outcome, &names)
+    report::told(alloc, folder, out, err, &outcome, &paths)
 }
 
 // What differs between two sheets, or the last line of that alone.
@@ -325,18 +291,12 @@ fn diff<F: Folder, O: ByteOut, E: ByteOut>(
     err: &mut E,
 ) -> u8
     ensures status { IsPairStatus result }
-    ensures answer { IsDiffStatus (inputs_of F.Reader (F.holds folder.now) (F.closed folder.now) (F.standard folder.now) F.Reader.has_failed) (seen (O.told out.old) (O.told out.new) (O.has_failed out.new)) (seen (E.told err.old) (E.told err.new) (E.has_failed err.new)) kinds.now files.now brief result }
+    ensures answer { IsDiffStatus (inputs_of F.Reader (F.holds folder.now) (F.closed folder.now) (F.standard folder.now) F.Reader.has_failed) (F.why folder.now) (seen (O.told out.old) (O.told out.new) (O.has_failed out.new)) (seen (E.told err.old) (E.told err.new) (E.has_failed err.new)) kinds.now files.now brief result }
 {
-    let names = [
-        input_name(files.scd),
-        input_name(files.dic),
-        input_name(files.first),
-        input_name(files.second),
-        b"standard output",
-    ];
+    let paths = [files.scd, files.dic, files.first, files.second, "-"];
     match sheets::diff(alloc, folder, kinds, files, brief) {
         Ok(difference) => put_difference(&difference, out, err),
-        Err(fault) => report::told(alloc, out, err, &Outcome::Fault(fault), &names),
+        Err(fault) => report::told(alloc, folder, out, err, &Outcome::Fault(fault), &paths),
     }
 }
 

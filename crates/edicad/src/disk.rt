@@ -1,11 +1,13 @@
 //! The files of the system, and its standard input.
 //!
-//! What they hold can't be known, so nothing of it is claimed.
+//! What they hold can't be known, so nothing of it is claimed, nor of why the system refuses a step.
 ghost use Rattle.std.specs.Prelude.{[], None, ⊤};
 
 use crate::folder::{Draft, Folder, OutFault, Target};
-use edi_line::{ByteOut, FromRead, ToWrite};
+use crate::reason::Reason;
+use edi_line::{ByteOut, FromRead};
 use std::alloc::AllocError;
+use std::cell::Cell;
 use std::fs::{OpenFile, OpenOptions};
 use std::io::{Input, Read, Write};
 use std::os::unix::fs::MetadataExt;
@@ -20,6 +22,8 @@ const MOST_DRAFTS: u32 = 1_000_000;
 #[derive(Drop)]
 pub struct Disk<'a, R, F> {
     rt: &'a R,
+    // Why the last step failed, if it did and the system gave a reason.
+    why: Cell<Option<Reason>>,
     // They take the places of standard streams that are closed, so that no file does. A folder can be neither read
     // nor written to, so such a stream fails.
     _streams: (Option<F>, Option<F>, Option<F>),
@@ -33,6 +37,7 @@ impl<'a, R: Files> Disk<'a, R, R::File> {
         let third = fs::open(rt, "/").ok();
         Disk {
             rt,
+            why: Cell::new(None),
             _streams: (first, second, third),
         }
     }
@@ -56,29 +61,24 @@ impl<F: Read, I: Read> Read for Source<F, I> {
     }
 }
 
-/// A device or a pipe, as a sink that claims nothing.
+/// What is written to: a new file, a device or a pipe.
 #[derive(Drop)]
-pub struct Device<F> {
-    inner: ToWrite<F>,
-}
-
-impl<F: Write> ByteOut for Device<F> {
-    ghost told = { λ _. None };
-
-    ghost has_failed = { λ s. ⟦<ToWrite<F> as ByteOut>⟧.has_failed s.inner };
-
-    ghost writes = { λ _. 0 };
-
-    fn write(&mut self, bytes: &[u8]) -> Option<usize> {
-        self.inner.write(bytes)
-    }
-}
-
-/// A new file.
-#[derive(Drop)]
-pub struct NewFile<F> {
+pub struct OutFile<F> {
     file: F,
     failed: bool,
+    // Why it failed, if the system gave a reason.
+    why: Option<Reason>,
+}
+
+impl<F> OutFile<F> {
+    // What nothing was written to.
+    fn new(file: F) -> OutFile<F> {
+        OutFile {
+            file,
+            failed: false,
+            why: None,
+        }
+    }
 }
 
 /// Where a new file is, and which one it is to replace.
@@ -89,7 +89,7 @@ pub struct NewName {
     replaced: Option<PathBuf>,
 }
 
-impl<F: Write> ByteOut for NewFile<F> {
+impl<F: Write> ByteOut for OutFile<F> {
     ghost told = { λ _. None };
 
     ghost has_failed = { λ s. s.failed };
@@ -105,8 +105,9 @@ impl<F: Write> ByteOut for NewFile<F> {
                 self.failed = count == 0 && !bytes.is_empty();
                 Some(count)
             }
-            Err(_) => {
+            Err(error) => {
                 self.failed = true;
+                self.why = reason_of(&error);
                 None
             }
         }
@@ -116,9 +117,9 @@ impl<F: Write> ByteOut for NewFile<F> {
 impl<R: Files + Input + AllocGlobal> Folder for Disk<'_, R, R::File> {
     type Reader = FromRead<Source<R::File, R::Reader>>;
 
-    type Sink = Device<R::File>;
+    type Sink = OutFile<R::File>;
 
-    type NewFile = NewFile<R::File>;
+    type NewFile = OutFile<R::File>;
 
     type NewName = NewName;
 
@@ -134,6 +135,8 @@ impl<R: Files + Input + AllocGlobal> Folder for Disk<'_, R, R::File> {
 
     ghost unwritable = { λ _ _. ⊤ };
 
+    ghost why = { λ _ _ _. ⊤ };
+
     ghost sinks = { λ _ _ _. ⊤ };
 
     ghost tells = { λ _. ⊥ };
@@ -146,8 +149,14 @@ impl<R: Files + Input + AllocGlobal> Folder for Disk<'_, R, R::File> {
 
     fn open(&self, path: &str) -> Option<FromRead<Source<R::File, R::Reader>>> {
         match fs::open(self.rt, path) {
-            Ok(file) => Some(FromRead::new(Source::File(file))),
-            Err(_) => None,
+            Ok(file) => {
+                self.why.set(None);
+                Some(FromRead::new(Source::File(file)))
+            }
+            Err(error) => {
+                self.why.set(reason_of(&error));
+                None
+            }
         }
     }
 
@@ -168,54 +177,89 @@ impl<R: Files + Input + AllocGlobal> Folder for Disk<'_, R, R::File> {
             Ok(found) if found.is_dir() => None,
             Ok(_) => Some(Target::Stream),
             Err(error) if error.kind() == io::ErrorKind::NotFound => Some(Target::File),
-            Err(_) => None,
+            Err(error) => {
+                self.why.set(reason_of(&error));
+                None
+            }
         }
     }
 
-    fn sink(&self, path: &str) -> Option<Device<R::File>> {
+    fn sink(&self, path: &str) -> Option<OutFile<R::File>> {
         match OpenOptions::new().write(true).open(self.rt, path) {
-            Ok(file) => Some(Device {
-                inner: ToWrite::new(file),
-            }),
-            Err(_) => None,
+            Ok(file) => Some(OutFile::new(file)),
+            Err(error) => {
+                self.why.set(reason_of(&error));
+                None
+            }
         }
     }
 
-    fn draft(&mut self, path: &str) -> Result<Draft<NewFile<R::File>, NewName>, OutFault> {
-        let replaced = replaced_file(self.rt, path)?;
+    fn draft(&mut self, path: &str) -> Result<Draft<OutFile<R::File>, NewName>, OutFault> {
+        let replaced = replaced_file(self.rt, &self.why, path)?;
         let (file, name) = match &replaced {
-            Some(old) => new_file(self.rt, old.as_path())?,
-            None => new_file(self.rt, Path::new(path))?,
+            Some(old) => new_file(self.rt, &self.why, old.as_path())?,
+            None => new_file(self.rt, &self.why, Path::new(path))?,
         };
         Ok(Draft {
-            file: NewFile {
-                file,
-                failed: false,
-            },
+            file: OutFile::new(file),
             name: NewName { name, replaced },
         })
     }
 
-    fn publish(&mut self, file: NewFile<R::File>, name: NewName, path: &str) -> bool {
+    fn publish(&mut self, file: OutFile<R::File>, name: NewName, path: &str) -> bool {
         let NewName { name, replaced } = name;
-        let published = match (file.file.sync_all(), &replaced) {
-            (Ok(()), Some(old)) => fs::rename(self.rt, &name, old).is_ok(),
-            (Ok(()), None) => fs::rename(self.rt, &name, path).is_ok(),
-            (Err(_), _) => false,
+        let moved = match (file.file.sync_all(), &replaced) {
+            (Ok(()), Some(old)) => fs::rename(self.rt, &name, old),
+            (Ok(()), None) => fs::rename(self.rt, &name, path),
+            (Err(error), _) => Err(error),
         };
-        if !published {
-            let _ = fs::remove_file(self.rt, &name);
+        match moved {
+            Ok(()) => true,
+            Err(error) => {
+                self.why.set(reason_of(&error));
+                let _ = fs::remove_file(self.rt, &name);
+                false
+            }
         }
-        published
     }
 
-    fn discard(&mut self, name: NewName) {
+    fn discard(&mut self, file: OutFile<R::File>, name: NewName) {
+        self.why.set(file.why);
         let _ = fs::remove_file(self.rt, &name.name);
+    }
+
+    fn give_up(&self, sink: OutFile<R::File>) {
+        self.why.set(sink.why);
+    }
+
+    // A folder can be opened, so that no step fails until it is read.
+    fn reason(&self, path: &str) -> Option<Reason> {
+        match (self.why.get(), fs::metadata(self.rt, path)) {
+            (Some(reason), _) => Some(reason),
+            (None, Ok(found)) if found.is_dir() => Some(Reason::IsFolder),
+            (None, _) => None,
+        }
+    }
+}
+
+// The reason that an error is, if it is one of those that are said.
+fn reason_of(error: &io::Error) -> Option<Reason> {
+    match error.kind() {
+        io::ErrorKind::NotFound => Some(Reason::NoFile),
+        io::ErrorKind::NotADirectory => Some(Reason::NoFolder),
+        io::ErrorKind::IsADirectory => Some(Reason::IsFolder),
+        io::ErrorKind::PermissionDenied => Some(Reason::NotPermitted),
+        io::ErrorKind::ReadOnlyFilesystem => Some(Reason::ReadOnly),
+        io::ErrorKind::StorageFull => Some(Reason::NoSpace),
+        io::ErrorKind::QuotaExceeded => Some(Reason::NoQuota),
+        io::ErrorKind::FileTooLarge => Some(Reason::TooLarge),
+        _ => None,
     }
 }
 
 // Why the system refused.
-fn fault_of(error: io::Error) -> OutFault {
+fn fault_of(why: &Cell<Option<Reason>>, error: io::Error) -> OutFault {
+    why.set(reason_of(&error));
     if error.kind() == io::ErrorKind::OutOfMemory {
         OutFault::Memory(AllocError)
     } else {
@@ -225,25 +269,30 @@ fn fault_of(error: io::Error) -> OutFault {
 
 // The file that a path leads to through links, if there is one. It must be one that may be written to, as it would be
 // if it were not replaced.
-fn replaced_file<R: Files + AllocGlobal>(rt: &R, path: &str) -> Result<Option<PathBuf>, OutFault> {
+fn replaced_file<R: Files + AllocGlobal>(
+    rt: &R,
+    why: &Cell<Option<Reason>>,
+    path: &str,
+) -> Result<Option<PathBuf>, OutFault> {
     match fs::symlink_metadata(rt, path) {
         Ok(_) => {}
         Err(error) if error.kind() == io::ErrorKind::NotFound => return Ok(None),
-        Err(error) => return Err(fault_of(error)),
+        Err(error) => return Err(fault_of(why, error)),
     }
     match OpenOptions::new().write(true).open(rt, path) {
         Ok(_) => {}
-        Err(error) => return Err(fault_of(error)),
+        Err(error) => return Err(fault_of(why, error)),
     }
     match fs::canonicalize(rt, path) {
         Ok(real) => Ok(Some(real)),
-        Err(error) => Err(fault_of(error)),
+        Err(error) => Err(fault_of(why, error)),
     }
 }
 
 // A new file in the folder of another, with the first name that is free, and with the permissions of the other.
 fn new_file<R: Files + AllocGlobal>(
     rt: &R,
+    why: &Cell<Option<Reason>>,
     other: Path<'_>,
 ) -> Result<(R::File, PathBuf), OutFault> {
     for number in 0..MOST_DRAFTS {
@@ -253,12 +302,23 @@ fn new_file<R: Files + AllocGlobal>(
             .create_new(true)
             .open(rt, &name)
         {
-            Ok(file) => return with_permissions(rt, file, name, other),
+            Ok(file) => return with_permissions(rt, why, file, name, other),
             Err(error) if error.kind() == io::ErrorKind::AlreadyExists => {}
-            Err(error) => return Err(fault_of(error)),
+            Err(error) => return Err(no_draft(why, error)),
         }
     }
+    why.set(None);
     Err(OutFault::Unwritable)
+}
+
+// Why a draft can't be made: where the system finds none, its folder is missing.
+fn no_draft(why: &Cell<Option<Reason>>, error: io::Error) -> OutFault {
+    let is_absent = error.kind() == io::ErrorKind::NotFound;
+    let fault = fault_of(why, error);
+    if is_absent {
+        why.set(Some(Reason::NoFolder));
+    }
+    fault
 }
 
 // The name of a draft, beside the file that it is to replace.
@@ -275,17 +335,21 @@ fn draft_name<R: AllocGlobal>(rt: &R, other: Path<'_>, number: u32) -> Result<Pa
 // A new file with the permissions of the file that it is to replace, if there is one.
 fn with_permissions<R: Files>(
     rt: &R,
+    why: &Cell<Option<Reason>>,
     file: R::File,
     name: PathBuf,
     other: Path<'_>,
 ) -> Result<(R::File, PathBuf), OutFault> {
-    let same = match fs::metadata(rt, other) {
-        Ok(found) => file.set_permissions(found.permissions()).is_ok(),
-        Err(_) => true,
+    let set = match fs::metadata(rt, other) {
+        Ok(found) => file.set_permissions(found.permissions()),
+        Err(_) => Ok(()),
     };
-    if same {
-        return Ok((file, name));
+    match set {
+        Ok(()) => Ok((file, name)),
+        Err(error) => {
+            let _ = fs::remove_file(rt, &name);
+            why.set(reason_of(&error));
+            Err(OutFault::Unwritable)
+        }
     }
-    let _ = fs::remove_file(rt, &name);
-    Err(OutFault::Unwritable)
 }

@@ -16,9 +16,8 @@ ghost use Rattle.edicad.specs.SheetRuns.{FileFault, OfFiles, inputs_of};
 ghost use Rattle.edicad.specs.Statuses.{IsPageStatus, IsSheetStatus};
 
 use crate::folder::Folder;
-use crate::outcome::{Outcome, line_of_fault, line_of_schema};
+use crate::outcome::{Outcome, input_name, line_of_fault, line_of_schema};
 use crate::report;
-use crate::report::input_name;
 use crate::sheets::opened;
 use edi_compare::{Accepted, Fault, RunFault, accept};
 use edi_explain::{
@@ -64,17 +63,12 @@ pub fn explain<F: Folder, O: ByteOut, E: ByteOut>(
     err: &mut E,
 ) -> u8
     ensures status { IsSheetStatus result }
-    ensures answer { IsExplainStatus (inputs_of F.Reader (F.holds folder.now) (F.closed folder.now) (F.standard folder.now) F.Reader.has_failed) (seen (O.told out.old) (O.told out.new) (O.has_failed out.new)) (seen (E.told err.old) (E.told err.new) (E.has_failed err.new)) kinds.now files.now result }
+    ensures answer { IsExplainStatus (inputs_of F.Reader (F.holds folder.now) (F.closed folder.now) (F.standard folder.now) F.Reader.has_failed) (F.why folder.now) (seen (O.told out.old) (O.told out.new) (O.has_failed out.new)) (seen (E.told err.old) (E.told err.new) (E.has_failed err.new)) kinds.now files.now result }
 {
-    let names = [
-        input_name(files.scd),
-        input_name(files.dic),
-        input_name(files.vec),
-        b"standard output",
-    ];
+    let paths = [files.scd, files.dic, files.vec, "-"];
     match said(alloc, folder, kinds, files) {
         Ok(said) => put_said(&said, out),
-        Err(fault) => report::told(alloc, out, err, &Outcome::Fault(fault), &names),
+        Err(fault) => report::told(alloc, folder, out, err, &Outcome::Fault(fault), &paths),
     }
 }
 

@@ -4,7 +4,9 @@ ghost use Rattle.std.specs.Bool.{OnFalse, OnTrue};
 ghost use Rattle.std.specs.Io.KnownBytes.{IsAtEnd};
 ghost use Rattle.edicad.specs.Folders.{Goes, IsFree, Leavings, MatchOut};
 ghost use Rattle.edicad.specs.declared.folder.Target.{Target};
+ghost use Rattle.edicad.specs.declared.reason.Reason.{Reason};
 
+use crate::reason::Reason;
 use edi_line::{ByteIn, ByteOut};
 use std::alloc::AllocError;
 
@@ -64,6 +66,9 @@ pub trait Folder {
     /// A path can't be written to.
     ghost unwritable: { Self → List ℕ → Type 0 };
 
+    /// What the folder may give as the reason why a path could not be read or written.
+    ghost why: { Self → List ℕ → Option Reason → Type 0 };
+
     /// What was opened to write to the stream of a path, before the first byte.
     ghost sinks: { Self → List ℕ → Self.Sink → Type 0 };
 
@@ -118,7 +123,14 @@ pub trait Folder {
         ensures step { Goes (moment self.old) (moment self.new) (left_since self.old) (left_since self.new)
             (λ p c. ((p ≡ path.now) × IfSome (Self.NewFile.told file) (λ bytes. c ≡ Some bytes)) ⊎ (p ≡ place name)) };
 
-    /// Removes a new file.
-    fn discard(&mut self, name: Self::NewName)
+    /// Removes a new file, which failed.
+    fn discard(&mut self, file: Self::NewFile, name: Self::NewName)
         ensures { Goes (moment self.old) (moment self.new) (left_since self.old) (left_since self.new) (λ p c. p ≡ place name) };
+
+    /// Takes back the stream of a path, which failed.
+    fn give_up(&self, sink: Self::Sink);
+
+    /// Why a path could not be read or written by the last step on it, where that is known.
+    fn reason(&self, path: &str) -> Option<Reason>
+        ensures { why self.now path.now result };
 }

@@ -1,16 +1,18 @@
 //! The digests of the canonical files of many sheets.
-ghost use Rattle.std.specs.Prelude.{◌≡◌, ◌⊎◌, IfErr, IfOk, IsTrue, codes, map};
+ghost use Rattle.std.specs.Prelude.{◌≡◌, ◌⊎◌, ◌++◌, IfErr, IfOk, IsTrue, Option, codes, map};
 ghost use Rattle.std.specs.List.{list_any};
 ghost use Rattle.edi_compare.specs.Runs.{seen};
 ghost use Rattle.edicad.specs.Hashes.{AnswersAll, GivesSchema, IsAnswerOf, IsHashStatus, SchemaFault, StepsOn, StopsAt, digest_line, fault_line, is_escaped, mark_of, shown};
 ghost use Rattle.edicad.specs.Outcome.{FaultHasNames, ended, status_of_fault};
+ghost use Rattle.edicad.specs.Reasons.{IsReasonOf, reason_line};
+ghost use Rattle.edicad.specs.declared.reason.Reason.{Reason};
 ghost use Rattle.edicad.specs.SheetRuns.{inputs_of};
 ghost use Rattle.edicad.specs.Statuses.{GoesOut, IsSheetStatus};
 
 use crate::folder::Folder;
 use crate::outcome::{Outcome, line_of_sheet, status_of_fault};
+use crate::reason::add_reason;
 use crate::report;
-use crate::report::input_name;
 use crate::sheets::opened;
 use edi_compare::{RunFault, canon_under, schema_of};
 use edi_line::ByteOut;
@@ -32,20 +34,17 @@ pub fn hash<F: Folder, O: ByteOut, E: ByteOut>(
     err: &mut E,
 ) -> u8
     ensures status { IsSheetStatus result }
-    ensures answer { IsHashStatus (inputs_of F.Reader (F.holds folder.now) (F.closed folder.now) (F.standard folder.now) F.Reader.has_failed) (seen (O.told out.old) (O.told out.new) (O.has_failed out.new)) (seen (E.told err.old) (E.told err.new) (E.has_failed err.new)) kinds.now files.now result }
+    ensures answer { IsHashStatus (inputs_of F.Reader (F.holds folder.now) (F.closed folder.now) (F.standard folder.now) F.Reader.has_failed) (F.why folder.now) (seen (O.told out.old) (O.told out.new) (O.has_failed out.new)) (seen (E.told err.old) (E.told err.new) (E.has_failed err.new)) kinds.now files.now result }
 {
     match loaded(alloc, folder, kinds, files) {
         Ok(schema) => answer_all(alloc, folder, &schema, &files.sheets, out, err),
         Err(fault) => report::told(
             alloc,
+            folder,
             out,
             err,
             &Outcome::Fault(fault),
-            &[
-                input_name(files.scd),
-                input_name(files.dic),
-                b"standard output",
-            ],
+            &[files.scd, files.dic, "-"],
         ),
     }
 }
@@ -76,7 +75,7 @@ fn answer_all<F: Folder, O: ByteOut, E: ByteOut>(
     err: &mut E,
 ) -> u8
     ensures status { IsSheetStatus result }
-    ensures answer { AnswersAll (inputs_of F.Reader (F.holds folder.now) (F.closed folder.now) (F.standard folder.now) F.Reader.has_failed) schema.now (seen (O.told out.old) (O.told out.new) (O.has_failed out.new)) (seen (E.told err.old) (E.told err.new) (E.has_failed err.new)) (map (λ p. p.now) sheets.now) result }
+    ensures answer { AnswersAll (inputs_of F.Reader (F.holds folder.now) (F.closed folder.now) (F.standard folder.now) F.Reader.has_failed) (F.why folder.now) schema.now (seen (O.told out.old) (O.told out.new) (O.has_failed out.new)) (seen (E.told err.old) (E.told err.new) (E.has_failed err.new)) (map (λ p. p.now) sheets.now) result }
 {
     let mut worst = 0;
     for path in sheets {
@@ -98,7 +97,7 @@ fn answer<F: Folder, O: ByteOut, E: ByteOut>(
     err: &mut E,
 ) -> Result<u8, Written>
     ensures status { IfOk result IsSheetStatus }
-    ensures ok { IfOk result (StepsOn (inputs_of F.Reader (F.holds folder.now) (F.closed folder.now) (F.standard folder.now) F.Reader.has_failed) schema.now path.now (seen (O.told out.old) (O.told out.new) (O.has_failed out.new)) (seen (E.told err.old) (E.told err.new) (E.has_failed err.new))) }
+    ensures ok { IfOk result (StepsOn (inputs_of F.Reader (F.holds folder.now) (F.closed folder.now) (F.standard folder.now) F.Reader.has_failed) (F.why folder.now) schema.now path.now (seen (O.told out.old) (O.told out.new) (O.has_failed out.new)) (seen (E.told err.old) (E.told err.new) (E.has_failed err.new))) }
     ensures err { IfErr result (λ w. StopsAt (inputs_of F.Reader (F.holds folder.now) (F.closed folder.now) (F.standard folder.now) F.Reader.has_failed) schema.now path.now (seen (O.told out.old) (O.told out.new) (O.has_failed out.new)) × (err.new ≡ err.old)) }
     ensures stays { IsTrue (E.has_failed err.old) → IsTrue (E.has_failed err.new) }
 {
@@ -110,23 +109,45 @@ fn answer<F: Folder, O: ByteOut, E: ByteOut>(
             },
             Err(_) => Ok(report::out_of_memory(err)),
         },
-        Err(fault) => Ok(tell_fault(alloc, &fault, path.as_bytes(), err)),
+        Err(fault) => Ok(tell_fault(alloc, folder, &fault, path, err)),
     }
 }
 
 // Says why a sheet has no digest, and gives its status.
-fn tell_fault<E: ByteOut>(alloc: Global, fault: &RunFault, name: &[u8], err: &mut E) -> u8
-    ensures told { ((result ≡ status_of_fault fault.now) × GoesOut (E.told err.old) (E.told err.new) (E.has_failed err.new) (fault_line fault.now name.now))
+fn tell_fault<F: Folder, E: ByteOut>(
+    alloc: Global,
+    folder: &F,
+    fault: &RunFault,
+    path: &str,
+    err: &mut E,
+) -> u8
+    ensures told { ((result ≡ status_of_fault fault.now) × ((reason : Option Reason) × IsReasonOf (F.why folder.now) fault.now path.now reason
+        × GoesOut (E.told err.old) (E.told err.new) (E.has_failed err.new) (fault_line fault.now path.now ++ reason_line (shown path.now) reason)))
         ⊎ ((result ≡ 5) × GoesOut (E.told err.old) (E.told err.new) (E.has_failed err.new) (ended (codes "out of memory"))) }
     ensures stays { IsTrue (E.has_failed err.old) → IsTrue (E.has_failed err.new) }
 {
-    match line_of_fault(alloc, fault, name) {
-        Ok(line) => {
-            report::warn(err, &line);
+    match lines_of_fault(alloc, folder, fault, path) {
+        Ok(lines) => {
+            report::warn(err, &lines);
             status_of_fault(fault)
         }
         Err(_) => report::out_of_memory(err),
     }
+}
+
+// The line of a fault, and then that of its reason, if the folder gives one.
+fn lines_of_fault<F: Folder>(
+    alloc: Global,
+    folder: &F,
+    fault: &RunFault,
+    path: &str,
+) -> Result<Vec<u8>, AllocError>
+    ensures { IfOk result (λ lines. (reason : Option Reason) × IsReasonOf (F.why folder.now) fault.now path.now reason × (lines.items ≡ fault_line fault.now path.now ++ reason_line (shown path.now) reason)) }
+{
+    let mut lines = line_of_fault(alloc, fault, path.as_bytes())?;
+    let name = shown(alloc, path.as_bytes())?;
+    add_reason(&mut lines, folder, fault, path, &name)?;
+    Ok(lines)
 }
 
 // The digest of the canonical file of the sheet of a path.

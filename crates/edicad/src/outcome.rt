@@ -1,10 +1,11 @@
 //! What a run came to, its line and its status.
 ghost use Rattle.std.specs.Prelude.{◌≡◌, ◌<◌, length, ◌∷◌, ◌++◌, [], codes, IfOk};
 ghost use Rattle.std.specs.Fmt.{decimal};
-ghost use Rattle.edicad.specs.Outcome.{HasNames, ended, first_text, line_for, name_at, schema_text, sheet_fault_text, sheet_text, source_text, status_for, status_of_fault, status_of_schema, status_of_sheet, texts};
+ghost use Rattle.edicad.specs.Outcome.{HasNames, ended, first_text, input_name, line_for, output_name, path_in, path_of_fault, schema_text, sheet_fault_text, sheet_text, source_text, status_for, status_of_fault, status_of_schema, status_of_sheet, texts};
 
 use edi_compare::{Fault, RunFault};
 use edi_schema::{SchemaFault, Source};
+use edi_words::is_standard;
 use std::alloc::{AllocError, Global};
 
 /// What a run came to.
@@ -71,11 +72,11 @@ fn sheet_status(fault: &Fault) -> u8
 
 /// The line that tells the outcome, ended by a line feed.
 ///
-/// The names are those of the inputs in their order, and of the output last; five names are those of a comparison, six those
+/// The paths are those of the inputs in their order, and of the output last; five paths are those of a comparison, six those
 /// of a pairing's check.
-pub fn line_of(alloc: Global, outcome: &Outcome, names: &[&[u8]]) -> Result<Vec<u8>, AllocError>
-    requires { HasNames outcome.now names.now }
-    ensures { IfOk result (λ line. line.items ≡ line_for outcome.now names.now) }
+pub fn line_of(alloc: Global, outcome: &Outcome, paths: &[&str]) -> Result<Vec<u8>, AllocError>
+    requires { HasNames outcome.now paths.now }
+    ensures { IfOk result (λ line. line.items ≡ line_for outcome.now paths.now) }
 {
     match outcome {
         Outcome::Accepted => named(alloc, b"accepted", b""),
@@ -86,18 +87,30 @@ pub fn line_of(alloc: Global, outcome: &Outcome, names: &[&[u8]]) -> Result<Vec<
         Outcome::WrongPairing(line) => numbered(alloc, b"refused pairing line ", *line),
         Outcome::Fault(RunFault::Memory(_)) => named(alloc, b"out of memory", b""),
         Outcome::Fault(RunFault::Read { input }) => {
-            named(alloc, b"cannot read ", name_of(names, *input as usize - 1))
+            named(
+                alloc,
+                b"cannot read ",
+                input_name(path_in(paths, *input as usize - 1)),
+            )
         }
         Outcome::Fault(RunFault::TooLong { input }) => {
-            named(alloc, b"too long ", name_of(names, *input as usize - 1))
+            named(
+                alloc,
+                b"too long ",
+                input_name(path_in(paths, *input as usize - 1)),
+            )
         }
         Outcome::Fault(RunFault::Schema(fault)) => schema_line(alloc, fault),
         Outcome::Fault(RunFault::First(fault)) => {
-            sheet_line(alloc, first_words(names.len()), fault)
+            sheet_line(alloc, first_words(paths.len()), fault)
         }
         Outcome::Fault(RunFault::Second(fault)) => sheet_line(alloc, b"second ", fault),
         Outcome::Fault(RunFault::Write(_)) => {
-            named(alloc, b"cannot write ", name_of(names, names.len() - 1))
+            named(
+                alloc,
+                b"cannot write ",
+                output_name(path_in(paths, paths.len() - 1)),
+            )
         }
     }
 }
@@ -178,12 +191,48 @@ fn first_words(count: usize) -> &'static [u8]
     }
 }
 
-// The name at a place.
-fn name_of<'a>(names: &[&'a [u8]], place: usize) -> &'a [u8]
-    requires { place < length names.now }
-    ensures { result.now ≡ name_at (texts names.now) place }
+/// The path of a fault: that of the input or of the output that failed, or no text.
+pub fn path_of_fault<'a>(fault: &RunFault, paths: &[&'a str]) -> &'a str
+    requires { HasNames (Outcome.Fault fault.now) paths.now }
+    ensures { result.now ≡ path_of_fault fault.now (texts paths.now) }
 {
-    names[place]
+    match fault {
+        RunFault::Read { input } | RunFault::TooLong { input } => {
+            path_in(paths, *input as usize - 1)
+        }
+        RunFault::Write(_) => path_in(paths, paths.len() - 1),
+        RunFault::Memory(_) | RunFault::Schema(_) | RunFault::First(_) | RunFault::Second(_) => "",
+    }
+}
+
+// The path at a place.
+fn path_in<'a>(paths: &[&'a str], place: usize) -> &'a str
+    requires { place < length paths.now }
+    ensures { result.now ≡ path_in (texts paths.now) place }
+{
+    paths[place]
+}
+
+/// The name of an input in a line.
+pub fn input_name(path: &str) -> &[u8]
+    ensures { result.now ≡ input_name path.now }
+{
+    if is_standard(path) {
+        b"standard input"
+    } else {
+        path.as_bytes()
+    }
+}
+
+/// The name of an output in a line.
+pub fn output_name(path: &str) -> &[u8]
+    ensures { result.now ≡ output_name path.now }
+{
+    if is_standard(path) {
+        b"standard output"
+    } else {
+        path.as_bytes()
+    }
 }
 
 // A rule that is broken, and where.

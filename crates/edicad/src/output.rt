@@ -51,7 +51,7 @@ fn replace<F: Folder>(folder: &mut F, path: &str, bytes: &[u8]) -> Result<(), Ru
             }
         }
         Err(_) => {
-            folder.discard(name);
+            folder.discard(file, name);
             Err(RunFault::Write(Written { count: 0 }))
         }
     }
@@ -69,6 +69,9 @@ fn pour<F: Folder>(folder: &F, path: &str, bytes: &[u8]) -> Result<(), RunFault>
     };
     match put_all(&mut sink, bytes) {
         Ok(()) => Ok(()),
-        Err(written) => Err(RunFault::Write(written)),
+        Err(written) => {
+            folder.give_up(sink);
+            Err(RunFault::Write(written))
+        }
     }
 }

@@ -1,13 +1,20 @@
 //! What the user sees of an outcome.
-ghost use Rattle.std.specs.Prelude.{◌≡◌, ◌<◌, ◌≤◌, IsTrue, codes};
+ghost use Rattle.std.specs.Prelude.{◌≡◌, ◌⊎◌, ◌++◌, ◌<◌, ◌≤◌, IsTrue, Option, codes};
 ghost use Rattle.std.specs.Io.KnownBytes.{Appends};
-ghost use Rattle.edicad.specs.Outcome.{HasNames, ended, line_for, status_for};
+ghost use Rattle.edi_compare.specs.Runs.{seen};
+ghost use Rattle.edicad.specs.Outcome.{HasNames, ended, line_for, path_of_fault, status_for, texts};
+ghost use Rattle.edicad.specs.Reasons.{IsReasonOf, reason_line};
 ghost use Rattle.edi_words.specs.Requests.{misuse_text};
-ghost use Rattle.edicad.specs.Statuses.{GoesOut, IsToldAs, input_name};
+ghost use Rattle.edicad.specs.Statuses.{GoesOut, IsToldAs, WarnsWhy};
+ghost use Rattle.edicad.specs.declared.outcome.Outcome.{Outcome};
+ghost use Rattle.edicad.specs.declared.reason.Reason.{Reason};
 
-use crate::outcome::{Outcome, line_of, status_of};
+use crate::folder::Folder;
+use crate::outcome::{Outcome, line_of, path_of_fault, status_of};
+use crate::reason::add_reason;
+use edi_compare::RunFault;
 use edi_line::ByteOut;
-use edi_words::{Misuse, is_standard};
+use edi_words::Misuse;
 use edi_write::put_all;
 use std::alloc::Global;
 
@@ -17,35 +24,66 @@ const WRITE_STATUS: u8 = 4;
 
 const USAGE_STATUS: u8 = 3;
 
-/// Writes the outcome's line where it belongs: answers and refusals to `out`, all else to `err`. Gives the exit
-/// status: that of the outcome, 4 if `out` fails, 5 if there is no memory for the line.
-pub fn told<O: ByteOut, E: ByteOut>(
+/// Writes the outcome's line where it belongs: answers and refusals to `out`, all else to `err`, with a line that says why
+/// a path can't be read or written where the folder gives a reason. Gives the exit status: that of the outcome, 4 if `out`
+/// fails, 5 if there is no memory for the lines.
+pub fn told<F: Folder, O: ByteOut, E: ByteOut>(
     alloc: Global,
+    folder: &F,
     out: &mut O,
     err: &mut E,
     outcome: &Outcome,
-    names: &[&[u8]],
+    paths: &[&str],
 ) -> u8
-    requires { HasNames outcome.now names.now }
+    requires { HasNames outcome.now paths.now }
     ensures status { IsToldAs (status_for outcome.now) result }
-    ensures answer { result < 3 → Appends (O.told out.old) (O.told out.new) (line_for outcome.now names.now) × (err.new ≡ err.old) }
+    ensures answer { result < 3 → Appends (O.told out.old) (O.told out.new) (line_for outcome.now paths.now) × (err.new ≡ err.old) }
     ensures unwritten { status_for outcome.now < 3 → result ≡ 4 → IsTrue (O.has_failed out.new) × (err.new ≡ err.old) }
     ensures fault { 3 ≤ status_for outcome.now → result ≡ 4
-        → GoesOut (E.told err.old) (E.told err.new) (E.has_failed err.new) (line_for outcome.now names.now) × (out.new ≡ out.old) }
+        → WarnsWhy (F.why folder.now) (seen (E.told err.old) (E.told err.new) (E.has_failed err.new)) outcome.now (texts paths.now) × (out.new ≡ out.old) }
     ensures memory { result ≡ 5 → GoesOut (E.told err.old) (E.told err.new) (E.has_failed err.new) (ended (codes "out of memory")) × (out.new ≡ out.old) }
 {
-    let Ok(line) = line_of(alloc, outcome, names) else {
+    let Ok(line) = line_of(alloc, outcome, paths) else {
         return out_of_memory(err);
     };
     let status = status_of(outcome);
     if status < 3 {
-        match put_all(out, &line) {
+        return match put_all(out, &line) {
             Ok(()) => status,
             Err(_) => WRITE_STATUS,
+        };
+    }
+    match outcome {
+        Outcome::Fault(fault) if status == WRITE_STATUS => {
+            told_why(folder, err, line, fault, path_of_fault(fault, paths))
         }
-    } else {
-        warn(err, &line);
-        status
+        _ => {
+            warn(err, &line);
+            status
+        }
+    }
+}
+
+// Writes the line of a fault, and then that of its reason, if the folder gives one.
+fn told_why<F: Folder, E: ByteOut>(
+    folder: &F,
+    err: &mut E,
+    line: Vec<u8>,
+    fault: &RunFault,
+    path: &str,
+) -> u8
+    ensures status { (result ≡ 4) ⊎ (result ≡ 5) }
+    ensures why { result ≡ 4 → (reason : Option Reason) × IsReasonOf (F.why folder.now) fault.now path.now reason
+        × GoesOut (E.told err.old) (E.told err.new) (E.has_failed err.new) (line.items ++ reason_line path.now reason) }
+    ensures memory { result ≡ 5 → GoesOut (E.told err.old) (E.told err.new) (E.has_failed err.new) (ended (codes "out of memory")) }
+{
+    let mut lines = line;
+    match add_reason(&mut lines, folder, fault, path, path.as_bytes()) {
+        Ok(()) => {
+            warn(err, &lines);
+            WRITE_STATUS
+        }
+        Err(_) => out_of_memory(err),
     }
 }
 
@@ -99,17 +137,6 @@ pub fn not_text<E: ByteOut>(err: &mut E) -> u8
 {
     warn(err, b"error: the words are not all UTF-8\n");
     USAGE_STATUS
-}
-
-/// The name of an input in a line.
-pub fn input_name(path: &str) -> &[u8]
-    ensures { result.now ≡ input_name path.now }
-{
-    if is_standard(path) {
-        b"standard input"
-    } else {
-        path.as_bytes()
-    }
 }
 
 /// Writes a line of which it doesn't matter whether it comes through.

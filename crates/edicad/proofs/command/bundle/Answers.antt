@@ -19,13 +19,13 @@ returns-in-Err-clause-answer g c =
     let h = c.in-Err.ensures.err in
     let held : Option (List ℕ) = h.0 in
     let failed = g.F.Reader.ByteIn.has_failed h.1 in
-    let names : List (List ℕ) = codes "standard input" ∷ codes "standard output" ∷ [] in
+    let paths : List (List ℕ) = codes "-" ∷ codes "-" ∷ [] in
     let W : g.row.O.Denot → ℕ → Type 0 = λ o n. IsTrue (g.O.ByteOut.has_failed o) × IfSome held (λ b. OfParts b (λ scd dic vec. WritesFirst usual_kinds scd dic vec n before (g.O.ByteOut.told o))) in
-    let means = means_fault _ (IfSome held (λ b. OfParts b (SaysRefusal out usual_kinds))) (InputFault usual_kinds held failed (W told.new.out)) names out err s e
+    let means = means_fault _ (IfSome held (λ b. OfParts b (SaysRefusal out usual_kinds))) (InputFault usual_kinds held failed (W told.new.out)) (g.F.Folder.why c.args.folder.now) paths out err s e
     (λ big four. subst (λ o. InputFault usual_kinds held failed (W o) e) (sym (told.ensures.fault big four).1) h.3)
-    (λ is two. input_refused out usual_kinds names refl held failed (W c.bundle.new.out) e h.3 is
+    (λ is two. input_refused out usual_kinds paths refl held failed (W c.bundle.new.out) e h.3 is
     (let kept : c.bundle.new.out ≡ c.args.out.now = unwritten e _ c.in-Err.ensures.unwritten is in
-    subst (λ o. Appends (g.O.ByteOut.told o) out.after (ended (words_of_fault e names))) kept (told.ensures.answer (omega (arith, two))).0))
+    subst (λ o. Appends (g.O.ByteOut.told o) out.after (ended (words_of_fault e paths))) kept (told.ensures.answer (omega (arith, two))).0))
     told.ensures.status
     (λ small four. (told.ensures.unwritten small four).0)
     (λ big four. (told.ensures.fault big four).0)

@@ -1,8 +1,7 @@
-use Rattle.std.proofs.Common.{ℕ, List, [], ◌∷◌, ◌≤◌, ◌≡◌, codes, refl, subst, arith}
+use Rattle.std.proofs.Common.{codes, refl, arith}
 use Rattle.edi_compare.specs.Runs.{seen}
-use Rattle.edicad.specs.Outcome.{ended, status_of_fault, words_of_fault}
 use Rattle.edicad.specs.SheetRuns.{FileFault, OfFiles, inputs_of}
-use Rattle.edicad.specs.Statuses.{Says, SaysRefusal, Warns, names_of}
+use Rattle.edicad.specs.Statuses.{SaysRefusal, paths_of}
 use Rattle.edicad.proofs.Refusals.{file_refused, file_tried, means_fault}
 use Rattle.edicad.proofs.command.check.Goals as goal
 
@@ -10,6 +9,7 @@ pub returns-in-Err-clause-answer : goal.returns-in-Err-clause-answer
 returns-in-Err-clause-answer g c =
     let folder = c.args.folder.now in
     let inputs = inputs_of g.row.F-Reader.Denot (g.F.Folder.holds folder) (g.F.Folder.closed folder) (g.F.Folder.standard folder) g.F.Reader.ByteIn.has_failed in
+    let why = g.F.Folder.why folder in
     let told = c.told-in-Err in
     let out = seen (g.O.ByteOut.told c.args.out.now) (g.O.ByteOut.told told.new.out) (g.O.ByteOut.has_failed told.new.out) in
     let err = seen (g.E.ByteOut.told c.args.err.now) (g.E.ByteOut.told told.new.err) (g.E.ByteOut.has_failed told.new.err) in
@@ -17,14 +17,12 @@ returns-in-Err-clause-answer g c =
     let e = c.in-Err.fault in
     let kinds = c.args.kinds.now in
     let files = c.args.files.now in
-    let given : List (List ℕ) = c.input_name.result.now ∷ c.input_name-2.result.now ∷ c.input_name-3.result.now ∷ codes "standard output" ∷ [] in
-    let names = names_of files (codes "standard output") in
-    let are : given ≡ names = cc (c.input_name.ensures, c.input_name-2.ensures, c.input_name-3.ensures) in
-    let means = means_fault _ (OfFiles inputs files (SaysRefusal out kinds)) (FileFault inputs kinds files (λ _. ⊥)) names out err s e (λ big four. c.in-Err.ensures.err)
-    (λ is two. file_refused out kinds names refl inputs files (λ _. ⊥) e c.in-Err.ensures.err is
-    (subst (λ n. Says out (ended (words_of_fault e n))) are (told.ensures.answer (omega (arith, two))).0))
+    let paths = paths_of files (codes "-") in
+    let means = means_fault _ (OfFiles inputs files (SaysRefusal out kinds)) (FileFault inputs kinds files (λ _. ⊥)) why paths out err s e (λ big four. c.in-Err.ensures.err)
+    (λ is two. file_refused out kinds paths refl inputs files (λ _. ⊥) e c.in-Err.ensures.err is
+    (told.ensures.answer (omega (arith, two))).0)
     told.ensures.status
     (λ small four. (told.ensures.unwritten small four).0)
-    (subst (λ n. 3 ≤ status_of_fault e → s ≡ 4 → Warns err (ended (words_of_fault e n))) are (λ big four. (told.ensures.fault big four).0))
+    (λ big four. (told.ensures.fault big four).0)
     (λ five. (told.ensures.memory five).0) in
     record { tried = file_tried inputs kinds files (λ _. ⊥) e c.in-Err.ensures.err; means = means }

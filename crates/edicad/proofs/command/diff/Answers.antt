@@ -1,7 +1,5 @@
-use Rattle.std.proofs.Common.{ℕ, List, [], ◌∷◌, ◌≡◌, codes}
 use Rattle.edi_compare.specs.Runs.{seen}
 use Rattle.edicad.specs.SheetRuns.{inputs_of}
-use Rattle.edicad.specs.Statuses.{pair_names_of}
 use Rattle.edicad.proofs.Differing.{put_status, untold_status}
 use Rattle.edicad.proofs.command.diff.Goals as goal
 
@@ -12,7 +10,7 @@ returns-in-Ok-clause-answer g c =
     let put = c.put_difference in
     let out = seen (g.O.ByteOut.told c.args.out.now) (g.O.ByteOut.told put.new.out) (g.O.ByteOut.has_failed put.new.out) in
     let err = seen (g.E.ByteOut.told c.args.err.now) (g.E.ByteOut.told put.new.err) (g.E.ByteOut.has_failed put.new.err) in
-    put_status inputs out err c.args.kinds.now c.args.files.now c.args.brief put.result c.in-Ok.difference c.in-Ok.ensures.ok
+    put_status inputs (g.F.Folder.why folder) out err c.args.kinds.now c.args.files.now c.args.brief put.result c.in-Ok.difference c.in-Ok.ensures.ok
     put.ensures.status put.ensures.written put.ensures.unwritten
 
 pub returns-in-Err-clause-answer : goal.returns-in-Err-clause-answer
@@ -22,9 +20,7 @@ returns-in-Err-clause-answer g c =
     let told = c.told in
     let out = seen (g.O.ByteOut.told c.args.out.now) (g.O.ByteOut.told told.new.out) (g.O.ByteOut.has_failed told.new.out) in
     let err = seen (g.E.ByteOut.told c.args.err.now) (g.E.ByteOut.told told.new.err) (g.E.ByteOut.has_failed told.new.err) in
-    let names : List (List ℕ) = c.input_name.result.now ∷ c.input_name-2.result.now ∷ c.input_name-3.result.now ∷ c.input_name-4.result.now ∷ codes "standard output" ∷ [] in
-    let are : names ≡ pair_names_of c.args.files.now (codes "standard output") = cc (c.input_name.ensures, c.input_name-2.ensures, c.input_name-3.ensures, c.input_name-4.ensures) in
-    untold_status inputs out err c.args.kinds.now c.args.files.now c.args.brief told.result names are c.in-Err.fault c.in-Err.ensures.err
+    untold_status inputs (g.F.Folder.why folder) out err c.args.kinds.now c.args.files.now c.args.brief told.result c.in-Err.fault c.in-Err.ensures.err
     told.ensures.status
     (λ few. (told.ensures.answer few).0)
     (λ small four. (told.ensures.unwritten small four).0)

@@ -1,9 +1,9 @@
-use Rattle.std.proofs.Common.{ℕ, List, [], ◌∷◌, ◌≤◌, ◌≡◌, IsTrue, codes, refl, subst, sym, arith}
+use Rattle.std.proofs.Common.{ℕ, ◌≡◌, IsTrue, codes, refl, subst, sym, arith}
 use Rattle.edi_compare.specs.Runs.{WritesFirst, seen}
 use Rattle.std.specs.Io.KnownBytes.{Appends}
-use Rattle.edicad.specs.Outcome.{ended, status_of_fault, words_of_fault}
+use Rattle.edicad.specs.Outcome.{ended, words_of_fault}
 use Rattle.edicad.specs.SheetRuns.{FileFault, OfFiles, inputs_of}
-use Rattle.edicad.specs.Statuses.{Says, SaysRefusal, Warns, names_of}
+use Rattle.edicad.specs.Statuses.{SaysRefusal, paths_of}
 use Rattle.edicad.proofs.Refusals.{file_refused, file_tried, means_fault, unwritten}
 use Rattle.edicad.proofs.command.send.Goals as goal
 
@@ -11,6 +11,7 @@ pub returns-in-Err-clause-answer : goal.returns-in-Err-clause-answer
 returns-in-Err-clause-answer g c =
     let folder = c.args.folder.now in
     let inputs = inputs_of g.row.F-Reader.Denot (g.F.Folder.holds folder) (g.F.Folder.closed folder) (g.F.Folder.standard folder) g.F.Reader.ByteIn.has_failed in
+    let why = g.F.Folder.why folder in
     let told = c.told in
     let before = g.O.ByteOut.told c.args.out.now in
     let out = seen before (g.O.ByteOut.told told.new.out) (g.O.ByteOut.has_failed told.new.out) in
@@ -19,18 +20,15 @@ returns-in-Err-clause-answer g c =
     let e = c.in-Err.fault in
     let kinds = c.args.kinds.now in
     let files = c.args.files.now in
-    let given : List (List ℕ) = c.input_name.result.now ∷ c.input_name-2.result.now ∷ c.input_name-3.result.now ∷ codes "standard output" ∷ [] in
-    let names = names_of files (codes "standard output") in
-    let are : given ≡ names = cc (c.input_name.ensures, c.input_name-2.ensures, c.input_name-3.ensures) in
+    let paths = paths_of files (codes "-") in
     let W : g.row.O.Denot → ℕ → Type 0 = λ o n. IsTrue (g.O.ByteOut.has_failed o) × OfFiles inputs files (λ scd dic vec. WritesFirst kinds scd dic vec n before (g.O.ByteOut.told o)) in
-    let means = means_fault _ (OfFiles inputs files (SaysRefusal out kinds)) (FileFault inputs kinds files (W told.new.out)) names out err s e
+    let means = means_fault _ (OfFiles inputs files (SaysRefusal out kinds)) (FileFault inputs kinds files (W told.new.out)) why paths out err s e
     (λ big four. subst (λ o. FileFault inputs kinds files (W o) e) (sym (told.ensures.fault big four).1) c.in-Err.ensures.err)
-    (λ is two. file_refused out kinds names refl inputs files (W c.send.new.out) e c.in-Err.ensures.err is
+    (λ is two. file_refused out kinds paths refl inputs files (W c.send.new.out) e c.in-Err.ensures.err is
     (let kept : c.send.new.out ≡ c.args.out.now = unwritten e _ c.in-Err.ensures.unwritten is in
-    subst (λ n. Says out (ended (words_of_fault e n))) are
-    (subst (λ o. Appends (g.O.ByteOut.told o) out.after (ended (words_of_fault e given))) kept (told.ensures.answer (omega (arith, two))).0)))
+    subst (λ o. Appends (g.O.ByteOut.told o) out.after (ended (words_of_fault e paths))) kept (told.ensures.answer (omega (arith, two))).0))
     told.ensures.status
     (λ small four. (told.ensures.unwritten small four).0)
-    (subst (λ n. 3 ≤ status_of_fault e → s ≡ 4 → Warns err (ended (words_of_fault e n))) are (λ big four. (told.ensures.fault big four).0))
+    (λ big four. (told.ensures.fault big four).0)
     (λ five. (told.ensures.memory five).0) in
     record { tried = file_tried inputs kinds files (W c.send.new.out) e c.in-Err.ensures.err; means = means }

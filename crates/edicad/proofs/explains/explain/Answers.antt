@@ -1,9 +1,8 @@
-use Rattle.std.proofs.Common.{ℕ, List, [], ◌∷◌, ◌≤◌, ◌≡◌, codes, subst, arith}
+use Rattle.std.proofs.Common.{ℕ, List, codes, arith}
 use Rattle.edi_compare.specs.Runs.{seen}
 use Rattle.edicad.specs.Explains.{TellsRefusal}
-use Rattle.edicad.specs.Outcome.{ended, status_of_fault, words_of_fault}
 use Rattle.edicad.specs.SheetRuns.{FileFault, OfFiles, inputs_of}
-use Rattle.edicad.specs.Statuses.{Says, Warns, names_of}
+use Rattle.edicad.specs.Statuses.{Says, paths_of}
 use Rattle.edicad.proofs.Refusals.{file_tried, means_fault}
 use Rattle.edicad.proofs.explains.explain.Goals as goal
 
@@ -18,14 +17,12 @@ returns-in-Err-clause-answer g c =
     let e = c.in-Err.fault in
     let kinds = c.args.kinds.now in
     let files = c.args.files.now in
-    let given : List (List ℕ) = c.input_name.result.now ∷ c.input_name-2.result.now ∷ c.input_name-3.result.now ∷ codes "standard output" ∷ [] in
-    let names = names_of files (codes "standard output") in
-    let are : given ≡ names = cc (c.input_name.ensures, c.input_name-2.ensures, c.input_name-3.ensures) in
-    let means = means_fault _ (OfFiles inputs files (λ scd dic b. (text : List ℕ) × TellsRefusal kinds files scd dic b text × Says out text)) (FileFault inputs kinds files (λ _. ⊥)) names out err s e
+    let paths = paths_of files (codes "-") in
+    let means = means_fault _ (OfFiles inputs files (λ scd dic b. (text : List ℕ) × TellsRefusal kinds files scd dic b text × Says out text)) (FileFault inputs kinds files (λ _. ⊥)) (g.F.Folder.why folder) paths out err s e
     (λ big four. c.in-Err.ensures.err)
     (λ is two. absurd (omega (arith, is, c.in-Err.ensures.unrefused)))
     told.ensures.status
     (λ small four. (told.ensures.unwritten small four).0)
-    (subst (λ n. 3 ≤ status_of_fault e → s ≡ 4 → Warns err (ended (words_of_fault e n))) are (λ big four. (told.ensures.fault big four).0))
+    (λ big four. (told.ensures.fault big four).0)
     (λ five. (told.ensures.memory five).0) in
     record { tried = file_tried inputs kinds files (λ _. ⊥) e c.in-Err.ensures.err; means = means }

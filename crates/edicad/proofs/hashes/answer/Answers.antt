@@ -1,8 +1,8 @@
-use Rattle.std.proofs.Common.{◌≡◌, ◌∙◌, [], refl, inl, inr, sym, ap, subst, codes, Ok, Err}
+use Rattle.std.proofs.Common.{◌≡◌, ◌∙◌, ◌++◌, [], refl, inl, inr, sym, ap, subst, codes, Ok, Err}
 use Rattle.std.specs.Io.KnownBytes.{Appends}
-use Rattle.edicad.specs.Hashes.{digest_line, fault_line}
+use Rattle.edicad.specs.Hashes.{digest_line, fault_line, shown}
 use Rattle.edicad.specs.Outcome.{ended, status_of_fault}
-use Rattle.edicad.specs.Statuses.{GoesOut}
+use Rattle.edicad.specs.Reasons.{reason_line}
 use Rattle.edicad.proofs.Answering.{appends_nothing}
 use Rattle.edicad.proofs.hashes.answer.Goals as goal
 
@@ -29,12 +29,11 @@ returns-in-Ok-clause-ok g c = (
 pub returns-clause-ok : goal.returns-clause-ok
 returns-clause-ok g c = elim c.tell_fault.ensures.told [
   | inl h ↦ (
-    record { out = []; err = fault_line c.in-Err.fault c.args.path.now; status = status_of_fault c.in-Err.fault },
-    inr (inl (c.in-Err.fault, c.in-Err.ensures, refl)),
+    record { out = []; err = fault_line c.in-Err.fault c.args.path.now ++ reason_line (shown c.args.path.now) h.1.0; status = status_of_fault c.in-Err.fault },
+    inr (inl (c.in-Err.fault, h.1.0, c.in-Err.ensures, h.1.1, refl)),
     sym h.0,
     appends_nothing (g.O.ByteOut.told c.args.out.now),
-    subst (GoesOut (g.E.ByteOut.told c.args.err.now) (g.E.ByteOut.told c.tell_fault.new.err) (g.E.ByteOut.has_failed c.tell_fault.new.err))
-        (ap (fault_line c.in-Err.fault) c.as_bytes-in-Err.ensures.value) h.1,
+    h.1.2,
   )
   | inr h ↦ (record { out = []; err = ended (codes "out of memory"); status = 5 }, inr (inr (Err c.in-Err.fault, c.in-Err.ensures, refl)), sym h.0, appends_nothing (g.O.ByteOut.told c.args.out.now), h.1)
 ]

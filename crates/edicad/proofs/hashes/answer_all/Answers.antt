@@ -13,29 +13,30 @@ loop-path-init g c =
     let o = g.O.ByteOut.told c.args.out.now in
     let e = g.E.ByteOut.told c.args.err.now in
     let inputs = inputs_of g.row.F-Reader.Denot (g.F.Folder.holds c.args.folder.now) (g.F.Folder.closed c.args.folder.now) (g.F.Folder.standard c.args.folder.now) g.F.Reader.ByteIn.has_failed in
-    (none_answered inputs c.args.schema.now o (g.O.ByteOut.has_failed c.args.out.now) e (g.E.ByteOut.has_failed c.args.err.now), inl refl)
+    (none_answered inputs (g.F.Folder.why c.args.folder.now) c.args.schema.now o (g.O.ByteOut.has_failed c.args.out.now) e (g.E.ByteOut.has_failed c.args.err.now), inl refl)
 
 pub loop-path-preserved : goal.loop-path-preserved
 loop-path-preserved g c =
     let inputs = inputs_of g.row.F-Reader.Denot (g.F.Folder.holds c.args.folder.now) (g.F.Folder.closed c.args.folder.now) (g.F.Folder.standard c.args.folder.now) g.F.Reader.ByteIn.has_failed in
+    let why = g.F.Folder.why c.args.folder.now in
     let s = c.args.schema.now in
     let out = seen (g.O.ByteOut.told c.args.out.now) (g.O.ByteOut.told c.answer.new.out) (g.O.ByteOut.has_failed c.answer.new.out) in
     let err = seen (g.E.ByteOut.told c.args.err.now) (g.E.ByteOut.told c.answer.new.err) (g.E.ByteOut.has_failed c.answer.new.err) in
-    let more = answered_more inputs s (g.O.ByteOut.told c.args.out.now) (g.O.ByteOut.told c.loop-path.out) (g.O.ByteOut.told c.answer.new.out)
+    let more = answered_more inputs why s (g.O.ByteOut.told c.args.out.now) (g.O.ByteOut.told c.loop-path.out) (g.O.ByteOut.told c.answer.new.out)
     (g.O.ByteOut.has_failed c.loop-path.out) (g.O.ByteOut.has_failed c.answer.new.out)
     (g.E.ByteOut.told c.args.err.now) (g.E.ByteOut.told c.loop-path.err) (g.E.ByteOut.told c.answer.new.err)
     (g.E.ByteOut.has_failed c.loop-path.err) (g.E.ByteOut.has_failed c.answer.new.err)
     _ _ c.loop-path.worst c.in-Ok.status c.loop-path.invariant.0 c.in-Ok.ensures.ok c.in-Ok.ensures.stays in
     let worst : c.max-worst.result ≡ max c.loop-path.worst c.in-Ok.status = c.max-worst.ensures ∙ ord_max_is c.loop-path.worst c.in-Ok.status in (
-      subst (λ paths. AreAnswered inputs s out err paths c.max-worst.result) (sym (one_more_path c.args.sheets.now c.loop-path.path-index _ c.loop-path-test.true))
-          (subst (AreAnswered inputs s out err _) (sym worst) more),
+      subst (λ paths. AreAnswered inputs why s out err paths c.max-worst.result) (sym (one_more_path c.args.sheets.now c.loop-path.path-index _ c.loop-path-test.true))
+          (subst (AreAnswered inputs why s out err _) (sym worst) more),
       subst IsSheetStatus (sym worst) (max_status c.loop-path.worst c.in-Ok.status c.loop-path.invariant.1 c.in-Ok.ensures.status),
     )
 
 pub returns-in-Err-clause-answer : goal.returns-in-Err-clause-answer
 returns-in-Err-clause-answer g c =
     let inputs = inputs_of g.row.F-Reader.Denot (g.F.Folder.holds c.args.folder.now) (g.F.Folder.closed c.args.folder.now) (g.F.Folder.standard c.args.folder.now) g.F.Reader.ByteIn.has_failed in
-    inr (cut_off inputs c.args.schema.now (g.O.ByteOut.told c.args.out.now) (g.O.ByteOut.told c.loop-path.out) (g.O.ByteOut.told c.answer.new.out)
+    inr (cut_off inputs (g.F.Folder.why c.args.folder.now) c.args.schema.now (g.O.ByteOut.told c.args.out.now) (g.O.ByteOut.told c.loop-path.out) (g.O.ByteOut.told c.answer.new.out)
     (g.O.ByteOut.has_failed c.loop-path.out) (g.O.ByteOut.has_failed c.answer.new.out)
     (g.E.ByteOut.told c.args.err.now) (g.E.ByteOut.told c.loop-path.err) (g.E.ByteOut.told c.unwritten.new.err)
     (g.E.ByteOut.has_failed c.loop-path.err) (g.E.ByteOut.has_failed c.unwritten.new.err)
@@ -51,4 +52,4 @@ returns-clause-answer g c =
     let inputs = inputs_of g.row.F-Reader.Denot (g.F.Folder.holds c.args.folder.now) (g.F.Folder.closed c.args.folder.now) (g.F.Folder.standard c.args.folder.now) g.F.Reader.ByteIn.has_failed in
     let out = seen (g.O.ByteOut.told c.args.out.now) (g.O.ByteOut.told c.loop-path.out) (g.O.ByteOut.has_failed c.loop-path.out) in
     let err = seen (g.E.ByteOut.told c.args.err.now) (g.E.ByteOut.told c.loop-path.err) (g.E.ByteOut.has_failed c.loop-path.err) in
-    inl (subst (λ paths. AreAnswered inputs c.args.schema.now out err paths c.loop-path.worst) (all_paths c.args.sheets.now c.loop-path.path-index (omega arith)) c.loop-path.invariant.0)
+    inl (subst (λ paths. AreAnswered inputs (g.F.Folder.why c.args.folder.now) c.args.schema.now out err paths c.loop-path.worst) (all_paths c.args.sheets.now c.loop-path.path-index (omega arith)) c.loop-path.invariant.0)

@@ -1,9 +1,9 @@
-use Rattle.std.proofs.Common.{ℕ, List, [], ◌∷◌, ◌≤◌, ◌≡◌, codes, inl, inr, subst, arith, map, Bor}
+use Rattle.std.proofs.Common.{ℕ, List, inl, inr, subst, arith, map, Bor}
 use Rattle.edi_compare.specs.Runs.{seen}
-use Rattle.edicad.specs.Hashes.{AnswersAll, RefusesFiles, SchemaFault, schema_names_of}
-use Rattle.edicad.specs.Outcome.{ended, schema_text, status_of_fault, words_of_fault}
+use Rattle.edicad.specs.Hashes.{AnswersAll, RefusesFiles, SchemaFault, schema_paths_of}
+use Rattle.edicad.specs.Outcome.{ended, schema_text}
 use Rattle.edicad.specs.SheetRuns.{inputs_of}
-use Rattle.edicad.specs.Statuses.{Says, Warns}
+use Rattle.edicad.specs.Statuses.{Says}
 use Rattle.edicad.proofs.Answering.{schema_refused, schema_tried}
 use Rattle.edicad.proofs.Refusals.{means_fault}
 use Rattle.edicad.proofs.hashes.hash.Goals as goal
@@ -16,7 +16,7 @@ returns-in-Ok-clause-answer g c =
     inl (
       c.in-Ok.schema,
       c.in-Ok.ensures.ok,
-      subst (λ (sheets : List (Bor (List ℕ))). AnswersAll inputs c.in-Ok.schema out err (map (λ (p : Bor (List ℕ)). p.now) sheets) c.answer_all.result) c.deref.ensures.value c.answer_all.ensures.answer,
+      subst (λ (sheets : List (Bor (List ℕ))). AnswersAll inputs (g.F.Folder.why c.args.folder.now) c.in-Ok.schema out err (map (λ (p : Bor (List ℕ)). p.now) sheets) c.answer_all.result) c.deref.ensures.value c.answer_all.ensures.answer,
     )
 
 pub returns-in-Err-clause-answer : goal.returns-in-Err-clause-answer
@@ -29,16 +29,15 @@ returns-in-Err-clause-answer g c =
     let e = c.in-Err.fault in
     let kinds = c.args.kinds.now in
     let files = c.args.files.now in
-    let given : List (List ℕ) = c.input_name.result.now ∷ c.input_name-in-Err.result.now ∷ codes "standard output" ∷ [] in
-    let names = schema_names_of files in
-    let are : given ≡ names = cc (c.input_name.ensures, c.input_name-in-Err.ensures) in
+    let paths = schema_paths_of files in
+    let why = g.F.Folder.why c.args.folder.now in
     inr (
       schema_tried inputs kinds files e c.in-Err.ensures.err,
-      means_fault _ (RefusesFiles inputs kinds files (λ f. Says out (ended (schema_text f)))) (SchemaFault inputs kinds files) names out err s e (λ big four. c.in-Err.ensures.err)
-          (λ is two. schema_refused inputs kinds files out names e c.in-Err.ensures.err is
-          (subst (λ n. Says out (ended (words_of_fault e n))) are (told.ensures.answer (omega (arith, two))).0))
+      means_fault _ (RefusesFiles inputs kinds files (λ f. Says out (ended (schema_text f)))) (SchemaFault inputs kinds files) why paths out err s e (λ big four. c.in-Err.ensures.err)
+          (λ is two. schema_refused inputs kinds files out paths e c.in-Err.ensures.err is
+          (told.ensures.answer (omega (arith, two))).0)
           told.ensures.status
           (λ small four. (told.ensures.unwritten small four).0)
-          (subst (λ n. 3 ≤ status_of_fault e → s ≡ 4 → Warns err (ended (words_of_fault e n))) are (λ big four. (told.ensures.fault big four).0))
+          (λ big four. (told.ensures.fault big four).0)
           (λ five. (told.ensures.memory five).0),
     )
