@@ -21,13 +21,11 @@ no_changes s p q m h = record {
   all_directed = h.all_directed;
   keeps = λ i j goes. goes;
   directions = λ i matched. refl;
+  arcs = λ i place turned. (h.arcs i place turned).1;
   within = h.within;
   apart = h.apart;
   types = λ i j goes. (h.each i j goes).kind;
 }
-
-pub no_parts : (s : Classes) (p q : Drawing) (m : Matching) (parts : List Parts) → ArePartsOfEach s p q m m parts
-no_parts s p q m parts i j none goes = absurd (none (j, goes))
 
 pub fits : (first second : LocatedSheet) (kept became : Matching) (parts : List Parts) → HasSites first → HasSites second → length kept.to ≡ length first.accepted.list
     → AreChanges first.accepted second.accepted kept became → IsFitting (record { first = first; second = second; kept = kept.to; became = became.to; parts = parts })
@@ -85,17 +83,20 @@ total_marked p q m marks are total j h =
 
 -- ---- the text
 
-pub text_told : {X E : Type 0} (s : Classes) (first second : LocatedSheet) (m : Matching) (brief : Bool) (r : Result X E) (items : X → List ℕ) (kept became : List (Option ℕ)) → MatchingHolds s first.accepted second.accepted m
-    → kept ≡ m.to → became ≡ m.to → IfOk r (λ text. items text ≡ told_text brief (record { first = first; second = second; kept = kept; became = became; parts = [] }))
+pub text_told : {X E : Type 0} (s : Classes) (first second : LocatedSheet) (m became : Matching) (parts : List Parts) (brief : Bool) (r : Result X E) (items : X → List ℕ)
+    (kept went : List (Option ℕ)) (told_parts : List Parts) → AreChanges first.accepted second.accepted m became → ArePartsOfEach s first.accepted second.accepted m became parts
+    → kept ≡ m.to → went ≡ became.to → told_parts ≡ parts
+    → IfOk r (λ text. items text ≡ told_text brief (record { first = first; second = second; kept = kept; became = went; parts = told_parts }))
     → IfOk r (λ text. IsDifferenceText s first second m brief (items text))
-text_told s first second m brief (Err e) items kept became h is_kept is_became told = tt
-text_told s first second m brief (Ok text) items kept became h is_kept is_became told = record {
-  became = m;
-  parts = [];
-  changes = no_changes s first.accepted second.accepted m h;
-  are_parts = no_parts s first.accepted second.accepted m [];
-  is_text = told ∙ (ap (λ to. told_text brief (record { first = first; second = second; kept = to; became = became; parts = [] })) is_kept
-      ∙ ap (λ to. told_text brief (record { first = first; second = second; kept = m.to; became = to; parts = [] })) is_became);
+text_told s first second m became parts brief (Err e) items kept went told_parts are are_parts is_kept is_went is_parts told = tt
+text_told s first second m became parts brief (Ok text) items kept went told_parts are are_parts is_kept is_went is_parts told = record {
+  became = became;
+  parts = parts;
+  changes = are;
+  are_parts = are_parts;
+  is_text = told ∙ (ap (λ to. told_text brief (record { first = first; second = second; kept = to; became = went; parts = told_parts })) is_kept
+      ∙ (ap (λ to. told_text brief (record { first = first; second = second; kept = m.to; became = to; parts = told_parts })) is_went
+      ∙ ap (λ ps. told_text brief (record { first = first; second = second; kept = m.to; became = became.to; parts = ps })) is_parts));
 }
 
 pub some_there : (o : Option ℕ) → is_some o ≡ true → (j : ℕ) × (o ≡ Some j)

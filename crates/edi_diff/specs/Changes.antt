@@ -1,6 +1,7 @@
 -- What became of the records of one sheet in another: they are the same, they changed, or they are gone.
-use Rattle.std.specs.Prelude.{◌≡◌, ◌↔◌, ℕ, List, IsTrue, IsPermutation, length, map, option_map, slice_index}
+use Rattle.std.specs.Prelude.{◌≡◌, ◌↔◌, ℕ, List, IsTrue, IsPermutation, length, map, option_map, slice_index, true}
 use Rattle.std.specs.List.{AllByRecursion}
+use Rattle.edi_record.specs.declared.record.Kind.TheVariants.{Par}
 use Rattle.edi_schema.specs.Classes.{Classes, partner_of}
 use Rattle.edi_plan.specs.Plans.{Drawing, IsPlace, record_at, origin_of, others_of}
 use Rattle.edi_plan.specs.declared.record.PlanRecord.{PlanRecord}
@@ -12,11 +13,13 @@ use Rattle.edi_diff.specs.Reports.{parts_at}
 use Rattle.edi_diff.specs.declared.parts.Parts.{Parts}
 
 -- Beside the records of p that are matched, some others go to records of q of their types, which they became; no two go to one.
+-- Those of them that are reversed are arcs.
 pub record AreChanges (p q : Drawing) (kept became : Matching) : Type 0 where
   pub all_entered : length became.to ≡ length p.list
   pub all_directed : length became.turned ≡ length p.list
   pub keeps : (i j : ℕ) → GoesTo kept.to i j → GoesTo became.to i j
   pub directions : (i : ℕ) → IsMatched kept.to i → turned_at became.turned i ≡ turned_at kept.turned i
+  pub arcs : (i : ℕ) → IsPlace p i → turned_at became.turned i ≡ true → (record_at p i).kind ≡ Par
   pub within : (i j : ℕ) → GoesTo became.to i j → IsPlace q j
   pub apart : (i k j : ℕ) → GoesTo became.to i j → GoesTo became.to k j → i ≡ k
   pub types : (i j : ℕ) → GoesTo became.to i j → (record_at q j).kind ≡ (record_at p i).kind

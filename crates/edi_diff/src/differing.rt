@@ -9,11 +9,13 @@ ghost use Rattle.edi_matching.specs.Matchings.{MatchingHolds};
 ghost use Rattle.edi_diff.specs.Differences.{IsDifference, IsDifferenceText};
 ghost use Rattle.edi_diff.specs.Reports.{HasSites};
 
-use crate::marks::marks_of;
+use crate::changes::{Changes, changes_between};
+use crate::parting::parts_of;
 use crate::report::Told;
 use crate::sheet::{LocatedSheet, locate};
 use crate::totals::is_same;
 use edi_compare::{CompareFault, Fault};
+use edi_line::Sequence;
 use edi_matching::{Matching, differences};
 use edi_schema::Schema;
 use std::alloc::{AllocError, Global};
@@ -43,17 +45,24 @@ pub fn difference_text(
     requires holds { MatchingHolds schema.now first.now.accepted second.now.accepted matching.now }
     ensures { IfOk result (λ text. IsDifferenceText schema.now first.now second.now matching.now brief text.items) }
 {
-    let reached = marks_of(
-        alloc,
-        matching.to.as_slice(),
-        second.accepted.sound().plan().len(),
-    )?;
+    let plan = first.accepted.sound().plan();
+    let other = second.accepted.sound().plan();
+    let Changes {
+        to,
+        turned,
+        reached,
+    } = changes_between(alloc, plan, other, matching)?;
+    let became = Matching {
+        to: Sequence::from_vec(to),
+        turned: Sequence::from_vec(turned),
+    };
+    let parts = parts_of(alloc, schema, plan, other, matching, &became)?;
     let told = Told {
         first,
         second,
         kept: matching.to.as_slice(),
-        became: matching.to.as_slice(),
-        parts: &[],
+        became: became.to.as_slice(),
+        parts: &parts,
         reached: &reached,
     };
     told.text(alloc, brief)

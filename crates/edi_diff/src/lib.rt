@@ -1,10 +1,13 @@
 //! The text of what differs between two sheets.
 #![tactic(auto)]
 
+mod changes;
 pub mod differing;
 mod lines;
 mod marks;
+mod parting;
 pub mod parts;
+mod proposing;
 mod report;
 pub mod runs;
 pub mod sheet;

@@ -12,3 +12,12 @@ pub struct Parts {
     /// Their ends, by what became of the records that they name.
     pub ends: bool,
 }
+
+/// The parts of a record that has none that differ.
+pub(crate) const NO_PARTS: Parts = Parts {
+    class: false,
+    attributes: false,
+    extras: false,
+    points: false,
+    ends: false,
+};

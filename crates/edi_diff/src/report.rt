@@ -10,20 +10,11 @@ ghost use Rattle.std.specs.List.{flat_map};
 use crate::lines::{
     push_both_lines, push_charset, push_counted, push_lone, push_name, push_other, push_parts,
 };
-use crate::parts::Parts;
+use crate::parts::{NO_PARTS, Parts};
 use crate::sheet::LocatedSheet;
 use edi_record::Kind;
 use std::alloc::{AllocError, Global};
 use std::marker::Model;
-
-/// The parts of a record that has none that differ.
-const NO_PARTS: Parts = Parts {
-    class: false,
-    attributes: false,
-    extras: false,
-    points: false,
-    ends: false,
-};
 
 /// Two sheets, and what became of the records of the first in the second.
 #[derive(Drop)]

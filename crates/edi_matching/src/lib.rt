@@ -11,8 +11,8 @@ pub mod known;
 pub mod laws;
 pub mod matching;
 mod partners;
-mod places;
-mod record;
+pub mod places;
+pub mod record;
 mod same;
 
 pub use checking::check_matching;

@@ -49,7 +49,7 @@ fn mark_place(met: &mut [bool], place: u32) -> bool
 }
 
 /// Where the records go, with 0 for one that goes nowhere.
-pub(crate) fn targets_of(alloc: Global, to: &[Option<u32>]) -> Result<Vec<u32>, AllocError>
+pub fn targets_of(alloc: Global, to: &[Option<u32>]) -> Result<Vec<u32>, AllocError>
     ensures { IfOk result (λ targets. targets.items ≡ targets_of to.now) }
 {
     to.iter().map(|target| target.unwrap_or(0)).collect(alloc)

@@ -134,8 +134,8 @@ impl<'a> Proposed<'a> {
     }
 }
 
-/// Whether each end is matched.
-fn all_matched(to: &[Option<u32>], ends: &[PlanEnd]) -> bool
+/// Whether each end of a link is matched.
+pub fn all_matched(to: &[Option<u32>], ends: &[PlanEnd]) -> bool
     requires { AllByRecursion (λ e. e.target < length to.now) ends.now }
     ensures { IsTrue result ↔ AllByRecursion (λ e. IsMatched to.now e.target) ends.now }
 {
