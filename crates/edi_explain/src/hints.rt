@@ -51,7 +51,7 @@ pub fn part_of_type(rty: &[u8]) -> Option<Part>
     }
 }
 
-/// The part that the line of a type is of.
+/// The part of a delivery whose records are of the type that a line states, in the three bytes behind `RTYSA03:`.
 fn part_of_line(line: &[u8]) -> Option<Part>
     ensures { result ≡ part_typed (take 3 (drop 8 line.now)) }
 {
