@@ -623,8 +623,8 @@ def differences(room):
     room.write("bad", "")
     sheets = ["s", "d", "a", "b"]
     nothing = (0, b"0 only in A, 0 only in B, 0 changed\n", b"")
-    counts = b"2 only in A, 2 only in B, 0 changed\n"
-    found = (1, b"- FEA Objet_1 (line 39)\n+ FEA Objet_1 (line 39)\n- LNK Lien_7 (line 98)\n+ LNK Lien_7 (line 98)\n" + counts, b"")
+    counts = b"0 only in A, 0 only in B, 2 changed\n"
+    found = (1, b"~ FEA Objet_1 Objet_1 (lines 39 and 39): attributes\n~ LNK Lien_7 Lien_7 (lines 98 and 98): linked records\n" + counts, b"")
     room.expect("no difference", ["diff", "s", "d", "a", "a"], nothing)
     room.expect("no difference between two exports", ["diff", "s", "d", "a", "same"], nothing)
     room.expect("no difference, in brief", ["diff", "--brief", "s", "d", "a", "same"], nothing)
