@@ -66,8 +66,8 @@ ends_told m i j ends others is_ends is_others all targeted (Ok answer) told = ((
     there : EndsGo m.targets ends others → HasEndsOf (became m) (record_at m.plan i) (record_at m.other j)
     there go =
         let gone : EndsGo (targets_of m.to) (record_at m.plan i).ends (record_at m.other j).ends =
-            subst (λ (ts : List ℕ). EndsGo ts (record_at m.plan i).ends (record_at m.other j).ends) targeted
-            (subst (λ (es : List PlanEnd). EndsGo m.targets es (record_at m.other j).ends) is_ends (subst (λ (os : List PlanEnd). EndsGo m.targets ends os) is_others go)) in
+        subst (λ (ts : List ℕ). EndsGo ts (record_at m.plan i).ends (record_at m.other j).ends) targeted
+        (subst (λ (es : List PlanEnd). EndsGo m.targets es (record_at m.other j).ends) is_ends (subst (λ (os : List PlanEnd). EndsGo m.targets ends os) is_others go)) in
         record { all = subst (AllMatched m.to) is_ends all; origin = gone.0; others = gone.1 }
 
     back : EndsGo (targets_of m.to) (record_at m.plan i).ends (record_at m.other j).ends → EndsGo m.targets ends others

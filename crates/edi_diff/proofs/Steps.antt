@@ -100,6 +100,7 @@ module _ (p q : Drawing) (kept : Matching) (to : List (Option ℕ)) (turned reac
     where
       w : (k : ℕ) × GoesTo (set to i (Some j)) k l
       w = reached_goes (set to i (Some j)) l e
+
       go : ((w.0 ≡ i) × (l ≡ j)) ⊎ GoesTo to w.0 l → get_or (set reached j true) l false ≡ true
       go (inl a) = absurd (ne a.1)
       go (inr a) = get_or-set_other reached j l true false ne ∙ (are.marks.each l less ∙ goes_reached to w.0 l a)

@@ -125,12 +125,21 @@ impl<'a> Compared<'a> {
         self.other.scp(target) == class_turned(self.schema, self.plan, self.turned, place)
     }
 
-    fn has_same_attributes(&self, alloc: Global, place: u32, target: u32) -> Result<bool, AllocError>
+    fn has_same_attributes(
+        &self,
+        alloc: Global,
+        place: u32,
+        target: u32,
+    ) -> Result<bool, AllocError>
         requires place { IsPlace self.now.plan place }
         requires target { IsPlace self.now.other target }
         ensures { IfOk result (λ answer. IsTrue answer ↔ IsPermutation (record_at self.now.plan place).attributes (record_at self.now.other target).attributes) }
     {
-        same_attributes(alloc, self.plan.attributes(place), self.other.attributes(target))
+        same_attributes(
+            alloc,
+            self.plan.attributes(place),
+            self.other.attributes(target),
+        )
     }
 
     fn has_same_extras(&self, place: u32, target: u32) -> bool

@@ -216,7 +216,9 @@ impl<'a> Open<'a> {
 
 /// A record of a side.
 fn code_of(place: usize, of_second: bool) -> Code {
-    (place as u64).saturating_mul(2).saturating_add(u64::from(of_second))
+    (place as u64)
+        .saturating_mul(2)
+        .saturating_add(u64::from(of_second))
 }
 
 fn is_second(code: Code) -> bool {
@@ -254,7 +256,10 @@ fn contents_key(
     )))
 }
 
-type ContentsKey<'a> = ((Kind, ClassRef), (LentEach<'a, PlanAttribute>, Lent<'a, Extra>));
+type ContentsKey<'a> = (
+    (Kind, ClassRef),
+    (LentEach<'a, PlanAttribute>, Lent<'a, Extra>),
+);
 
 /// What links join a record with, of all that they join.
 fn names_of(
@@ -275,10 +280,7 @@ fn names_of(
 }
 
 /// The pairs of a record of each sheet that have one key, which no other record has.
-fn lone_pairs<K: Ord>(
-    alloc: Global,
-    pairs: &mut [(K, Code)],
-) -> Result<Vec<Proposal>, AllocError> {
+fn lone_pairs<K: Ord>(alloc: Global, pairs: &mut [(K, Code)]) -> Result<Vec<Proposal>, AllocError> {
     pairs.sort_unstable();
     let mut found = Vec::new(alloc);
     for at in 0..pairs.len() {

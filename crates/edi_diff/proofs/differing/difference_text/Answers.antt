@@ -17,8 +17,8 @@ returns c =
     let is_turned = c.from_vec-2.ensures in
     let same : found ≡ became = cc in
     let are = subst (λ (q : Drawing). AreChanges c.args.first.now.accepted q m became) there
-        (subst (λ (p : Drawing). AreChanges p c.plan-other.result.now m became) here (subst (λ (b : Matching). AreChanges c.plan-plan.result.now c.plan-other.result.now m b) same c.in_ok-to.ensures.changes)) in
+    (subst (λ (p : Drawing). AreChanges p c.plan-other.result.now m became) here (subst (λ (b : Matching). AreChanges c.plan-plan.result.now c.plan-other.result.now m b) same c.in_ok-to.ensures.changes)) in
     let parts = subst (λ (q : Drawing). ArePartsOfEach s c.args.first.now.accepted q m became c.in_ok-parts.parts.items) there
-        (subst (λ (p : Drawing). ArePartsOfEach s p c.plan-other.result.now m became c.in_ok-parts.parts.items) here c.in_ok-parts.ensures) in
+    (subst (λ (p : Drawing). ArePartsOfEach s p c.plan-other.result.now m became c.in_ok-parts.parts.items) here c.in_ok-parts.ensures) in
     text_told s c.args.first.now c.args.second.now m became c.in_ok-parts.parts.items c.args.brief c.text.result (λ text. text.items)
     c.as_slice.result.now c.as_slice-2.result.now c.deref.result.now are parts c.as_slice.ensures c.as_slice-2.ensures c.deref.ensures.value c.text.ensures
