@@ -1,6 +1,7 @@
 //! What differs between two sheets.
 
 ghost use Rattle.std.specs.Prelude.{◌≡◌, IfErr, IfOk, OnOk};
+ghost use Rattle.std.specs.Cow.{cow_slice_items};
 ghost use Rattle.edi_compare.specs.Pairings.{HasClasses};
 ghost use Rattle.edi_compare.specs.Refused.{IsPairRefusal};
 ghost use Rattle.edi_compare.specs.Rules.{IsAccepted};
@@ -12,13 +13,14 @@ ghost use Rattle.edi_diff.specs.Reports.{HasSites};
 use crate::changes::{Changes, changes_between};
 use crate::parting::parts_of;
 use crate::report::Told;
-use crate::sheet::{LocatedSheet, locate};
+use crate::sheet::{LocatedSheet, locate_from};
 use crate::totals::is_same;
 use edi_compare::{CompareFault, Fault};
 use edi_line::Sequence;
 use edi_matching::{Matching, differences};
 use edi_schema::Schema;
 use std::alloc::{AllocError, Global};
+use std::borrow::CowSlice;
 
 /// What differs between two sheets.
 #[derive(Debug, Drop)]
@@ -83,11 +85,33 @@ pub fn diff(
     ensures difference { IfOk result (IsDifference schema.now a.now b.now brief) }
     ensures refusal { IfErr result (IsPairRefusal schema.now a.now b.now) }
 {
-    let first = match locate(alloc, schema, a) {
+    diff_from(
+        alloc,
+        schema,
+        CowSlice::Borrowed(a),
+        CowSlice::Borrowed(b),
+        brief,
+    )
+}
+
+/// What `diff` gives of files that are let go, where they are owned, one after the other.
+pub(crate) fn diff_from(
+    alloc: Global,
+    schema: &Schema,
+    a: CowSlice<'_, u8>,
+    b: CowSlice<'_, u8>,
+    brief: bool,
+) -> Result<Difference, CompareFault>
+    ensures first { OnOk result (IsAccepted schema.now (cow_slice_items a.entry)) }
+    ensures second { OnOk result (IsAccepted schema.now (cow_slice_items b.entry)) }
+    ensures difference { IfOk result (IsDifference schema.now (cow_slice_items a.entry) (cow_slice_items b.entry) brief) }
+    ensures refusal { IfErr result (IsPairRefusal schema.now (cow_slice_items a.entry) (cow_slice_items b.entry)) }
+{
+    let first = match locate_from(alloc, schema, a) {
         Ok(sheet) => sheet,
         Err(fault) => return Err(first_refused(fault)),
     };
-    let second = match locate(alloc, schema, b) {
+    let second = match locate_from(alloc, schema, b) {
         Ok(sheet) => sheet,
         Err(fault) => return Err(second_refused(fault)),
     };

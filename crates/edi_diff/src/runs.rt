@@ -1,13 +1,15 @@
 //! The run that tells what differs between two sheets.
 ghost use Rattle.std.specs.Prelude.{◌≡◌, IsTrue, IfOk, IfErr, IfSome, OnOk};
+ghost use Rattle.std.specs.Cow.{cow_slice_items};
 ghost use Rattle.edi_compare.specs.Runs.{AfterReading, AreFourRead, ComparingFault, IsTooLong, MatchFault, PairFault, TellFour, WasRead, seen};
 ghost use Rattle.edi_diff.specs.Runs.{IsDifferenceUnder};
 
-use crate::differing::{Difference, diff};
+use crate::differing::{Difference, diff_from};
 use edi_compare::{CompareFault, RunFault};
 use edi_line::{ByteIn, ReadFault, read_all};
 use edi_schema::{Kinds, Schema, SchemaFault};
 use std::alloc::Global;
+use std::borrow::CowSlice;
 
 // How many bytes an input has at most.
 const MOST_BYTES: u64 = 4_294_967_296;
@@ -38,7 +40,15 @@ pub fn run_diff<S: ByteIn, D: ByteIn, A: ByteIn, B: ByteIn>(
     let dic = read_input(alloc, dic, 2)?;
     let first = read_input(alloc, first, 3)?;
     let second = read_input(alloc, second, 4)?;
-    diff_or_fault(alloc, kinds, &scd, &dic, &first, &second, brief)
+    diff_or_fault(
+        alloc,
+        kinds,
+        &scd,
+        &dic,
+        CowSlice::Owned(first),
+        CowSlice::Owned(second),
+        brief,
+    )
 }
 
 // The input of this number, whole.
@@ -62,19 +72,19 @@ fn diff_or_fault(
     kinds: &Kinds<'_>,
     scd: &[u8],
     dic: &[u8],
-    first: &[u8],
-    second: &[u8],
+    first: CowSlice<'_, u8>,
+    second: CowSlice<'_, u8>,
     brief: bool,
 ) -> Result<Difference, RunFault>
-    ensures ok { IfOk result (IsDifferenceUnder kinds.now scd.now dic.now first.now second.now brief) }
-    ensures err { IfErr result (PairFault kinds.now scd.now dic.now first.now second.now) }
+    ensures ok { IfOk result (IsDifferenceUnder kinds.now scd.now dic.now (cow_slice_items first.entry) (cow_slice_items second.entry) brief) }
+    ensures err { IfErr result (PairFault kinds.now scd.now dic.now (cow_slice_items first.entry) (cow_slice_items second.entry)) }
 {
     let schema = match Schema::load(alloc, scd, dic, kinds) {
         Ok(schema) => schema,
         Err(SchemaFault::Memory(error)) => return Err(RunFault::Memory(error)),
         Err(fault) => return Err(RunFault::Schema(fault)),
     };
-    match diff(alloc, &schema, first, second, brief) {
+    match diff_from(alloc, &schema, first, second, brief) {
         Ok(difference) => Ok(difference),
         Err(CompareFault::Memory(error)) => Err(RunFault::Memory(error)),
         Err(CompareFault::First(fault)) => Err(RunFault::First(fault)),

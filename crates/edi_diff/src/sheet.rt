@@ -1,6 +1,7 @@
 //! Accepted sheets, with where their records stand.
 
 ghost use Rattle.std.specs.Prelude.{◌≡◌, IfErr, IfOk, OnOk};
+ghost use Rattle.std.specs.Cow.{cow_slice_items};
 ghost use Rattle.edi_compare.specs.Pairings.{HasClasses};
 ghost use Rattle.edi_compare.specs.PlanOfFile.{IsPlanOfFile};
 ghost use Rattle.edi_compare.specs.Refused.{IsRefusal};
@@ -16,6 +17,7 @@ use edi_line::{LineFault, Sequence};
 use edi_record::Kind;
 use edi_schema::Schema;
 use std::alloc::{AllocError, Global};
+use std::borrow::CowSlice;
 
 /// An accepted sheet, with where its records stand in their file.
 #[derive(Drop)]
@@ -50,6 +52,22 @@ pub fn locate(alloc: Global, schema: &Schema, bytes: &[u8]) -> Result<LocatedShe
         accepted,
         sites: Sequence::from_vec(sites),
     })
+}
+
+/// What `locate` gives of a file that is let go, where it is owned, as soon as its plan and its sites are there.
+pub(crate) fn locate_from(
+    alloc: Global,
+    schema: &Schema,
+    bytes: CowSlice<'_, u8>,
+) -> Result<LocatedSheet, Fault>
+    ensures accepted { OnOk result (IsAccepted schema.now (cow_slice_items bytes.entry)) }
+    ensures plan { IfOk result (λ sheet. IsPlanOfFile schema.now (cow_slice_items bytes.entry) sheet.accepted) }
+    ensures classes { IfOk result (λ sheet. HasClasses schema.now sheet.accepted) }
+    ensures sites { IfOk result (λ sheet. AreSitesOf (cow_slice_items bytes.entry) sheet.sites) }
+    ensures all { IfOk result HasSites }
+    ensures refusal { IfErr result (IsRefusal schema.now (cow_slice_items bytes.entry)) }
+{
+    locate(alloc, schema, bytes.as_slice())
 }
 
 /// The sites of the records of an accepted sheet.

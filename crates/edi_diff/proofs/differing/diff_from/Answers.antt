@@ -1,27 +1,28 @@
 use Rattle.std.proofs.Common.{alloc_error}
+use Rattle.std.specs.Cow.{cow_slice_items}
 use Rattle.edi_compare.proofs.Refusals.{err_kept}
 use Rattle.edi_compare.specs.Refused.{IsPairRefusal}
 use Rattle.edi_compare.specs.declared.fault.CompareFault.TheVariants.{Memory}
-use Rattle.edi_diff.proofs.differing.diff.Goals as goal
+use Rattle.edi_diff.proofs.differing.diff_from.Goals as goal
 
 pub differences-requires-clause-first : goal.differences-requires-clause-first
-differences-requires-clause-first c = (c.args.a.now, c.in-Ok.ensures.accepted, c.in-Ok.ensures.plan)
+differences-requires-clause-first c = ((cow_slice_items c.args.a), c.in-Ok.ensures.accepted, c.in-Ok.ensures.plan)
 
 pub differences-requires-clause-second : goal.differences-requires-clause-second
-differences-requires-clause-second c = (c.args.b.now, c.in-Ok-locate.ensures.accepted, c.in-Ok-locate.ensures.plan)
+differences-requires-clause-second c = ((cow_slice_items c.args.b), c.in-Ok-locate_from.ensures.accepted, c.in-Ok-locate_from.ensures.plan)
 
 pub returns-in_err-text-clause-refusal : goal.returns-in_err-text-clause-refusal
-returns-in_err-text-clause-refusal c = err_kept _ (Memory alloc_error) (IsPairRefusal c.args.schema.now c.args.a.now c.args.b.now) c.from_residual-in_err-text.ensures.1 tt
+returns-in_err-text-clause-refusal c = err_kept _ (Memory alloc_error) (IsPairRefusal c.args.schema.now (cow_slice_items c.args.a) (cow_slice_items c.args.b)) c.from_residual-in_err-text.ensures.1 tt
 
 pub returns-in_err-same-clause-refusal : goal.returns-in_err-same-clause-refusal
-returns-in_err-same-clause-refusal c = err_kept _ (Memory alloc_error) (IsPairRefusal c.args.schema.now c.args.a.now c.args.b.now) c.from_residual-in_err-same.ensures.1 tt
+returns-in_err-same-clause-refusal c = err_kept _ (Memory alloc_error) (IsPairRefusal c.args.schema.now (cow_slice_items c.args.a) (cow_slice_items c.args.b)) c.from_residual-in_err-same.ensures.1 tt
 
 pub returns-clause-difference : goal.returns-clause-difference
 returns-clause-difference c = record {
   first = c.in-Ok.sheet;
-  second = c.in-Ok-locate.sheet;
+  second = c.in-Ok-locate_from.sheet;
   is_first = record { plan = c.in-Ok.ensures.plan; sites = c.in-Ok.ensures.sites };
-  is_second = record { plan = c.in-Ok-locate.ensures.plan; sites = c.in-Ok-locate.ensures.sites };
+  is_second = record { plan = c.in-Ok-locate_from.ensures.plan; sites = c.in-Ok-locate_from.ensures.sites };
   kept = c.in_ok-matching.matching;
   holds = c.in_ok-matching.ensures.holds;
   total = c.in_ok-matching.ensures.total;
