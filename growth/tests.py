@@ -19,7 +19,7 @@ HERE = os.path.dirname(os.path.abspath(__file__))
 CRATES = os.path.join(HERE, "..", "crates")
 DATA = os.path.join(CRATES, "conform", "data")
 # these make the calls of other files again for each byte, read or write: too many copies that run on for too long
-LOOPS = {"cuts.cases", "failing_reads.cases", "failing_writes.cases"}
+LOOPS = {"cuts.cases", "failing_reads.cases", "failing_writes.cases", "pieces.cases"}
 USUAL = ["conform", "edi_hash"]
 
 
