@@ -1,5 +1,5 @@
 -- Parts that differ.
-use Rattle.std.proofs.Common.{◌≡◌, ◌↔◌, ℕ, ◌<◌, ◌+◌, [], ◌∷◌, ◌++◌, ◌⊎◌, inl, inr, ◌∙◌, Bool, not, true, false, true≢false, IsTrue, List, length, get_or, Option, None, Some, Result, Ok, Err, IfOk, is_some, refl, sym, ap, subst, arith}
+use Rattle.std.proofs.Common.{◌≡◌, ◌↔◌, ℕ, ◌<◌, ◌+◌, [], ◌∷◌, ◌++◌, ◌⊎◌, inl, inr, ◌∙◌, Bool, not, true, false, true≢false, IsTrue, List, length, get_or, Option, None, Some, Result, Ok, Err, IfOk, refl, sym, ap, subst, arith}
 use Rattle.std.proofs.Math.Seq.{get_or-append_seam}
 use Rattle.std.proofs.lemmas.Bool.{cases_eq}
 use Rattle.std.proofs.lemmas.List.{get_or_append_left}
@@ -86,12 +86,6 @@ pub targets_there : (p : Drawing) (targets : List ℕ) (i : ℕ) (ends : List Pl
 targets_there p targets i ends whole here is_ends long =
     subst (λ (n : ℕ). AllByRecursion (λ e. e.target < n) ends) (sym long)
     (subst (λ (es : List PlanEnd). AllByRecursion (λ e. e.target < length p.list) es) (sym is_ends) (whole.there i here))
-
--- ---- records that are kept
-
-pub some_here : (o : Option ℕ) → is_some o ≡ true → (j : ℕ) × (o ≡ Some j)
-some_here None e = absurd (true≢false (sym e))
-some_here (Some j) e = (j, refl)
 
 -- ---- all records
 

@@ -1,10 +1,10 @@
 use Rattle.std.proofs.Common.{◌∙◌, None, get_or, subst, sym}
 use Rattle.edi_matching.specs.Matchings.{IsMatched}
 use Rattle.edi_diff.specs.inner.Comparisons.{Comparison}
-use Rattle.edi_diff.proofs.PartsTold.{some_here}
+use Rattle.edi_diff.proofs.Outcomes.{some_there}
 use Rattle.edi_diff.proofs.parting.Compared.parts_at.Goals as goal
 
 pub returns-then-is_some : goal.returns-then-is_some
 returns-then-is_some c = λ j free goes.
     absurd (free (subst (λ (m : Comparison). IsMatched m.kept c.args.place) c.self.view_is
-    (some_here (get_or c.self.inside.kept.now c.args.place None) (sym c.is_some.ensures ∙ c.if-is_some.true))))
+    (some_there (get_or c.self.inside.kept.now c.args.place None) (sym c.is_some.ensures ∙ c.if-is_some.true))))
