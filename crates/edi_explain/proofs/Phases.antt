@@ -9,11 +9,8 @@ use Rattle.edi_record.specs.declared.record.Record.{Record}
 use Rattle.edi_schema.specs.Classes.{Classes}
 use Rattle.edi_plan.specs.ReferenceRules.{BreaksReferenceRule}
 use Rattle.edi_plan.specs.ReferenceRules.BreaksReferenceRule.{repeats_name, lacks_class, lacks_attribute_class, leaves_subset, names_nothing, joins_wrong, repeats_side}
-use Rattle.edi_plan.specs.Plans.{Drawing}
-use Rattle.edi_topo.specs.TopologyRules.{BreaksTopologyRule}
-use Rattle.edi_topo.specs.TopologyRules.BreaksTopologyRule.{starts_elsewhere, ends_elsewhere, repeats_node, equals_reverse, repeats_arc, bounds_nothing}
 use Rattle.edi_compare.specs.Refused.{IsRefusal}
-use Rattle.edi_compare.specs.Rules.{Breaks, LinesHold, RecordsHold, ReferencesHold, TopologyHolds}
+use Rattle.edi_compare.specs.Rules.{Breaks, LinesHold, RecordsHold, ReferencesHold}
 use Rattle.edi_compare.specs.Rules.Breaks.{of_lines, of_records, of_references, of_topology, of_objects}
 use Rattle.edi_compare.specs.declared.fault.Fault.TheVariants.{Entry as AtRecord, Line as AtLine}
 use Rattle.edi_compare.proofs.Phases.{line_refusal, object_refusal, record_refusal, reference_refusal, topology_refusal}
@@ -36,14 +33,6 @@ reference_below s list rule place (leaves_subset e h) = omega (arith, e)
 reference_below s list rule place (names_nothing e h) = omega (arith, e)
 reference_below s list rule place (joins_wrong e h) = omega (arith, e)
 reference_below s list rule place (repeats_side e h) = omega (arith, e)
-
-topology_below : (p : Drawing) (rule place : ℕ) → BreaksTopologyRule p rule place → rule < 500
-topology_below p rule place (starts_elsewhere e h) = omega (arith, e)
-topology_below p rule place (ends_elsewhere e h) = omega (arith, e)
-topology_below p rule place (repeats_node e h) = omega (arith, e)
-topology_below p rule place (equals_reverse e h) = omega (arith, e)
-topology_below p rule place (repeats_arc e h) = omega (arith, e)
-topology_below p rule place (bounds_nothing e h) = omega (arith, e)
 
 module _ (s : Classes) (b : List ℕ) (rule at : ℕ) (is : IsRefusal s b (AtRecord rule at)) where
   no_line : BreaksLineRule b rule at → ⊥
@@ -72,13 +61,6 @@ module _ (s : Classes) (b : List ℕ) (rule at : ℕ) (is : IsRefusal s b (AtRec
   references_of big (of_topology plan held z g) = held
   references_of big (of_objects plan held z g) = held.0
 
-  topology_of : 500 ≤ rule → Breaks s b rule at → TopologyHolds s b
-  topology_of big (of_lines g) = absurd (no_line g)
-  topology_of big (of_records zones held z g) = absurd (omega (arith, big, group_below g.group rule g.breaks))
-  topology_of big (of_references sheet held z g) = absurd (omega (arith, big, reference_below s sheet.list rule at g))
-  topology_of big (of_topology plan held z g) = absurd (omega (arith, big, topology_below plan rule at g))
-  topology_of big (of_objects plan held z g) = held
-
   -- no rule of lines is broken
   pub lines_hold : LinesHold s b
   lines_hold = lines_of is.1.is
@@ -90,10 +72,6 @@ module _ (s : Classes) (b : List ℕ) (rule at : ℕ) (is : IsRefusal s b (AtRec
   -- for a rule of topology or a later one, no rule of references
   pub references_hold : 400 ≤ rule → ReferencesHold s b
   references_hold big = references_of big is.1.is
-
-  -- for the rule of objects, no rule of topology
-  pub topology_holds : 500 ≤ rule → TopologyHolds s b
-  topology_holds big = topology_of big is.1.is
 
 -- the least broken rule of lines
 pub line_least : (s : Classes) (b : List ℕ) (rule at : ℕ) → IsRefusal s b (AtLine rule at) → IsLeastBroken (BreaksLineRule b) rule at

@@ -9,9 +9,10 @@ ghost use Rattle.edi_rank.specs.Pieces.{object_key_at};
 ghost use Rattle.edi_explain.specs.inner.Objects.{AreKeyed};
 ghost use Rattle.edi_explain.specs.Partners.{IsAlikeObject, IsLeastIfAny};
 
+use edi_plan::Plan;
 use edi_rank::{ObjectKey, ObjectLayer};
 use edi_record::Kind;
-use edi_topo::{Layer, Ranks, Sound, TieFault, ranks};
+use edi_topo::{Layer, Ranks, TieFault, ranks};
 use std::alloc::{AllocError, Global};
 
 /// So many members, of which each has its place as its key.
@@ -71,28 +72,31 @@ fn member_at(places: &[u32], place: u32) -> Option<u32>
     Some(member as u32)
 }
 
-/// The objects of a sound plan by their keys. Faces may have any numbers that tell them apart; they have those of their
-/// places.
-fn keyed_objects<'a>(alloc: Global, sound: &'a Sound) -> Result<ObjectLayer<'a>, AllocError>
-    ensures { IfOk result (AreKeyed sound.now) }
+/// The objects of a plan by their keys. Nodes, arcs and faces may have any numbers that tell them apart; they have those
+/// of the order of the file.
+fn keyed_objects<'a>(alloc: Global, plan: &'a Plan) -> Result<ObjectLayer<'a>, AllocError>
+    ensures { IfOk result (AreKeyed plan.now) }
 {
-    let plan = sound.plan();
+    plan.keeps();
+    let nodes = ranks_in_order(alloc, plan.places(Kind::Pno).len() as u32)?;
+    let arcs = ranks_in_order(alloc, plan.places(Kind::Par).len() as u32)?;
     let faces = ranks_in_order(alloc, plan.places(Kind::Pfe).len() as u32)?;
-    ObjectLayer::of(alloc, sound, sound.node_ranks(), sound.arc_ranks(), &faces)
+    ObjectLayer::of_plan(alloc, plan, &nodes, &arcs, &faces)
 }
 
 /// The place of the first object alike an object, if it comes before that one.
 fn first_alike(
     alloc: Global,
-    sound: &Sound,
+    plan: &Plan,
     objects: &ObjectLayer<'_>,
     member: u32,
 ) -> Result<Option<u32>, AllocError>
-    requires keys { AreKeyed sound.now objects.now }
-    requires member { member < length (places_of Fea sound.now) }
-    ensures { IfOk result (IsLeastIfAny (IsAlikeObject sound.now (slice_index (places_of Fea sound.now) member))) }
+    requires keys { AreKeyed plan.now objects.now }
+    requires member { member < length (places_of Fea plan.now) }
+    ensures { IfOk result (IsLeastIfAny (IsAlikeObject plan.now (slice_index (places_of Fea plan.now) member))) }
 {
-    let places = sound.plan().places(Kind::Fea);
+    plan.keeps();
+    let places = plan.places(Kind::Fea);
     let key = objects.key(alloc, member)?;
     for earlier in 0..member {
         if has_key(alloc, objects, &key, earlier)? {
@@ -104,13 +108,14 @@ fn first_alike(
 
 /// The first object alike the one at a place, if it comes before that one: rule 501. `None` also where the record isn't an
 /// object.
-pub fn alike_object(alloc: Global, sound: &Sound, place: u32) -> Result<Option<u32>, AllocError>
-    requires { IsPlace sound.now place }
-    ensures { IfOk result (IsLeastIfAny (IsAlikeObject sound.now place)) }
+pub fn alike_object(alloc: Global, plan: &Plan, place: u32) -> Result<Option<u32>, AllocError>
+    requires { IsPlace plan.now place }
+    ensures { IfOk result (IsLeastIfAny (IsAlikeObject plan.now place)) }
 {
-    let Some(member) = member_at(sound.plan().places(Kind::Fea), place) else {
+    plan.keeps();
+    let Some(member) = member_at(plan.places(Kind::Fea), place) else {
         return Ok(None);
     };
-    let objects = keyed_objects(alloc, sound)?;
-    first_alike(alloc, sound, &objects, member)
+    let objects = keyed_objects(alloc, plan)?;
+    first_alike(alloc, plan, &objects, member)
 }

@@ -6,7 +6,7 @@ ghost use Rattle.edi_line.specs.LineRules.{BreaksLineRule, IsZonesOf};
 ghost use Rattle.edi_line.specs.Refusal.{IsUnbroken};
 ghost use Rattle.edi_compare.specs.PlanOfFile.{IsPlanOfFile, IsSheetOf};
 ghost use Rattle.edi_compare.specs.Refused.{IsRefusal};
-ghost use Rattle.edi_compare.specs.Rules.{RecordsHold, ReferencesHold, TopologyHolds};
+ghost use Rattle.edi_compare.specs.Rules.{RecordsHold, ReferencesHold};
 ghost use Rattle.edi_compare.specs.declared.fault.Fault.TheVariants.{Entry as AtRecord};
 ghost use Rattle.edi_explain.specs.Partners.{HasEnd, IsAlikeNode, IsAlikeObject, IsLeastIfAny, SharesName, SharesPoints, SharesSide};
 ghost use Rattle.edi_explain.specs.Refusals.{AreSites, IsEarlierIfAny, IsEarlierRowIfAny, IsRefusedAt, IsRowRefusedAt};
@@ -21,7 +21,6 @@ use edi_line::{LineFault, zones};
 use edi_plan::{Plan, RefFault};
 use edi_record::{Record, RecordFault, Sheet, SheetFault, read_sheet};
 use edi_schema::Schema;
-use edi_topo::{Sound, TopoFault};
 use std::alloc::{AllocError, Global};
 
 /// Where the record of a refusal stands, and the earlier record that its rule speaks of.
@@ -56,19 +55,6 @@ fn plan_of(alloc: Global, schema: &Schema, bytes: &[u8]) -> Result<Plan, AllocEr
         Ok(plan) => Ok(plan),
         Err(RefFault::Memory(error)) => Err(error),
         Err(RefFault::Broken { .. }) => unreachable!(),
-    }
-}
-
-/// The plan of a file that breaks no rule but perhaps that of objects.
-fn sound_of(alloc: Global, schema: &Schema, bytes: &[u8]) -> Result<Sound, AllocError>
-    requires { TopologyHolds schema.now bytes.now }
-    ensures { IfOk result (IsPlanOfFile schema.now bytes.now) }
-{
-    let plan = plan_of(alloc, schema, bytes)?;
-    match Sound::check(alloc, plan) {
-        Ok(sound) => Ok(sound),
-        Err(TopoFault::Memory(error)) => Err(error),
-        Err(TopoFault::Broken { .. }) => unreachable!(),
     }
 }
 
@@ -138,13 +124,13 @@ fn arc_before(plan: &Plan, place: u64) -> Option<u64>
 }
 
 /// The first object alike the one at a place, if it comes before that one.
-fn object_before(alloc: Global, sound: &Sound, place: u64) -> Result<Option<u64>, AllocError>
-    ensures { IfOk result (IsLeastIfAny (IsAlikeObject sound.now place)) }
+fn object_before(alloc: Global, plan: &Plan, place: u64) -> Result<Option<u64>, AllocError>
+    ensures { IfOk result (IsLeastIfAny (IsAlikeObject plan.now place)) }
 {
-    if place >= u64::from(sound.plan().len()) {
+    if place >= u64::from(plan.len()) {
         return Ok(None);
     }
-    match alike_object(alloc, sound, place as u32)? {
+    match alike_object(alloc, plan, place as u32)? {
         Some(earlier) => Ok(Some(u64::from(earlier))),
         None => Ok(None),
     }
@@ -173,7 +159,7 @@ fn earlier_in_sheet(
     }
 }
 
-/// The earlier record that a rule of topology speaks of: an alike node, or the same arc.
+/// The earlier record that a rule of topology or of objects speaks of: an alike node, the same arc, or an alike object.
 fn earlier_in_plan(
     alloc: Global,
     schema: &Schema,
@@ -182,29 +168,17 @@ fn earlier_in_plan(
     place: u64,
 ) -> Result<Option<u64>, AllocError>
     requires holds { ReferencesHold schema.now bytes.now }
-    requires rule { (rule ≡ 403) ⊎ (rule ≡ 405) }
+    requires rule { (rule ≡ 403) ⊎ ((rule ≡ 405) ⊎ (rule ≡ 501)) }
     ensures { IfOk result (IsEarlierIfAny schema.now bytes.now rule place) }
 {
     let plan = plan_of(alloc, schema, bytes)?;
     if rule == 403 {
         node_before(alloc, &plan, place)
-    } else {
+    } else if rule == 405 {
         Ok(arc_before(&plan, place))
+    } else {
+        object_before(alloc, &plan, place)
     }
-}
-
-/// The earlier record that the rule of objects speaks of: an alike object.
-fn earlier_object(
-    alloc: Global,
-    schema: &Schema,
-    bytes: &[u8],
-    place: u64,
-) -> Result<Option<u64>, AllocError>
-    requires { TopologyHolds schema.now bytes.now }
-    ensures { IfOk result (IsEarlierIfAny schema.now bytes.now 501 place) }
-{
-    let sound = sound_of(alloc, schema, bytes)?;
-    object_before(alloc, &sound, place)
 }
 
 /// The place of the earlier record that the rule of a refusal speaks of, counted from 0; `None` where the rule speaks of
@@ -222,8 +196,7 @@ pub fn earlier_record(
     let place = number.saturating_sub(1);
     match rule {
         301 | 304 | 307 => earlier_in_sheet(alloc, schema, bytes, rule, place),
-        403 | 405 => earlier_in_plan(alloc, schema, bytes, rule, place),
-        501 => earlier_object(alloc, schema, bytes, place),
+        403 | 405 | 501 => earlier_in_plan(alloc, schema, bytes, rule, place),
         _ => Ok(None),
     }
 }

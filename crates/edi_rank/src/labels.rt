@@ -155,7 +155,7 @@ pub fn tell_objects_apart(alloc: Global, sound: &Sound) -> Result<(), RankFault>
     let lower = lower_ranks(alloc, sound, &turned)?;
     let unnamed = lower_numbers(alloc, plan, lower.nodes, lower.arcs, &lower.faces)?;
     let orders = lower_orders(alloc, plan, &unnamed)?;
-    let layer = ObjectLayer::numbered(alloc, sound, unnamed, orders)?;
+    let layer = ObjectLayer::numbered(alloc, plan, unnamed, orders)?;
     object_ranks(alloc, sound, &layer)?;
     Ok(())
 }
@@ -225,7 +225,7 @@ fn name_objects(alloc: Global, sound: &Sound, numbers: Vec<u32>) -> Result<Named
 {
     let plan = sound.plan();
     let lower = lower_orders(alloc, plan, &numbers)?;
-    let layer = ObjectLayer::numbered(alloc, sound, numbers, lower)?;
+    let layer = ObjectLayer::numbered(alloc, plan, numbers, lower)?;
     let objects = object_ranks(alloc, sound, &layer)?;
     let (numbers, lower) = layer.into_parts();
     let numbers = number_kind(plan, Kind::Fea, &objects, numbers);

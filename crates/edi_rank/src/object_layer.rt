@@ -22,7 +22,7 @@ use edi_topo::{Layer, Ranks, Sound};
 use std::alloc::{AllocError, Global};
 use std::marker::Model;
 
-/// The objects of a sound plan, in file order, by their classes, what they hold, and their pieces.
+/// The objects of a plan, in file order, by their classes, what they hold, and their pieces.
 #[derive(Drop)]
 pub struct ObjectLayer<'a> {
     plan: &'a Plan,
@@ -52,7 +52,7 @@ impl<'a> Model for ObjectLayer<'a> {
 }
 
 impl<'a> ObjectLayer<'a> {
-    /// The objects of a plan, where its nodes, arcs and faces have these numbers.
+    /// The objects of a sound plan, where its nodes, arcs and faces have these numbers.
     pub fn of(
         alloc: Global,
         sound: &'a Sound,
@@ -66,27 +66,43 @@ impl<'a> ObjectLayer<'a> {
         ensures plan { IfOk result (λ layer. layer.plan ≡ sound.now) }
         ensures keys { IfOk result (λ layer. map (object_key_at layer) (places_of Fea sound.now) ≡ object_keys sound.now nodes.now arcs.now faces.now) }
     {
-        let plan = sound.plan();
+        ObjectLayer::of_plan(alloc, sound.plan(), nodes, arcs, faces)
+    }
+
+    /// The objects of a plan, be it sound or not, where its nodes, arcs and faces have these numbers.
+    pub fn of_plan(
+        alloc: Global,
+        plan: &'a Plan,
+        nodes: &Ranks,
+        arcs: &Ranks,
+        faces: &Ranks,
+    ) -> Result<ObjectLayer<'a>, AllocError>
+        requires nodes { length nodes.now ≡ length (places_of Pno plan.now) }
+        requires arcs { length arcs.now ≡ length (places_of Par plan.now) }
+        requires faces { length faces.now ≡ length (places_of Pfe plan.now) }
+        ensures plan { IfOk result (λ layer. layer.plan ≡ plan.now) }
+        ensures keys { IfOk result (λ layer. map (object_key_at layer) (places_of Fea plan.now) ≡ object_keys plan.now nodes.now arcs.now faces.now) }
+    {
+        plan.keeps();
         let numbers = lower_numbers(alloc, plan, nodes, arcs, faces)?;
         let orders = lower_orders(alloc, plan, &numbers)?;
-        ObjectLayer::numbered(alloc, sound, numbers, orders)
+        ObjectLayer::numbered(alloc, plan, numbers, orders)
     }
 
     /// The objects of a plan, where its nodes, arcs and faces have these numbers, by place, and its objects have 0,
     /// with the positions of the other ends of each record in their order, where at most one is an object.
     pub(crate) fn numbered(
         alloc: Global,
-        sound: &'a Sound,
+        plan: &'a Plan,
         numbers: Vec<u32>,
         orders: Vec<Sequence<usize>>,
     ) -> Result<ObjectLayer<'a>, AllocError>
-        requires numbers { length numbers.items ≡ length sound.now.list }
-        requires objects { (k : ℕ) → IsPlace sound.now k → is_object_kind (record_at sound.now k).kind ≡ true → slice_index_or numbers.items k 0 ≡ 0 }
-        requires ordered { length orders.items ≡ length sound.now.list }
-        requires orders { (k : ℕ) → IsPlace sound.now k → object_count sound.now (others_of (record_at sound.now k)) ≤ 1 → OthersInOrder sound.now (slice_index numbers.items) orders.items k }
-        ensures { IfOk result (λ layer. layer ≡ record { plan = sound.now; numbers = numbers.items }) }
+        requires numbers { length numbers.items ≡ length plan.now.list }
+        requires objects { (k : ℕ) → IsPlace plan.now k → is_object_kind (record_at plan.now k).kind ≡ true → slice_index_or numbers.items k 0 ≡ 0 }
+        requires ordered { length orders.items ≡ length plan.now.list }
+        requires orders { (k : ℕ) → IsPlace plan.now k → object_count plan.now (others_of (record_at plan.now k)) ≤ 1 → OthersInOrder plan.now (slice_index numbers.items) orders.items k }
+        ensures { IfOk result (λ layer. layer ≡ record { plan = plan.now; numbers = numbers.items }) }
     {
-        let plan = sound.plan();
         let links = links_by_object(alloc, plan)?;
         Ok(ObjectLayer {
             plan,

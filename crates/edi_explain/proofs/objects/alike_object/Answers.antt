@@ -9,18 +9,18 @@ use Rattle.edi_explain.proofs.objects.alike_object.Goals as goal
 
 pub member_at-requires : goal.member_at-requires
 member_at-requires c =
-    omega (arith, ap length (c.places.ensures ∙ ap (places_of Fea) c.plan.ensures.plan), places_few Fea c.args.sound.now, c.plan.ensures.whole.few)
+    omega (arith, ap length c.places.ensures, places_few Fea c.args.plan.now, c.keeps.ensures.whole.few)
 
 pub returns-in_default : goal.returns-in_default
 returns-in_default c =
-    let same = c.places.ensures ∙ ap (places_of Fea) c.plan.ensures.plan in
-    no_such_object c.args.sound.now c.args.place (λ h. c.in_default.ensures (subst (λ (ps : List ℕ). Contains ps c.args.place) (sym same) h))
+    let same = c.places.ensures in
+    no_such_object c.args.plan.now c.args.place (λ h. c.in_default.ensures (subst (λ (ps : List ℕ). Contains ps c.args.place) (sym same) h))
 
 pub first_alike-requires-clause-member : goal.first_alike-requires-clause-member
-first_alike-requires-clause-member c = omega (arith, c.in-Some.ensures.0, ap length (c.places.ensures ∙ ap (places_of Fea) c.plan.ensures.plan))
+first_alike-requires-clause-member c = omega (arith, c.in-Some.ensures.0, ap length c.places.ensures)
 
 pub returns : goal.returns
 returns c =
-    let same = c.places.ensures ∙ ap (places_of Fea) c.plan.ensures.plan in
-    let is : get_or (places_of Fea c.args.sound.now) c.in-Some.member 0 ≡ c.args.place = ap (λ ps. get_or ps c.in-Some.member 0) (sym same) ∙ c.in-Some.ensures.1 in
-    IfOk-weaker c.first_alike.result _ _ (λ found least. subst (λ (n : ℕ). IsLeastIfAny (IsAlikeObject c.args.sound.now n) found) is least) c.first_alike.ensures
+    let same = c.places.ensures in
+    let is : get_or (places_of Fea c.args.plan.now) c.in-Some.member 0 ≡ c.args.place = ap (λ ps. get_or ps c.in-Some.member 0) (sym same) ∙ c.in-Some.ensures.1 in
+    IfOk-weaker c.first_alike.result _ _ (λ found least. subst (λ (n : ℕ). IsLeastIfAny (IsAlikeObject c.args.plan.now n) found) is least) c.first_alike.ensures

@@ -4,4 +4,4 @@ use Rattle.edi_explain.proofs.Alike.{object_place}
 use Rattle.edi_explain.proofs.objects.first_alike.Given as goal
 
 abbrev pub invariant-loop-earlier : goal.invariant-loop-earlier
-invariant-loop-earlier l = (i : ℕ) → i < l.earlier → ¬ (AreAlike l.fn.sound (object_place l.fn.sound i) (object_place l.fn.sound l.fn.member))
+invariant-loop-earlier l = (i : ℕ) → i < l.earlier → ¬ (AreAlike l.fn.plan (object_place l.fn.plan i) (object_place l.fn.plan l.fn.member))

@@ -1,5 +1,5 @@
 use Rattle.std.proofs.Common.{arith, ⊎_elim}
-use Rattle.edi_explain.proofs.Phases.{records_hold, references_hold, topology_holds}
+use Rattle.edi_explain.proofs.Phases.{records_hold, references_hold}
 use Rattle.edi_explain.proofs.refused.earlier_record.Goals as goal
 
 pub earlier_in_sheet-requires-clause-holds : goal.earlier_in_sheet-requires-clause-holds
@@ -8,7 +8,4 @@ earlier_in_sheet-requires-clause-holds c =
 
 pub earlier_in_plan-requires-clause-holds : goal.earlier_in_plan-requires-clause-holds
 earlier_in_plan-requires-clause-holds c =
-    references_hold c.args.schema.now c.args.bytes.now c.args.rule c.args.number c.requires (⊎_elim (λ e. omega (arith, e)) (λ e. omega (arith, e)) c.in-403.is)
-
-pub earlier_object-requires : goal.earlier_object-requires
-earlier_object-requires c = topology_holds c.args.schema.now c.args.bytes.now c.args.rule c.args.number c.requires (omega (arith, c.in-501.is))
+    references_hold c.args.schema.now c.args.bytes.now c.args.rule c.args.number c.requires (⊎_elim (λ e. omega (arith, e)) (⊎_elim (λ e. omega (arith, e)) (λ e. omega (arith, e))) c.in-403.is)

@@ -1,7 +1,7 @@
-use Rattle.std.proofs.Common.{◌≡◌, ◌≢◌, ◌≤◌, ◌∙◌, ℕ, List, sym, subst, ap, get_or}
+use Rattle.std.proofs.Common.{◌≡◌, ◌≢◌, ◌≤◌, ◌∙◌, ℕ, true, List, sym, subst, ap, get_or}
 use Rattle.edi_record.specs.declared.record.Kind.TheVariants.{Fea}
 use Rattle.edi_plan.specs.Places.{member_of}
-use Rattle.edi_plan.specs.Plans.{Drawing, IsPlace, record_at, others_of}
+use Rattle.edi_plan.specs.Plans.{Drawing, IsPlace, record_at, others_of, is_object}
 use Rattle.edi_plan.specs.Whole.{IsWhole}
 use Rattle.edi_plan.specs.declared.record.PlanEnd.{PlanEnd}
 use Rattle.edi_rank.specs.EndOrder.{OthersInOrder, positions_at}
@@ -20,10 +20,13 @@ still q whole one other orders rest lower k h few = in_order_still q (λ j. get_
     (others_of (record_at q k)) (rest_hold (λ e. IsPlace q e.target) (record_at q k).ends (whole.there k h)))
     (lower k h few)
 
+pub numbered-requires-clause-objects : goal.numbered-requires-clause-objects
+numbered-requires-clause-objects c =
+    subst (λ (q : Drawing). (k : ℕ) → IsPlace q k → is_object (record_at q k).kind ≡ true → get_or c.args.numbers.items k 0 ≡ 0) (sym c.plan-plan.ensures.plan) c.requires.objects
+
 pub numbered-requires-clause-orders : goal.numbered-requires-clause-orders
 numbered-requires-clause-orders c =
-    subst (λ (p : Drawing). LowerInOrder p c.args.numbers.items c.in_ok-lower.lower.items) c.plan-plan.ensures.plan
-    (subst (λ numbers. LowerInOrder c.plan-plan.result.now numbers c.in_ok-lower.lower.items) c.deref.ensures.value c.in_ok-lower.ensures.orders)
+    subst (λ numbers. LowerInOrder c.plan-plan.result.now numbers c.in_ok-lower.lower.items) c.deref.ensures.value c.in_ok-lower.ensures.orders
 
 pub all_orders-requires-clause-lower : goal.all_orders-requires-clause-lower
 all_orders-requires-clause-lower c =
@@ -31,15 +34,17 @@ all_orders-requires-clause-lower c =
     let numbers = c.args.numbers.items in
     let lower = c.into_parts-numbers.result.1.items in
     let same : c.into_parts-numbers.result.0.items ≡ numbers = c.into_parts-numbers.ensures.numbers ∙ ap (λ (l : ObjectSource). l.numbers) c.in_ok-layer.ensures in
-    let here : LowerInOrder q numbers lower = subst (λ (p : Drawing). LowerInOrder p numbers lower) (sym c.plan-plan.ensures.plan)
-    (subst (λ (l : ObjectSource). LowerInOrder l.plan l.numbers lower) c.in_ok-layer.ensures c.into_parts-numbers.ensures.orders) in
+    let here : LowerInOrder q numbers lower = subst (λ (l : ObjectSource). LowerInOrder l.plan l.numbers lower) c.in_ok-layer.ensures c.into_parts-numbers.ensures.orders in
     let others : (k : ℕ) → IsPlace q k → (record_at q k).kind ≢ Fea → get_or c.number_kind-numbers.result.items k 0 ≡ get_or numbers k 0 =
     subst (λ (ns : List ℕ). (k : ℕ) → IsPlace q k → (record_at q k).kind ≢ Fea → get_or c.number_kind-numbers.result.items k 0 ≡ get_or ns k 0) same c.number_kind-numbers.ensures.others in
     subst (λ ns. LowerInOrder q ns lower) (sym c.deref-2.ensures.value)
     (still q (subst IsWhole (sym c.plan-plan.ensures.plan) c.plan-plan.ensures.whole) numbers c.number_kind-numbers.result.items lower others here)
 
 pub returns-clause-ranks : goal.returns-clause-ranks
-returns-clause-ranks c = subst (λ (l : ObjectSource). IsObjectRanking l c.in_ok-objects.objects) c.in_ok-layer.ensures c.in_ok-objects.ensures.ranks
+returns-clause-ranks c =
+    let numbers = c.args.numbers.items in
+    subst (λ (p : Drawing). IsObjectRanking (record { plan = p; numbers = numbers }) c.in_ok-objects.objects) c.plan-plan.ensures.plan
+    (subst (λ (l : ObjectSource). IsObjectRanking l c.in_ok-objects.objects) c.in_ok-layer.ensures c.in_ok-objects.ensures.ranks)
 
 pub returns-clause-each : goal.returns-clause-each
 returns-clause-each c = subst (λ (p : Drawing). (k : ℕ) → IsPlace p k → (record_at p k).kind ≡ Fea → get_or c.number_kind-numbers.result.items k 0 ≡ get_or c.in_ok-objects.objects (member_of p k) 0)

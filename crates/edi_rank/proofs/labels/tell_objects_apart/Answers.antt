@@ -16,16 +16,11 @@ LowerInOrder q numbers orders = (k : ℕ) → IsPlace q k → object_count q (ot
 pub numbered-requires-clause-objects : goal.numbered-requires-clause-objects
 numbered-requires-clause-objects c =
     let lower = c.in_ok-lower.lower in
-    let unnamed = c.in_ok-unnamed.unnamed.items in
-    subst (λ (q : Drawing). (k : ℕ) → IsPlace q k → is_object (record_at q k).kind ≡ true → get_or unnamed k 0 ≡ 0) c.plan-plan.ensures.plan
-    (objects_zero c.plan-plan.result.now lower.nodes.now lower.arcs.now lower.faces unnamed c.in_ok-unnamed.ensures.ranked)
+    objects_zero c.plan-plan.result.now lower.nodes.now lower.arcs.now lower.faces c.in_ok-unnamed.unnamed.items c.in_ok-unnamed.ensures.ranked
 
 pub numbered-requires-clause-orders : goal.numbered-requires-clause-orders
 numbered-requires-clause-orders c =
-    let unnamed = c.in_ok-unnamed.unnamed.items in
-    let orders = c.in_ok-orders.orders.items in
-    subst (λ (p : Drawing). LowerInOrder p unnamed orders) c.plan-plan.ensures.plan
-    (subst (λ numbers. LowerInOrder c.plan-plan.result.now numbers orders) c.deref-2.ensures.value c.in_ok-orders.ensures.orders)
+    subst (λ numbers. LowerInOrder c.plan-plan.result.now numbers c.in_ok-orders.orders.items) c.deref-2.ensures.value c.in_ok-orders.ensures.orders
 
 pub object_ranks-requires-clause-apart : goal.object_ranks-requires-clause-apart
 object_ranks-requires-clause-apart c =

@@ -1,30 +1,12 @@
-use Rattle.std.proofs.Common.{◌≡◌, ◌≤◌, ◌∙◌, ℕ, subst, ap, map, get_or}
-use Rattle.std.proofs.lemmas.Result.{IfOk-weaker}
+use Rattle.std.proofs.Common.{◌≡◌, map, subst}
+use Rattle.std.specs.Prelude.{IfOk}
 use Rattle.edi_plan.specs.Places.{places_of}
-use Rattle.edi_plan.specs.Plans.{Drawing, IsPlace, record_at, others_of}
+use Rattle.edi_plan.specs.Plans.{Drawing}
 use Rattle.edi_record.specs.declared.record.Kind.TheVariants.{Fea}
-use Rattle.edi_rank.specs.EndOrder.{OthersInOrder}
-use Rattle.edi_rank.specs.Layers.{object_keys, ranked}
-use Rattle.edi_rank.specs.Pieces.{ObjectSource, object_count, object_key_at}
-use Rattle.edi_rank.proofs.KeysCarried.{object_keys_alike}
+use Rattle.edi_rank.specs.Layers.{object_keys}
+use Rattle.edi_rank.specs.Pieces.{object_key_at}
 use Rattle.edi_rank.proofs.object_layer.ObjectLayer.of.Goals as goal
-
-pub numbered-requires-clause-orders : goal.numbered-requires-clause-orders
-numbered-requires-clause-orders c =
-    subst (λ (q : Drawing). (k : ℕ) → IsPlace q k → object_count q (others_of (record_at q k)) ≤ 1 → OthersInOrder q (λ j. get_or c.in_ok-numbers.numbers.items j 0) c.in_ok-orders.orders.items k) c.plan-plan.ensures.plan
-    (subst (λ numbers. (k : ℕ) → IsPlace c.plan-plan.result.now k → object_count c.plan-plan.result.now (others_of (record_at c.plan-plan.result.now k)) ≤ 1
-    → OthersInOrder c.plan-plan.result.now (λ j. get_or numbers j 0) c.in_ok-orders.orders.items k) c.deref.ensures.value c.in_ok-orders.ensures.orders)
 
 pub returns-clause-keys : goal.returns-clause-keys
 returns-clause-keys c =
-    let p = c.args.sound.now in
-    let nodes = c.args.nodes.now in
-    let arcs = c.args.arcs.now in
-    let faces = c.args.faces.now in
-    let numbers = c.in_ok-numbers.numbers.items in
-    let source : ObjectSource = record { plan = p; numbers = numbers } in
-    let same : (k : ℕ) → IsPlace p k → get_or numbers k 0 ≡ ranked p nodes arcs faces k =
-    subst (λ (q : Drawing). (k : ℕ) → IsPlace q k → get_or numbers k 0 ≡ ranked q nodes arcs faces k) c.plan-plan.ensures.plan c.in_ok-numbers.ensures.ranked in
-    let keys : map (object_key_at source) (places_of Fea p) ≡ object_keys p nodes arcs faces = object_keys_alike p c.plan-plan.ensures.whole c.plan-plan.ensures.joined (ranked p nodes arcs faces) (λ k. get_or numbers k 0) same in
-    IfOk-weaker c.numbered.result (λ layer. layer ≡ source) (λ layer. map (object_key_at layer) (places_of Fea p) ≡ object_keys p nodes arcs faces)
-    (λ layer e. ap (λ (l : ObjectSource). map (object_key_at l) (places_of Fea p)) e ∙ keys) c.numbered.ensures
+    subst (λ (q : Drawing). IfOk c.of_plan.result (λ layer. map (object_key_at layer) (places_of Fea q) ≡ object_keys q c.args.nodes.now c.args.arcs.now c.args.faces.now)) c.plan.ensures.plan c.of_plan.ensures.keys
