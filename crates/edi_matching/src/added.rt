@@ -1,5 +1,7 @@
 //! Records that are matched where neither is yet.
 
+ghost use Rattle.std.specs.Prelude.{◌<◌, length};
+
 use crate::partners::same_record;
 use edi_plan::Plan;
 use edi_record::Kind;
@@ -84,6 +86,42 @@ pub(crate) fn add_objects<K: Ord>(
         }
     }
     Ok(())
+}
+
+/// Adds the objects with a key that each list has once, and that hold the same, of lists in the order of their keys.
+pub(crate) fn add_lone_objects<K: Ord>(
+    alloc: Global,
+    plan: &Plan,
+    objects: &[(K, u32)],
+    other: &Plan,
+    others: &[(K, u32)],
+    to: &mut [Option<u32>],
+    taken: &mut [bool],
+) -> Result<(), AllocError> {
+    let mut at = 0;
+    for index in 0..objects.len() {
+        let (key, place) = &objects[index];
+        at = first_from(others, at, key);
+        if at < others.len()
+            && others[at].0 == *key
+            && is_lone(objects, index)
+            && is_lone(others, at)
+        {
+            let target = others[at].1;
+            add_same(alloc, plan, Some(*place), other, Some(target), to, taken)?;
+        }
+    }
+    Ok(())
+}
+
+/// Whether neither neighbour has the key at this position.
+fn is_lone<K: Ord>(pairs: &[(K, u32)], at: usize) -> bool
+    requires { at < length pairs.now }
+{
+    let key = &pairs[at].0;
+    let repeats = at > 0 && pairs[at - 1].0 == *key;
+    let repeated = at + 1 < pairs.len() && pairs[at + 1].0 == *key;
+    !repeats && !repeated
 }
 
 /// Adds the links with one key, of lists in the order of their keys.

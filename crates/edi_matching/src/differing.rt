@@ -20,8 +20,8 @@ use std::alloc::{AllocError, Global};
 /// A matching of two sheets that were accepted under this schema. It leaves nothing out exactly if the plans and
 /// character sets are the same; and it leaves out no node and no arc that has a partner, whatever the rest. Which
 /// faces, objects and links it matches of sheets that differ is not promised: faces that matched arcs have on one side,
-/// objects that a link of one class joins to one matched record, and links whose ends are matched, each if it holds the
-/// same. The only error is want of memory.
+/// objects that a link of one class joins to one matched record, or that alone hold what they do, and links whose ends are
+/// matched, each if it holds the same. The only error is want of memory.
 pub fn differences(
     alloc: Global,
     schema: &Schema,

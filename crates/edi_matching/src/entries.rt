@@ -36,31 +36,68 @@ pub(crate) fn links_by_key<'a>(
     Ok(links)
 }
 
-/// The objects, by their attributes, their extras, and the class of a link and a matched record that it names beside
-/// them: one entry for each of these, in the order of these keys.
+/// The objects that aren't done, by their classes, attributes and extras, and a matched record that a link names beside
+/// them: one entry for each such end, in the order of these keys.
 pub(crate) fn objects_by_key<'a>(
     alloc: Global,
     plan: &'a Plan,
     to: &[Option<u32>],
+    done: &[bool],
 ) -> Result<Vec<(LinkKey<'a>, u32)>, AllocError> {
     let mut objects = Vec::new(alloc);
     for place in 0..plan.len() {
         if let Some(object) = object_among(plan, plan.ends(place))
             && object < plan.len()
+            && !is_done(done, object)
         {
-            for end in plan.ends(place) {
-                if let Some(beside) = end_there(plan, to, end) {
-                    let ends = alone(alloc, beside)?;
-                    objects.push((
-                        key_with(alloc, plan, object, plan.scp(place), ends)?,
-                        object,
-                    ))?;
-                }
-            }
+            push_beside(alloc, &mut objects, plan, to, object, place)?;
         }
     }
     objects.sort_unstable();
     Ok(objects)
+}
+
+/// Appends an object with each matched record that this link names.
+fn push_beside<'a>(
+    alloc: Global,
+    objects: &mut Vec<(LinkKey<'a>, u32)>,
+    plan: &'a Plan,
+    to: &[Option<u32>],
+    object: u32,
+    link: u32,
+) -> Result<(), AllocError>
+    requires object { IsPlace plan.now object }
+    requires link { IsPlace plan.now link }
+{
+    for end in plan.ends(link) {
+        if let Some(beside) = end_there(plan, to, end) {
+            let ends = alone(alloc, beside)?;
+            let key = key_with(alloc, plan, object, plan.scp(link), ends)?;
+            objects.push((key, object))?;
+        }
+    }
+    Ok(())
+}
+
+/// The objects that aren't done, in the order of their classes, attributes and extras.
+pub(crate) fn objects_by_contents<'a>(
+    alloc: Global,
+    plan: &'a Plan,
+    done: &[bool],
+) -> Result<Vec<(LinkKey<'a>, u32)>, AllocError> {
+    let mut objects = Vec::new(alloc);
+    for place in 0..plan.len() {
+        if plan.kind(place) == Kind::Fea && !is_done(done, place) {
+            let key = key_with(alloc, plan, place, plan.scp(place), Vec::new(alloc))?;
+            objects.push((key, place))?;
+        }
+    }
+    objects.sort_unstable();
+    Ok(objects)
+}
+
+fn is_done(done: &[bool], place: u32) -> bool {
+    done.get(place as usize).copied().unwrap_or(false)
 }
 
 fn alone(alloc: Global, end: NumberedEnd<'_>) -> Result<Vec<NumberedEnd<'_>>, AllocError> {

@@ -5,15 +5,19 @@ ghost use Rattle.edi_plan.specs.Plans.{IsPlace};
 ghost use Rattle.edi_compare.specs.Pairings.{HasClasses};
 ghost use Rattle.edi_matching.specs.Matchings.{IsMatched, MatchingHolds};
 
-use crate::added::{add_faces, add_links, add_objects};
+use crate::added::{add_faces, add_links, add_lone_objects, add_objects};
 use crate::checking::check_matching;
-use crate::entries::{links_by_key, objects_by_key};
+use crate::entries::{links_by_key, objects_by_contents, objects_by_key};
 use crate::matching::Matching;
 use edi_compare::Accepted;
 use edi_line::Sequence;
 use edi_plan::Plan;
 use edi_schema::Schema;
 use std::alloc::{AllocError, Global};
+
+/// How often objects are sought by what their links name beside them: by nodes, arcs and faces first, then by the objects
+/// that were found so, and then by those.
+const ROUNDS: u32 = 3;
 
 /// A matching that matches what this one does, and more if that holds.
 pub(crate) fn grown(
@@ -86,9 +90,10 @@ fn with_more(
     let itself = each_to_itself(alloc, other)?;
     let unturned = vec![in alloc; false; other.len() as usize]?;
     add_faces(alloc, plan, other, turned, &mut to, &mut taken)?;
-    let objects = objects_by_key(alloc, plan, &to)?;
-    let others = objects_by_key(alloc, other, &itself)?;
-    add_objects(alloc, plan, &objects, other, &others, &mut to, &mut taken)?;
+    for _ in 0..ROUNDS {
+        add_objects_beside(alloc, plan, other, &itself, &mut to, &mut taken)?;
+    }
+    add_objects_by_contents(alloc, plan, other, &mut to, &mut taken)?;
     let links = links_by_key(alloc, schema, plan, &to, turned)?;
     let others = links_by_key(alloc, schema, other, &itself, &unturned)?;
     add_links(&links, &others, &mut to, &mut taken);
@@ -96,6 +101,40 @@ fn with_more(
         to: Sequence::from_vec(to),
         turned: Sequence::from_vec(copied(alloc, turned)?),
     })
+}
+
+/// Adds objects by the matched records that their links name beside them.
+fn add_objects_beside(
+    alloc: Global,
+    plan: &Plan,
+    other: &Plan,
+    itself: &[Option<u32>],
+    to: &mut [Option<u32>],
+    taken: &mut [bool],
+) -> Result<(), AllocError> {
+    let done = matched_places(alloc, to)?;
+    let objects = objects_by_key(alloc, plan, to, &done)?;
+    let others = objects_by_key(alloc, other, itself, taken)?;
+    add_objects(alloc, plan, &objects, other, &others, to, taken)
+}
+
+/// Adds objects whose class, attributes and extras one object of each plan has that isn't matched yet.
+fn add_objects_by_contents(
+    alloc: Global,
+    plan: &Plan,
+    other: &Plan,
+    to: &mut [Option<u32>],
+    taken: &mut [bool],
+) -> Result<(), AllocError> {
+    let done = matched_places(alloc, to)?;
+    let objects = objects_by_contents(alloc, plan, &done)?;
+    let others = objects_by_contents(alloc, other, taken)?;
+    add_lone_objects(alloc, plan, &objects, other, &others, to, taken)
+}
+
+/// Whether each record is matched, by place.
+fn matched_places(alloc: Global, to: &[Option<u32>]) -> Result<Vec<bool>, AllocError> {
+    to.iter().map(|target| target.is_some()).collect(alloc)
 }
 
 fn copied<T: Copy>(alloc: Global, values: &[T]) -> Result<Vec<T>, AllocError>
