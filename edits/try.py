@@ -3,7 +3,7 @@
 
     python3 edits/try.py [CRATE ..]      from the top; all crates where none is named
 
-These are second bugs of a function and bugs of private ones, beside the gate, which tries one of each public function. The crates
+These are second bugs of a function and bugs of private ones, beside the gate, which tries one of most public functions. The crates
 are copied, with the work that is kept of them in out/, and in the copy a crate has these bugs in the place of its own.
 """
 import os
