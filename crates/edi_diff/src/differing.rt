@@ -1,11 +1,10 @@
 //! What differs between two sheets.
 
-ghost use Rattle.std.specs.Prelude.{◌≡◌, IfErr, IfOk, OnOk};
+ghost use Rattle.std.specs.Prelude.{IfErr, IfOk, OnOk};
 ghost use Rattle.std.specs.Cow.{cow_slice_items};
 ghost use Rattle.edi_compare.specs.Pairings.{HasClasses};
 ghost use Rattle.edi_compare.specs.Refused.{IsPairRefusal};
 ghost use Rattle.edi_compare.specs.Rules.{IsAccepted};
-ghost use Rattle.edi_compare.specs.Faults.{of_first, of_second};
 ghost use Rattle.edi_matching.specs.Matchings.{MatchingHolds};
 ghost use Rattle.edi_diff.specs.Differences.{IsDifference, IsDifferenceText};
 ghost use Rattle.edi_diff.specs.Reports.{HasSites};
@@ -15,7 +14,7 @@ use crate::parting::parts_of;
 use crate::report::Told;
 use crate::sheet::{LocatedSheet, locate_from};
 use crate::totals::is_same;
-use edi_compare::{CompareFault, Fault};
+use edi_compare::{CompareFault, first_refused, second_refused};
 use edi_line::Sequence;
 use edi_matching::{Matching, differences};
 use edi_schema::Schema;
@@ -119,22 +118,4 @@ pub(crate) fn diff_from(
     let text = difference_text(alloc, schema, &first, &second, &matching, brief)?;
     let same = is_same(alloc, &first, &second, &matching)?;
     Ok(Difference { same, text })
-}
-
-fn first_refused(fault: Fault) -> CompareFault
-    ensures { result ≡ of_first fault }
-{
-    match fault {
-        Fault::Memory(error) => CompareFault::Memory(error),
-        Fault::Line { .. } | Fault::Entry { .. } => CompareFault::First(fault),
-    }
-}
-
-fn second_refused(fault: Fault) -> CompareFault
-    ensures { result ≡ of_second fault }
-{
-    match fault {
-        Fault::Memory(error) => CompareFault::Memory(error),
-        Fault::Line { .. } | Fault::Entry { .. } => CompareFault::Second(fault),
-    }
 }

@@ -1,18 +1,15 @@
 //! The run that tells what differs between two sheets.
-ghost use Rattle.std.specs.Prelude.{◌≡◌, IsTrue, IfOk, IfErr, IfSome, OnOk};
+ghost use Rattle.std.specs.Prelude.{◌≡◌, IfOk, IfErr, OnOk};
 ghost use Rattle.std.specs.Cow.{cow_slice_items};
-ghost use Rattle.edi_compare.specs.Runs.{AfterReading, AreFourRead, ComparingFault, IsTooLong, MatchFault, PairFault, TellFour, WasRead, seen};
+ghost use Rattle.edi_compare.specs.Runs.{AfterReading, AreFourRead, ComparingFault, PairFault, TellFour, seen};
 ghost use Rattle.edi_diff.specs.Runs.{IsDifferenceUnder};
 
 use crate::differing::{Difference, diff_from};
-use edi_compare::{CompareFault, RunFault};
-use edi_line::{ByteIn, ReadFault, read_all};
-use edi_schema::{Kinds, Schema, SchemaFault};
+use edi_compare::{CompareFault, RunFault, load_or_fault, read_input};
+use edi_line::ByteIn;
+use edi_schema::Kinds;
 use std::alloc::Global;
 use std::borrow::CowSlice;
-
-// How many bytes an input has at most.
-const MOST_BYTES: u64 = 4_294_967_296;
 
 /// Reads four files, and tells what differs between the third and the fourth, two sheets under the schema of the first
 /// two; or the last line of that alone. All are read before one is looked at, and the second sheet is looked at only if the
@@ -51,21 +48,6 @@ pub fn run_diff<S: ByteIn, D: ByteIn, A: ByteIn, B: ByteIn>(
     )
 }
 
-// The input of this number, whole.
-fn read_input<R: ByteIn>(alloc: Global, reader: &mut R, input: u8) -> Result<Vec<u8>, RunFault>
-    ensures all { IfOk result (λ bytes. IfSome (R.told reader.old) (λ told. bytes.items ≡ told)) }
-    ensures read { OnOk result (WasRead (R.told reader.old) (R.told reader.new) (R.has_failed reader.new)) }
-    ensures err { IfErr result (λ e. MatchFault e (λ n. (n ≡ input) × IsTrue (R.has_failed reader.new))
-        (λ n. (n ≡ input) × IsTooLong (R.told reader.old)) (λ _. ⊥) (λ _. ⊥) (λ _. ⊥) (λ _. ⊥)) }
-{
-    match read_all(alloc, reader, MOST_BYTES) {
-        Ok(bytes) => Ok(bytes),
-        Err(ReadFault::Memory(error)) => Err(RunFault::Memory(error)),
-        Err(ReadFault::Read) => Err(RunFault::Read { input }),
-        Err(ReadFault::TooLong) => Err(RunFault::TooLong { input }),
-    }
-}
-
 // What differs between two sheets under the schema of the two files.
 fn diff_or_fault(
     alloc: Global,
@@ -79,11 +61,7 @@ fn diff_or_fault(
     ensures ok { IfOk result (IsDifferenceUnder kinds.now scd.now dic.now (cow_slice_items first.entry) (cow_slice_items second.entry) brief) }
     ensures err { IfErr result (PairFault kinds.now scd.now dic.now (cow_slice_items first.entry) (cow_slice_items second.entry)) }
 {
-    let schema = match Schema::load(alloc, scd, dic, kinds) {
-        Ok(schema) => schema,
-        Err(SchemaFault::Memory(error)) => return Err(RunFault::Memory(error)),
-        Err(fault) => return Err(RunFault::Schema(fault)),
-    };
+    let schema = load_or_fault(alloc, kinds, scd, dic)?;
     match diff_from(alloc, &schema, first, second, brief) {
         Ok(difference) => Ok(difference),
         Err(CompareFault::Memory(error)) => Err(RunFault::Memory(error)),

@@ -1,20 +1,16 @@
 //! The runs that write a pairing's file and check one.
-ghost use Rattle.std.specs.Prelude.{◌≡◌, IsTrue, IfOk, IfErr, IfSome, OnOk};
-ghost use Rattle.edi_schema.specs.SchemaRefusal.{IsGoodSchema};
-ghost use Rattle.edi_compare.specs.Runs.{AfterReading, AreFourRead, ComparingFault, IsTooLong, MatchFault, PairFault, RefusesSchema, TellFour, WasRead, seen};
+ghost use Rattle.std.specs.Prelude.{◌≡◌, IfOk, IfErr, OnOk};
+ghost use Rattle.edi_compare.specs.Runs.{AfterReading, AreFourRead, ComparingFault, PairFault, TellFour, seen};
 ghost use Rattle.edi_pairing.specs.CompareRuns.{IsComparedUnder};
 ghost use Rattle.edi_pairing.specs.VerifyRuns.{AfterAllRead, AreAllRead, FilesFault, IsVerifiedUnder, TellFive, VerifyingFault};
 
 use crate::fault::{VerifyFault, VerifyRunFault};
 use crate::verifying::verify;
 use crate::writing::{Compared, compare_to_file};
-use edi_compare::{CompareFault, RunFault};
-use edi_line::{ByteIn, ReadFault, read_all};
-use edi_schema::{Kinds, Schema, SchemaFault};
+use edi_compare::{CompareFault, RunFault, load_or_fault, read_input};
+use edi_line::ByteIn;
+use edi_schema::Kinds;
 use std::alloc::Global;
-
-// How many bytes an input has at most.
-const MOST_BYTES: u64 = 4_294_967_296;
 
 /// Reads four files, and tells whether the third and the fourth, two sheets under the schema of the first two, state the
 /// same plan, with a pairing of them as a file. The second sheet is looked at only if the first is accepted.
@@ -86,38 +82,6 @@ pub fn run_verify<S: ByteIn, D: ByteIn, A: ByteIn, B: ByteIn, F: ByteIn>(
     let second = read_input(alloc, second, 4)?;
     let file = read_input(alloc, file, 5)?;
     verify_or_fault(alloc, kinds, &scd, &dic, &first, &second, &file)
-}
-
-// The input of this number, whole.
-fn read_input<R: ByteIn>(alloc: Global, reader: &mut R, input: u8) -> Result<Vec<u8>, RunFault>
-    ensures all { IfOk result (λ bytes. IfSome (R.told reader.old) (λ told. bytes.items ≡ told)) }
-    ensures read { OnOk result (WasRead (R.told reader.old) (R.told reader.new) (R.has_failed reader.new)) }
-    ensures err { IfErr result (λ e. MatchFault e (λ n. (n ≡ input) × IsTrue (R.has_failed reader.new))
-        (λ n. (n ≡ input) × IsTooLong (R.told reader.old)) (λ _. ⊥) (λ _. ⊥) (λ _. ⊥) (λ _. ⊥)) }
-{
-    match read_all(alloc, reader, MOST_BYTES) {
-        Ok(bytes) => Ok(bytes),
-        Err(ReadFault::Memory(error)) => Err(RunFault::Memory(error)),
-        Err(ReadFault::Read) => Err(RunFault::Read { input }),
-        Err(ReadFault::TooLong) => Err(RunFault::TooLong { input }),
-    }
-}
-
-// The schema of two files, with its refusal as a run's.
-fn load_or_fault(
-    alloc: Global,
-    kinds: &Kinds<'_>,
-    scd: &[u8],
-    dic: &[u8],
-) -> Result<Schema, RunFault>
-    ensures ok { IfOk result (IsGoodSchema scd.now dic.now kinds.now) }
-    ensures err { IfErr result (λ e. MatchFault e (λ _. ⊥) (λ _. ⊥) (RefusesSchema kinds.now scd.now dic.now) (λ _. ⊥) (λ _. ⊥) (λ _. ⊥)) }
-{
-    match Schema::load(alloc, scd, dic, kinds) {
-        Ok(schema) => Ok(schema),
-        Err(SchemaFault::Memory(error)) => Err(RunFault::Memory(error)),
-        Err(fault) => Err(RunFault::Schema(fault)),
-    }
 }
 
 // What comparing two sheets under the schema of the two files answers.

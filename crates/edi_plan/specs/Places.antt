@@ -1,5 +1,5 @@
 -- The places of the records of one kind.
-use Rattle.std.specs.Prelude.{◌≡◌, ℕ, ◌+◌, List, [], ◌∷◌, take, count_by, if◌then◌else◌}
+use Rattle.std.specs.Prelude.{◌≡◌, ℕ, ◌+◌, List, [], ◌∷◌, map, take, count_by, if◌then◌else◌}
 use Rattle.edi_record.specs.declared.record.Kind.{Kind}
 use Rattle.edi_plan.specs.Plans.{Drawing, record_at, same_kind}
 use Rattle.edi_record.specs.declared.record.Kind.TheVariants.{Pno, Par, Pfe, Fea, Lnk}
@@ -22,9 +22,9 @@ listed table Pfe = table.faces.items
 listed table Fea = table.objects.items
 listed table Lnk = table.links.items
 
--- the table has the places of the records of each type
+-- the table has the type of each record, and the places of the records of each type
 abbrev pub ArePlacesOf : List PlanRecord → Places → Type 0
-ArePlacesOf list table = (kind : Kind) → listed table kind ≡ places_from kind 0 list
+ArePlacesOf list table = (table.kinds.items ≡ map (λ r. r.kind) list) × ((kind : Kind) → listed table kind ≡ places_from kind 0 list)
 
 -- the member that a record is among those of its kind
 abbrev pub member_of : Drawing → ℕ → ℕ

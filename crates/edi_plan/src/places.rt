@@ -1,6 +1,6 @@
-//! The places of the records of each type.
+//! The type of each record, and the places of the records of each type.
 
-ghost use Rattle.std.specs.Prelude.{◌≡◌, ◌≤◌, ◌∷◌, ◌++◌, [], length, if◌then◌else◌, IfOk, OnOk};
+ghost use Rattle.std.specs.Prelude.{◌≡◌, ◌<◌, ◌≤◌, ◌∷◌, ◌++◌, [], length, slice_index_or, if◌then◌else◌, IfOk, OnOk};
 ghost use Rattle.edi_record.specs.declared.record.Kind.{Kind as Kinds};
 ghost use Rattle.edi_plan.specs.Places.{listed, ArePlacesOf};
 ghost use Rattle.edi_plan.specs.Plans.{same_kind};
@@ -9,9 +9,11 @@ use crate::record::PlanRecord;
 use edi_record::Kind;
 use std::alloc::{AllocError, Global};
 
-/// The places of the records of each type, in file order.
+/// The type of each record, by place, and the places of the records of each type, in file order. The types lie apart from
+/// the records, where they take one byte each, since they are often asked for out of order.
 #[derive(Drop)]
 pub(crate) struct Places {
+    kinds: Vec<Kind>,
     nodes: Vec<u32>,
     arcs: Vec<u32>,
     faces: Vec<u32>,
@@ -21,9 +23,11 @@ pub(crate) struct Places {
 
 impl Places {
     fn none(alloc: Global) -> Places
-        ensures { (kind : Kinds) → listed result kind ≡ [] }
+        ensures places { (kind : Kinds) → listed result kind ≡ [] }
+        ensures kinds { result.kinds.items ≡ [] }
     {
         Places {
+            kinds: Vec::new(alloc),
             nodes: Vec::new(alloc),
             arcs: Vec::new(alloc),
             faces: Vec::new(alloc),
@@ -34,8 +38,10 @@ impl Places {
 
     /// Adds the place of a record of a type.
     fn add(&mut self, kind: Kind, place: u32) -> Result<(), AllocError>
-        ensures { OnOk result ((other : Kinds) → listed self.new other ≡ (if same_kind other kind then listed self.old other ++ place ∷ [] else listed self.old other)) }
+        ensures places { OnOk result ((other : Kinds) → listed self.new other ≡ (if same_kind other kind then listed self.old other ++ place ∷ [] else listed self.old other)) }
+        ensures kinds { OnOk result (self.new.kinds.items ≡ self.old.kinds.items ++ kind ∷ []) }
     {
+        self.kinds.push(kind)?;
         match kind {
             Kind::Pno => self.nodes.push(place)?,
             Kind::Par => self.arcs.push(place)?,
@@ -46,7 +52,7 @@ impl Places {
         Ok(())
     }
 
-    /// The places of these records, from 0.
+    /// The types of these records, and their places, from 0.
     pub(crate) fn among(alloc: Global, list: &[PlanRecord]) -> Result<Places, AllocError>
         requires { length list.now ≤ 9999999 }
         ensures { IfOk result (ArePlacesOf list.now) }
@@ -56,6 +62,14 @@ impl Places {
             places.add(record.kind, place as u32)?;
         }
         Ok(places)
+    }
+
+    /// The type of the record at a place.
+    pub(crate) fn kind(&self, place: u32) -> Kind
+        requires { place < length self.now.kinds.items }
+        ensures { (default : Kinds) → result ≡ slice_index_or self.now.kinds.items place default }
+    {
+        self.kinds[place as usize]
     }
 
     /// The places of the records of a type.

@@ -86,7 +86,7 @@ impl Plan {
         requires { IsPlace self.now place }
         ensures { result ≡ (record_at self.now place).kind }
     {
-        self.list.as_slice()[place as usize].kind
+        self.places.kind(place)
     }
 
     /// The class of a record.

@@ -1,9 +1,10 @@
-use Rattle.std.proofs.Common.{◌∙◌, List, length, ap, sym, subst, refl, arith}
+use Rattle.std.proofs.Common.{◌∙◌, List, length, map, ap, sym, subst, refl, arith}
 use Rattle.std.specs.List.{AllZip}
 use Rattle.edi_record.specs.declared.record.Record.{Record}
 use Rattle.edi_plan.specs.Done.{IsDone}
 use Rattle.edi_plan.specs.Places.{places_from}
 use Rattle.edi_plan.specs.PlanOf.{IsPlanOf, StatesPlanRecord}
+use Rattle.edi_plan.specs.declared.record.PlanRecord.{PlanRecord}
 use Rattle.edi_plan.specs.Resolving.{AreReferences}
 use Rattle.edi_plan.proofs.Built.{plans_agreeing, plans_whole, zip_length}
 use Rattle.edi_plan.proofs.JoinedLemmas.{plans_joined}
@@ -37,7 +38,10 @@ invariant_of-result c =
         joined = plans_joined s sheet _ plan (all_unbroken s sheet.list c.in_ok-planned.planned.sides.items done);
         sides = sides_of s sheet _ plan c.from_vec-2.result (subst (IsDone s sheet.list (length sheet.list)) (sym c.from_vec-2.ensures) done);
       },
-      λ kind. c.in_ok-places.ensures kind ∙ ap (places_from kind 0) (c.deref.ensures.value ∙ sym c.from_vec.ensures),
+      (
+        c.in_ok-places.ensures.0 ∙ ap (map (λ (r : PlanRecord). r.kind)) (c.deref.ensures.value ∙ sym c.from_vec.ensures),
+        λ kind. c.in_ok-places.ensures.1 kind ∙ ap (places_from kind 0) (c.deref.ensures.value ∙ sym c.from_vec.ensures),
+      ),
     )
 
 pub among-requires-2 : goal.among-requires-2
