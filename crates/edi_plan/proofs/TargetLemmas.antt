@@ -1,5 +1,5 @@
 -- What the ends of links lead to.
-use Rattle.std.proofs.Common.{◌≡◌, ℕ, ◌+◌, ◌<◌, append_assoc, add-one, Bool, true, false, cond, List, [], ◌∷◌, ◌++◌, length, take, get_or, Some, None, refl, sym, ap, ◌∙◌, subst, codes}
+use Rattle.std.proofs.Common.{◌≡◌, ℕ, ◌+◌, ◌<◌, append_assoc, add-one, Bool, true, false, cond, List, [], ◌∷◌, ◌++◌, length, take, get_or, Option, Some, None, is_some, refl, sym, ap, ◌∙◌, subst, codes}
 use Rattle.std.specs.List.{AllZip}
 use Rattle.std.specs.Str.{bytes_eq}
 use Rattle.std.proofs.Math.Seq.{take-suc}
@@ -11,13 +11,13 @@ use Rattle.edi_record.specs.declared.record.End.{End}
 use Rattle.edi_record.specs.declared.record.Kind.{Kind}
 use Rattle.edi_record.specs.declared.record.Kind.TheVariants.{Pno, Par, Pfe, Fea, Lnk}
 use Rattle.edi_record.specs.declared.record.Record.{Record}
-use Rattle.edi_plan.specs.Names.{named}
+use Rattle.edi_plan.specs.Names.{named, IsFirstRepeatIfAny}
 use Rattle.edi_plan.specs.PlanOf.{place_named}
 use Rattle.edi_plan.specs.Plans.{is_link}
-use Rattle.edi_plan.specs.Targets.{target_kind, Leads, IsTargetIfAny}
+use Rattle.edi_plan.specs.Targets.{target_kind, HasNameAt, Leads, IsTargetIfAny}
 use Rattle.edi_plan.specs.declared.names.RecordName.{RecordName}
 use Rattle.edi_plan.specs.declared.targets.Target.{Target}
-use Rattle.edi_plan.proofs.NameLemmas.{has_name}
+use Rattle.edi_plan.proofs.NameLemmas.{first_named, has_name}
 
 same_some : {X : Type 0} {a b : X} → Some a ≡ Some b → a ≡ b
 same_some h = cc
@@ -44,6 +44,12 @@ uncoded Par h = refl
 uncoded Pfe h = refl
 uncoded Fea h = refl
 uncoded Lnk h = cc
+
+-- where no record has the name of an earlier one, a record of a name is the first
+pub only_named : (list : List Record) (name : Name) (repeat : Option ℕ) (k : ℕ) → IsFirstRepeatIfAny list repeat → is_some repeat ≡ false → HasNameAt list name k → place_named list name ≡ Some k
+only_named list name (Some n) k first some h = cc
+only_named list name None k none some h =
+    first_named list name k (record { there = h.there; here = h.here; is = h.is; none_before = λ j q less at is. none k (j, q, h.there, less, at, h.here, is ∙ sym h.is) })
 
 module _ (list : List Record) (e : End) where
   -- the type that the end says is that of the record
@@ -79,8 +85,6 @@ module _ (list : List Record) (e : End) where
 
 pub named_target : (name : RecordName) (target : Name) → target.rty ≡ kind_code name.kind → name.rid.now ≡ target.rid → named name ≡ target
 named_target name target rty rid = λ i. record { rty = sym rty i; rid = rid i }
-
--- lists side by side
 
 -- lists side by side
 

@@ -2,11 +2,12 @@
 use Rattle.std.specs.Prelude.{◌≡◌, ℕ, false, List, flat_map, codes, Option, None, Some, MatchOption, slice_get, if◌then◌else◌}
 use Rattle.std.specs.Str.{bytes_eq}
 use Rattle.std.specs.List.{AllZip}
+use Rattle.edi_record.specs.declared.name.Name.{Name}
 use Rattle.edi_record.specs.declared.record.End.{End}
 use Rattle.edi_record.specs.declared.record.Kind.{Kind}
 use Rattle.edi_record.specs.declared.record.Kind.TheVariants.{Pno, Par, Pfe, Fea}
 use Rattle.edi_record.specs.declared.record.Record.{Record}
-use Rattle.edi_plan.specs.PlanOf.{place_named}
+use Rattle.edi_plan.specs.PlanOf.{own_name, place_named}
 use Rattle.edi_plan.specs.Plans.{is_link}
 use Rattle.edi_plan.specs.declared.targets.Target.{Target}
 
@@ -25,6 +26,12 @@ pub record Leads (list : List Record) (e : End) (t : Target) : Type 0 where
   pub here : slice_get list t.place ≡ Some there
   pub kind : there.kind ≡ t.kind
   pub no_link : is_link t.kind ≡ false
+
+-- the record at a place has this name
+pub record HasNameAt (list : List Record) (name : Name) (place : ℕ) : Type 0 where
+  pub there : Record
+  pub here : slice_get list place ≡ Some there
+  pub is : own_name there ≡ name
 
 -- what the end names, or it names no node, arc, face or object
 abbrev pub IsTargetIfAny : List Record → End → Option Target → Type 0

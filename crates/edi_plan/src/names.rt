@@ -39,7 +39,8 @@ pub(crate) struct Names<'a> {
     pub(crate) repeat: Option<usize>,
 }
 
-fn name_of(stated: &Record) -> RecordName<'_>
+/// The name of a record.
+pub(crate) fn name_of(stated: &Record) -> RecordName<'_>
     ensures { named result ≡ own_name stated.now }
 {
     RecordName {

@@ -1,13 +1,13 @@
 //! The records that the ends of links name.
 
-ghost use Rattle.std.specs.Prelude.{◌≡◌, ◌++◌, List, IfOk, OnOk};
+ghost use Rattle.std.specs.Prelude.{◌≡◌, ◌++◌, List, IfOk, IfSome, OnOk, true};
 ghost use Rattle.std.specs.List.{AllZip};
 ghost use Rattle.edi_record.specs.declared.record.End.{End as Ends};
-ghost use Rattle.edi_record.specs.declared.record.Record.{Record as Records};
-ghost use Rattle.edi_plan.specs.Names.{AreNamesOf};
-ghost use Rattle.edi_plan.specs.Targets.{target_kind, IsTargetIfAny, AreTargets};
+ghost use Rattle.edi_plan.specs.Names.{named, AreNamesOf, IsFirstRepeatIfAny};
+ghost use Rattle.edi_plan.specs.PlanOf.{place_named};
+ghost use Rattle.edi_plan.specs.Targets.{target_kind, HasNameAt, IsTargetIfAny, AreTargets};
 
-use crate::names::{Names, RecordName};
+use crate::names::{Names, RecordName, name_of};
 use edi_record::{End, Kind, Record};
 use std::alloc::{AllocError, Global};
 
@@ -31,36 +31,118 @@ fn kind_coded(code: &[u8]) -> Option<Kind>
     }
 }
 
-/// The node, arc, face or object that an end names.
-fn target_of(names: &Names<'_>, end: &End) -> Option<Target>
-    ensures { (list : List Records) → AreNamesOf list names.now → IsTargetIfAny list end.now result }
+/// The places of the records that ends named last, by type. What an end names mostly stands there or just behind, since
+/// links go through a sheet in its order. It decides where a record is looked for first, and never what is found.
+#[derive(Clone, Copy, Debug)]
+struct LastNamed {
+    node: u32,
+    arc: u32,
+    face: u32,
+    object: u32,
+}
+
+impl LastNamed {
+    /// The first record of the sheet.
+    fn new() -> LastNamed {
+        LastNamed {
+            node: 0,
+            arc: 0,
+            face: 0,
+            object: 0,
+        }
+    }
+
+    fn place(self, kind: Kind) -> u32 {
+        match kind {
+            Kind::Pno => self.node,
+            Kind::Par => self.arc,
+            Kind::Pfe => self.face,
+            Kind::Fea | Kind::Lnk => self.object,
+        }
+    }
+
+    /// Takes what an end names.
+    fn note(&mut self, target: Option<Target>) {
+        let Some(Target { place, kind }) = target else {
+            return;
+        };
+        match kind {
+            Kind::Pno => self.node = place,
+            Kind::Par => self.arc = place,
+            Kind::Pfe => self.face = place,
+            Kind::Fea | Kind::Lnk => self.object = place,
+        }
+    }
+}
+
+/// Whether the record at a place has this name.
+fn has_name(records: &[Record], place: u32, name: &RecordName<'_>) -> bool
+    ensures { result ≡ true → HasNameAt records.now (named name.now) place }
 {
-    let Some(kind) = kind_coded(end.target.rty.as_slice()) else {
-        return None;
-    };
+    let place = place as usize;
+    place < records.len() && name_of(&records[place]) == *name
+}
+
+/// The place of a record of this name, if it is this one or the next.
+fn place_near(records: &[Record], last: u32, name: &RecordName<'_>) -> Option<u32>
+    ensures { IfSome result (HasNameAt records.now (named name.now)) }
+{
+    if has_name(records, last, name) {
+        return Some(last);
+    }
+    let next = last.saturating_add(1);
+    if has_name(records, next, name) {
+        Some(next)
+    } else {
+        None
+    }
+}
+
+/// The place of the first record of a name. Where no two records have one name, any of that name is the first.
+fn place_of(records: &[Record], names: &Names<'_>, last: u32, name: &RecordName<'_>) -> Option<u32>
+    requires names { AreNamesOf records.now names.now }
+    requires repeat { IsFirstRepeatIfAny records.now names.now.repeat }
+    ensures { result ≡ place_named records.now (named name.now) }
+{
+    if names.repeat.is_none()
+        && let Some(place) = place_near(records, last, name)
+    {
+        return Some(place);
+    }
+    names.places.get(name).copied()
+}
+
+/// The node, arc, face or object that an end names.
+fn target_of(records: &[Record], names: &Names<'_>, last: LastNamed, end: &End) -> Option<Target>
+    requires names { AreNamesOf records.now names.now }
+    requires repeat { IsFirstRepeatIfAny records.now names.now.repeat }
+    ensures { IsTargetIfAny records.now end.now result }
+{
+    let kind = kind_coded(end.target.rty.as_slice())?;
     let name = RecordName {
         kind,
         rid: end.target.rid.as_slice(),
     };
-    match names.places.get(&name) {
-        Some(place) => Some(Target {
-            place: *place,
-            kind,
-        }),
-        None => None,
-    }
+    let place = place_of(records, names, last.place(kind), &name)?;
+    Some(Target { place, kind })
 }
 
 /// Adds the targets of these ends.
 fn add_targets(
     targets: &mut Vec<Option<Target>>,
+    last: &mut LastNamed,
+    records: &[Record],
     names: &Names<'_>,
     ends: &[End],
 ) -> Result<(), AllocError>
-    ensures { OnOk result ((list : List Records) (before : List Ends) → AreNamesOf list names.now → AllZip (IsTargetIfAny list) before targets.old.items → AllZip (IsTargetIfAny list) (before ++ ends.now) targets.new.items) }
+    requires names { AreNamesOf records.now names.now }
+    requires repeat { IsFirstRepeatIfAny records.now names.now.repeat }
+    ensures { OnOk result ((before : List Ends) → AllZip (IsTargetIfAny records.now) before targets.old.items → AllZip (IsTargetIfAny records.now) (before ++ ends.now) targets.new.items) }
 {
     for end in ends {
-        targets.push(target_of(names, end))?;
+        let target = target_of(records, names, *last, end);
+        last.note(target);
+        targets.push(target)?;
     }
     Ok(())
 }
@@ -71,12 +153,20 @@ pub(crate) fn targets(
     names: &Names<'_>,
     records: &[Record],
 ) -> Result<Vec<Option<Target>>, AllocError>
-    requires { AreNamesOf records.now names.now }
+    requires names { AreNamesOf records.now names.now }
+    requires repeat { IsFirstRepeatIfAny records.now names.now.repeat }
     ensures { IfOk result (λ targets. AreTargets records.now records.now targets.items) }
 {
     let mut targets = Vec::new(alloc);
+    let mut last = LastNamed::new();
     for record in records {
-        add_targets(&mut targets, names, record.ends.as_slice())?;
+        add_targets(
+            &mut targets,
+            &mut last,
+            records,
+            names,
+            record.ends.as_slice(),
+        )?;
     }
     Ok(targets)
 }
