@@ -1,10 +1,9 @@
 //! The names of records: rule 301.
 
-ghost use Rattle.std.specs.Prelude.{◌≡◌, ◌++◌, ◌∷◌, [], ◌≤◌, length, map, unwrap_or, IfOk, OnOk};
+ghost use Rattle.std.specs.Prelude.{◌≡◌, ◌∷◌, [], ◌≤◌, length, map, unwrap_or, IfOk, OnOk};
 ghost use Rattle.std.specs.Cmp.Rules.{hashing};
 ghost use Rattle.std.proofs.Common.{rules};
 ghost use Rattle.edi_hash.specs.Keys.{keyed_by};
-ghost use Rattle.edi_record.specs.contracts.record.KindHash.TheImpl.{ghosts as kinds};
 ghost use Rattle.edi_plan.specs.PlanOf.{own_name};
 ghost use Rattle.edi_plan.specs.Names.{named, place_in, IsPut, AreNamesOf, IsFirstRepeatIfAny};
 
@@ -21,13 +20,13 @@ pub(crate) struct RecordName<'a> {
     pub(crate) rid: &'a [u8],
 }
 
+// The type is left out: an identifier makes five names at most.
 impl<'a> Hash for RecordName<'a> {
-    ghost hash_input = { λ n. kinds.hash_input n.kind ++ (n.rid.now ∷ []) };
+    ghost hash_input = { λ n. n.rid.now ∷ [] };
 
     ghost respects_eq = { Prim.search (hashing, rules) };
 
     fn hash<H: Hasher>(&self, state: &mut H) {
-        self.kind.hash(state);
         state.write(self.rid);
     }
 }

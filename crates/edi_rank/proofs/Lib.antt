@@ -32,7 +32,7 @@ pub mod Renumbered
 pub mod ArrangedRises
 pub mod RankedApart
 pub mod LowerNumbers
-pub mod LinkOrigins
+pub mod PlacedLinks
 pub mod Carried
 pub mod Offsets
 pub mod KeysApart

@@ -1,2 +1,2 @@
 -- What private contracts need.
-pub mod LinkOrigins
+pub mod PlacedLinks

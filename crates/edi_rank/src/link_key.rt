@@ -1,6 +1,6 @@
 //! The keys of links.
 
-ghost use Rattle.std.specs.Prelude.{◌≡◌, ◌<◌, ◌++◌, length, map, slice_index, IfOk, OnOk};
+ghost use Rattle.std.specs.Prelude.{◌≡◌, ◌<◌, ◌++◌, ◌&&◌, ℕ, length, map, None, slice_index, IfOk, IfSome, OnOk};
 ghost use Rattle.std.specs.List.{AllByRecursion, list_any};
 ghost use Rattle.edi_plan.specs.Plans.{IsPlace, record_at, others_of, rest_of};
 ghost use Rattle.edi_schema.specs.Classes.{partner_of};
@@ -10,9 +10,11 @@ ghost use Rattle.edi_rank.specs.EndOrder.{GivesEach, PutsInOrder, ends_at};
 ghost use Rattle.edi_rank.specs.Keys.{ends_key, numbered};
 ghost use Rattle.edi_rank.specs.Labelling.{turned_at};
 ghost use Rattle.edi_rank.specs.Same.{class_after};
+ghost use Rattle.edi_rank.specs.inner.PlacedLinks.{end_of, is_empty, pair_key};
 
 use crate::ends::{end_in_order, numbered_end};
 use crate::keys::{LinkKey, NumberedEnd};
+use crate::placed_link::{PlainEnd, PlainPair};
 use edi_line::{Lent, LentEach, Sequence};
 use edi_plan::{Plan, PlanEnd, sorted_attributes};
 use edi_schema::{ClassRef, Role, Schema};
@@ -94,6 +96,45 @@ pub fn class_turned(schema: &Schema, plan: &Plan, turned: &[bool], place: u32) -
                 class
             }
         }
+    }
+}
+
+/// An end without SNS, with the number of what it names.
+fn plain_end(plan: &Plan, numbers: &[u32], end: &PlanEnd) -> PlainEnd
+    requires place { IsPlace plan.now end.now.target }
+    requires numbers { length numbers.now ≡ length plan.now.list }
+    ensures { end.now.sns ≡ None → end_of result ≡ numbered plan.now (slice_index numbers.now) end.now }
+{
+    PlainEnd {
+        kind: plan.kind(end.target),
+        number: numbers[end.target as usize],
+    }
+}
+
+/// Whether a record has neither attributes nor extra zones.
+pub(crate) fn is_bare(plan: &Plan, place: u32) -> bool
+    requires { IsPlace plan.now place }
+    ensures { result ≡ (is_empty (record_at plan.now place).attributes && is_empty (record_at plan.now place).extras) }
+{
+    plan.attributes(place).is_empty() && plan.extras(place).is_empty()
+}
+
+/// The two ends of a link that has no others, no SNS, no attributes and no extra zones.
+pub(crate) fn plain_pair(plan: &Plan, numbers: &[u32], place: u32) -> Option<PlainPair>
+    requires place { IsPlace plan.now place }
+    requires numbers { length numbers.now ≡ length plan.now.list }
+    ensures { IfSome result (λ pair. (class : ℕ) → pair_key class pair ≡ record { class = class; ends = ends_key plan.now (slice_index numbers.now) (record_at plan.now place).ends; attributes = sort_by attribute_cmp (record_at plan.now place).attributes; extras = (record_at plan.now place).extras }) }
+{
+    plan.keeps();
+    if !is_bare(plan, place) {
+        return None;
+    }
+    match plan.ends(place) {
+        [origin, other] if origin.sns.is_none() && other.sns.is_none() => Some(PlainPair {
+            origin: plain_end(plan, numbers, origin),
+            other: plain_end(plan, numbers, other),
+        }),
+        _ => None,
     }
 }
 

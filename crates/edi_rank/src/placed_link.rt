@@ -1,90 +1,184 @@
-//! The key of a link with its place, by which links are sorted. Beside it lie the type and the number of the origin, since
-//! these and the class tell most links apart without a look at the list of ends.
+//! The key of a link with its place, by which links are sorted. Nearly each link has two ends and nothing else: its key lies
+//! in the value itself, and needs no list.
 
-ghost use Rattle.std.specs.Prelude.{◌≡◌, ℕ, refl};
-ghost use Rattle.std.specs.Ordering.{as_partial_cmp, eq_by_cmp};
+ghost use Rattle.std.specs.Prelude.{◌≡◌, ◌∷◌, [], ℕ, IfOk, refl};
+ghost use Rattle.std.specs.Ordering.{as_partial_cmp, eq_by_cmp, ordering_then};
+ghost use Rattle.std.specs.Cmp.Lexicographic.{slice_cmp};
 ghost use Rattle.std.specs.Cmp.{eq_by_cmp_equiv, partial_equiv_from_equiv, partial_order_from_total};
-ghost use Rattle.edi_rank.specs.inner.LinkOrigins.{origin_cmp, origin_of, placed_cmp, placed_total};
-ghost use Rattle.edi_rank.specs.declared.keys.LinkKey.{LinkKey as Key};
+ghost use Rattle.edi_rank.specs.contracts.keys.LinkKeyOrd.TheImpl.{ghosts as links};
+ghost use Rattle.edi_rank.specs.contracts.keys.NumberedEndOrd.TheImpl.{ghosts as ends};
+ghost use Rattle.edi_rank.specs.inner.PlacedLinks.{IsBareIfSaid, IsOfClass, end_of as end_by, has_neither, key_in, pair_key, placed_cmp, placed_total, rest_cmp};
 
-use crate::keys::LinkKey;
+use crate::keys::{LinkKey, NumberedEnd};
 use edi_record::Kind;
+use edi_schema::ClassRef;
+use std::alloc::{AllocError, Global};
 use std::cmp::Ordering;
 use std::marker::Model;
 
-/// The type and the number of the record that a link starts at.
+/// An end without SNS: the type and the number of what it names.
 #[derive(Clone, Copy, Debug, PartialEq, Eq, PartialOrd, Ord)]
-pub(crate) struct LinkOrigin {
-    kind: Kind,
-    number: u32,
+pub(crate) struct PlainEnd {
+    pub(crate) kind: Kind,
+    pub(crate) number: u32,
+}
+
+/// The ends of a link that has two, without SNS. Such pairs go by the origin, and then by the other end.
+#[derive(Clone, Copy, Debug, PartialEq, Eq, PartialOrd, Ord)]
+pub(crate) struct PlainPair {
+    pub(crate) origin: PlainEnd,
+    pub(crate) other: PlainEnd,
+}
+
+/// What the key of a link holds beside its class.
+#[derive(Debug, Drop)]
+pub(crate) enum LinkParts<'a> {
+    /// Two ends without SNS, and nothing else.
+    Pair(PlainPair),
+    /// The whole key, and whether it has neither attributes nor extra zones.
+    Whole {
+        key: Box<LinkKey<'a>>,
+        is_bare: bool,
+    },
 }
 
 /// The key of a link, and its place.
 #[derive(Debug, Drop)]
 pub(crate) struct PlacedLink<'a> {
-    origin: Option<LinkOrigin>,
-    key: LinkKey<'a>,
+    class: ClassRef,
     place: u32,
+    parts: LinkParts<'a>,
 }
 
 impl<'a> Model for PlacedLink<'a> {
-    ghost use Rattle.std.specs.Prelude.{◌≡◌, ℕ};
-    ghost use Rattle.edi_rank.specs.inner.LinkOrigins.{origin_of};
+    ghost use Rattle.std.specs.Prelude.{ℕ};
+    ghost use Rattle.edi_rank.specs.inner.PlacedLinks.{IsBareIfSaid, IsOfClass, key_in};
     ghost use Rattle.edi_rank.specs.declared.keys.LinkKey.{LinkKey as Key};
 
     ghost Value = { Key × ℕ };
 
-    ghost view = { λ l. (l.key, l.place) };
+    ghost view = { λ l. (key_in l.class l.parts, l.place) };
 
-    ghost invariant = { λ l. l.origin ≡ origin_of l.key };
+    ghost invariant = { λ l. IsOfClass l.class l.parts × IsBareIfSaid l.parts };
 }
 
 impl<'a> PlacedLink<'a> {
-    /// A key with its place.
-    pub(crate) fn of(key: LinkKey<'a>, place: u32) -> PlacedLink<'a>
-        ensures { result ≡ (key.entry, place) }
+    /// The key of a link of two ends without SNS and nothing else, with its place.
+    pub(crate) fn pair(class: ClassRef, pair: PlainPair, place: u32) -> PlacedLink<'a>
+        ensures { result ≡ (pair_key class pair, place) }
     {
-        let origin = origin(&key);
-        PlacedLink { origin, key, place }
+        PlacedLink {
+            class,
+            place,
+            parts: LinkParts::Pair(pair),
+        }
+    }
+
+    /// A key with its place, where it is known whether the key has neither attributes nor extra zones.
+    pub(crate) fn whole(
+        alloc: Global,
+        key: LinkKey<'a>,
+        is_bare: bool,
+        place: u32,
+    ) -> Result<PlacedLink<'a>, AllocError>
+        requires { is_bare ≡ has_neither key }
+        ensures { IfOk result (λ l. l ≡ (key.entry, place)) }
+    {
+        Ok(PlacedLink {
+            class: key.class,
+            place,
+            parts: LinkParts::Whole {
+                key: Box::new(alloc, key)?,
+                is_bare,
+            },
+        })
     }
 }
 
-/// Where a link starts, if it has ends.
-fn origin(key: &LinkKey<'_>) -> Option<LinkOrigin>
-    ensures { result ≡ origin_of key.now }
+fn end_of<'a>(end: PlainEnd) -> NumberedEnd<'a>
+    ensures { result ≡ end_by end }
 {
-    match key.ends.as_slice() {
-        [first, ..] => Some(LinkOrigin {
-            kind: first.kind,
-            number: first.number,
-        }),
-        [] => None,
+    NumberedEnd {
+        kind: end.kind,
+        number: end.number,
+        sns: None,
     }
 }
 
-/// How two origins go. What has none goes with all.
-fn compare_origins(a: Option<LinkOrigin>, b: Option<LinkOrigin>) -> Ordering
-    ensures { result ≡ origin_cmp a b }
+/// How two pairs go.
+fn compare_pairs(a: &PlainPair, b: &PlainPair) -> Ordering
+    ensures { (class : ℕ) → result ≡ links.cmp (pair_key class a.now) (pair_key class b.now) }
+{
+    a.cmp(b)
+}
+
+/// How an end without SNS goes with another end.
+fn compare_ends(plain: PlainEnd, end: &NumberedEnd<'_>) -> Ordering
+    ensures { result ≡ ends.cmp (end_by plain) end.now }
+{
+    let own = end_of(plain);
+    own.cmp(end)
+}
+
+/// How a last end without SNS, behind which there is nothing else, goes with the ends of a key from there on.
+fn compare_last(last: PlainEnd, others: &[NumberedEnd<'_>], is_bare: bool) -> Ordering
+    ensures { result ≡ ordering_then (slice_cmp ends.cmp (end_by last ∷ []) others.now) (rest_cmp is_bare) }
+{
+    let [other, rest @ ..] = others else {
+        return Ordering::Greater;
+    };
+    match compare_ends(last, other) {
+        Ordering::Equal if rest.is_empty() && is_bare => Ordering::Equal,
+        Ordering::Equal => Ordering::Less,
+        order => order,
+    }
+}
+
+/// How a pair and nothing else goes with a whole key of its class.
+#[tactic(auto, using(crate::proofs::PlacedLinks::bare_order))]
+fn compare_pair(pair: &PlainPair, key: &LinkKey<'_>, is_bare: bool) -> Ordering
+    requires { is_bare ≡ has_neither key.now }
+    ensures { result ≡ links.cmp (pair_key key.now.class pair.now) key.now }
+{
+    let [origin, others @ ..] = key.ends.as_slice() else {
+        return Ordering::Greater;
+    };
+    match compare_ends(pair.origin, origin) {
+        Ordering::Equal => compare_last(pair.other, others, is_bare),
+        order => order,
+    }
+}
+
+/// How two keys of one class go.
+#[tactic(auto, using(crate::proofs::PlacedLinks::turned_order))]
+fn compare_parts(a: &LinkParts<'_>, b: &LinkParts<'_>) -> Ordering
+    requires first { IsBareIfSaid a.now }
+    requires second { IsBareIfSaid b.now }
+    ensures { (class : ℕ) → IsOfClass class a.now → IsOfClass class b.now → result ≡ links.cmp (key_in class a.now) (key_in class b.now) }
 {
     match (a, b) {
-        (Some(a), Some(b)) => a.cmp(&b),
-        _ => Ordering::Equal,
+        (LinkParts::Pair(first), LinkParts::Pair(second)) => compare_pairs(first, second),
+        (LinkParts::Pair(pair), LinkParts::Whole { key, is_bare }) => {
+            compare_pair(pair, key, *is_bare)
+        }
+        (LinkParts::Whole { key, is_bare }, LinkParts::Pair(pair)) => {
+            compare_pair(pair, key, *is_bare).reverse()
+        }
+        (LinkParts::Whole { key: first, .. }, LinkParts::Whole { key: second, .. }) => {
+            (**first).cmp(&**second)
+        }
     }
 }
 
-/// By class and origin where these differ, and else by all that the key holds, and by place.
+/// By class where these differ, and else by all that the key holds, and by place.
 fn compare(a: &PlacedLink<'_>, b: &PlacedLink<'_>) -> Ordering
     ensures { result ≡ placed_cmp a.now b.now }
 {
-    let order = a.key.class.cmp(&b.key.class);
+    let order = a.class.cmp(&b.class);
     if order.is_ne() {
         return order;
     }
-    let order = compare_origins(a.origin, b.origin);
-    if order.is_ne() {
-        return order;
-    }
-    match a.key.cmp(&b.key) {
+    match compare_parts(&a.parts, &b.parts) {
         Ordering::Equal => a.place.cmp(&b.place),
         order => order,
     }

@@ -1,5 +1,5 @@
-use Rattle.std.proofs.Common.{◌≡◌, ◌≤◌, ℕ, true, List, sym, subst, get_or}
-use Rattle.edi_plan.specs.Plans.{Drawing, IsPlace, record_at, others_of, is_object}
+use Rattle.std.proofs.Common.{◌≤◌, ℕ, List, sym, subst, get_or}
+use Rattle.edi_plan.specs.Plans.{Drawing, IsPlace, record_at, others_of}
 use Rattle.edi_rank.specs.EndOrder.{OthersInOrder}
 use Rattle.edi_rank.specs.Laws.{TellsApart}
 use Rattle.edi_rank.specs.Layers.{IsFaceRanking}

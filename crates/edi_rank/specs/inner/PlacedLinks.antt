@@ -1,0 +1,56 @@
+-- The keys of links with their places, as they are sorted.
+use Rattle.std.specs.Prelude.{◌≡◌, ◌&&◌, ℕ, Bool, true, false, List, [], ◌∷◌, None, ⊤}
+use Rattle.std.specs.Cmp.{IsTotalOrder, on_total, then_total, nat_cmp_total}
+use Rattle.std.specs.Ordering.{ordering_then, nat_cmp}
+use Rattle.std.specs.declared.cmp.Ordering.{Ordering}
+use Rattle.std.specs.declared.cmp.Ordering.TheVariants.{Less, Equal}
+use Rattle.edi_rank.specs.contracts.keys.LinkKeyOrd.TheImpl.{ghosts as links}
+use Rattle.edi_rank.specs.contracts.keys.LinkKeyOrd.TheImpl.Laws.{total-law}
+use Rattle.edi_rank.specs.declared.keys.LinkKey.{LinkKey}
+use Rattle.edi_rank.specs.declared.keys.NumberedEnd.{NumberedEnd}
+use Rattle.edi_rank.specs.declared.placed_link.LinkParts.{LinkParts}
+use Rattle.edi_rank.specs.declared.placed_link.LinkParts.TheVariants.{Pair, Whole}
+use Rattle.edi_rank.specs.declared.placed_link.PlainEnd.{PlainEnd}
+use Rattle.edi_rank.specs.declared.placed_link.PlainPair.{PlainPair}
+
+-- an end without SNS
+abbrev pub end_of : PlainEnd → NumberedEnd
+end_of e = record { kind = e.kind; number = e.number; sns = None }
+
+-- the key of a link of two ends without SNS, and nothing else
+abbrev pub pair_key : ℕ → PlainPair → LinkKey
+pair_key class pair = record { class = class; ends = end_of pair.origin ∷ end_of pair.other ∷ []; attributes = []; extras = [] }
+
+-- the key that these parts make with a class
+abbrev pub key_in : ℕ → LinkParts → LinkKey
+key_in class (Pair pair) = pair_key class pair
+key_in class (Whole key is_bare) = key.value
+
+abbrev pub is_empty : {X : Type 0} → List X → Bool
+is_empty [] = true
+is_empty (x ∷ xs) = false
+
+-- a key has neither attributes nor extra zones
+abbrev pub has_neither : LinkKey → Bool
+has_neither key = is_empty key.attributes && is_empty key.extras
+
+-- how what has no attributes and no extra zones goes with what is bare or not
+abbrev pub rest_cmp : Bool → Ordering
+rest_cmp true = Equal
+rest_cmp false = Less
+
+-- a whole key is bare exactly if it has neither attributes nor extra zones
+abbrev pub IsBareIfSaid : LinkParts → Type 0
+IsBareIfSaid (Pair pair) = ⊤
+IsBareIfSaid (Whole key is_bare) = is_bare ≡ has_neither key.value
+
+-- the key that these parts make with a class is of this class
+abbrev pub IsOfClass : ℕ → LinkParts → Type 0
+IsOfClass class parts = (key_in class parts).class ≡ class
+
+-- keys with places go by key, and then by place
+abbrev pub placed_cmp : LinkKey × ℕ → LinkKey × ℕ → Ordering
+placed_cmp a b = ordering_then (links.cmp a.0 b.0) (nat_cmp a.1 b.1)
+
+pub placed_total : IsTotalOrder placed_cmp
+placed_total = then_total (on_total (λ (a : LinkKey × ℕ). a.0) total-law) (on_total (λ (a : LinkKey × ℕ). a.1) nat_cmp_total)
