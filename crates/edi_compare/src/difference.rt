@@ -8,6 +8,9 @@ ghost use Rattle.edi_compare.specs.Pairings.{IsFirstDifference};
 pub(crate) fn first_difference(first: &[u8], second: &[u8]) -> Option<u64>
     ensures { MatchOption result (first.now ≡ second.now) (IsFirstDifference first.now second.now) }
 {
+    if first == second {
+        return None;
+    }
     let mut line = 1;
     for (a, b) in first.iter().zip(second) {
         if a != b {
