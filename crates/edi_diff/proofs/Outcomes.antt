@@ -83,21 +83,23 @@ total_marked p q m marks are total j h =
 
 -- ---- the text
 
-pub text_told : {X E : Type 0} (s : Classes) (first second : LocatedSheet) (m became : Matching) (parts : List Parts) (brief : Bool) (r : Result X E) (items : X → List ℕ)
+pub told_by : (s : Classes) (first second : LocatedSheet) (m became : Matching) (parts : List Parts) (brief : Bool) (text : List ℕ)
     (kept went : List (Option ℕ)) (told_parts : List Parts) → AreChanges first.accepted second.accepted m became → ArePartsOfEach s first.accepted second.accepted m became parts
     → kept ≡ m.to → went ≡ became.to → told_parts ≡ parts
-    → IfOk r (λ text. items text ≡ told_text brief (record { first = first; second = second; kept = kept; became = went; parts = told_parts }))
-    → IfOk r (λ text. IsDifferenceText s first second m brief (items text))
-text_told s first second m became parts brief (Err e) items kept went told_parts are are_parts is_kept is_went is_parts told = tt
-text_told s first second m became parts brief (Ok text) items kept went told_parts are are_parts is_kept is_went is_parts told = record {
-  became = became;
-  parts = parts;
-  changes = are;
-  are_parts = are_parts;
-  is_text = told ∙ (ap (λ to. told_text brief (record { first = first; second = second; kept = to; became = went; parts = told_parts })) is_kept
-      ∙ (ap (λ to. told_text brief (record { first = first; second = second; kept = m.to; became = to; parts = told_parts })) is_went
-      ∙ ap (λ ps. told_text brief (record { first = first; second = second; kept = m.to; became = became.to; parts = ps })) is_parts));
-}
+    → text ≡ told_text brief (record { first = first; second = second; kept = kept; became = went; parts = told_parts })
+    → (x : IsDifferenceText s first second m brief text) × (x.became ≡ became)
+told_by s first second m became parts brief text kept went told_parts are are_parts is_kept is_went is_parts told = (
+  record {
+    became = became;
+    parts = parts;
+    changes = are;
+    are_parts = are_parts;
+    is_text = told ∙ (ap (λ to. told_text brief (record { first = first; second = second; kept = to; became = went; parts = told_parts })) is_kept
+        ∙ (ap (λ to. told_text brief (record { first = first; second = second; kept = m.to; became = to; parts = told_parts })) is_went
+        ∙ ap (λ ps. told_text brief (record { first = first; second = second; kept = m.to; became = became.to; parts = ps })) is_parts));
+  },
+  refl,
+)
 
 pub some_there : (o : Option ℕ) → is_some o ≡ true → (j : ℕ) × (o ≡ Some j)
 some_there None none = cc

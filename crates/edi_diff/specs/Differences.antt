@@ -10,6 +10,7 @@ use Rattle.edi_diff.specs.Changes.{AreChanges, ArePartsOfEach}
 use Rattle.edi_diff.specs.Lines.{told_text}
 use Rattle.edi_diff.specs.Sites.{AreSitesOf}
 use Rattle.edi_diff.specs.declared.differing.Difference.{Difference}
+use Rattle.edi_diff.specs.declared.differing.Findings.{Findings}
 use Rattle.edi_diff.specs.declared.parts.Parts.{Parts}
 use Rattle.edi_diff.specs.declared.sheet.LocatedSheet.{LocatedSheet}
 
@@ -41,3 +42,11 @@ pub record IsDifference (s : Classes) (a b : List ℕ) (brief : Bool) (differenc
   pub partners : MatchesPartners first.accepted second.accepted kept
   pub is_text : IsDifferenceText s first second kept brief difference.text.items
   pub same : IsTrue difference.same ↔ Same s first.accepted second.accepted
+
+-- what differs between two files, with the sheets, the matching and the changes that it is told by
+pub record AreFindings (s : Classes) (a b : List ℕ) (brief : Bool) (found : Findings) : Type 0 where
+  pub told : IsDifference s a b brief found.difference
+  pub by_first : told.first ≡ found.first
+  pub by_second : told.second ≡ found.second
+  pub by_kept : told.kept ≡ found.kept
+  pub by_became : told.is_text.became ≡ found.became

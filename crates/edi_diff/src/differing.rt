@@ -1,12 +1,12 @@
 //! What differs between two sheets.
 
-ghost use Rattle.std.specs.Prelude.{IfErr, IfOk, OnOk};
+ghost use Rattle.std.specs.Prelude.{◌≡◌, IfErr, IfOk, OnOk};
 ghost use Rattle.std.specs.Cow.{cow_slice_items};
 ghost use Rattle.edi_compare.specs.Pairings.{HasClasses};
 ghost use Rattle.edi_compare.specs.Refused.{IsPairRefusal};
 ghost use Rattle.edi_compare.specs.Rules.{IsAccepted};
 ghost use Rattle.edi_matching.specs.Matchings.{MatchingHolds};
-ghost use Rattle.edi_diff.specs.Differences.{IsDifference, IsDifferenceText};
+ghost use Rattle.edi_diff.specs.Differences.{AreFindings, IsDifference, IsDifferenceText};
 ghost use Rattle.edi_diff.specs.Reports.{HasSites};
 
 use crate::changes::{Changes, changes_between};
@@ -30,6 +30,25 @@ pub struct Difference {
     pub text: Vec<u8>,
 }
 
+/// What differs between two sheets, with the sheets and the matching that it is told by.
+#[derive(Drop)]
+pub struct Findings {
+    pub first: LocatedSheet,
+    pub second: LocatedSheet,
+    /// The records of the first sheet that are records of the second.
+    pub kept: Matching,
+    /// These, and beside them those that became records of the second.
+    pub became: Matching,
+    pub difference: Difference,
+}
+
+/// A text of what differs, and the records that it tells as changed, beside those that are the same.
+#[derive(Drop)]
+struct ToldChanges {
+    became: Matching,
+    text: Vec<u8>,
+}
+
 /// The text of what differs between two sheets (docs/FORMAT.md, "Differences"), by a matching of the records that are the
 /// same; or its last line alone. The only error is want of memory.
 pub fn difference_text(
@@ -45,6 +64,25 @@ pub fn difference_text(
     requires second_sites { HasSites second.now }
     requires holds { MatchingHolds schema.now first.now.accepted second.now.accepted matching.now }
     ensures { IfOk result (λ text. IsDifferenceText schema.now first.now second.now matching.now brief text.items) }
+{
+    let told = told_changes(alloc, schema, first, second, matching, brief)?;
+    Ok(told.text)
+}
+
+/// That text, and what became of the records of the first sheet.
+fn told_changes(
+    alloc: Global,
+    schema: &Schema,
+    first: &LocatedSheet,
+    second: &LocatedSheet,
+    matching: &Matching,
+    brief: bool,
+) -> Result<ToldChanges, AllocError>
+    requires classes { HasClasses schema.now first.now.accepted }
+    requires first_sites { HasSites first.now }
+    requires second_sites { HasSites second.now }
+    requires holds { MatchingHolds schema.now first.now.accepted second.now.accepted matching.now }
+    ensures { IfOk result (λ told. (text : IsDifferenceText schema.now first.now second.now matching.now brief told.text.items) × (text.became ≡ told.became)) }
 {
     let plan = first.accepted.sound().plan();
     let other = second.accepted.sound().plan();
@@ -66,7 +104,8 @@ pub fn difference_text(
         parts: &parts,
         reached: &reached,
     };
-    told.text(alloc, brief)
+    let text = told.text(alloc, brief)?;
+    Ok(ToldChanges { became, text })
 }
 
 /// What differs between two sheets under a schema, or its last line alone; or the refusal that `edi_compare::compare`
@@ -106,6 +145,26 @@ pub(crate) fn diff_from(
     ensures difference { IfOk result (IsDifference schema.now (cow_slice_items a.entry) (cow_slice_items b.entry) brief) }
     ensures refusal { IfErr result (IsPairRefusal schema.now (cow_slice_items a.entry) (cow_slice_items b.entry)) }
 {
+    let found = find_differences(alloc, schema, a, b, brief)?;
+    Ok(found.difference)
+}
+
+/// What `diff` gives of files that are let go, where they are owned, one after the other; with the sheets and the matching
+/// that it is told by. The classes of both plans are of the schema.
+pub fn find_differences(
+    alloc: Global,
+    schema: &Schema,
+    a: CowSlice<'_, u8>,
+    b: CowSlice<'_, u8>,
+    brief: bool,
+) -> Result<Findings, CompareFault>
+    ensures first { OnOk result (IsAccepted schema.now (cow_slice_items a.entry)) }
+    ensures second { OnOk result (IsAccepted schema.now (cow_slice_items b.entry)) }
+    ensures findings { IfOk result (AreFindings schema.now (cow_slice_items a.entry) (cow_slice_items b.entry) brief) }
+    ensures first_classes { IfOk result (λ found. HasClasses schema.now found.first.accepted) }
+    ensures second_classes { IfOk result (λ found. HasClasses schema.now found.second.accepted) }
+    ensures refusal { IfErr result (IsPairRefusal schema.now (cow_slice_items a.entry) (cow_slice_items b.entry)) }
+{
     let first = match locate_from(alloc, schema, a) {
         Ok(sheet) => sheet,
         Err(fault) => return Err(first_refused(fault)),
@@ -114,8 +173,14 @@ pub(crate) fn diff_from(
         Ok(sheet) => sheet,
         Err(fault) => return Err(second_refused(fault)),
     };
-    let matching = differences(alloc, schema, &first.accepted, &second.accepted)?;
-    let text = difference_text(alloc, schema, &first, &second, &matching, brief)?;
-    let same = is_same(alloc, &first, &second, &matching)?;
-    Ok(Difference { same, text })
+    let kept = differences(alloc, schema, &first.accepted, &second.accepted)?;
+    let same = is_same(alloc, &first, &second, &kept)?;
+    let ToldChanges { became, text } = told_changes(alloc, schema, &first, &second, &kept, brief)?;
+    Ok(Findings {
+        first,
+        second,
+        kept,
+        became,
+        difference: Difference { same, text },
+    })
 }

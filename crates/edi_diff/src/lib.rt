@@ -14,8 +14,8 @@ pub mod sheet;
 pub mod site;
 mod totals;
 
-pub use differing::{Difference, diff, difference_text};
+pub use differing::{Difference, Findings, diff, difference_text, find_differences};
 pub use parts::Parts;
 pub use runs::run_diff;
-pub use sheet::{LocatedSheet, locate};
+pub use sheet::{LocatedSheet, locate, locate_from};
 pub use site::{Site, sites};

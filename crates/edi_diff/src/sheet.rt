@@ -55,7 +55,7 @@ pub fn locate(alloc: Global, schema: &Schema, bytes: &[u8]) -> Result<LocatedShe
 }
 
 /// What `locate` gives of a file that is let go, where it is owned, as soon as its plan and its sites are there.
-pub(crate) fn locate_from(
+pub fn locate_from(
     alloc: Global,
     schema: &Schema,
     bytes: CowSlice<'_, u8>,

@@ -1,0 +1,20 @@
+-- Pictures of files.
+use Rattle.std.specs.Prelude.{ℕ, Bool, List, [], ◌∷◌}
+use Rattle.edi_schema.specs.Classes.{Classes}
+use Rattle.edi_diff.specs.Differences.{IsDifference, IsLocated}
+use Rattle.edi_diff.specs.declared.sheet.LocatedSheet.{LocatedSheet}
+use Rattle.edi_picture.specs.Pictures.{IsPicture}
+use Rattle.edi_drawing.specs.Marked.{marked_sheets, plain_sheet}
+use Rattle.edi_drawing.specs.declared.drawn.DrawnDifference.{DrawnDifference}
+
+-- the picture of the sheet of a file
+pub record IsPictureOfFile (s : Classes) (b : List ℕ) (picture : List ℕ) : Type 0 where
+  pub sheet : LocatedSheet
+  pub is_sheet : IsLocated s b sheet
+  pub is_picture : IsPicture s (plain_sheet sheet ∷ []) picture
+
+-- What differs between two files, and the picture of their sheets, marked by the very matching and changes that the text of what
+-- differs is told by.
+pub record IsDrawnDifference (s : Classes) (a b : List ℕ) (brief : Bool) (drawn : DrawnDifference) : Type 0 where
+  pub told : IsDifference s a b brief drawn.difference
+  pub is_picture : IsPicture s (marked_sheets told.first told.second told.kept told.is_text.became) drawn.picture.items

@@ -1,0 +1,12 @@
+//! Pictures of sheets, from their files.
+#![tactic(auto)]
+
+mod drawing;
+pub mod drawn;
+mod identifiers;
+mod marks;
+mod pictures;
+pub mod runs;
+
+pub use drawn::DrawnDifference;
+pub use runs::{run_draw, run_draw_difference};

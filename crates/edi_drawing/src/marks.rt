@@ -1,0 +1,105 @@
+//! The marks of the records of two sheets.
+
+ghost use Rattle.std.specs.Prelude.{◌≡◌, ◌<◌, ℕ, IfOk, if◌then◌else◌, length, map, slice_index_or};
+ghost use Rattle.std.specs.List.{range_with_len};
+ghost use Rattle.edi_diff.specs.Lines.{is_reached, went_to};
+ghost use Rattle.edi_drawing.specs.Marked.{first_mark, mark_by, second_mark};
+ghost use Rattle.edi_picture.specs.declared.mark.Mark.TheVariants.{Hidden};
+
+use edi_matching::Matching;
+use edi_picture::Mark;
+use std::alloc::{AllocError, Global};
+
+/// Where a record goes.
+fn target_at(matching: &Matching, place: u32) -> Option<u32>
+    ensures { result ≡ slice_index_or matching.now.to place None }
+{
+    match matching.to.as_slice().get(place as usize) {
+        Some(target) => *target,
+        None => None,
+    }
+}
+
+/// The mark of a record of the first sheet, by the one of the second that it is, and the one that it is or became.
+fn mark_of(kept: Option<u32>, became: Option<u32>) -> Mark
+    ensures { result ≡ mark_by kept became }
+{
+    match kept {
+        Some(_) => Mark::Plain,
+        None => match became {
+            Some(_) => Mark::Changed,
+            None => Mark::OnlyFirst,
+        },
+    }
+}
+
+/// The mark of the record of the first sheet at a place.
+fn first_mark_at(kept: &Matching, became: &Matching, place: u32) -> Mark
+    ensures { result ≡ first_mark kept.now became.now place }
+{
+    mark_of(target_at(kept, place), target_at(became, place))
+}
+
+/// The marks of the records of the first sheet, in file order.
+pub(crate) fn first_marks(
+    alloc: Global,
+    kept: &Matching,
+    became: &Matching,
+    count: u32,
+) -> Result<Vec<Mark>, AllocError>
+    ensures { IfOk result (λ marks. marks.items ≡ map (first_mark kept.now became.now) (range_with_len 0 count)) }
+{
+    let mut marks = Vec::new(alloc);
+    for place in 0..count {
+        marks.push(first_mark_at(kept, became, place))?;
+    }
+    Ok(marks)
+}
+
+/// One mark for each of so many records.
+pub(crate) fn one_mark_each(alloc: Global, mark: Mark, count: u32) -> Result<Vec<Mark>, AllocError>
+    ensures { IfOk result (λ marks. marks.items ≡ map (λ k. mark) (range_with_len 0 count)) }
+{
+    let mut marks = Vec::new(alloc);
+    for _ in 0..count {
+        marks.push(mark)?;
+    }
+    Ok(marks)
+}
+
+/// Gives this mark to the record that one went to, if there is one.
+fn stamp(marks: &mut Vec<Mark>, went: Option<u32>, mark: Mark)
+    ensures length { length marks.new.items ≡ length marks.old.items }
+    ensures each { (j : ℕ) → j < length marks.old.items → slice_index_or marks.new.items j Hidden ≡ (if went_to j went then mark else slice_index_or marks.old.items j Hidden) }
+{
+    if let Some(place) = went
+        && (place as usize) < marks.len()
+    {
+        marks[place as usize] = mark;
+    }
+}
+
+/// Gives this mark to the records that some went to.
+fn stamp_all(marks: &mut Vec<Mark>, to: &[Option<u32>], mark: Mark)
+    ensures length { length marks.new.items ≡ length marks.old.items }
+    ensures each { (j : ℕ) → j < length marks.old.items → slice_index_or marks.new.items j Hidden ≡ (if is_reached to.now j then mark else slice_index_or marks.old.items j Hidden) }
+{
+    for went in to {
+        stamp(marks, *went, mark);
+    }
+}
+
+/// The marks of the records of the second sheet, in file order.
+pub(crate) fn second_marks(
+    alloc: Global,
+    kept: &Matching,
+    became: &Matching,
+    count: u32,
+) -> Result<Vec<Mark>, AllocError>
+    ensures { IfOk result (λ marks. marks.items ≡ map (second_mark kept.now became.now) (range_with_len 0 count)) }
+{
+    let mut marks = one_mark_each(alloc, Mark::OnlySecond, count)?;
+    stamp_all(&mut marks, became.to.as_slice(), Mark::Changed);
+    stamp_all(&mut marks, kept.to.as_slice(), Mark::Hidden);
+    Ok(marks)
+}

@@ -1,0 +1,114 @@
+//! The runs that draw.
+ghost use Rattle.std.specs.Prelude.{◌≡◌, IfOk, IfErr, OnOk};
+ghost use Rattle.std.specs.Cow.{cow_slice_items};
+ghost use Rattle.edi_compare.specs.Runs.{AfterReading, AreFourRead, AreRead, ComparingFault, FilesFault, PairFault, SheetFault, TellFour, Told, seen};
+ghost use Rattle.edi_drawing.specs.Runs.{IsDrawnDifferenceUnder, IsPictureUnder};
+
+use crate::drawing::{draw_difference_from, draw_from};
+use crate::drawn::DrawnDifference;
+use edi_compare::{CompareFault, Fault, RunFault, load_or_fault, read_input};
+use edi_line::ByteIn;
+use edi_schema::Kinds;
+use std::alloc::Global;
+use std::borrow::CowSlice;
+
+/// Reads three files, and draws the third, a sheet under the schema of the first two (docs/FORMAT.md, "Pictures"). The
+/// faults are those of `edi_compare::canon_of`.
+pub fn run_draw<S: ByteIn, D: ByteIn, V: ByteIn>(
+    alloc: Global,
+    kinds: &Kinds<'_>,
+    scd: &mut S,
+    dic: &mut D,
+    vec: &mut V,
+) -> Result<Vec<u8>, RunFault>
+    ensures ok { IfOk result (λ picture. Told (S.told scd.old) (D.told dic.old) (V.told vec.old) (λ s d v. IsPictureUnder kinds.now s d v picture.items)) }
+    ensures read { OnOk result (AreRead (seen (S.told scd.old) (S.told scd.new) (S.has_failed scd.new))
+        (seen (D.told dic.old) (D.told dic.new) (D.has_failed dic.new)) (seen (V.told vec.old) (V.told vec.new) (V.has_failed vec.new))) }
+    ensures err { IfErr result (FilesFault kinds.now (seen (S.told scd.old) (S.told scd.new) (S.has_failed scd.new))
+        (seen (D.told dic.old) (D.told dic.new) (D.has_failed dic.new)) (seen (V.told vec.old) (V.told vec.new) (V.has_failed vec.new))
+        (dic.new ≡ dic.old) (vec.new ≡ vec.old) (λ _. ⊥)) }
+    ensures after { IfErr result (λ e. AfterReading e (AreRead (seen (S.told scd.old) (S.told scd.new) (S.has_failed scd.new))
+        (seen (D.told dic.old) (D.told dic.new) (D.has_failed dic.new)) (seen (V.told vec.old) (V.told vec.new) (V.has_failed vec.new)))) }
+{
+    let scd = read_input(alloc, scd, 1)?;
+    let dic = read_input(alloc, dic, 2)?;
+    let vec = read_input(alloc, vec, 3)?;
+    draw_or_fault(alloc, kinds, &scd, &dic, CowSlice::Owned(vec))
+}
+
+/// Reads four files, and tells what differs between the third and the fourth, two sheets under the schema of the first
+/// two, with a picture of both. What is told and the faults are those of `edi_diff::run_diff`.
+pub fn run_draw_difference<S: ByteIn, D: ByteIn, A: ByteIn, B: ByteIn>(
+    alloc: Global,
+    kinds: &Kinds<'_>,
+    scd: &mut S,
+    dic: &mut D,
+    first: &mut A,
+    second: &mut B,
+    brief: bool,
+) -> Result<DrawnDifference, RunFault>
+    ensures ok { IfOk result (λ drawn. TellFour (S.told scd.old) (D.told dic.old) (A.told first.old) (B.told second.old)
+        (λ s d a b. IsDrawnDifferenceUnder kinds.now s d a b brief drawn)) }
+    ensures read { OnOk result (AreFourRead (seen (S.told scd.old) (S.told scd.new) (S.has_failed scd.new)) (seen (D.told dic.old) (D.told dic.new) (D.has_failed dic.new))
+        (seen (A.told first.old) (A.told first.new) (A.has_failed first.new)) (seen (B.told second.old) (B.told second.new) (B.has_failed second.new))) }
+    ensures err { IfErr result (ComparingFault kinds.now (seen (S.told scd.old) (S.told scd.new) (S.has_failed scd.new)) (seen (D.told dic.old) (D.told dic.new) (D.has_failed dic.new))
+        (seen (A.told first.old) (A.told first.new) (A.has_failed first.new)) (seen (B.told second.old) (B.told second.new) (B.has_failed second.new))
+        (record { dic = dic.new ≡ dic.old; first = first.new ≡ first.old; second = second.new ≡ second.old })) }
+    ensures after { IfErr result (λ e. AfterReading e (AreFourRead (seen (S.told scd.old) (S.told scd.new) (S.has_failed scd.new)) (seen (D.told dic.old) (D.told dic.new) (D.has_failed dic.new))
+        (seen (A.told first.old) (A.told first.new) (A.has_failed first.new)) (seen (B.told second.old) (B.told second.new) (B.has_failed second.new)))) }
+{
+    let scd = read_input(alloc, scd, 1)?;
+    let dic = read_input(alloc, dic, 2)?;
+    let first = read_input(alloc, first, 3)?;
+    let second = read_input(alloc, second, 4)?;
+    draw_difference_or_fault(
+        alloc,
+        kinds,
+        &scd,
+        &dic,
+        CowSlice::Owned(first),
+        CowSlice::Owned(second),
+        brief,
+    )
+}
+
+// The picture of a sheet under the schema of the two files.
+fn draw_or_fault(
+    alloc: Global,
+    kinds: &Kinds<'_>,
+    scd: &[u8],
+    dic: &[u8],
+    vec: CowSlice<'_, u8>,
+) -> Result<Vec<u8>, RunFault>
+    ensures ok { IfOk result (λ picture. IsPictureUnder kinds.now scd.now dic.now (cow_slice_items vec.entry) picture.items) }
+    ensures err { IfErr result (SheetFault kinds.now scd.now dic.now (cow_slice_items vec.entry)) }
+{
+    let schema = load_or_fault(alloc, kinds, scd, dic)?;
+    match draw_from(alloc, &schema, vec) {
+        Ok(picture) => Ok(picture),
+        Err(Fault::Memory(error)) => Err(RunFault::Memory(error)),
+        Err(fault) => Err(RunFault::First(fault)),
+    }
+}
+
+// What differs between two sheets under the schema of the two files, with their picture.
+fn draw_difference_or_fault(
+    alloc: Global,
+    kinds: &Kinds<'_>,
+    scd: &[u8],
+    dic: &[u8],
+    first: CowSlice<'_, u8>,
+    second: CowSlice<'_, u8>,
+    brief: bool,
+) -> Result<DrawnDifference, RunFault>
+    ensures ok { IfOk result (IsDrawnDifferenceUnder kinds.now scd.now dic.now (cow_slice_items first.entry) (cow_slice_items second.entry) brief) }
+    ensures err { IfErr result (PairFault kinds.now scd.now dic.now (cow_slice_items first.entry) (cow_slice_items second.entry)) }
+{
+    let schema = load_or_fault(alloc, kinds, scd, dic)?;
+    match draw_difference_from(alloc, &schema, first, second, brief) {
+        Ok(drawn) => Ok(drawn),
+        Err(CompareFault::Memory(error)) => Err(RunFault::Memory(error)),
+        Err(CompareFault::First(fault)) => Err(RunFault::First(fault)),
+        Err(CompareFault::Second(fault)) => Err(RunFault::Second(fault)),
+    }
+}

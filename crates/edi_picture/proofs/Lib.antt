@@ -1,0 +1,5 @@
+pub mod Spans
+pub mod Joined
+pub mod Beside
+pub mod Counted
+pub mod ArcsRound

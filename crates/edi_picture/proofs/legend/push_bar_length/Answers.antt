@@ -1,0 +1,11 @@
+use Rattle.std.proofs.Common.{codes}
+use Rattle.std.proofs.lemmas.Result.{on_ok_weaker}
+use Rattle.edi_line.specs.Number.{size_text}
+use Rattle.edi_picture.proofs.Joined.{joined3}
+use Rattle.edi_picture.proofs.legend.push_bar_length.Goals as goal
+
+pub returns : goal.returns
+returns c = on_ok_weaker c.put-2.result
+    (joined3 c.args.text.now.items (codes "<text x='20' y='50'>") (size_text c.args.bar) (codes " unit(s)</text>\n") c.put.new.text.items c.push_length.new.text.items c.put-2.new.text.items
+    c.in_ok-put.ensures c.in_ok-push_length.ensures)
+    c.put-2.ensures

@@ -1,0 +1,89 @@
+-- What is drawn of faces.
+use Rattle.std.specs.Prelude.{ℕ, ◌==◌, ◌&&◌, ◌||◌, ◌-◌, ◌%◌, Bool, false, not, List, [], ◌∷◌, ◌++◌, take, drop, length, count_by, if◌then◌else◌, codes}
+use Rattle.std.specs.List.{filter, flat_map, list_all, list_any}
+use Rattle.edi_record.specs.declared.record.Kind.TheVariants.{Par, Pfe}
+use Rattle.edi_record.specs.declared.record.Point.{Point}
+use Rattle.edi_schema.specs.Classes.{Classes}
+use Rattle.edi_schema.specs.Roles.{same_role}
+use Rattle.edi_schema.specs.declared.role.Role.{Role}
+use Rattle.edi_schema.specs.declared.role.Role.TheVariants.{Left, Right}
+use Rattle.edi_plan.specs.Places.{places_of}
+use Rattle.edi_plan.specs.Plans.{Drawing, is_arc, is_link, record_at}
+use Rattle.edi_plan.specs.Sides.{targets}
+use Rattle.edi_plan.specs.declared.record.PlanRecord.{PlanRecord}
+use Rattle.edi_picture.specs.Elements.{spot_text, spots_text}
+use Rattle.edi_picture.specs.Frames.{distance}
+use Rattle.edi_picture.specs.Marks.{colour, is_hidden}
+use Rattle.edi_picture.specs.Sheets.{Sheet, mark_at}
+use Rattle.edi_picture.specs.Titles.{title_text}
+use Rattle.edi_picture.specs.declared.frame.Frame.{Frame}
+
+-- ---- the arcs round a face
+
+-- these are the two, in either order
+abbrev pub are_two : ℕ → ℕ → List ℕ → Bool
+are_two a k [] = false
+are_two a k (d ∷ []) = false
+are_two a k (d ∷ e ∷ []) = ((d == a) && (e == k)) || ((d == k) && (e == a))
+are_two a k (d ∷ e ∷ f ∷ ends) = false
+
+-- a record is a link of this role with these two ends
+abbrev pub links : Role → ℕ → ℕ → PlanRecord → Bool
+links role a k r = is_link r.kind && (same_role r.role role && are_two a k (targets r))
+
+-- the arc at the place a has the face at the place k on this side: some link of that role has the two ends
+abbrev pub is_beside : Drawing → Role → ℕ → ℕ → Bool
+is_beside p role a k = is_arc (record_at p a).kind && list_any (links role a k) p.list
+
+-- the arc has the face on one of its sides, and not on both
+abbrev pub bounds : Drawing → ℕ → ℕ → Bool
+bounds p k a = if is_beside p Left a k then not (is_beside p Right a k) else is_beside p Right a k
+
+-- the arcs round a face, in file order
+abbrev pub arcs_round : Drawing → ℕ → List ℕ
+arcs_round p k = filter (bounds p k) (places_of Par p)
+
+-- ---- whether they close
+
+-- the first and the last of some points
+abbrev pub tips : List Point → List Point
+tips points = take 1 points ++ drop (length points - 1) points
+
+-- the ends of some arcs
+abbrev pub ends_of : Drawing → List ℕ → List Point
+ends_of p arcs = flat_map (λ a. tips (record_at p a).points) arcs
+
+-- two points have one x and one y
+abbrev pub same_spot : Point → Point → Bool
+same_spot a b = (distance a.x b.x == 0) && (distance a.y b.y == 0)
+
+-- At each end an even number of arcs ends, so that the arcs go round in rings, each arc in one of them.
+abbrev pub closes : List Point → Bool
+closes ends = list_all (λ q. count_by (same_spot q) ends % 2 == 0) ends
+
+-- ---- what is drawn
+
+-- An arc, with lines from its end to the base and from there to its begin. Of some arcs that close, what is inside of an odd
+-- number of these is what is inside of their rings: there are two or another even number of lines from each end to the base.
+abbrev pub fan_text : Frame → Sheet → Point → ℕ → List ℕ
+fan_text f sheet base a = codes "M" ++ spots_text f sheet a ++ spot_text f base ++ codes "Z"
+
+-- the face with these arcs round it
+abbrev pub face_element : Classes → Frame → Sheet → ℕ → Point → List ℕ → List ℕ
+face_element s f sheet k base arcs = codes "<path fill='" ++ colour (mark_at sheet k) ++ codes "' d='" ++ flat_map (fan_text f sheet base) arcs ++ codes "'>"
+    ++ title_text s sheet k ++ codes "</path>\n"
+
+-- that face by the ends of the arcs, the first of which is the base: nothing where there is no arc, or where they don't close
+abbrev pub closed_face : Classes → Frame → Sheet → ℕ → List ℕ → List Point → List ℕ
+closed_face s f sheet k arcs [] = []
+closed_face s f sheet k arcs (base ∷ ends) = if closes (base ∷ ends) then face_element s f sheet k base arcs else []
+
+-- what is drawn of a face: nothing where its mark hides it
+abbrev pub face_text : Classes → Frame → Sheet → ℕ → List ℕ
+face_text s f sheet k =
+    if is_hidden (mark_at sheet k) then []
+    else closed_face s f sheet k (arcs_round sheet.plan k) (ends_of sheet.plan (arcs_round sheet.plan k))
+
+-- the faces of a sheet, in file order
+abbrev pub faces_of : Classes → Frame → Sheet → List ℕ
+faces_of s f sheet = flat_map (face_text s f sheet) (places_of Pfe sheet.plan)

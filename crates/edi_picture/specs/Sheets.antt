@@ -1,0 +1,40 @@
+-- Sheets that are drawn.
+use Rattle.std.specs.Prelude.{ℕ, ◌<◌, List, [], length, slice_index_or, unwrap_or}
+use Rattle.std.specs.List.{AllByRecursion, flat_map}
+use Rattle.edi_record.specs.declared.record.Point.{Point}
+use Rattle.edi_record.specs.declared.name.Name.{Name}
+use Rattle.edi_schema.specs.Classes.{Classes, name_at}
+use Rattle.edi_plan.specs.Plans.{Drawing}
+use Rattle.edi_picture.specs.declared.mark.Mark.{Mark}
+use Rattle.edi_picture.specs.declared.mark.Mark.TheVariants.{Hidden}
+
+-- a plan, with the identifier and the mark of each of its records
+pub record Sheet : Type 0 where
+  pub plan : Drawing
+  pub identifiers : List (List ℕ)
+  pub marks : List Mark
+
+-- the identifier and the mark of the record at a place
+abbrev pub identifier_at : Sheet → ℕ → List ℕ
+identifier_at sheet k = slice_index_or sheet.identifiers k []
+
+abbrev pub mark_at : Sheet → ℕ → Mark
+mark_at sheet k = slice_index_or sheet.marks k Hidden
+
+-- the type and the identifier of a class
+abbrev pub class_name : Classes → ℕ → Name
+class_name s class = unwrap_or (name_at s class) (record { rty = []; rid = [] })
+
+-- the points of a plan, and those of all plans
+abbrev pub points_of : Drawing → List Point
+points_of p = flat_map (λ r. r.points) p.list
+
+abbrev pub all_points : List Sheet → List Point
+all_points sheets = flat_map (λ sheet. points_of sheet.plan) sheets
+
+-- the classes of the records are of the schema, as they are of a plan that was built under it
+abbrev pub HasClasses : Classes → Drawing → Type 0
+HasClasses s p = AllByRecursion (λ r. r.class < length s) p.list
+
+abbrev pub AllHaveClasses : Classes → List Sheet → Type 0
+AllHaveClasses s sheets = AllByRecursion (λ sheet. HasClasses s sheet.plan) sheets

@@ -1,0 +1,34 @@
+-- Titles of records, which browsers show, and bytes in XML.
+use Rattle.std.specs.Prelude.{ℕ, ◌==◌, ◌&&◌, nat_le, List, [], ◌∷◌, ◌++◌, if◌then◌else◌, codes, decimal}
+use Rattle.std.specs.List.{flat_map}
+use Rattle.edi_record.specs.Shapes.{kind_code}
+use Rattle.edi_record.specs.declared.name.Name.{Name}
+use Rattle.edi_schema.specs.Classes.{Classes}
+use Rattle.edi_plan.specs.Plans.{record_at}
+use Rattle.edi_picture.specs.Sheets.{Sheet, class_name, identifier_at}
+
+-- A byte in XML: as it is if it is printable ASCII and no mark of XML; from 160 on the character of Latin-1 with its number;
+-- any other as a question mark.
+abbrev pub escaped : ℕ → List ℕ
+escaped c =
+    if c == 38 then codes "&amp;"
+    else if c == 60 then codes "&lt;"
+    else if c == 62 then codes "&gt;"
+    else if nat_le 32 c && nat_le c 126 then c ∷ []
+    else if nat_le 160 c then codes "&#" ++ decimal c ++ codes ";"
+    else codes "?"
+
+abbrev pub escaped_text : List ℕ → List ℕ
+escaped_text text = flat_map escaped text
+
+-- TYPE;IDENTIFIER of a class
+abbrev pub class_text : Name → List ℕ
+class_text class = escaped_text class.rty ++ codes ";" ++ escaped_text class.rid
+
+-- TYPE IDENTIFIER CLASS
+abbrev pub name_text : Classes → Sheet → ℕ → List ℕ
+name_text s sheet k = kind_code (record_at sheet.plan k).kind ++ codes " " ++ escaped_text (identifier_at sheet k) ++ codes " "
+    ++ class_text (class_name s (record_at sheet.plan k).class)
+
+abbrev pub title_text : Classes → Sheet → ℕ → List ℕ
+title_text s sheet k = codes "<title>" ++ name_text s sheet k ++ codes "</title>"

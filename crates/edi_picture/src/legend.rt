@@ -1,0 +1,109 @@
+//! What stands round the plan.
+
+ghost use Rattle.std.specs.Prelude.{◌≡◌, ◌++◌, OnOk, codes};
+ghost use Rattle.edi_line.specs.Number.{size_text};
+ghost use Rattle.edi_picture.specs.Frames.{side_of};
+ghost use Rattle.edi_picture.specs.Pictures.{bar_text, head_text, inset_text, legend_entries, legend_entry};
+
+use crate::distance::push_length;
+use crate::frame::Frame;
+use crate::mark::Mark;
+use crate::writing::put;
+use std::alloc::AllocError;
+
+/// Appends the head of the file.
+pub(crate) fn push_head(text: &mut Vec<u8>) -> Result<(), AllocError>
+    ensures { OnOk result (text.new.items ≡ text.old.items ++ head_text) }
+{
+    put(
+        text,
+        b"<svg xmlns='http://www.w3.org/2000/svg' viewBox='0 0 1000 1050' font-family='sans-serif' font-size='14'>\n",
+    )?;
+    put(
+        text,
+        b"<style>polyline,path{vector-effect:non-scaling-stroke}</style>\n",
+    )?;
+    put(text, b"<rect width='1000' height='1050' fill='white'/>\n")
+}
+
+/// Appends words behind a line.
+fn push_words(text: &mut Vec<u8>, x: &[u8], words: &[u8]) -> Result<(), AllocError>
+    ensures { OnOk result (text.new.items ≡ text.old.items ++ (codes "<text x='" ++ x.now ++ codes "' y='25'>" ++ words.now ++ codes "</text>\n")) }
+{
+    put(text, b"<text x='")?;
+    put(text, x)?;
+    put(text, b"' y='25'>")?;
+    put(text, words)?;
+    put(text, b"</text>\n")
+}
+
+/// Appends a line in the colour of a mark, and what it says.
+fn push_entry(
+    text: &mut Vec<u8>,
+    mark: Mark,
+    line: &[u8],
+    x: &[u8],
+    words: &[u8],
+) -> Result<(), AllocError>
+    ensures { OnOk result (text.new.items ≡ text.old.items ++ legend_entry mark line.now x.now words.now) }
+{
+    put(text, b"<path stroke-width='4' d='M")?;
+    put(text, line)?;
+    put(text, b",20h30' stroke='")?;
+    put(text, mark.colour())?;
+    put(text, b"'/>")?;
+    push_words(text, x, words)
+}
+
+/// Appends what the colours say.
+pub(crate) fn push_legend(text: &mut Vec<u8>) -> Result<(), AllocError>
+    ensures { OnOk result (text.new.items ≡ text.old.items ++ legend_entries) }
+{
+    push_entry(text, Mark::OnlyFirst, b"20", b"56", b"only in A")?;
+    push_entry(text, Mark::OnlySecond, b"160", b"196", b"only in B")?;
+    push_entry(text, Mark::Changed, b"300", b"336", b"changed")?;
+    push_entry(text, Mark::Plain, b"440", b"476", b"in both")
+}
+
+/// Appends the size of an inner picture.
+fn push_size(text: &mut Vec<u8>, frame: &Frame) -> Result<(), AllocError>
+    ensures { OnOk result (text.new.items ≡ text.old.items ++ (size_text (side_of frame.now.x) ++ codes " " ++ size_text (side_of frame.now.y) ++ codes "'>\n")) }
+{
+    push_length(text, frame.x.side())?;
+    text.push(b' ')?;
+    push_length(text, frame.y.side())?;
+    put(text, b"'>\n")
+}
+
+/// Appends the begin of an inner picture, so far below the top.
+pub(crate) fn push_inset(text: &mut Vec<u8>, frame: &Frame, top: &[u8]) -> Result<(), AllocError>
+    ensures { OnOk result (text.new.items ≡ text.old.items ++ inset_text frame.now top.now) }
+{
+    put(text, b"<svg x='20' y='")?;
+    put(text, top)?;
+    put(
+        text,
+        b"' width='960' height='960' overflow='visible' preserveAspectRatio='xMinYMin' viewBox='0 0 ",
+    )?;
+    push_size(text, frame)
+}
+
+/// Appends how many units a bar is long.
+fn push_bar_length(text: &mut Vec<u8>, bar: u64) -> Result<(), AllocError>
+    ensures { OnOk result (text.new.items ≡ text.old.items ++ (codes "<text x='20' y='50'>" ++ size_text bar ++ codes " unit(s)</text>\n")) }
+{
+    put(text, b"<text x='20' y='50'>")?;
+    push_length(text, bar)?;
+    put(text, b" unit(s)</text>\n")
+}
+
+/// Appends a bar of this length, in millionths of the file's unit.
+pub(crate) fn push_bar(text: &mut Vec<u8>, frame: &Frame, bar: u64) -> Result<(), AllocError>
+    ensures { OnOk result (text.new.items ≡ text.old.items ++ bar_text frame.now bar) }
+{
+    push_inset(text, frame, b"56")?;
+    put(text, b"<path stroke='black' stroke-width='3' d='M0,0h")?;
+    push_length(text, bar)?;
+    put(text, b"'/>\n</svg>\n")?;
+    push_bar_length(text, bar)
+}

@@ -1,0 +1,20 @@
+//! Plans of sheets as pictures, in SVG.
+#![tactic(auto)]
+
+mod canvas;
+mod distance;
+pub mod drawing;
+mod ends;
+mod faces;
+mod frame;
+mod layers;
+mod legend;
+pub mod mark;
+mod rounds;
+pub mod shown;
+mod titles;
+mod writing;
+
+pub use drawing::picture;
+pub use mark::Mark;
+pub use shown::Shown;

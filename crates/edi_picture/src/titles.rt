@@ -1,0 +1,105 @@
+//! Titles of records, and bytes in XML.
+
+ghost use Rattle.std.specs.Prelude.{◌≡◌, ◌++◌, ◌<◌, OnOk, codes, decimal};
+ghost use Rattle.edi_plan.specs.Plans.{IsPlace, record_at};
+ghost use Rattle.edi_record.specs.Shapes.{kind_code};
+ghost use Rattle.edi_picture.specs.Sheets.{HasClasses, class_name};
+ghost use Rattle.edi_picture.specs.Titles.{class_text, escaped, escaped_text, name_text, title_text};
+
+use crate::shown::Shown;
+use crate::writing::put;
+use edi_record::{Kind, Name};
+use edi_schema::Schema;
+use itoa::Buffer;
+use std::alloc::AllocError;
+
+/// The type of a record, as its zone spells it.
+fn code_of(kind: Kind) -> &'static [u8]
+    ensures { result.now ≡ kind_code kind }
+{
+    match kind {
+        Kind::Pno => b"PNO",
+        Kind::Par => b"PAR",
+        Kind::Pfe => b"PFE",
+        Kind::Fea => b"FEA",
+        Kind::Lnk => b"LNK",
+    }
+}
+
+/// Appends the character of Latin-1 with this number.
+fn push_character(text: &mut Vec<u8>, byte: u8) -> Result<(), AllocError>
+    ensures { OnOk result (text.new.items ≡ text.old.items ++ (codes "&#" ++ decimal byte ++ codes ";")) }
+{
+    let mut digits = Buffer::new();
+    put(text, b"&#")?;
+    put(text, digits.format(byte).as_bytes())?;
+    put(text, b";")
+}
+
+/// Appends a byte, so that it can stand in XML.
+fn push_escaped(text: &mut Vec<u8>, byte: u8) -> Result<(), AllocError>
+    ensures { OnOk result (text.new.items ≡ text.old.items ++ escaped byte) }
+{
+    match byte {
+        b'&' => put(text, b"&amp;"),
+        b'<' => put(text, b"&lt;"),
+        b'>' => put(text, b"&gt;"),
+        32..=126 => put(text, &[byte]),
+        160..=255 => push_character(text, byte),
+        _ => put(text, b"?"),
+    }
+}
+
+/// Appends bytes, so that they can stand in XML.
+fn push_escaped_text(text: &mut Vec<u8>, bytes: &[u8]) -> Result<(), AllocError>
+    ensures { OnOk result (text.new.items ≡ text.old.items ++ escaped_text bytes.now) }
+{
+    for byte in bytes {
+        push_escaped(text, *byte)?;
+    }
+    Ok(())
+}
+
+/// Appends the type and the identifier of a class.
+fn push_class(text: &mut Vec<u8>, class: &Name) -> Result<(), AllocError>
+    ensures { OnOk result (text.new.items ≡ text.old.items ++ class_text class.now) }
+{
+    push_escaped_text(text, class.rty.as_slice())?;
+    text.push(b';')?;
+    push_escaped_text(text, class.rid.as_slice())
+}
+
+/// Appends the type, the identifier and the class of a record.
+fn push_name(
+    text: &mut Vec<u8>,
+    schema: &Schema,
+    sheet: &Shown<'_>,
+    place: u32,
+) -> Result<(), AllocError>
+    requires classes { HasClasses schema.now sheet.now.plan }
+    requires place { IsPlace sheet.now.plan place }
+    ensures { OnOk result (text.new.items ≡ text.old.items ++ name_text schema.now sheet.now place) }
+{
+    let plan = sheet.plan();
+    put(text, code_of(plan.kind(place)))?;
+    text.push(b' ')?;
+    push_escaped_text(text, sheet.identifier(place))?;
+    text.push(b' ')?;
+    push_class(text, schema.name(plan.scp(place)))
+}
+
+/// Appends the title of a record, which browsers show where the pointer rests on it.
+pub(crate) fn push_title(
+    text: &mut Vec<u8>,
+    schema: &Schema,
+    sheet: &Shown<'_>,
+    place: u32,
+) -> Result<(), AllocError>
+    requires classes { HasClasses schema.now sheet.now.plan }
+    requires place { IsPlace sheet.now.plan place }
+    ensures { OnOk result (text.new.items ≡ text.old.items ++ title_text schema.now sheet.now place) }
+{
+    put(text, b"<title>")?;
+    push_name(text, schema, sheet, place)?;
+    put(text, b"</title>")
+}
