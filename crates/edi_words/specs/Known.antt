@@ -20,6 +20,10 @@ values_of line = option_map (λ met. (
 abbrev pub pairing_of : Text → Option (List (Option Text))
 pairing_of line = option_map (λ met. first_of (codes "pairing") met.1 ∷ first_of (codes "FILE") met.1 ∷ []) (subcommand_of edicad (words_in line))
 
+-- the value of a line's option for a picture's file
+abbrev pub picture_of : Text → Option (Option Text)
+picture_of line = option_map (λ met. first_of (codes "picture") met.1) (subcommand_of edicad (words_in line))
+
 -- the value of a line's flag for the last line alone
 abbrev pub brief_of : Text → Option (Option Text)
 brief_of line = option_map (λ met. one_of (codes "brief") met.1) (subcommand_of edicad (words_in line))

@@ -10,10 +10,10 @@ use Rattle.clap.specs.declared.error.kind.ErrorKind.{ErrorKind}
 use Rattle.clap.specs.declared.error.kind.ErrorKind.TheVariants.{OutOfMemory, DisplayHelp, DisplayVersion}
 use Rattle.edi_schema.specs.Roles.{KindCodes, AreKindCodes}
 use Rattle.edi_words.specs.declared.words.Request.{Request}
-use Rattle.edi_words.specs.declared.words.Request.TheVariants.{Bundle, Check, Canon, Compare, Hash, Explain, Verify, Diff, Misused, Answered}
+use Rattle.edi_words.specs.declared.words.Request.TheVariants.{Bundle, Check, Canon, Compare, Hash, Explain, Verify, Diff, Draw, Misused, Answered}
 use Rattle.edi_words.specs.declared.words.Request.TheVariants as asks
 use Rattle.edi_words.specs.declared.words.Misuse.{Misuse}
-use Rattle.edi_words.specs.declared.words.Misuse.TheVariants.{BadKinds, TwoStandard, NoSheet, StandardPairing}
+use Rattle.edi_words.specs.declared.words.Misuse.TheVariants.{BadKinds, TwoStandard, NoSheet, StandardPairing, StandardPicture}
 use Rattle.edi_words.specs.declared.words.ManyFiles.{ManyFiles}
 use Rattle.edi_words.specs.declared.words.PairFiles.{PairFiles}
 use Rattle.edi_words.specs.declared.words.SheetFiles.{SheetFiles}
@@ -22,9 +22,16 @@ use Rattle.edi_words.specs.declared.words.SheetFiles.{SheetFiles}
 abbrev pub kinds_rule : Rule
 kinds_rule = record (new_rule (codes "kinds")) { long = Some (codes "kinds"); value_names = 1 }
 
--- the option with the file that a pairing goes to, which has one value
+-- an option with a file that something goes to, which has one value
+abbrev pub file_option_rule : Text → Rule
+file_option_rule id = record (new_rule id) { long = Some id; value_names = 1 }
+
+-- the option with the file that a pairing goes to, and that with the file that a picture goes to
 abbrev pub pairing_rule : Rule
-pairing_rule = record (new_rule (codes "pairing")) { long = Some (codes "pairing"); value_names = 1 }
+pairing_rule = file_option_rule (codes "pairing")
+
+abbrev pub picture_rule : Rule
+picture_rule = file_option_rule (codes "picture")
 
 -- the flag for the last line alone, which has no value
 abbrev pub brief_rule : Rule
@@ -42,12 +49,16 @@ files_rule id = record (file_rule id) { range = Some (record { start_inclusive =
 abbrev pub schema_command : Text → App
 schema_command name = with_rule (with_rule (with_rule (new_app name) kinds_rule) (file_rule (codes "SCD"))) (file_rule (codes "DIC"))
 
+-- a subcommand over a sheet and the file that something goes to
+abbrev pub output_command : Text → App
+output_command name = with_rule (with_rule (schema_command name) (file_rule (codes "VEC"))) (file_rule (codes "OUT"))
+
 -- the subcommands: over a sheet, over a sheet and where its canonical file goes, over two sheets, over many
 abbrev pub check_command : App
 check_command = with_rule (schema_command (codes "check")) (file_rule (codes "VEC"))
 
 abbrev pub canon_command : App
-canon_command = with_rule (with_rule (schema_command (codes "canon")) (file_rule (codes "VEC"))) (file_rule (codes "OUT"))
+canon_command = output_command (codes "canon")
 
 abbrev pub compare_command : App
 compare_command = with_rule (with_rule (with_rule (schema_command (codes "compare")) (file_rule (codes "A"))) (file_rule (codes "B"))) pairing_rule
@@ -69,14 +80,18 @@ verify_command = with_rule (with_rule (with_rule (schema_command (codes "verify"
 
 -- the subcommand that tells what differs between two sheets
 abbrev pub diff_command : App
-diff_command = with_rule (with_rule (with_rule (schema_command (codes "diff")) (file_rule (codes "A"))) (file_rule (codes "B"))) brief_rule
+diff_command = with_rule (with_rule (with_rule (with_rule (schema_command (codes "diff")) (file_rule (codes "A"))) (file_rule (codes "B"))) brief_rule) picture_rule
+
+-- the subcommand over a sheet and where its picture goes
+abbrev pub draw_command : App
+draw_command = output_command (codes "draw")
 
 -- a command that says its version
 abbrev pub versioned : App → App
 versioned a = record a { top = record a.top { has_version = true } }
 
 abbrev pub edicad : App
-edicad = with_subcommand (with_subcommand (with_subcommand (with_subcommand (with_subcommand (with_subcommand (with_subcommand (versioned (new_app (codes "edicad"))) check_command.top) canon_command.top) compare_command.top) hash_command.top) explain_command.top) verify_command.top) diff_command.top
+edicad = with_subcommand (with_subcommand (with_subcommand (with_subcommand (with_subcommand (with_subcommand (with_subcommand (with_subcommand (versioned (new_app (codes "edicad"))) check_command.top) canon_command.top) compare_command.top) hash_command.top) explain_command.top) verify_command.top) diff_command.top) draw_command.top
 
 -- IND, FND, LPO and RPO
 abbrev pub usual_kinds : KindCodes
@@ -153,17 +168,18 @@ standard_count rows =
 abbrev pub is_given : Text → List Row → Bool
 is_given id rows = is_some (first_of id rows)
 
--- the pairing is to go to standard output
-abbrev pub is_pairing_standard : List Row → Bool
-is_pairing_standard rows = is_standard_path (value_at (codes "pairing") rows)
+-- the file of an option is standard output
+abbrev pub is_option_standard : Text → List Row → Bool
+is_option_standard id rows = is_standard_path (value_at id rows)
 
 -- The arguments of a subcommand can't be meant: the codes are no codes, standard input is to be read twice, explain is
--- given two files of three, or the pairing of a comparison is to go to standard output.
+-- given two files of three, or the pairing of a comparison or the picture of a difference is to go to standard output.
 abbrev pub IsMisuse : Text → List Row → Misuse → Type 0
 IsMisuse name rows BadKinds = HasBadKinds rows
 IsMisuse name rows TwoStandard = 1 < standard_count rows
 IsMisuse name rows NoSheet = (name ≡ codes "explain") × (is_given (codes "DIC") rows ≡ true) × (is_given (codes "VEC") rows ≡ false)
-IsMisuse name rows StandardPairing = (name ≡ codes "compare") × (is_pairing_standard rows ≡ true)
+IsMisuse name rows StandardPairing = (name ≡ codes "compare") × (is_option_standard (codes "pairing") rows ≡ true)
+IsMisuse name rows StandardPicture = (name ≡ codes "diff") × (is_option_standard (codes "picture") rows ≡ true)
 
 -- what is said of it
 abbrev pub misuse_text : Misuse → List ℕ
@@ -171,14 +187,15 @@ misuse_text BadKinds = codes "bad kinds"
 misuse_text TwoStandard = codes "only one input can be -"
 misuse_text NoSheet = codes "explain takes RULE, or SCD, DIC and VEC"
 misuse_text StandardPairing = codes "--pairing takes a file, and not -"
+misuse_text StandardPicture = codes "--picture takes a file, and not -"
 
--- the subcommand, if there is one, is check, canon, compare, hash, explain, verify or diff
+-- the subcommand, if there is one, is check, canon, compare, hash, explain, verify, diff or draw
 abbrev pub IsOwn : Option (Text × List Row) → Type 0
-IsOwn met = IfSome met (λ p. (p.0 ≡ codes "check") ⊎ ((p.0 ≡ codes "canon") ⊎ ((p.0 ≡ codes "compare") ⊎ ((p.0 ≡ codes "hash") ⊎ ((p.0 ≡ codes "explain") ⊎ ((p.0 ≡ codes "verify") ⊎ (p.0 ≡ codes "diff")))))))
+IsOwn met = IfSome met (λ p. (p.0 ≡ codes "check") ⊎ ((p.0 ≡ codes "canon") ⊎ ((p.0 ≡ codes "compare") ⊎ ((p.0 ≡ codes "hash") ⊎ ((p.0 ≡ codes "explain") ⊎ ((p.0 ≡ codes "verify") ⊎ ((p.0 ≡ codes "diff") ⊎ (p.0 ≡ codes "draw"))))))))
 
--- the file that the option names, if it is given, and which isn't standard output
-abbrev pub IsPairingFile : List Row → Option (Bor (List ℕ)) → Type 0
-IsPairingFile rows pairing = (option_map (λ (p : Bor (List ℕ)). p.now) pairing ≡ first_of (codes "pairing") rows) × (is_pairing_standard rows ≡ false)
+-- the file that an option names, if it is given, and which isn't standard output
+abbrev pub IsOptionFile : Text → List Row → Option (Bor (List ℕ)) → Type 0
+IsOptionFile id rows file = (option_map (λ (p : Bor (List ℕ)). p.now) file ≡ first_of id rows) × (is_option_standard id rows ≡ false)
 
 -- what the subcommand and its arguments ask for, or want of memory, whose status is 5
 abbrev pub Means : Option (Text × List Row) → Request → Type 0
@@ -187,7 +204,7 @@ Means met (Check kinds files) = (rows : List Row) × (met ≡ Some (codes "check
 Means met (Canon kinds files out) = (rows : List Row) × (met ≡ Some (codes "canon", rows)) × GiveKinds rows kinds × AreSheetFiles rows files
     × (out.now ≡ value_at (codes "OUT") rows)
 Means met (Compare kinds files pairing) = (rows : List Row) × (met ≡ Some (codes "compare", rows)) × GiveKinds rows kinds × ArePairFiles rows files
-    × IsPairingFile rows pairing
+    × IsOptionFile (codes "pairing") rows pairing
 Means met (Hash kinds files) = (rows : List Row) × (met ≡ Some (codes "hash", rows)) × GiveKinds rows kinds × AreManyFiles rows files
 Means met (Explain kinds files) = (rows : List Row) × (met ≡ Some (codes "explain", rows)) × GiveKinds rows kinds × AreSheetFiles rows files
     × (is_given (codes "DIC") rows ≡ true) × (is_given (codes "VEC") rows ≡ true)
@@ -195,8 +212,10 @@ Means met (asks.Rule word) = (rows : List Row) × (met ≡ Some (codes "explain"
     × (is_given (codes "DIC") rows ≡ false)
 Means met (Verify kinds files pairing) = (rows : List Row) × (met ≡ Some (codes "verify", rows)) × GiveKinds rows kinds × ArePairFiles rows files
     × (pairing.now ≡ value_at (codes "FILE") rows)
-Means met (Diff kinds files brief) = (rows : List Row) × (met ≡ Some (codes "diff", rows)) × GiveKinds rows kinds × ArePairFiles rows files
-    × IsFlag (one_of (codes "brief") rows) brief
+Means met (Diff kinds files brief picture) = (rows : List Row) × (met ≡ Some (codes "diff", rows)) × GiveKinds rows kinds × ArePairFiles rows files
+    × IsFlag (one_of (codes "brief") rows) brief × IsOptionFile (codes "picture") rows picture
+Means met (Draw kinds files out) = (rows : List Row) × (met ≡ Some (codes "draw", rows)) × GiveKinds rows kinds × AreSheetFiles rows files
+    × (out.now ≡ value_at (codes "OUT") rows)
 Means met (Misused misuse) = (name : Text) × (rows : List Row) × (met ≡ Some (name, rows)) × IsMisuse name rows misuse
 Means met (Answered status) = status ≡ 5
 

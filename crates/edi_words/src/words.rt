@@ -2,7 +2,7 @@
 ghost use Rattle.std.specs.Prelude.{◌≡◌, ◌↔◌, ◌<◌, ◌≤◌, ◌^◌, IsTrue, IfErr, IfOk, MatchOption, OnOk, Some, [], codes, length, map, option_map, string_bytes};
 ghost use Rattle.clap.specs.Words.{HasKind, app_of, fault_of, found_of, kind_of, new_rule, one_of, rows_of, rule_of, subcommand_of, subcommand_rows_of, with_rule};
 ghost use Rattle.edi_schema.specs.Roles.{KindCodes};
-ghost use Rattle.edi_words.specs.Requests.{AreKindsIn, AreKindsOf, AreManyFiles, ArePairFiles, AreSheetFiles, IsAsked, IsFlag, GiveKinds, IsOwn, Means, brief_rule, canon_command, check_command, compare_command, diff_command, edicad, explain_command, file_rule, files_rule, hash_command, is_given, is_standard_path, kinds_rule, pairing_rule, schema_command, standard_at, standard_count, standard_in, status_of_kind, subject_rule, value_at, values_at, verify_command};
+ghost use Rattle.edi_words.specs.Requests.{AreKindsIn, AreKindsOf, AreManyFiles, ArePairFiles, AreSheetFiles, IsAsked, IsFlag, GiveKinds, IsOwn, Means, brief_rule, canon_command, check_command, compare_command, diff_command, draw_command, edicad, explain_command, file_option_rule, file_rule, files_rule, hash_command, is_given, is_standard_path, kinds_rule, output_command, pairing_rule, picture_rule, schema_command, standard_at, standard_count, standard_in, status_of_kind, subject_rule, value_at, values_at, verify_command};
 
 use clap::error::ErrorKind;
 use clap::{Arg, ArgAction, ArgMatches, Command, Error};
@@ -99,11 +99,18 @@ pub enum Request<'a> {
         files: PairFiles<'a>,
         pairing: &'a str,
     },
-    /// What differs between two sheets, or only how many records differ.
+    /// What differs between two sheets, or only how many records differ, and where a picture of that goes.
     Diff {
         kinds: Kinds<'a>,
         files: PairFiles<'a>,
         brief: bool,
+        picture: Option<&'a str>,
+    },
+    /// The picture of a sheet.
+    Draw {
+        kinds: Kinds<'a>,
+        files: SheetFiles<'a>,
+        out: &'a str,
     },
     /// Nothing that can be meant.
     Misused(Misuse),
@@ -122,6 +129,8 @@ pub enum Misuse {
     NoSheet,
     /// A pairing is to go to standard output, which gets the answer.
     StandardPairing,
+    /// A picture is to go to standard output, which gets what differs.
+    StandardPicture,
 }
 
 /// What the words ask for, of which the first is the program's name.
@@ -159,7 +168,8 @@ fn command<'a>(alloc: Global) -> Result<Command<'a>, AllocError>
         .subcommand(hash(alloc)?)?
         .subcommand(explain(alloc)?)?
         .subcommand(verify(alloc)?)?
-        .subcommand(diff(alloc)?)
+        .subcommand(diff(alloc)?)?
+        .subcommand(draw(alloc)?)
 }
 
 // The subcommand that checks a sheet.
@@ -179,13 +189,35 @@ fn canon<'a>(alloc: Global) -> Result<Command<'a>, AllocError>
     let over_schema = over_schema(alloc, "canon")?.about(
         "Writes the canonical file of a sheet to OUT",
     );
-    let over_sheet = with_file(alloc, over_schema, "VEC", SHEET)?;
-    with_file(
+    with_output(
         alloc,
-        over_sheet,
-        "OUT",
+        over_schema,
         "The canonical file, which replaces OUT whole or not at all",
     )
+}
+
+// The subcommand that draws a sheet.
+fn draw<'a>(alloc: Global) -> Result<Command<'a>, AllocError>
+    ensures { IfOk result (λ c. app_of c ≡ draw_command) }
+{
+    let over_schema = over_schema(alloc, "draw")?.about("Draws a sheet, as an SVG file, to OUT");
+    with_output(
+        alloc,
+        over_schema,
+        "The picture, which replaces OUT whole or not at all",
+    )
+}
+
+// A command with a sheet, and the file that something goes to.
+fn with_output<'a>(
+    alloc: Global,
+    command: Command<'a>,
+    help: &'a str,
+) -> Result<Command<'a>, AllocError>
+    ensures { IfOk result (λ c. app_of c ≡ with_rule (with_rule (app_of command.entry) (file_rule (codes "VEC"))) (file_rule (codes "OUT"))) }
+{
+    let with_sheet = with_file(alloc, command, "VEC", SHEET)?;
+    with_file(alloc, with_sheet, "OUT", help)
 }
 
 // The subcommand that compares two sheets.
@@ -229,7 +261,9 @@ fn diff<'a>(alloc: Global) -> Result<Command<'a>, AllocError>
     ensures { IfOk result (λ c. app_of c ≡ diff_command) }
 {
     let over_schema = over_schema(alloc, "diff")?.about("Says what differs between two sheets");
-    with_pair(alloc, over_schema)?.arg(brief_flag(alloc))
+    with_pair(alloc, over_schema)?
+        .arg(brief_flag(alloc))?
+        .arg(picture_option(alloc))
 }
 
 // A command with two more sheets.
@@ -330,10 +364,29 @@ fn kinds_option<'a>(alloc: Global) -> Arg<'a>
 fn pairing_option<'a>(alloc: Global) -> Arg<'a>
     ensures { rule_of result ≡ pairing_rule }
 {
-    Arg::new(alloc, "pairing")
-        .long("pairing")
-        .value_name("FILE")
-        .help("Where a pairing goes if the plans are the same")
+    file_option(
+        alloc,
+        "pairing",
+        "Where a pairing goes if the plans are the same",
+    )
+}
+
+// The option with the file that a picture goes to.
+fn picture_option<'a>(alloc: Global) -> Arg<'a>
+    ensures { rule_of result ≡ picture_rule }
+{
+    file_option(
+        alloc,
+        "picture",
+        "Where a picture of what differs goes, as an SVG file",
+    )
+}
+
+// An option with a file that something goes to.
+fn file_option<'a>(alloc: Global, id: &'a str, help: &'a str) -> Arg<'a>
+    ensures { rule_of result ≡ file_option_rule id.entry.now }
+{
+    Arg::new(alloc, id).long(id).value_name("FILE").help(help)
 }
 
 // The flag that asks for the last line alone.
@@ -380,10 +433,11 @@ fn meant<'a, R: Eprint + AllocGlobal>(rt: &R, matches: &ArgMatches<'a>) -> Reque
             files: pair_files(given),
             pairing: path(given, "FILE"),
         },
-        "diff" => Request::Diff {
+        "diff" => told_apart(given, kinds),
+        "draw" => Request::Draw {
             kinds,
-            files: pair_files(given),
-            brief: flag(given, "brief"),
+            files: sheet_files(given),
+            out: path(given, "OUT"),
         },
         _ => explained(given, kinds),
     }
@@ -401,6 +455,22 @@ fn compared<'a>(given: &ArgMatches<'a>, kinds: Kinds<'a>) -> Request<'a>
         kinds,
         files: pair_files(given),
         pairing: given.get_str("pairing"),
+    }
+}
+
+// What the arguments of `diff` ask for.
+fn told_apart<'a>(given: &ArgMatches<'a>, kinds: Kinds<'a>) -> Request<'a>
+    requires { GiveKinds (rows_of (found_of given.now)) kinds }
+    ensures { Means (Some (codes "diff", rows_of (found_of given.now))) result }
+{
+    if is_standard(path(given, "picture")) {
+        return Request::Misused(Misuse::StandardPicture);
+    }
+    Request::Diff {
+        kinds,
+        files: pair_files(given),
+        brief: flag(given, "brief"),
+        picture: given.get_str("picture"),
     }
 }
 

@@ -1,18 +1,22 @@
 -- The status of a run that tells what differs between two sheets.
-use Rattle.std.proofs.Common.{◌≡◌, ◌≢◌, ◌⊎◌, ◌<◌, ◌≤◌, ℕ, Bool, true, false, IsTrue, codes, refl, inl, inr, arith}
+use Rattle.std.proofs.Common.{◌≡◌, ◌≢◌, ◌⊎◌, ◌<◌, ◌≤◌, ℕ, Bool, true, false, List, IsTrue, codes, refl, inl, inr, arith}
 use Rattle.std.specs.Bool.{MatchBool}
 use Rattle.edi_schema.specs.Roles.{KindCodes}
 use Rattle.edi_compare.specs.declared.fault.RunFault.{RunFault}
 use Rattle.edi_compare.specs.Runs.{Seen}
 use Rattle.edi_diff.specs.Runs.{IsDifferenceUnder}
 use Rattle.edi_diff.specs.declared.differing.Difference.{Difference}
+use Rattle.edi_drawing.specs.Runs.{IsDrawnDifferenceUnder}
+use Rattle.edi_drawing.specs.declared.drawn.DrawnDifference.{DrawnDifference}
 use Rattle.edi_words.specs.declared.words.PairFiles.{PairFiles}
 use Rattle.edicad.specs.Outcome.{ended, status_of_fault, words_of_fault}
-use Rattle.edicad.specs.SheetRuns.{Inputs, OfPair, PairFileFault}
+use Rattle.edicad.specs.SheetRuns.{Inputs, IsPictureOfPair, OfMadePair, OfPair, PairFileFault, PutPairFault, ShowsDifference}
 use Rattle.edicad.specs.Reasons.{Why}
-use Rattle.edicad.specs.Statuses.{IsDiffStatus, IsToldAs, Says, Warns, WarnsWhy, pair_paths_of}
+use Rattle.edicad.specs.Statuses.{IsDiffStatus, IsPictureStatus, IsToldAs, Says, Warns, WarnsWhy, pair_paths_of}
 use Rattle.edicad.specs.declared.outcome.Outcome.TheVariants as outcome
-use Rattle.edicad.proofs.Refusals.{fault_status, means_fault, not_one, pair_refused, pair_tried, told_fault, were_four}
+use Rattle.edicad.proofs.Refusals.{fault_status, means_fault, not_one, pair_refused, pair_tried, told_fault}
+use Rattle.edicad.proofs.Made.{pair_map, were_four}
+use Rattle.edicad.proofs.Pairings.{put_pair_refused, put_pair_tried}
 
 -- the status of a difference whose text is put
 abbrev pub IsPutAs : Bool → ℕ → Type 0
@@ -61,5 +65,44 @@ module _ (inputs : Inputs) (why : Why) (out err : Seen) (kinds : KindCodes) (fil
     different = λ one. absurd (not_one s (told_fault (status_of_fault e) s (fault_status e) told) one);
     means = means_fault _ _ _ why (pair_paths_of files (codes "-")) out err s e (λ big four. h)
         (λ is two. pair_refused out kinds (pair_paths_of files (codes "-")) refl inputs files (λ _. ⊥) e h is (line (omega (arith, two)))) told
+        stopped warned memory;
+  }
+
+-- a picture that was drawn shows what differs
+pub shown : (inputs : Inputs) (kinds : KindCodes) (files : PairFiles) (brief : Bool) (drawn : DrawnDifference)
+    → OfPair inputs files (λ s d a b. IsDrawnDifferenceUnder kinds s d a b brief drawn)
+    → OfPair inputs files (λ s d a b. ShowsDifference kinds brief drawn.difference s d a b drawn.picture.items)
+shown inputs kinds files brief drawn h = pair_map inputs files _ _ (λ s d a b under. (drawn, under, refl, refl)) h
+
+pub shown_of_some : (inputs : Inputs) (kinds : KindCodes) (files : PairFiles) (brief : Bool) (difference : Difference) (bytes : List ℕ)
+    → OfPair inputs files (λ s d a b. ShowsDifference kinds brief difference s d a b bytes) → OfPair inputs files (λ s d a b. IsPictureOfPair kinds brief s d a b bytes)
+shown_of_some inputs kinds files brief difference bytes h = pair_map inputs files _ _ (λ s d a b shows. (difference, shows)) h
+
+-- the same with a picture that is put
+module _ (inputs : Inputs) (is_one : List ℕ → List ℕ → Bool → Type 0) (why : Why) (out err : Seen) (kinds : KindCodes) (files : PairFiles) (brief : Bool) (path : List ℕ)
+    (Puts : List ℕ → Type 0) (Stops : ℕ → List ℕ → Type 0) (s : ℕ) where
+  pub drawn_status : (difference : Difference) → OfMadePair inputs (ShowsDifference kinds brief difference) files Puts
+      → IsPutAs difference.same s → (s < 3 → Says out difference.text.items) → (s ≡ 4 → IsTrue out.failed)
+      → IsPictureStatus inputs is_one why out err kinds files brief path Puts Stops s
+  drawn_status difference h status written failed = record {
+    tried = inr (inl (were_four inputs files _ h));
+    different = λ one. (difference, h, other_of_one difference.same s status one, written (omega (arith, one)));
+    means = record {
+      done = λ zero. (difference, h, same_of_zero difference.same s status zero, written (omega (arith, zero)));
+      refused = λ two. absurd (never_two difference.same s status two);
+      failed = λ four. inl (failed four);
+      memory = λ five. absurd (never_five difference.same s status five);
+    };
+  }
+
+  pub undrawn_status : (e : RunFault) → PutPairFault inputs is_one kinds files path (λ count. OfMadePair inputs (IsPictureOfPair kinds brief) files (Stops count)) e
+      → IsToldAs (status_of_fault e) s → (s < 3 → Says out (ended (words_of_fault e (pair_paths_of files path)))) → (status_of_fault e < 3 → s ≡ 4 → IsTrue out.failed)
+      → (3 ≤ status_of_fault e → s ≡ 4 → WarnsWhy why err (outcome.Fault e) (pair_paths_of files path)) → (s ≡ 5 → Warns err (ended (codes "out of memory")))
+      → IsPictureStatus inputs is_one why out err kinds files brief path Puts Stops s
+  undrawn_status e h told line stopped warned memory = record {
+    tried = put_pair_tried inputs is_one kinds files path _ e h;
+    different = λ one. absurd (not_one s (told_fault (status_of_fault e) s (fault_status e) told) one);
+    means = means_fault _ _ _ why (pair_paths_of files path) out err s e (λ big four. h)
+        (λ is two. put_pair_refused inputs is_one kinds files path _ out e h is (line (omega (arith, two)))) told
         stopped warned memory;
   }

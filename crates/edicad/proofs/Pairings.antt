@@ -1,4 +1,4 @@
--- A pairing that was made of four files, and one that was checked.
+-- The status of a run that puts a pairing, and of one that checks it.
 use Rattle.std.proofs.Common.{◌≡◌, ◌⊎◌, ◌<◌, ◌≤◌, ℕ, zero, suc, Bool, true, false, List, Option, Some, None, IsTrue, codes, length, inl, inr, refl, sym, ◌∙◌, ap, subst, ⊎_elim, arith, Bor, Result, Ok, Err, IfOk, IfErr}
 use Rattle.std.specs.Prelude.{MatchOption, ⊤}
 use Rattle.edi_schema.specs.Roles.{KindCodes}
@@ -15,11 +15,11 @@ use Rattle.edicad.specs.Folders.{Leavings}
 use Rattle.edicad.specs.Outcome.{FaultHasNames, HasNames, ended, paired_outcome, status_for, status_of_fault, verified_outcome, words_for, words_of_fault}
 use Rattle.edicad.specs.Outputs.{IsWholeOrNew}
 use Rattle.edicad.specs.Reasons.{Why}
-use Rattle.edicad.specs.SheetRuns.{AreFiveThere, AreFourThere, FirstOfFiveMissing, FirstOfFourMissing, Gives, HoldsTooMuch, Inputs, IsNoPairInput, IsPairInput, OfFive, OfPair, OfPairing, PairFileFault, PairingFault, VerifyFileFault, verify_path_at}
+use Rattle.edicad.specs.SheetRuns.{AreFiveThere, AreFourThere, FirstOfFiveMissing, FirstOfFourMissing, Gives, HoldsTooMuch, Inputs, IsNoPairInput, IsPairInput, OfFive, OfPair, OfPairing, PairFileFault, PutPairFault, VerifyFileFault, verify_path_at}
 use Rattle.edicad.specs.Statuses.{IsPairingStatus, IsToldAs, IsVerifyStatus, Says, SaysPairRefusal, SaysVerifyRefusal, Warns, WarnsWhy, pair_paths_of, verify_paths_of}
-use Rattle.edicad.proofs.Canonical.{pair_map}
+use Rattle.edicad.proofs.Made.{pair_map, were_four}
 use Rattle.edicad.proofs.Faults.{if_err_map, tell_both_told_four, told_four}
-use Rattle.edicad.proofs.Refusals.{fault_status, match_refused, means_answer, means_fault, not_one, not_one_of_zero, not_zero_of_one, pair_refused, pair_tried, told_fault, were_four}
+use Rattle.edicad.proofs.Refusals.{fault_status, match_refused, means_answer, means_fault, not_one, not_one_of_zero, not_zero_of_one, pair_refused, pair_tried, told_fault}
 
 -- ---- a pairing, put at a path
 
@@ -35,46 +35,21 @@ pair_unwritten inputs kinds files W (First f) (inr h) = inr h
 pair_unwritten inputs kinds files W (Second f) (inr h) = inr h
 pair_unwritten inputs kinds files W (Write w) (inr h) = absurd h.1
 
-module _ (inputs : Inputs) (kinds : KindCodes) (files : PairFiles) (items bytes : List ℕ) (is : bytes ≡ items)
-    (stated : OfPair inputs files (λ s d a b. IsPairingFileOf kinds s d a b items)) where
-  -- what holds of the bytes holds of the pairing's file
-  pub of_pairing : (P : List ℕ → Type 0) → P bytes → OfPairing inputs kinds files P
-  of_pairing P h = pair_map inputs files _ _ (λ s d a b f. (items, f, subst P is h)) stated
-
-  -- why they were not written is why there is no answer
-  pub pairing_put_fault : (W V : ℕ → Type 0) → ((n : ℕ) → W n → V n) → (e : RunFault) → MatchFault e (λ _. ⊥) (λ _. ⊥) (λ _. ⊥) (λ _. ⊥) (λ _. ⊥) W
-      → PairFileFault inputs kinds files V e
-  pairing_put_fault W V f (Memory e) h = inr (were_four inputs files _ stated, tt)
-  pairing_put_fault W V f (Read n) h = absurd h
-  pairing_put_fault W V f (TooLong n) h = absurd h
-  pairing_put_fault W V f (Schema g) h = absurd h
-  pairing_put_fault W V f (First g) h = absurd h
-  pairing_put_fault W V f (Second g) h = absurd h
-  pairing_put_fault W V f (Write w) h = inr (were_four inputs files _ stated, f w.count h)
-
-  -- whole bytes are a whole pairing
-  pub whole_pairing : (out : List ℕ) (now : ℕ) (left : Leavings) (path : List ℕ) (c : Option (List ℕ)) → IsWholeOrNew out now left (λ b. b ≡ bytes) path c
-      → IsWholeOrNew out now left (λ f. OfPair inputs files (λ s d a b. IsPairingFileOf kinds s d a b f)) path c
-  whole_pairing out now left path c h =
-      ⊎_elim
-      (λ w. inl (w.0, (w.1.0, subst (λ f. OfPair inputs files (λ s d a b. IsPairingFileOf kinds s d a b f)) (sym (w.1.1 ∙ is)) stated, w.1.2)))
-      (λ new. inr new) h
-
 pub paired_names : (r : Result (Option ℕ) RunFault) (names : List (Bor (List ℕ))) → length names ≡ 5 → IfErr r (λ e. FaultHasNames e 5) → HasNames (paired_outcome r) names
 paired_names (Ok None) names five h = tt
 paired_names (Ok (Some line)) names five h = tt
 paired_names (Err e) names five h = subst (FaultHasNames e) (sym five) h
 
-pairing_tried : (inputs : Inputs) (is_one : List ℕ → List ℕ → Bool → Type 0) (kinds : KindCodes) (files : PairFiles) (path : List ℕ) (W : ℕ → Type 0) (e : RunFault)
-    → PairingFault inputs is_one kinds files path W e → IsPairInput is_one files path ⊎ (AreFourThere inputs files ⊎ ((n : ℕ) × FirstOfFourMissing inputs files n))
-pairing_tried inputs is_one kinds files path W e (inl input) = inl input.0
-pairing_tried inputs is_one kinds files path W e (inr h) = inr (pair_tried inputs kinds files W e h.1)
+pub put_pair_tried : (inputs : Inputs) (is_one : List ℕ → List ℕ → Bool → Type 0) (kinds : KindCodes) (files : PairFiles) (path : List ℕ) (W : ℕ → Type 0) (e : RunFault)
+    → PutPairFault inputs is_one kinds files path W e → IsPairInput is_one files path ⊎ (AreFourThere inputs files ⊎ ((n : ℕ) × FirstOfFourMissing inputs files n))
+put_pair_tried inputs is_one kinds files path W e (inl input) = inl input.0
+put_pair_tried inputs is_one kinds files path W e (inr h) = inr (pair_tried inputs kinds files W e h.1)
 
-pairing_refused : (inputs : Inputs) (is_one : List ℕ → List ℕ → Bool → Type 0) (kinds : KindCodes) (files : PairFiles) (path : List ℕ) (W : ℕ → Type 0) (out : Seen) (e : RunFault)
-    → PairingFault inputs is_one kinds files path W e → status_of_fault e ≡ 2 → Says out (ended (words_of_fault e (pair_paths_of files path)))
+pub put_pair_refused : (inputs : Inputs) (is_one : List ℕ → List ℕ → Bool → Type 0) (kinds : KindCodes) (files : PairFiles) (path : List ℕ) (W : ℕ → Type 0) (out : Seen) (e : RunFault)
+    → PutPairFault inputs is_one kinds files path W e → status_of_fault e ≡ 2 → Says out (ended (words_of_fault e (pair_paths_of files path)))
     → OfPair inputs files (SaysPairRefusal out kinds)
-pairing_refused inputs is_one kinds files path W out e (inl input) two line = absurd (omega (arith, ap status_of_fault input.1, two))
-pairing_refused inputs is_one kinds files path W out e (inr h) two line = pair_refused out kinds (pair_paths_of files path) refl inputs files W e h.1 two line
+put_pair_refused inputs is_one kinds files path W out e (inl input) two line = absurd (omega (arith, ap status_of_fault input.1, two))
+put_pair_refused inputs is_one kinds files path W out e (inr h) two line = pair_refused out kinds (pair_paths_of files path) refl inputs files W e h.1 two line
 
 -- the status of a comparison to a pairing's file
 module _ (inputs : Inputs) (is_one : List ℕ → List ℕ → Bool → Type 0) (why : Why) (out err : Seen) (kinds : KindCodes) (files : PairFiles) (path : List ℕ)
@@ -82,7 +57,7 @@ module _ (inputs : Inputs) (is_one : List ℕ → List ℕ → Bool → Type 0) 
   pub pairing_status : (r : Result (Option ℕ) RunFault)
       → IfOk r (λ line. IsNoPairInput is_one files path × MatchOption line (OfPairing inputs kinds files Puts)
       (λ at. OfPair inputs files (λ scd dic a b. IsVerdictOf kinds scd dic a b (Different at)) × Kept))
-      → IfErr r (PairingFault inputs is_one kinds files path (λ count. OfPairing inputs kinds files (Stops count)))
+      → IfErr r (PutPairFault inputs is_one kinds files path (λ count. OfPairing inputs kinds files (Stops count)))
       → IsToldAs (status_for (paired_outcome r)) s
       → (s < 3 → Says out (ended (words_for (paired_outcome r) (pair_paths_of files path)))) → (status_for (paired_outcome r) < 3 → s ≡ 4 → IsTrue out.failed)
       → (3 ≤ status_for (paired_outcome r) → s ≡ 4 → WarnsWhy why err (paired_outcome r) (pair_paths_of files path)) → (s ≡ 5 → Warns err (ended (codes "out of memory")))
@@ -98,10 +73,10 @@ module _ (inputs : Inputs) (is_one : List ℕ → List ℕ → Bool → Type 0) 
     means = means_answer _ _ _ why (pair_paths_of files path) out err s 1 (omega arith) (λ zero. absurd (not_zero_of_one s zero told)) told stopped memory;
   }
   pairing_status (Err e) ok h told line stopped warned memory = record {
-    tried = pairing_tried inputs is_one kinds files path _ e h;
+    tried = put_pair_tried inputs is_one kinds files path _ e h;
     different = λ one. absurd (not_one s (told_fault (status_of_fault e) s (fault_status e) told) one);
     means = means_fault _ _ _ why (pair_paths_of files path) out err s e (λ big four. h)
-        (λ is two. pairing_refused inputs is_one kinds files path _ out e h is (line (omega (arith, two)))) told
+        (λ is two. put_pair_refused inputs is_one kinds files path _ out e h is (line (omega (arith, two)))) told
         stopped warned memory;
   }
 

@@ -16,9 +16,9 @@ use Rattle.edi_words.specs.declared.words.SheetFiles.{SheetFiles}
 use Rattle.edicad.specs.Outcome.{FaultHasNames, HasNames, ended, first_text, outcome_for, sheet_text, status_for, status_of_fault, status_of_schema, status_of_sheet, words_for, words_of_fault}
 use Rattle.edicad.specs.Reasons.{Why}
 use Rattle.edicad.specs.declared.outcome.Outcome.TheVariants as outcome
-use Rattle.edicad.specs.SheetRuns.{AreFourThere, CanonFault, FileFault, FirstOfFourMissing, Inputs, IsInput, MatchPairFault, OfFiles, OfPair, PairFileFault}
+use Rattle.edicad.specs.SheetRuns.{AreFourThere, PutFault, FileFault, FirstOfFourMissing, Inputs, IsInput, MatchPairFault, OfFiles, OfPair, PairFileFault}
 use Rattle.edicad.specs.Statuses.{AreTried, IsCompareStatus, IsToldAs, MeansStatus, Says, SaysPairRefusal, SaysRefusal, Warns, WarnsWhy, pair_paths_of}
-use Rattle.edicad.proofs.Canonical.{files_map, pair_map, parts_map}
+use Rattle.edicad.proofs.Made.{files_map, pair_map, parts_map, were_four}
 
 -- a run that ends with 2 has an outcome of status 2
 pub told_two : (status s : ℕ) → IsToldAs status s → s ≡ 2 → status ≡ 2
@@ -42,10 +42,10 @@ module _ (out : Seen) (kinds : KindCodes) (names : List (List ℕ)) (alone : fir
   file_refused inputs files W (Second f) (inr h) two line = absurd h.1
   file_refused inputs files W (Write w) (inr h) two line = absurd (omega (arith, two))
 
-  pub canon_refused : (inputs : Inputs) (is_one : List ℕ → List ℕ → Bool → Type 0) (files : SheetFiles) (path : List ℕ) (W : ℕ → Type 0) (e : RunFault)
-      → CanonFault inputs is_one kinds files path W e → status_of_fault e ≡ 2 → Says out (ended (words_of_fault e names)) → OfFiles inputs files (SaysRefusal out kinds)
-  canon_refused inputs is_one files path W e (inl input) two line = absurd (omega (arith, ap status_of_fault input.1, two))
-  canon_refused inputs is_one files path W e (inr h) two line = file_refused inputs files W e h.1 two line
+  pub put_refused : (inputs : Inputs) (is_one : List ℕ → List ℕ → Bool → Type 0) (files : SheetFiles) (path : List ℕ) (W : ℕ → Type 0) (e : RunFault)
+      → PutFault inputs is_one kinds files path W e → status_of_fault e ≡ 2 → Says out (ended (words_of_fault e names)) → OfFiles inputs files (SaysRefusal out kinds)
+  put_refused inputs is_one files path W e (inl input) two line = absurd (omega (arith, ap status_of_fault input.1, two))
+  put_refused inputs is_one files path W e (inr h) two line = file_refused inputs files W e h.1 two line
 
   pub input_refused : (told : Option (List ℕ)) (failed : Bool) (W : ℕ → Type 0) (e : RunFault) → InputFault kinds told failed W e → status_of_fault e ≡ 2
       → Says out (ended (words_of_fault e names)) → IfSome told (λ b. OfParts b (SaysRefusal out kinds))
@@ -62,10 +62,10 @@ pub file_tried : (inputs : Inputs) (kinds : KindCodes) (files : SheetFiles) (W :
 file_tried inputs kinds files W e (inl missing) = inr (missing.0, missing.1)
 file_tried inputs kinds files W e (inr h) = inl h.0
 
-pub canon_tried : (inputs : Inputs) (is_one : List ℕ → List ℕ → Bool → Type 0) (kinds : KindCodes) (files : SheetFiles) (path : List ℕ) (W : ℕ → Type 0) (e : RunFault)
-    → CanonFault inputs is_one kinds files path W e → IsInput is_one files path ⊎ AreTried inputs files
-canon_tried inputs is_one kinds files path W e (inl input) = inl input.0
-canon_tried inputs is_one kinds files path W e (inr h) = inr (file_tried inputs kinds files W e h.1)
+pub put_tried : (inputs : Inputs) (is_one : List ℕ → List ℕ → Bool → Type 0) (kinds : KindCodes) (files : SheetFiles) (path : List ℕ) (W : ℕ → Type 0) (e : RunFault)
+    → PutFault inputs is_one kinds files path W e → IsInput is_one files path ⊎ AreTried inputs files
+put_tried inputs is_one kinds files path W e (inl input) = inl input.0
+put_tried inputs is_one kinds files path W e (inr h) = inr (file_tried inputs kinds files W e h.1)
 
 pub pair_tried : (inputs : Inputs) (kinds : KindCodes) (files : PairFiles) (W : ℕ → Type 0) (e : RunFault) → PairFileFault inputs kinds files W e
     → AreFourThere inputs files ⊎ ((n : ℕ) × FirstOfFourMissing inputs files n)
@@ -159,10 +159,6 @@ module _ (Done Refused : Type 0) (IsFault : RunFault → Type 0) (why : Why) (pa
     failed = λ four. inl (stopped (omega (arith, small)) four);
     memory = memory;
   }
-
--- all four were opened of which something holds
-pub were_four : (inputs : Inputs) (files : PairFiles) (P : List ℕ → List ℕ → List ℕ → List ℕ → Type 0) → OfPair inputs files P → AreFourThere inputs files
-were_four inputs files P h = ((h.0, h.4), (h.1, h.5), (h.2, h.6), (h.3, h.7))
 
 -- a run that ends with one of two statuses has no outcome of the other
 pub not_zero_of_one : (s : ℕ) → s ≡ 0 → IsToldAs 1 s → ⊥

@@ -5,11 +5,16 @@ use Rattle.edi_schema.specs.Roles.{KindCodes}
 use Rattle.edi_compare.specs.declared.fault.RunFault.{RunFault}
 use Rattle.edi_compare.specs.declared.fault.RunFault.TheVariants.{Read, Write}
 use Rattle.edi_compare.specs.Runs.{IsCanonOf, IsTooLong, MatchFault, OfFour, OfThree, RefusesSchema, RefusesSecond, RefusesSheet, TellFour, Told}
+use Rattle.edi_diff.specs.declared.differing.Difference.{Difference}
+use Rattle.edi_drawing.specs.Runs.{IsDrawnDifferenceUnder, IsPictureUnder}
+use Rattle.edi_drawing.specs.declared.drawn.DrawnDifference.{DrawnDifference}
 use Rattle.edi_pairing.specs.CompareRuns.{IsPairingFileOf}
 use Rattle.edi_pairing.specs.VerifyRuns.{TellFive}
 use Rattle.edi_words.specs.Requests.{is_standard_path}
 use Rattle.edi_words.specs.declared.words.PairFiles.{PairFiles}
 use Rattle.edi_words.specs.declared.words.SheetFiles.{SheetFiles}
+use Rattle.edicad.specs.declared.product.Product.{Product}
+use Rattle.edicad.specs.declared.product.Product.TheVariants.{Canonical, Picture}
 
 -- what is known of the inputs
 pub record Inputs : Type 1 where
@@ -72,9 +77,14 @@ FileFault inputs kinds files W e =
     (λ f. OfFiles inputs files (λ s d v. RefusesSheet kinds s d v f))
     (λ _. ⊥) W)
 
--- the canonical file of the sheet, of which this holds
-abbrev pub OfCanon : Inputs → KindCodes → SheetFiles → (List ℕ → Type 0) → Type 0
-OfCanon inputs kinds files P = OfFiles inputs files (λ s d v. (c : List ℕ) × IsCanonOf kinds s d v c × P c)
+-- the bytes are what is made of a sheet: its canonical file, or its picture
+abbrev pub IsMadeOf : Product → KindCodes → List ℕ → List ℕ → List ℕ → List ℕ → Type 0
+IsMadeOf Canonical kinds s d v bytes = IsCanonOf kinds s d v bytes
+IsMadeOf Picture kinds s d v bytes = IsPictureUnder kinds s d v bytes
+
+-- what is made of the sheet, of which this holds
+abbrev pub OfMade : Inputs → Product → KindCodes → SheetFiles → (List ℕ → Type 0) → Type 0
+OfMade inputs product kinds files P = OfFiles inputs files (λ s d v. (bytes : List ℕ) × IsMadeOf product kinds s d v bytes × P bytes)
 
 -- a path is that of an input, or leads to its file
 abbrev pub Meets : (List ℕ → List ℕ → Bool → Type 0) → List ℕ → List ℕ → Type 0
@@ -90,9 +100,9 @@ IsInput is_one files out = Meets is_one out files.scd.now ⊎ (Meets is_one out 
 abbrev pub IsNoInput : (List ℕ → List ℕ → Bool → Type 0) → SheetFiles → List ℕ → Type 0
 IsNoInput is_one files out = IsApart is_one out files.scd.now × IsApart is_one out files.dic.now × IsApart is_one out files.vec.now
 
--- Why no canonical file came to OUT: OUT is an input, and nothing was opened; or the run has no answer.
-abbrev pub CanonFault : Inputs → (List ℕ → List ℕ → Bool → Type 0) → KindCodes → SheetFiles → List ℕ → (ℕ → Type 0) → RunFault → Type 0
-CanonFault inputs is_one kinds files out W e =
+-- Why nothing came to OUT: OUT is an input, and nothing was opened; or the run has no answer.
+abbrev pub PutFault : Inputs → (List ℕ → List ℕ → Bool → Type 0) → KindCodes → SheetFiles → List ℕ → (ℕ → Type 0) → RunFault → Type 0
+PutFault inputs is_one kinds files out W e =
     (IsInput is_one files out × (e ≡ Write (record { count = 0 }))) ⊎ (IsNoInput is_one files out × FileFault inputs kinds files W e)
 
 -- a fact of what the four files of two sheets hold, where they tell it
@@ -133,11 +143,24 @@ PairFileFault inputs kinds files W e =
     (λ n. (1 ≤ n) × (n ≤ 4) × HoldsTooMuch inputs (pair_path_at files n))
     W e)
 
--- ---- the pairing of two sheets, put at a path
+-- ---- what is made of two sheets, put at a path
+
+-- what is made of the two sheets, as IsMade says, of which this holds
+abbrev pub OfMadePair : Inputs → (List ℕ → List ℕ → List ℕ → List ℕ → List ℕ → Type 0) → PairFiles → (List ℕ → Type 0) → Type 0
+OfMadePair inputs IsMade files P = OfPair inputs files (λ s d a b. (bytes : List ℕ) × IsMade s d a b bytes × P bytes)
 
 -- a file that states a pairing which carries the first plan onto the second, of which this holds
 abbrev pub OfPairing : Inputs → KindCodes → PairFiles → (List ℕ → Type 0) → Type 0
-OfPairing inputs kinds files P = OfPair inputs files (λ s d a b. (file : List ℕ) × IsPairingFileOf kinds s d a b file × P file)
+OfPairing inputs kinds files P = OfMadePair inputs (IsPairingFileOf kinds) files P
+
+-- this differs between the two sheets, and the bytes are a picture that shows it
+abbrev pub ShowsDifference : KindCodes → Bool → Difference → List ℕ → List ℕ → List ℕ → List ℕ → List ℕ → Type 0
+ShowsDifference kinds brief difference s d a b bytes =
+    (drawn : DrawnDifference) × IsDrawnDifferenceUnder kinds s d a b brief drawn × (drawn.difference ≡ difference) × (drawn.picture.items ≡ bytes)
+
+-- the bytes are a picture that shows what differs between the two sheets
+abbrev pub IsPictureOfPair : KindCodes → Bool → List ℕ → List ℕ → List ℕ → List ℕ → List ℕ → Type 0
+IsPictureOfPair kinds brief s d a b bytes = (difference : Difference) × ShowsDifference kinds brief difference s d a b bytes
 
 -- FILE is one of the inputs, and none of them
 abbrev pub IsPairInput : (List ℕ → List ℕ → Bool → Type 0) → PairFiles → List ℕ → Type 0
@@ -148,9 +171,9 @@ abbrev pub IsNoPairInput : (List ℕ → List ℕ → Bool → Type 0) → PairF
 IsNoPairInput is_one files out =
     IsApart is_one out files.scd.now × IsApart is_one out files.dic.now × IsApart is_one out files.first.now × IsApart is_one out files.second.now
 
--- Why a comparison to a pairing's file has no answer: FILE is an input, and nothing was opened; or the run has none.
-abbrev pub PairingFault : Inputs → (List ℕ → List ℕ → Bool → Type 0) → KindCodes → PairFiles → List ℕ → (ℕ → Type 0) → RunFault → Type 0
-PairingFault inputs is_one kinds files out W e =
+-- Why a run that puts what is made of two sheets has no answer: FILE is an input, and nothing was opened; or the run has none.
+abbrev pub PutPairFault : Inputs → (List ℕ → List ℕ → Bool → Type 0) → KindCodes → PairFiles → List ℕ → (ℕ → Type 0) → RunFault → Type 0
+PutPairFault inputs is_one kinds files out W e =
     (IsPairInput is_one files out × (e ≡ Write (record { count = 0 }))) ⊎ (IsNoPairInput is_one files out × PairFileFault inputs kinds files W e)
 
 -- ---- the file of a pairing, checked

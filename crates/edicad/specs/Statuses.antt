@@ -1,5 +1,5 @@
 -- The exit statuses.
-use Rattle.std.specs.Prelude.{◌≡◌, ◌⊎◌, ◌<◌, ◌++◌, ℕ, Bool, true, false, List, [], ◌∷◌, Option, IfSome, IsTrue, codes}
+use Rattle.std.specs.Prelude.{◌≡◌, ◌⊎◌, ◌<◌, ◌≤◌, ◌++◌, ℕ, Bool, true, false, List, [], ◌∷◌, Option, IfSome, IsTrue, codes, length, take}
 use Rattle.std.specs.Fmt.{decimal}
 use Rattle.std.specs.Io.KnownBytes.{Appends}
 use Rattle.edi_schema.specs.Roles.{KindCodes}
@@ -19,11 +19,12 @@ use Rattle.edi_diff.specs.Runs.{IsDifferenceUnder}
 use Rattle.edi_diff.specs.declared.differing.Difference.{Difference}
 use Rattle.edi_words.specs.Requests.{IsAsked, usual_kinds}
 use Rattle.edi_pairing.specs.VerifyRuns.{IsVerifiedUnder, RefusesFile}
-use Rattle.edicad.specs.SheetRuns.{AreFiveThere, AreFourThere, AreThere, CanonFault, FileFault, FirstMissing, FirstOfFiveMissing, FirstOfFourMissing, Inputs, IsInput, IsPairInput, OfCanon, OfFiles, OfFive, OfPair, OfPairing, PairFileFault, PairingFault, VerifyFileFault}
+use Rattle.edicad.specs.SheetRuns.{AreFiveThere, AreFourThere, AreThere, FileFault, FirstMissing, FirstOfFiveMissing, FirstOfFourMissing, Inputs, IsInput, IsPairInput, IsPictureOfPair, OfFiles, OfFive, OfMade, OfMadePair, OfPair, OfPairing, PairFileFault, PutFault, PutPairFault, ShowsDifference, VerifyFileFault}
+use Rattle.edicad.specs.declared.product.Product.{Product}
 use Rattle.edi_words.specs.declared.words.PairFiles.{PairFiles}
 use Rattle.edi_words.specs.declared.words.SheetFiles.{SheetFiles}
 use Rattle.edi_words.specs.declared.words.Request.{Request}
-use Rattle.edi_words.specs.declared.words.Request.TheVariants.{Bundle, Check, Canon, Compare, Hash, Explain, Rule, Verify, Diff, Misused, Answered}
+use Rattle.edi_words.specs.declared.words.Request.TheVariants.{Bundle, Check, Canon, Compare, Hash, Explain, Rule, Verify, Diff, Draw, Misused, Answered}
 
 -- of a run over sheets, each for itself: accepted, refused, not read or not written, out of memory
 abbrev pub IsSheetStatus : ℕ → Type 0
@@ -47,7 +48,8 @@ IsStatusOf (Hash kinds files) s = IsSheetStatus s
 IsStatusOf (Explain kinds files) s = IsSheetStatus s
 IsStatusOf (Rule word) s = IsPageStatus s
 IsStatusOf (Verify kinds files pairing) s = IsPairStatus s
-IsStatusOf (Diff kinds files brief) s = IsPairStatus s
+IsStatusOf (Diff kinds files brief picture) s = IsPairStatus s
+IsStatusOf (Draw kinds files out) s = IsSheetStatus s
 IsStatusOf (Misused misuse) s = s ≡ 3
 IsStatusOf (Answered status) s = s ≡ status
 
@@ -62,6 +64,10 @@ IsStatus s = ((words : List (List ℕ)) × HasStatus words s) ⊎ ((s ≡ 3) ⊎
 -- a stream over a run got this text and nothing else
 abbrev pub Says : Seen → List ℕ → Type 0
 Says stream text = Appends stream.before stream.after text
+
+-- a stream got the first bytes of the text and nothing else
+abbrev pub SaysFirst : Seen → ℕ → List ℕ → Type 0
+SaysFirst stream count text = (count ≤ length text) × Says stream (take count text)
 
 -- the text went out, or the writer has failed
 abbrev pub GoesOut : Option (List ℕ) → Option (List ℕ) → Bool → List ℕ → Type 0
@@ -110,19 +116,19 @@ pub record IsFileStatus (inputs : Inputs) (why : Why) (out err : Seen) (kinds : 
   pub means : MeansStatus (OfFiles inputs files (IsSheetUnder kinds) × Says out (ended (codes "accepted"))) (OfFiles inputs files (SaysRefusal out kinds))
       (FileFault inputs kinds files (λ _. ⊥)) why (paths_of files (codes "-")) out err s
 
--- The same of a run that puts the canonical file at a path: Puts says of bytes that they are there, and Stops why they
--- are not.
-pub record IsCanonStatus (inputs : Inputs) (is_one : List ℕ → List ℕ → Bool → Type 0) (why : Why) (out err : Seen) (kinds : KindCodes) (files : SheetFiles) (path : List ℕ)
-    (Puts : List ℕ → Type 0) (Stops : ℕ → List ℕ → Type 0) (s : ℕ) : Type 0 where
+-- The same of a run that puts what is made of the sheet at a path: Puts says of bytes that they are there, and Stops why
+-- they are not.
+pub record IsPutStatus (inputs : Inputs) (is_one : List ℕ → List ℕ → Bool → Type 0) (why : Why) (out err : Seen) (product : Product) (kinds : KindCodes) (files : SheetFiles)
+    (path : List ℕ) (Puts : List ℕ → Type 0) (Stops : ℕ → List ℕ → Type 0) (s : ℕ) : Type 0 where
   pub tried : IsInput is_one files path ⊎ AreTried inputs files
-  pub means : MeansStatus (OfCanon inputs kinds files Puts × Says out (ended (codes "accepted"))) (OfFiles inputs files (SaysRefusal out kinds))
-      (CanonFault inputs is_one kinds files path (λ count. OfCanon inputs kinds files (Stops count))) why (paths_of files path) out err s
+  pub means : MeansStatus (OfMade inputs product kinds files Puts × Says out (ended (codes "accepted"))) (OfFiles inputs files (SaysRefusal out kinds))
+      (PutFault inputs is_one kinds files path (λ count. OfMade inputs product kinds files (Stops count))) why (paths_of files path) out err s
 
--- The same of a run that sends the canonical file to the output, which gets nothing else.
-pub record IsSendStatus (inputs : Inputs) (why : Why) (out err : Seen) (kinds : KindCodes) (files : SheetFiles) (s : ℕ) : Type 0 where
+-- The same of a run that sends what is made of the sheet to the output, which gets nothing else.
+pub record IsSendStatus (inputs : Inputs) (why : Why) (out err : Seen) (product : Product) (kinds : KindCodes) (files : SheetFiles) (s : ℕ) : Type 0 where
   pub tried : AreTried inputs files
-  pub means : MeansStatus (OfFiles inputs files (λ scd dic vec. WritesAll kinds scd dic vec out.before out.after)) (OfFiles inputs files (SaysRefusal out kinds))
-      (FileFault inputs kinds files (λ count. IsTrue out.failed × OfFiles inputs files (λ scd dic vec. WritesFirst kinds scd dic vec count out.before out.after)))
+  pub means : MeansStatus (OfMade inputs product kinds files (Says out)) (OfFiles inputs files (SaysRefusal out kinds))
+      (FileFault inputs kinds files (λ count. IsTrue out.failed × OfMade inputs product kinds files (SaysFirst out count)))
       why (paths_of files (codes "-")) out err s
 
 -- The status of a run over a bundle: 0 only where its canonical file went out, 2 only of a refused sheet.
@@ -159,7 +165,7 @@ pub record IsPairingStatus (inputs : Inputs) (is_one : List ℕ → List ℕ →
   pub different : s ≡ 1 → (line : ℕ) × OfPair inputs files (λ scd dic a b. IsVerdictOf kinds scd dic a b (Different line))
       × Says out (ended (codes "different at line " ++ decimal line))
   pub means : MeansStatus (OfPairing inputs kinds files Puts × Says out (ended (codes "same"))) (OfPair inputs files (SaysPairRefusal out kinds))
-      (PairingFault inputs is_one kinds files path (λ count. OfPairing inputs kinds files (Stops count))) why (pair_paths_of files path) out err s
+      (PutPairFault inputs is_one kinds files path (λ count. OfPairing inputs kinds files (Stops count))) why (pair_paths_of files path) out err s
 
 -- the schema or a sheet is refused, or the pairing's file where both sheets are accepted, and the line of the refusal went out
 abbrev pub SaysVerifyRefusal : Inputs → Seen → KindCodes → PairFiles → List ℕ → Type 0
@@ -188,6 +194,21 @@ pub record IsDiffStatus (inputs : Inputs) (why : Why) (out err : Seen) (kinds : 
   pub different : s ≡ 1 → TellsDifference inputs out kinds files brief false
   pub means : MeansStatus (TellsDifference inputs out kinds files brief true) (OfPair inputs files (SaysPairRefusal out kinds))
       (PairFileFault inputs kinds files (λ _. ⊥)) why (pair_paths_of files (codes "-")) out err s
+
+-- this differs between the two sheets, the plans are the same or not, a picture that shows it was put, and the text of the
+-- difference went out
+abbrev pub TellsDrawnDifference : Inputs → Seen → KindCodes → PairFiles → Bool → (List ℕ → Type 0) → Bool → Type 0
+TellsDrawnDifference inputs out kinds files brief Puts same =
+    (difference : Difference) × OfMadePair inputs (ShowsDifference kinds brief difference) files Puts × (difference.same ≡ same) × Says out difference.text.items
+
+-- The same of a run that also puts a picture of what differs at a path: Puts says of bytes that they are there, and Stops why
+-- they are not.
+pub record IsPictureStatus (inputs : Inputs) (is_one : List ℕ → List ℕ → Bool → Type 0) (why : Why) (out err : Seen) (kinds : KindCodes) (files : PairFiles) (brief : Bool)
+    (path : List ℕ) (Puts : List ℕ → Type 0) (Stops : ℕ → List ℕ → Type 0) (s : ℕ) : Type 0 where
+  pub tried : IsPairInput is_one files path ⊎ (AreFourThere inputs files ⊎ ((n : ℕ) × FirstOfFourMissing inputs files n))
+  pub different : s ≡ 1 → TellsDrawnDifference inputs out kinds files brief Puts false
+  pub means : MeansStatus (TellsDrawnDifference inputs out kinds files brief Puts true) (OfPair inputs files (SaysPairRefusal out kinds))
+      (PutPairFault inputs is_one kinds files path (λ count. OfMadePair inputs (IsPictureOfPair kinds brief) files (Stops count))) why (pair_paths_of files path) out err s
 
 -- the status once the line was printed: that of the outcome, 5 without memory for the line, 4 where it can't be printed
 abbrev pub IsToldAs : ℕ → ℕ → Type 0

@@ -3,12 +3,12 @@ ghost use Rattle.std.specs.Prelude.{◌≡◌, ◌⊎◌, ◌<◌, ℕ, IsTrue, 
 ghost use Rattle.std.specs.Bool.{MatchBool};
 ghost use Rattle.std.specs.Io.KnownBytes.{Appends};
 ghost use Rattle.edi_compare.specs.Runs.{seen};
-ghost use Rattle.edicad.specs.Answered.{IsAnswered};
+ghost use Rattle.edicad.specs.Answered.{IsAnswered, IsMadeStatus};
 ghost use Rattle.edicad.specs.Outcome.{ended, outcome_for, paired_outcome, verified_outcome};
 ghost use Rattle.edicad.specs.Outputs.{IsUnmade, Reaches, Stops};
 ghost use Rattle.edi_words.specs.Requests.{IsAsked};
 ghost use Rattle.edicad.specs.SheetRuns.{inputs_of};
-ghost use Rattle.edicad.specs.Statuses.{HasStatus, IsBundleStatus, IsCanonStatus, IsCompareStatus, IsDiffStatus, IsFileStatus, IsPairStatus, IsPairingStatus, IsSendStatus, IsSheetStatus, IsStatus, IsStatusOf, IsVerifyStatus, Warns};
+ghost use Rattle.edicad.specs.Statuses.{HasStatus, IsBundleStatus, IsCompareStatus, IsDiffStatus, IsFileStatus, IsPairStatus, IsPairingStatus, IsPictureStatus, IsPutStatus, IsSendStatus, IsSheetStatus, IsStatus, IsStatusOf, IsVerifyStatus, Warns};
 ghost use Rattle.edi_words.specs.declared.words.Request.{Request};
 
 use crate::disk::Disk;
@@ -16,6 +16,7 @@ use crate::explains::{explain, explain_rule};
 use crate::folder::Folder;
 use crate::hashes::hash;
 use crate::outcome::Outcome;
+use crate::product::Product;
 use crate::system::{CommandLine, Errors, Words};
 use crate::{report, sheets};
 use edi_compare::{RunFault, Verdict};
@@ -109,13 +110,16 @@ pub fn answered<F: Folder, O: ByteOut, E: ByteOut>(
             kinds,
             files,
             out: path,
-        } => {
-            if is_standard(path) {
-                send(alloc, folder, &kinds, &files, out, err)
-            } else {
-                canon(alloc, folder, &kinds, &files, path, out, err)
-            }
-        }
+        } => make(
+            alloc,
+            folder,
+            Product::Canonical,
+            &kinds,
+            &files,
+            path,
+            out,
+            err,
+        ),
         Request::Compare {
             kinds,
             files,
@@ -136,7 +140,25 @@ pub fn answered<F: Folder, O: ByteOut, E: ByteOut>(
             kinds,
             files,
             brief,
-        } => diff(alloc, folder, &kinds, &files, brief, out, err),
+            picture,
+        } => match picture {
+            Some(path) => draw_difference(alloc, folder, &kinds, &files, brief, path, out, err),
+            None => diff(alloc, folder, &kinds, &files, brief, out, err),
+        },
+        Request::Draw {
+            kinds,
+            files,
+            out: path,
+        } => make(
+            alloc,
+            folder,
+            Product::Picture,
+            &kinds,
+            &files,
+            path,
+            out,
+            err,
+        ),
         Request::Misused(misuse) => report::misused(err, misuse),
         Request::Answered(status) => status,
     }
@@ -177,10 +199,11 @@ fn check<F: Folder, O: ByteOut, E: ByteOut>(
     }
 }
 
-// The canonical file of a sheet, to a path.
-fn canon<F: Folder, O: ByteOut, E: ByteOut>(
+// What is made of a sheet, to a path or to the output.
+fn make<F: Folder, O: ByteOut, E: ByteOut>(
     alloc: Global,
     folder: &mut F,
+    product: Product,
     kinds: &Kinds<'_>,
     files: &SheetFiles<'_>,
     path: &str,
@@ -188,31 +211,54 @@ fn canon<F: Folder, O: ByteOut, E: ByteOut>(
     err: &mut E,
 ) -> u8
     ensures status { IsSheetStatus result }
-    ensures answer { IsCanonStatus (inputs_of F.Reader (F.holds folder.old) (F.closed folder.old) (F.standard folder.old) F.Reader.has_failed) (F.is_one folder.old) (F.why folder.new) (seen (O.told out.old) (O.told out.new) (O.has_failed out.new)) (seen (E.told err.old) (E.told err.new) (E.has_failed err.new)) kinds.now files.now path.now
+    ensures answer { IsMadeStatus (inputs_of F.Reader (F.holds folder.old) (F.closed folder.old) (F.standard folder.old) F.Reader.has_failed) (F.is_one folder.old) (F.why folder.new)
+        (λ path. Reaches F.Sink (F.holds folder.new path) (F.sinks folder.old path) F.Sink.told) (λ path. Stops F.Sink (IsUnmade F.NewFile (F.unwritable folder.new path) F.NewFile.has_failed) (F.sinks folder.old path) F.Sink.told F.Sink.has_failed) (seen (O.told out.old) (O.told out.new) (O.has_failed out.new)) (seen (E.told err.old) (E.told err.new) (E.has_failed err.new)) product kinds.now files.now path.now result }
+{
+    if is_standard(path) {
+        send(alloc, folder, product, kinds, files, out, err)
+    } else {
+        put(alloc, folder, product, kinds, files, path, out, err)
+    }
+}
+
+// What is made of a sheet, to a path.
+fn put<F: Folder, O: ByteOut, E: ByteOut>(
+    alloc: Global,
+    folder: &mut F,
+    product: Product,
+    kinds: &Kinds<'_>,
+    files: &SheetFiles<'_>,
+    path: &str,
+    out: &mut O,
+    err: &mut E,
+) -> u8
+    ensures status { IsSheetStatus result }
+    ensures answer { IsPutStatus (inputs_of F.Reader (F.holds folder.old) (F.closed folder.old) (F.standard folder.old) F.Reader.has_failed) (F.is_one folder.old) (F.why folder.new) (seen (O.told out.old) (O.told out.new) (O.has_failed out.new)) (seen (E.told err.old) (E.told err.new) (E.has_failed err.new)) product kinds.now files.now path.now
         (Reaches F.Sink (F.holds folder.new path.now) (F.sinks folder.old path.now) F.Sink.told) (Stops F.Sink (IsUnmade F.NewFile (F.unwritable folder.new path.now) F.NewFile.has_failed) (F.sinks folder.old path.now) F.Sink.told F.Sink.has_failed) result }
     ensures unmade { result ≡ 2 → folder.new ≡ folder.old }
 {
     let paths = [files.scd, files.dic, files.vec, path];
-    match sheets::canon(alloc, folder, kinds, files, path) {
+    match sheets::put(alloc, folder, product, kinds, files, path) {
         Ok(()) => report::told(alloc, folder, out, err, &Outcome::Accepted, &paths),
         Err(fault) => report::told(alloc, folder, out, err, &Outcome::Fault(fault), &paths),
     }
 }
 
-// The canonical file of a sheet, to the output, of which only a fault has a line.
+// What is made of a sheet, to the output, of which only a fault has a line.
 fn send<F: Folder, O: ByteOut, E: ByteOut>(
     alloc: Global,
     folder: &F,
+    product: Product,
     kinds: &Kinds<'_>,
     files: &SheetFiles<'_>,
     out: &mut O,
     err: &mut E,
 ) -> u8
     ensures status { IsSheetStatus result }
-    ensures answer { IsSendStatus (inputs_of F.Reader (F.holds folder.now) (F.closed folder.now) (F.standard folder.now) F.Reader.has_failed) (F.why folder.now) (seen (O.told out.old) (O.told out.new) (O.has_failed out.new)) (seen (E.told err.old) (E.told err.new) (E.has_failed err.new)) kinds.now files.now result }
+    ensures answer { IsSendStatus (inputs_of F.Reader (F.holds folder.now) (F.closed folder.now) (F.standard folder.now) F.Reader.has_failed) (F.why folder.now) (seen (O.told out.old) (O.told out.new) (O.has_failed out.new)) (seen (E.told err.old) (E.told err.new) (E.has_failed err.new)) product kinds.now files.now result }
 {
     let paths = [files.scd, files.dic, files.vec, "-"];
-    match sheets::send(alloc, folder, kinds, files, out) {
+    match sheets::send(alloc, folder, product, kinds, files, out) {
         Ok(()) => 0,
         Err(fault) => report::told(alloc, folder, out, err, &Outcome::Fault(fault), &paths),
     }
@@ -295,6 +341,29 @@ fn diff<F: Folder, O: ByteOut, E: ByteOut>(
 {
     let paths = [files.scd, files.dic, files.first, files.second, "-"];
     match sheets::diff(alloc, folder, kinds, files, brief) {
+        Ok(difference) => put_difference(&difference, out, err),
+        Err(fault) => report::told(alloc, folder, out, err, &Outcome::Fault(fault), &paths),
+    }
+}
+
+// What differs between two sheets, or the last line of that alone, and a picture of it to a path.
+fn draw_difference<F: Folder, O: ByteOut, E: ByteOut>(
+    alloc: Global,
+    folder: &mut F,
+    kinds: &Kinds<'_>,
+    files: &PairFiles<'_>,
+    brief: bool,
+    path: &str,
+    out: &mut O,
+    err: &mut E,
+) -> u8
+    ensures status { IsPairStatus result }
+    ensures answer { IsPictureStatus (inputs_of F.Reader (F.holds folder.old) (F.closed folder.old) (F.standard folder.old) F.Reader.has_failed) (F.is_one folder.old) (F.why folder.new) (seen (O.told out.old) (O.told out.new) (O.has_failed out.new)) (seen (E.told err.old) (E.told err.new) (E.has_failed err.new)) kinds.now files.now brief path.now
+        (Reaches F.Sink (F.holds folder.new path.now) (F.sinks folder.old path.now) F.Sink.told) (Stops F.Sink (IsUnmade F.NewFile (F.unwritable folder.new path.now) F.NewFile.has_failed) (F.sinks folder.old path.now) F.Sink.told F.Sink.has_failed) result }
+    ensures unmade { result ≡ 2 → folder.new ≡ folder.old }
+{
+    let paths = [files.scd, files.dic, files.first, files.second, path];
+    match sheets::draw_difference(alloc, folder, kinds, files, brief, path) {
         Ok(difference) => put_difference(&difference, out, err),
         Err(fault) => report::told(alloc, folder, out, err, &Outcome::Fault(fault), &paths),
     }

@@ -9,6 +9,7 @@ mod hashes;
 mod known;
 mod outcome;
 mod output;
+mod product;
 mod reason;
 mod report;
 mod sheets;

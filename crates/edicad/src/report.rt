@@ -117,6 +117,7 @@ pub fn misused<E: ByteOut>(err: &mut E, misuse: Misuse) -> u8
         Misuse::TwoStandard => warn(err, b"only one input can be -\n"),
         Misuse::NoSheet => warn(err, b"explain takes RULE, or SCD, DIC and VEC\n"),
         Misuse::StandardPairing => warn(err, b"--pairing takes a file, and not -\n"),
+        Misuse::StandardPicture => warn(err, b"--picture takes a file, and not -\n"),
     }
     USAGE_STATUS
 }

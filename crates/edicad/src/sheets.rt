@@ -3,22 +3,25 @@ ghost use Rattle.std.specs.Prelude.{◌≡◌, ◌≤◌, ℕ, List, MatchOption
 ghost use Rattle.std.specs.Bool.{MatchBool};
 ghost use Rattle.std.specs.Io.KnownBytes.{Appends};
 ghost use Rattle.edi_compare.specs.Bundle.{OfParts};
-ghost use Rattle.edi_compare.specs.Runs.{BeforeWriting, InputFault, IsCanonOf, IsSheetUnder, IsVerdictOf, MatchFault, WritesAll, WritesFirst};
+ghost use Rattle.edi_compare.specs.Runs.{BeforeWriting, FilesFault, InputFault, IsSheetUnder, IsVerdictOf, MatchFault, Told, WritesAll, WritesFirst, seen};
 ghost use Rattle.edi_compare.specs.declared.pairing.Verdict.TheVariants.{Different};
 ghost use Rattle.edi_diff.specs.Runs.{IsDifferenceUnder};
+ghost use Rattle.edi_drawing.specs.Runs.{IsDrawnDifferenceUnder};
 ghost use Rattle.edi_pairing.specs.CompareRuns.{IsComparedUnder, IsPairingFileOf};
 ghost use Rattle.edi_pairing.specs.VerifyRuns.{IsVerifiedUnder, MatchRun, RefusesFile};
 ghost use Rattle.edicad.specs.Folders.{Goes};
 ghost use Rattle.edicad.specs.Outcome.{FaultHasNames};
 ghost use Rattle.edicad.specs.Outputs.{IsUnmade, IsWholeOrNew, Reaches, Stops};
 ghost use Rattle.edi_words.specs.Requests.{usual_kinds};
-ghost use Rattle.edicad.specs.SheetRuns.{CanonFault, FileFault, Gives, IsApart, IsInput, IsMissing, IsNoInput, IsNoPairInput, IsPairInput, Meets, OfCanon, OfFiles, OfFive, OfPair, OfPairing, PairFileFault, PairingFault, VerifyFileFault, inputs_of};
+ghost use Rattle.edicad.specs.SheetRuns.{FileFault, Gives, IsApart, IsInput, IsMadeOf, IsMissing, IsNoInput, IsNoPairInput, IsPairInput, IsPictureOfPair, Meets, OfFiles, OfFive, OfMade, OfMadePair, OfPair, OfPairing, PairFileFault, PutFault, PutPairFault, ShowsDifference, VerifyFileFault, inputs_of};
 
 use crate::folder::Folder;
 use crate::output;
+use crate::product::Product;
 use edi_compare::{RunFault, Verdict, canon_of, run_bundle, run_check, run_compare};
 use edi_diff::{Difference, run_diff};
-use edi_line::ByteOut;
+use edi_drawing::{DrawnDifference, run_draw, run_draw_difference};
+use edi_line::{ByteIn, ByteOut};
 use edi_pairing::{Compared, VerifyRunFault, run_compare_to_file, run_verify};
 use edi_schema::Kinds;
 use edi_words::{PairFiles, SheetFiles, is_standard};
@@ -56,49 +59,51 @@ pub fn check<F: Folder>(
     run_check(alloc, kinds, &mut scd, &mut dic, &mut vec)
 }
 
-/// The canonical file of the sheet of three files, to a path that is none of them. It is written once the sheet is
-/// accepted, and replaces a file whole or not at all.
-pub fn canon<F: Folder>(
+/// What is made of the sheet of three files, to a path that is none of them. It is written once the sheet is accepted,
+/// and replaces a file whole or not at all.
+pub fn put<F: Folder>(
     alloc: Global,
     folder: &mut F,
+    product: Product,
     kinds: &Kinds<'_>,
     files: &SheetFiles<'_>,
     out: &str,
 ) -> Result<(), RunFault>
-    ensures ok { OnOk result (IsNoInput (F.is_one folder.old) files.now out.now × OfCanon (inputs_of F.Reader (F.holds folder.old) (F.closed folder.old) (F.standard folder.old) F.Reader.has_failed) kinds.now files.now
+    ensures ok { OnOk result (IsNoInput (F.is_one folder.old) files.now out.now × OfMade (inputs_of F.Reader (F.holds folder.old) (F.closed folder.old) (F.standard folder.old) F.Reader.has_failed) product kinds.now files.now
         (Reaches F.Sink (F.holds folder.new out.now) (F.sinks folder.old out.now) F.Sink.told)) }
-    ensures err { IfErr result (CanonFault (inputs_of F.Reader (F.holds folder.old) (F.closed folder.old) (F.standard folder.old) F.Reader.has_failed) (F.is_one folder.old) kinds.now files.now out.now
-        (λ count. OfCanon (inputs_of F.Reader (F.holds folder.old) (F.closed folder.old) (F.standard folder.old) F.Reader.has_failed) kinds.now files.now (Stops F.Sink (IsUnmade F.NewFile (F.unwritable folder.new out.now) F.NewFile.has_failed)
+    ensures err { IfErr result (PutFault (inputs_of F.Reader (F.holds folder.old) (F.closed folder.old) (F.standard folder.old) F.Reader.has_failed) (F.is_one folder.old) kinds.now files.now out.now
+        (λ count. OfMade (inputs_of F.Reader (F.holds folder.old) (F.closed folder.old) (F.standard folder.old) F.Reader.has_failed) product kinds.now files.now (Stops F.Sink (IsUnmade F.NewFile (F.unwritable folder.new out.now) F.NewFile.has_failed)
         (F.sinks folder.old out.now) F.Sink.told F.Sink.has_failed count))) }
     ensures unmade { IfErr result (λ e. BeforeWriting e (folder.new ≡ folder.old)) }
     ensures replaced { F.tells folder.old → Goes (F.moment folder.old) (F.moment folder.new) (F.left_since folder.old) (F.left_since folder.new)
-        (IsWholeOrNew out.now (F.moment folder.old) (F.left_since folder.old) (λ c. OfFiles (inputs_of F.Reader (F.holds folder.old) (F.closed folder.old) (F.standard folder.old) F.Reader.has_failed) files.now (λ s d v. IsCanonOf kinds.now s d v c))) }
+        (IsWholeOrNew out.now (F.moment folder.old) (F.left_since folder.old) (λ bytes. OfFiles (inputs_of F.Reader (F.holds folder.old) (F.closed folder.old) (F.standard folder.old) F.Reader.has_failed) files.now (λ s d v. IsMadeOf product kinds.now s d v bytes))) }
     ensures names { IfErr result (λ e. FaultHasNames e 4) }
 {
     if is_input(folder, files, out) {
         return Err(RunFault::Write(Written { count: 0 }));
     }
-    match canon_bytes(alloc, folder, kinds, files) {
+    match make(alloc, folder, product, kinds, files) {
         Ok(bytes) => output::put(folder, out, &bytes),
         Err(fault) => Err(fault),
     }
 }
 
-/// The canonical file of the sheet of three files, to a writer, and nothing else.
+/// What is made of the sheet of three files, to a writer, and nothing else.
 pub fn send<F: Folder, O: ByteOut>(
     alloc: Global,
     folder: &F,
+    product: Product,
     kinds: &Kinds<'_>,
     files: &SheetFiles<'_>,
     out: &mut O,
 ) -> Result<(), RunFault>
-    ensures ok { OnOk result (OfFiles (inputs_of F.Reader (F.holds folder.now) (F.closed folder.now) (F.standard folder.now) F.Reader.has_failed) files.now (λ s d v. WritesAll kinds.now s d v (O.told out.old) (O.told out.new))) }
+    ensures ok { OnOk result (OfMade (inputs_of F.Reader (F.holds folder.now) (F.closed folder.now) (F.standard folder.now) F.Reader.has_failed) product kinds.now files.now (Appends (O.told out.old) (O.told out.new))) }
     ensures err { IfErr result (FileFault (inputs_of F.Reader (F.holds folder.now) (F.closed folder.now) (F.standard folder.now) F.Reader.has_failed) kinds.now files.now (λ count. IsTrue (O.has_failed out.new)
-        × OfFiles (inputs_of F.Reader (F.holds folder.now) (F.closed folder.now) (F.standard folder.now) F.Reader.has_failed) files.now (λ s d v. WritesFirst kinds.now s d v count (O.told out.old) (O.told out.new)))) }
+        × OfMade (inputs_of F.Reader (F.holds folder.now) (F.closed folder.now) (F.standard folder.now) F.Reader.has_failed) product kinds.now files.now (λ bytes. (count ≤ length bytes) × Appends (O.told out.old) (O.told out.new) (take count bytes)))) }
     ensures unwritten { IfErr result (λ e. BeforeWriting e (out.new ≡ out.old)) }
     ensures names { IfErr result (λ e. FaultHasNames e 4) }
 {
-    match canon_bytes(alloc, folder, kinds, files) {
+    match make(alloc, folder, product, kinds, files) {
         Ok(bytes) => sent(out, &bytes),
         Err(fault) => Err(fault),
     }
@@ -163,7 +168,7 @@ pub fn pair<F: Folder>(
     ensures ok { IfOk result (λ line. IsNoPairInput (F.is_one folder.old) files.now out.now × MatchOption line
         (OfPairing (inputs_of F.Reader (F.holds folder.old) (F.closed folder.old) (F.standard folder.old) F.Reader.has_failed) kinds.now files.now (Reaches F.Sink (F.holds folder.new out.now) (F.sinks folder.old out.now) F.Sink.told))
         (λ at. OfPair (inputs_of F.Reader (F.holds folder.old) (F.closed folder.old) (F.standard folder.old) F.Reader.has_failed) files.now (λ s d a b. IsVerdictOf kinds.now s d a b (Different at)) × (folder.new ≡ folder.old))) }
-    ensures err { IfErr result (PairingFault (inputs_of F.Reader (F.holds folder.old) (F.closed folder.old) (F.standard folder.old) F.Reader.has_failed) (F.is_one folder.old) kinds.now files.now out.now
+    ensures err { IfErr result (PutPairFault (inputs_of F.Reader (F.holds folder.old) (F.closed folder.old) (F.standard folder.old) F.Reader.has_failed) (F.is_one folder.old) kinds.now files.now out.now
         (λ count. OfPairing (inputs_of F.Reader (F.holds folder.old) (F.closed folder.old) (F.standard folder.old) F.Reader.has_failed) kinds.now files.now (Stops F.Sink (IsUnmade F.NewFile (F.unwritable folder.new out.now) F.NewFile.has_failed)
         (F.sinks folder.old out.now) F.Sink.told F.Sink.has_failed count))) }
     ensures unmade { IfErr result (λ e. BeforeWriting e (folder.new ≡ folder.old)) }
@@ -180,6 +185,43 @@ pub fn pair<F: Folder>(
             Err(fault) => Err(fault),
         },
         Ok(Compared::Different { line }) => Ok(Some(line)),
+        Err(fault) => Err(fault),
+    }
+}
+
+/// What differs between the two sheets of four files, or the last line of that alone. A picture of both that shows it goes to a
+/// path that is none of the four, whether they differ or not; a file is replaced whole or not at all.
+pub fn draw_difference<F: Folder>(
+    alloc: Global,
+    folder: &mut F,
+    kinds: &Kinds<'_>,
+    files: &PairFiles<'_>,
+    brief: bool,
+    out: &str,
+) -> Result<Difference, RunFault>
+    ensures ok { IfOk result (λ difference. IsNoPairInput (F.is_one folder.old) files.now out.now × OfMadePair (inputs_of F.Reader (F.holds folder.old) (F.closed folder.old) (F.standard folder.old) F.Reader.has_failed) (ShowsDifference kinds.now brief difference) files.now
+        (Reaches F.Sink (F.holds folder.new out.now) (F.sinks folder.old out.now) F.Sink.told)) }
+    ensures err { IfErr result (PutPairFault (inputs_of F.Reader (F.holds folder.old) (F.closed folder.old) (F.standard folder.old) F.Reader.has_failed) (F.is_one folder.old) kinds.now files.now out.now
+        (λ count. OfMadePair (inputs_of F.Reader (F.holds folder.old) (F.closed folder.old) (F.standard folder.old) F.Reader.has_failed) (IsPictureOfPair kinds.now brief) files.now (Stops F.Sink (IsUnmade F.NewFile (F.unwritable folder.new out.now) F.NewFile.has_failed)
+        (F.sinks folder.old out.now) F.Sink.told F.Sink.has_failed count))) }
+    ensures unmade { IfErr result (λ e. BeforeWriting e (folder.new ≡ folder.old)) }
+    ensures replaced { F.tells folder.old → Goes (F.moment folder.old) (F.moment folder.new) (F.left_since folder.old) (F.left_since folder.new)
+        (IsWholeOrNew out.now (F.moment folder.old) (F.left_since folder.old) (λ bytes. OfPair (inputs_of F.Reader (F.holds folder.old) (F.closed folder.old) (F.standard folder.old) F.Reader.has_failed) files.now (λ s d a b. IsPictureOfPair kinds.now brief s d a b bytes))) }
+    ensures names { IfErr result (λ e. FaultHasNames e 5) }
+{
+    if is_pair_input(folder, files, out) {
+        return Err(RunFault::Write(Written { count: 0 }));
+    }
+    match drawn_difference(alloc, folder, kinds, files, brief) {
+        Ok(
+            DrawnDifference {
+                difference,
+                picture,
+            },
+        ) => match output::put(folder, out, &picture) {
+            Ok(()) => Ok(difference),
+            Err(fault) => Err(fault),
+        },
         Err(fault) => Err(fault),
     }
 }
@@ -231,6 +273,33 @@ fn compare_to_file<F: Folder>(
     run_compare_to_file(alloc, kinds, &mut scd, &mut dic, &mut first, &mut second)
 }
 
+// What differs between the two sheets of four files, with a picture of both.
+fn drawn_difference<F: Folder>(
+    alloc: Global,
+    folder: &F,
+    kinds: &Kinds<'_>,
+    files: &PairFiles<'_>,
+    brief: bool,
+) -> Result<DrawnDifference, RunFault>
+    ensures ok { IfOk result (λ drawn. OfPair (inputs_of F.Reader (F.holds folder.now) (F.closed folder.now) (F.standard folder.now) F.Reader.has_failed) files.now (λ s d a b. IsDrawnDifferenceUnder kinds.now s d a b brief drawn)) }
+    ensures err { IfErr result (PairFileFault (inputs_of F.Reader (F.holds folder.now) (F.closed folder.now) (F.standard folder.now) F.Reader.has_failed) kinds.now files.now (λ _. ⊥)) }
+    ensures names { IfErr result (λ e. FaultHasNames e 5) }
+{
+    let mut scd = opened(folder, files.scd, 1)?;
+    let mut dic = opened(folder, files.dic, 2)?;
+    let mut first = opened(folder, files.first, 3)?;
+    let mut second = opened(folder, files.second, 4)?;
+    run_draw_difference(
+        alloc,
+        kinds,
+        &mut scd,
+        &mut dic,
+        &mut first,
+        &mut second,
+        brief,
+    )
+}
+
 // Writes all bytes.
 fn sent<O: ByteOut>(out: &mut O, bytes: &[u8]) -> Result<(), RunFault>
     ensures ok { OnOk result (Appends (O.told out.old) (O.told out.new) bytes.now) }
@@ -245,21 +314,42 @@ fn sent<O: ByteOut>(out: &mut O, bytes: &[u8]) -> Result<(), RunFault>
     }
 }
 
-// The canonical file of the sheet of three files.
-fn canon_bytes<F: Folder>(
+// What is made of the sheet of three files.
+fn make<F: Folder>(
     alloc: Global,
     folder: &F,
+    product: Product,
     kinds: &Kinds<'_>,
     files: &SheetFiles<'_>,
 ) -> Result<Vec<u8>, RunFault>
-    ensures ok { IfOk result (λ c. OfFiles (inputs_of F.Reader (F.holds folder.now) (F.closed folder.now) (F.standard folder.now) F.Reader.has_failed) files.now (λ s d v. IsCanonOf kinds.now s d v c.items)) }
+    ensures ok { IfOk result (λ bytes. OfFiles (inputs_of F.Reader (F.holds folder.now) (F.closed folder.now) (F.standard folder.now) F.Reader.has_failed) files.now (λ s d v. IsMadeOf product kinds.now s d v bytes.items)) }
     ensures err { IfErr result (FileFault (inputs_of F.Reader (F.holds folder.now) (F.closed folder.now) (F.standard folder.now) F.Reader.has_failed) kinds.now files.now (λ _. ⊥)) }
     ensures names { IfErr result (λ e. FaultHasNames e 4) }
 {
     let mut scd = opened(folder, files.scd, 1)?;
     let mut dic = opened(folder, files.dic, 2)?;
     let mut vec = opened(folder, files.vec, 3)?;
-    canon_of(alloc, kinds, &mut scd, &mut dic, &mut vec)
+    made_of(alloc, product, kinds, &mut scd, &mut dic, &mut vec)
+}
+
+// What is made of the sheet of three inputs.
+fn made_of<R: ByteIn>(
+    alloc: Global,
+    product: Product,
+    kinds: &Kinds<'_>,
+    scd: &mut R,
+    dic: &mut R,
+    vec: &mut R,
+) -> Result<Vec<u8>, RunFault>
+    ensures ok { IfOk result (λ bytes. Told (R.told scd.old) (R.told dic.old) (R.told vec.old) (λ s d v. IsMadeOf product kinds.now s d v bytes.items)) }
+    ensures err { IfErr result (FilesFault kinds.now (seen (R.told scd.old) (R.told scd.new) (R.has_failed scd.new))
+        (seen (R.told dic.old) (R.told dic.new) (R.has_failed dic.new)) (seen (R.told vec.old) (R.told vec.new) (R.has_failed vec.new))
+        (dic.new ≡ dic.old) (vec.new ≡ vec.old) (λ _. ⊥)) }
+{
+    match product {
+        Product::Canonical => canon_of(alloc, kinds, scd, dic, vec),
+        Product::Picture => run_draw(alloc, kinds, scd, dic, vec),
+    }
 }
 
 /// An input that is there to read.

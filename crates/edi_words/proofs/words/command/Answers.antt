@@ -1,7 +1,7 @@
 use Rattle.std.proofs.Common.{◌≡◌, ◌∙◌, ap, ap₂, codes}
 use Rattle.std.proofs.lemmas.Result.{IfOk-weaker}
 use Rattle.clap.specs.Words.{App, app_of, new_app, with_subcommand}
-use Rattle.edi_words.specs.Requests.{canon_command, check_command, compare_command, explain_command, hash_command, verify_command, versioned}
+use Rattle.edi_words.specs.Requests.{canon_command, check_command, compare_command, diff_command, explain_command, hash_command, verify_command, versioned}
 use Rattle.edi_words.proofs.Plain.{command_local}
 use Rattle.edi_words.proofs.words.command.Goals as goal
 
@@ -27,6 +27,9 @@ returns c =
     let with_verify : app_of c.in_ok-subcommand-6.field-0 ≡ with_subcommand (with_subcommand (with_subcommand (with_subcommand (with_subcommand (with_subcommand (versioned (new_app (codes "edicad"))) check_command.top) canon_command.top) compare_command.top) hash_command.top) explain_command.top) verify_command.top =
     c.in_ok-subcommand-6.ensures.shape (command_local c.in_ok-verify.field-0 (ap (λ (a : App). a.top.is_plain) c.in_ok-verify.ensures))
     ∙ ap₂ with_subcommand with_explain (ap (λ (a : App). a.top) c.in_ok-verify.ensures) in
-    IfOk-weaker c.subcommand-7.result _ _
-    (λ _ added. added.shape (command_local c.in_ok-diff.field-0 (ap (λ (a : App). a.top.is_plain) c.in_ok-diff.ensures))
-    ∙ ap₂ with_subcommand with_verify (ap (λ (a : App). a.top) c.in_ok-diff.ensures)) c.subcommand-7.ensures
+    let with_diff : app_of c.in_ok-subcommand-7.field-0 ≡ with_subcommand (with_subcommand (with_subcommand (with_subcommand (with_subcommand (with_subcommand (with_subcommand (versioned (new_app (codes "edicad"))) check_command.top) canon_command.top) compare_command.top) hash_command.top) explain_command.top) verify_command.top) diff_command.top =
+    c.in_ok-subcommand-7.ensures.shape (command_local c.in_ok-diff.field-0 (ap (λ (a : App). a.top.is_plain) c.in_ok-diff.ensures))
+    ∙ ap₂ with_subcommand with_verify (ap (λ (a : App). a.top) c.in_ok-diff.ensures) in
+    IfOk-weaker c.subcommand-8.result _ _
+    (λ _ added. added.shape (command_local c.in_ok-draw.field-0 (ap (λ (a : App). a.top.is_plain) c.in_ok-draw.ensures))
+    ∙ ap₂ with_subcommand with_diff (ap (λ (a : App). a.top) c.in_ok-draw.ensures)) c.subcommand-8.ensures

@@ -72,15 +72,26 @@ returns-in-verify g c =
       c.path-in-verify.ensures,
     )
 
+pub told_apart-requires : goal.told_apart-requires
+told_apart-requires g c =
+    let text_is = c.get_str.ensures ∙ first_value-rows (found_of c.in-Some.given.now) _ in
+    subst (λ t. AreKindsOf t c.in-Some-kinds_of.kinds) text_is c.in-Some-kinds_of.ensures
+
 pub returns-in-diff : goal.returns-in-diff
 returns-in-diff g c =
+    let rows = rows_of (found_of c.in-Some.given.now) in
+    let met = pair_of _ _ _ _ c.in-Some.ensures.name c.in-Some.ensures.rows in
+    subst (λ m. Means m c.told_apart.result) (sym (met ∙ ap (λ name. Some (name, rows)) c.in-diff.is)) c.told_apart.ensures
+
+pub returns-in-draw : goal.returns-in-draw
+returns-in-draw g c =
     let text_is = c.get_str.ensures ∙ first_value-rows (found_of c.in-Some.given.now) _ in
     let rows = rows_of (found_of c.in-Some.given.now) in (
       rows,
-      pair_of _ _ _ _ c.in-Some.ensures.name c.in-Some.ensures.rows ∙ ap (λ name. Some (name, rows)) c.in-diff.is,
+      pair_of _ _ _ _ c.in-Some.ensures.name c.in-Some.ensures.rows ∙ ap (λ name. Some (name, rows)) c.in-draw.is,
       subst (λ t. AreKindsOf t c.in-Some-kinds_of.kinds) text_is c.in-Some-kinds_of.ensures,
-      c.pair_files-in-diff.ensures,
-      c.flag.ensures,
+      c.sheet_files-in-draw.ensures,
+      c.path-in-draw.ensures,
     )
 
 pub returns-in-Ok : goal.returns-in-Ok
@@ -110,6 +121,7 @@ returns-in_default-name g c =
       | inr (inr (inr (inl e))) ↦ absurd (c.in_default-name.not-hash e)
       | inr (inr (inr (inr (inl e)))) ↦ e
       | inr (inr (inr (inr (inr (inl e))))) ↦ absurd (c.in_default-name.not-verify e)
-      | inr (inr (inr (inr (inr (inr e))))) ↦ absurd (c.in_default-name.not-diff e)
+      | inr (inr (inr (inr (inr (inr (inl e)))))) ↦ absurd (c.in_default-name.not-diff e)
+      | inr (inr (inr (inr (inr (inr (inr e)))))) ↦ absurd (c.in_default-name.not-draw e)
     ] in
     subst (λ m. Means m c.explained.result) (sym (met ∙ ap (λ name. Some (name, rows)) name_is)) c.explained.ensures

@@ -1,8 +1,8 @@
-use Rattle.std.proofs.Common.{ℕ, ◌≡◌, IsTrue, codes, refl, subst, sym, arith}
-use Rattle.edi_compare.specs.Runs.{WritesFirst, seen}
+use Rattle.std.proofs.Common.{ℕ, ◌≡◌, ◌≤◌, IsTrue, codes, length, take, refl, subst, sym, arith}
+use Rattle.edi_compare.specs.Runs.{seen}
 use Rattle.std.specs.Io.KnownBytes.{Appends}
 use Rattle.edicad.specs.Outcome.{ended, words_of_fault}
-use Rattle.edicad.specs.SheetRuns.{FileFault, OfFiles, inputs_of}
+use Rattle.edicad.specs.SheetRuns.{FileFault, OfFiles, OfMade, inputs_of}
 use Rattle.edicad.specs.Statuses.{SaysRefusal, paths_of}
 use Rattle.edicad.proofs.Refusals.{file_refused, file_tried, means_fault, unwritten}
 use Rattle.edicad.proofs.command.send.Goals as goal
@@ -21,7 +21,7 @@ returns-in-Err-clause-answer g c =
     let kinds = c.args.kinds.now in
     let files = c.args.files.now in
     let paths = paths_of files (codes "-") in
-    let W : g.row.O.Denot → ℕ → Type 0 = λ o n. IsTrue (g.O.ByteOut.has_failed o) × OfFiles inputs files (λ scd dic vec. WritesFirst kinds scd dic vec n before (g.O.ByteOut.told o)) in
+    let W : g.row.O.Denot → ℕ → Type 0 = λ o n. IsTrue (g.O.ByteOut.has_failed o) × OfMade inputs c.args.product kinds files (λ b. (n ≤ length b) × Appends before (g.O.ByteOut.told o) (take n b)) in
     let means = means_fault _ (OfFiles inputs files (SaysRefusal out kinds)) (FileFault inputs kinds files (W told.new.out)) why paths out err s e
     (λ big four. subst (λ o. FileFault inputs kinds files (W o) e) (sym (told.ensures.fault big four).1) c.in-Err.ensures.err)
     (λ is two. file_refused out kinds paths refl inputs files (W c.send.new.out) e c.in-Err.ensures.err is

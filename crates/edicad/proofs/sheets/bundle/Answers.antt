@@ -1,4 +1,4 @@
-use Rattle.edicad.proofs.Canonical.{on_ok_map}
+use Rattle.edicad.proofs.Made.{on_ok_map}
 use Rattle.edicad.proofs.Faults.{if_err_map}
 use Rattle.edicad.proofs.sheets.bundle.Goals as goal
 

@@ -1,7 +1,9 @@
 use Rattle.std.proofs.Common.{inr}
+use Rattle.edi_pairing.specs.CompareRuns.{IsPairingFileOf}
 use Rattle.edicad.specs.Outputs.{IsUnmade, Reaches, Stops}
 use Rattle.edicad.specs.SheetRuns.{OfPairing, inputs_of}
-use Rattle.edicad.proofs.Pairings.{of_pairing, pair_unwritten, pairing_put_fault, whole_pairing}
+use Rattle.edicad.proofs.Made.{of_made_pair, pair_put_fault, whole_pair}
+use Rattle.edicad.proofs.Pairings.{pair_unwritten}
 use Rattle.edicad.proofs.Steps.{goes_map}
 use Rattle.edicad.proofs.sheets.pair.Goals as goal
 
@@ -10,7 +12,7 @@ returns-in-Ok-clause-ok g c =
     let folder = c.args.folder.now in
     let inputs = inputs_of g.row.F-Reader.Denot (g.F.Folder.holds folder) (g.F.Folder.closed folder) (g.F.Folder.standard folder) g.F.Reader.ByteIn.has_failed in (
       c.if-is_pair_input.ensures,
-      of_pairing inputs c.args.kinds.now c.args.files.now c.in-Ok-Same.file.items _ c.deref.ensures.value (rw c.in-Ok-Same.field-0-is at c.in-Ok-Same.ensures.ok)
+      of_made_pair inputs c.args.kinds.now c.args.files.now (IsPairingFileOf c.args.kinds.now) c.in-Ok-Same.file.items _ c.deref.ensures.value (rw c.in-Ok-Same.field-0-is at c.in-Ok-Same.ensures.ok)
           (Reaches g.row.F-Sink.Denot (g.F.Folder.holds c.put.new.folder c.args.out.now) (g.F.Folder.sinks folder c.args.out.now) g.F.Sink.ByteOut.told) c.in-Ok.ensures.ok,
     )
 
@@ -19,7 +21,7 @@ returns-in-Ok-clause-replaced g c tells =
     let folder = c.args.folder.now in
     let inputs = inputs_of g.row.F-Reader.Denot (g.F.Folder.holds folder) (g.F.Folder.closed folder) (g.F.Folder.standard folder) g.F.Reader.ByteIn.has_failed in
     goes_map _ _ _ _ _ _
-    (whole_pairing inputs c.args.kinds.now c.args.files.now c.in-Ok-Same.file.items _ c.deref.ensures.value (rw c.in-Ok-Same.field-0-is at c.in-Ok-Same.ensures.ok) c.args.out.now (g.F.Folder.moment folder) (g.F.Folder.left_since folder))
+    (whole_pair inputs c.args.kinds.now c.args.files.now (IsPairingFileOf c.args.kinds.now) c.in-Ok-Same.file.items _ c.deref.ensures.value (rw c.in-Ok-Same.field-0-is at c.in-Ok-Same.ensures.ok) c.args.out.now (g.F.Folder.moment folder) (g.F.Folder.left_since folder))
     (c.in-Ok.ensures.replaced tells)
 
 pub returns-in-Ok-Same-clause-err : goal.returns-in-Ok-Same-clause-err
@@ -30,9 +32,9 @@ returns-in-Ok-Same-clause-err g c =
     (g.F.Folder.sinks folder c.args.out.now) g.F.Sink.ByteOut.told g.F.Sink.ByteOut.has_failed in
     inr (
       c.if-is_pair_input.ensures,
-      pairing_put_fault inputs c.args.kinds.now c.args.files.now c.in-Ok-Same.file.items _ c.deref.ensures.value (rw c.in-Ok-Same.field-0-is at c.in-Ok-Same.ensures.ok)
+      pair_put_fault inputs c.args.kinds.now c.args.files.now (IsPairingFileOf c.args.kinds.now) c.in-Ok-Same.file.items _ c.deref.ensures.value (rw c.in-Ok-Same.field-0-is at c.in-Ok-Same.ensures.ok)
           (λ n. stops n c.deref.result.now) (λ n. OfPairing inputs c.args.kinds.now c.args.files.now (stops n))
-          (λ n. of_pairing inputs c.args.kinds.now c.args.files.now c.in-Ok-Same.file.items _ c.deref.ensures.value (rw c.in-Ok-Same.field-0-is at c.in-Ok-Same.ensures.ok) (stops n))
+          (λ n. of_made_pair inputs c.args.kinds.now c.args.files.now (IsPairingFileOf c.args.kinds.now) c.in-Ok-Same.file.items _ c.deref.ensures.value (rw c.in-Ok-Same.field-0-is at c.in-Ok-Same.ensures.ok) (stops n))
           c.in-Err-put.fault c.in-Err-put.ensures.err,
     )
 
@@ -41,7 +43,7 @@ returns-in-Ok-Same-clause-replaced g c tells =
     let folder = c.args.folder.now in
     let inputs = inputs_of g.row.F-Reader.Denot (g.F.Folder.holds folder) (g.F.Folder.closed folder) (g.F.Folder.standard folder) g.F.Reader.ByteIn.has_failed in
     goes_map _ _ _ _ _ _
-    (whole_pairing inputs c.args.kinds.now c.args.files.now c.in-Ok-Same.file.items _ c.deref.ensures.value (rw c.in-Ok-Same.field-0-is at c.in-Ok-Same.ensures.ok) c.args.out.now (g.F.Folder.moment folder) (g.F.Folder.left_since folder))
+    (whole_pair inputs c.args.kinds.now c.args.files.now (IsPairingFileOf c.args.kinds.now) c.in-Ok-Same.file.items _ c.deref.ensures.value (rw c.in-Ok-Same.field-0-is at c.in-Ok-Same.ensures.ok) c.args.out.now (g.F.Folder.moment folder) (g.F.Folder.left_since folder))
     (c.in-Err-put.ensures.replaced tells)
 
 pub returns-clause-err : goal.returns-clause-err

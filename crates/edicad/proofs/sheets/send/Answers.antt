@@ -1,8 +1,7 @@
-use Rattle.std.proofs.Common.{◌≤◌, length, take, IsTrue}
+use Rattle.std.proofs.Common.{◌≤◌, ℕ, List, length, take, IsTrue}
 use Rattle.std.specs.Io.KnownBytes.{Appends}
-use Rattle.edi_compare.specs.Runs.{WritesFirst}
-use Rattle.edicad.specs.SheetRuns.{OfFiles, inputs_of}
-use Rattle.edicad.proofs.Canonical.{both_of_canon, of_canon, on_ok_map, put_fault}
+use Rattle.edicad.specs.SheetRuns.{OfMade, inputs_of}
+use Rattle.edicad.proofs.Made.{of_made, on_ok_map, put_fault}
 use Rattle.edicad.proofs.Faults.{fault_unwritten, if_err_map}
 use Rattle.edicad.proofs.sheets.send.Goals as goal
 
@@ -12,14 +11,15 @@ returns-in-Err-clause-err g c =
     let inputs = inputs_of g.row.F-Reader.Denot (g.F.Folder.holds folder) (g.F.Folder.closed folder) (g.F.Folder.standard folder) g.F.Reader.ByteIn.has_failed in
     let told = g.O.ByteOut.told c.args.out.now in
     fault_unwritten inputs c.args.kinds.now c.args.files.now
-    (λ n. IsTrue (g.O.ByteOut.has_failed c.args.out.now) × OfFiles inputs c.args.files.now (λ s d v. WritesFirst c.args.kinds.now s d v n told told)) c.in-Err.fault c.in-Err.ensures.err
+    (λ n. IsTrue (g.O.ByteOut.has_failed c.args.out.now) × OfMade inputs c.args.product c.args.kinds.now c.args.files.now (λ b. (n ≤ length b) × Appends told told (take n b))) c.in-Err.fault
+    c.in-Err.ensures.err
 
 pub returns-in-Ok-clause-ok : goal.returns-in-Ok-clause-ok
 returns-in-Ok-clause-ok g c =
     let folder = c.args.folder.now in
     let inputs = inputs_of g.row.F-Reader.Denot (g.F.Folder.holds folder) (g.F.Folder.closed folder) (g.F.Folder.standard folder) g.F.Reader.ByteIn.has_failed in
     on_ok_map c.sent.result _ _
-    (of_canon inputs c.args.kinds.now c.args.files.now c.in-Ok.bytes.items _ c.deref.ensures.value c.in-Ok.ensures.ok
+    (of_made inputs c.args.product c.args.kinds.now c.args.files.now c.in-Ok.bytes.items _ c.deref.ensures.value c.in-Ok.ensures.ok
     (Appends (g.O.ByteOut.told c.args.out.now) (g.O.ByteOut.told c.sent.new.out)))
     c.sent.ensures.ok
 
@@ -30,13 +30,12 @@ returns-in-Ok-clause-err g c =
     let old = g.O.ByteOut.told c.args.out.now in
     let new = g.O.ByteOut.told c.sent.new.out in
     let failed = IsTrue (g.O.ByteOut.has_failed c.sent.new.out) in
+    let First : ℕ → List ℕ → Type 0 = λ n b. (n ≤ length b) × Appends old new (take n b) in
     if_err_map c.sent.result _ _
-    (put_fault inputs c.args.kinds.now c.args.files.now c.in-Ok.bytes.items _ c.deref.ensures.value c.in-Ok.ensures.ok
-    (λ n. failed × (n ≤ length c.deref.result.now) × Appends old new (take n c.deref.result.now))
-    (λ n. failed × OfFiles inputs c.args.files.now (λ s d v. WritesFirst c.args.kinds.now s d v n old new))
+    (put_fault inputs c.args.product c.args.kinds.now c.args.files.now c.in-Ok.bytes.items _ c.deref.ensures.value c.in-Ok.ensures.ok
+    (λ n. failed × (n ≤ length c.deref.result.now) × Appends old new (take n c.deref.result.now)) (λ n. failed × OfMade inputs c.args.product c.args.kinds.now c.args.files.now (First n))
     (λ n h. (
       h.0,
-      both_of_canon inputs c.args.kinds.now c.args.files.now c.in-Ok.bytes.items _ c.deref.ensures.value c.in-Ok.ensures.ok
-          (λ b. n ≤ length b) (λ b. Appends old new (take n b)) h.1 h.2,
+      of_made inputs c.args.product c.args.kinds.now c.args.files.now c.in-Ok.bytes.items _ c.deref.ensures.value c.in-Ok.ensures.ok (First n) (h.1, h.2),
     )))
     c.sent.ensures.err

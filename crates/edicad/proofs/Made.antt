@@ -1,15 +1,16 @@
--- A canonical file that was made of three files.
+-- What was made of files.
 use Rattle.std.proofs.Common.{◌≡◌, ℕ, List, Option, Some, None, IfSome, inl, inr, sym, ◌∙◌, subst, ⊎_elim, Result, Ok, Err, OnOk}
 use Rattle.edi_schema.specs.Roles.{KindCodes}
 use Rattle.edi_compare.specs.Bundle.{OfParts}
 use Rattle.edi_compare.specs.declared.fault.RunFault.{RunFault}
 use Rattle.edi_compare.specs.declared.fault.RunFault.TheVariants.{Memory, Read, TooLong, Schema, First, Second, Write}
-use Rattle.edi_compare.specs.Runs.{IsCanonOf, MatchFault, TellFour, Told}
+use Rattle.edi_compare.specs.Runs.{MatchFault, TellFour, Told}
 use Rattle.edi_words.specs.declared.words.PairFiles.{PairFiles}
 use Rattle.edi_words.specs.declared.words.SheetFiles.{SheetFiles}
 use Rattle.edicad.specs.Folders.{Leavings}
 use Rattle.edicad.specs.Outputs.{IsWholeOrNew}
-use Rattle.edicad.specs.SheetRuns.{AreThere, FileFault, Inputs, OfCanon, OfFiles, OfPair}
+use Rattle.edicad.specs.SheetRuns.{AreFourThere, AreThere, FileFault, Inputs, IsMadeOf, OfFiles, OfMade, OfMadePair, OfPair, PairFileFault}
+use Rattle.edicad.specs.declared.product.Product.{Product}
 
 pub on_ok_map : {T E : Type 0} (r : Result T E) (P Q : Type 0) → (P → Q) → OnOk r P → OnOk r Q
 on_ok_map (Ok v) P Q f h = f h
@@ -45,14 +46,15 @@ pair_map inputs files P Q f h = (h.0, h.1, h.2, h.3, h.4, h.5, h.6, h.7, tell_fo
 pub were_there : (inputs : Inputs) (files : SheetFiles) (P : List ℕ → List ℕ → List ℕ → Type 0) → OfFiles inputs files P → AreThere inputs files
 were_there inputs files P h = ((h.0, h.3), (h.1, h.4), (h.2, h.5))
 
-module _ (inputs : Inputs) (kinds : KindCodes) (files : SheetFiles) (items bytes : List ℕ) (is : bytes ≡ items)
-    (form : OfFiles inputs files (λ s d v. IsCanonOf kinds s d v items)) where
-  -- what holds of the bytes holds of the canonical file
-  pub of_canon : (P : List ℕ → Type 0) → P bytes → OfCanon inputs kinds files P
-  of_canon P h = files_map inputs files _ _ (λ s d v f. (items, f, subst P is h)) form
+-- all four were opened of which something holds
+pub were_four : (inputs : Inputs) (files : PairFiles) (P : List ℕ → List ℕ → List ℕ → List ℕ → Type 0) → OfPair inputs files P → AreFourThere inputs files
+were_four inputs files P h = ((h.0, h.4), (h.1, h.5), (h.2, h.6), (h.3, h.7))
 
-  pub both_of_canon : (P Q : List ℕ → Type 0) → P bytes → Q bytes → OfFiles inputs files (λ s d v. (c : List ℕ) × IsCanonOf kinds s d v c × P c × Q c)
-  both_of_canon P Q h k = files_map inputs files _ _ (λ s d v f. (items, f, subst P is h, subst Q is k)) form
+module _ (inputs : Inputs) (product : Product) (kinds : KindCodes) (files : SheetFiles) (items bytes : List ℕ) (is : bytes ≡ items)
+    (form : OfFiles inputs files (λ s d v. IsMadeOf product kinds s d v items)) where
+  -- what holds of the bytes holds of what was made
+  pub of_made : (P : List ℕ → Type 0) → P bytes → OfMade inputs product kinds files P
+  of_made P h = files_map inputs files _ _ (λ s d v f. (items, f, subst P is h)) form
 
   -- why they were not written is why there is no answer
   pub put_fault : (W V : ℕ → Type 0) → ((n : ℕ) → W n → V n) → (e : RunFault) → MatchFault e (λ _. ⊥) (λ _. ⊥) (λ _. ⊥) (λ _. ⊥) (λ _. ⊥) W
@@ -65,10 +67,36 @@ module _ (inputs : Inputs) (kinds : KindCodes) (files : SheetFiles) (items bytes
   put_fault W V f (Second g) h = absurd h
   put_fault W V f (Write w) h = inr (were_there inputs files _ form, f w.count h)
 
-  -- whole bytes are the whole canonical file
+  -- whole bytes are all that was made
   pub whole : (out : List ℕ) (now : ℕ) (left : Leavings) (path : List ℕ) (c : Option (List ℕ)) → IsWholeOrNew out now left (λ b. b ≡ bytes) path c
-      → IsWholeOrNew out now left (λ b. OfFiles inputs files (λ s d v. IsCanonOf kinds s d v b)) path c
+      → IsWholeOrNew out now left (λ b. OfFiles inputs files (λ s d v. IsMadeOf product kinds s d v b)) path c
   whole out now left path c h =
       ⊎_elim
-      (λ w. inl (w.0, (w.1.0, subst (λ b. OfFiles inputs files (λ s d v. IsCanonOf kinds s d v b)) (sym (w.1.1 ∙ is)) form, w.1.2)))
+      (λ w. inl (w.0, (w.1.0, subst (λ b. OfFiles inputs files (λ s d v. IsMadeOf product kinds s d v b)) (sym (w.1.1 ∙ is)) form, w.1.2)))
+      (λ new. inr new) h
+
+-- the same of two sheets
+module _ (inputs : Inputs) (kinds : KindCodes) (files : PairFiles) (IsMade : List ℕ → List ℕ → List ℕ → List ℕ → List ℕ → Type 0) (items bytes : List ℕ) (is : bytes ≡ items)
+    (made : OfPair inputs files (λ s d a b. IsMade s d a b items)) where
+  -- what holds of the bytes holds of what was made
+  pub of_made_pair : (P : List ℕ → Type 0) → P bytes → OfMadePair inputs IsMade files P
+  of_made_pair P h = pair_map inputs files _ _ (λ s d a b f. (items, f, subst P is h)) made
+
+  -- why they were not written is why there is no answer
+  pub pair_put_fault : (W V : ℕ → Type 0) → ((n : ℕ) → W n → V n) → (e : RunFault) → MatchFault e (λ _. ⊥) (λ _. ⊥) (λ _. ⊥) (λ _. ⊥) (λ _. ⊥) W
+      → PairFileFault inputs kinds files V e
+  pair_put_fault W V f (Memory e) h = inr (were_four inputs files _ made, tt)
+  pair_put_fault W V f (Read n) h = absurd h
+  pair_put_fault W V f (TooLong n) h = absurd h
+  pair_put_fault W V f (Schema g) h = absurd h
+  pair_put_fault W V f (First g) h = absurd h
+  pair_put_fault W V f (Second g) h = absurd h
+  pair_put_fault W V f (Write w) h = inr (were_four inputs files _ made, f w.count h)
+
+  -- whole bytes are all that was made
+  pub whole_pair : (out : List ℕ) (now : ℕ) (left : Leavings) (path : List ℕ) (c : Option (List ℕ)) → IsWholeOrNew out now left (λ b. b ≡ bytes) path c
+      → IsWholeOrNew out now left (λ f. OfPair inputs files (λ s d a b. IsMade s d a b f)) path c
+  whole_pair out now left path c h =
+      ⊎_elim
+      (λ w. inl (w.0, (w.1.0, subst (λ f. OfPair inputs files (λ s d a b. IsMade s d a b f)) (sym (w.1.1 ∙ is)) made, w.1.2)))
       (λ new. inr new) h

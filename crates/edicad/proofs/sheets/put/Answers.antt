@@ -1,10 +1,10 @@
 use Rattle.std.proofs.Common.{inr}
 use Rattle.edicad.specs.Outputs.{IsUnmade, Reaches, Stops}
-use Rattle.edicad.specs.SheetRuns.{OfCanon, inputs_of}
-use Rattle.edicad.proofs.Canonical.{of_canon, on_ok_map, put_fault, whole}
+use Rattle.edicad.specs.SheetRuns.{OfMade, inputs_of}
+use Rattle.edicad.proofs.Made.{of_made, on_ok_map, put_fault, whole}
 use Rattle.edicad.proofs.Faults.{fault_unwritten, if_err_map}
 use Rattle.edicad.proofs.Steps.{goes_map}
-use Rattle.edicad.proofs.sheets.canon.Goals as goal
+use Rattle.edicad.proofs.sheets.put.Goals as goal
 
 pub returns-in-Err-clause-err : goal.returns-in-Err-clause-err
 returns-in-Err-clause-err g c =
@@ -14,7 +14,7 @@ returns-in-Err-clause-err g c =
     (g.F.Folder.sinks folder c.args.out.now) g.F.Sink.ByteOut.told g.F.Sink.ByteOut.has_failed in
     inr (
       c.if-is_input.ensures,
-      fault_unwritten inputs c.args.kinds.now c.args.files.now (λ n. OfCanon inputs c.args.kinds.now c.args.files.now (stops n)) c.in-Err.fault
+      fault_unwritten inputs c.args.kinds.now c.args.files.now (λ n. OfMade inputs c.args.product c.args.kinds.now c.args.files.now (stops n)) c.in-Err.fault
           c.in-Err.ensures.err,
     )
 
@@ -25,7 +25,7 @@ returns-in-Ok-clause-ok g c =
     on_ok_map c.put.result _ _
     (λ h. (
       c.if-is_input.ensures,
-      of_canon inputs c.args.kinds.now c.args.files.now c.in-Ok.bytes.items _ c.deref.ensures.value c.in-Ok.ensures.ok
+      of_made inputs c.args.product c.args.kinds.now c.args.files.now c.in-Ok.bytes.items _ c.deref.ensures.value c.in-Ok.ensures.ok
           (Reaches g.row.F-Sink.Denot (g.F.Folder.holds c.put.new.folder c.args.out.now) (g.F.Folder.sinks folder c.args.out.now) g.F.Sink.ByteOut.told) h,
     ))
     c.put.ensures.ok
@@ -39,9 +39,9 @@ returns-in-Ok-clause-err g c =
     if_err_map c.put.result _ _
     (λ e h. inr (
       c.if-is_input.ensures,
-      put_fault inputs c.args.kinds.now c.args.files.now c.in-Ok.bytes.items _ c.deref.ensures.value c.in-Ok.ensures.ok
-          (λ n. stops n c.deref.result.now) (λ n. OfCanon inputs c.args.kinds.now c.args.files.now (stops n))
-          (λ n. of_canon inputs c.args.kinds.now c.args.files.now c.in-Ok.bytes.items _ c.deref.ensures.value c.in-Ok.ensures.ok (stops n)) e h,
+      put_fault inputs c.args.product c.args.kinds.now c.args.files.now c.in-Ok.bytes.items _ c.deref.ensures.value c.in-Ok.ensures.ok
+          (λ n. stops n c.deref.result.now) (λ n. OfMade inputs c.args.product c.args.kinds.now c.args.files.now (stops n))
+          (λ n. of_made inputs c.args.product c.args.kinds.now c.args.files.now c.in-Ok.bytes.items _ c.deref.ensures.value c.in-Ok.ensures.ok (stops n)) e h,
     ))
     c.put.ensures.err
 
@@ -50,5 +50,5 @@ returns-in-Ok-clause-replaced g c tells =
     let folder = c.args.folder.now in
     let inputs = inputs_of g.row.F-Reader.Denot (g.F.Folder.holds folder) (g.F.Folder.closed folder) (g.F.Folder.standard folder) g.F.Reader.ByteIn.has_failed in
     goes_map _ _ _ _ _ _
-    (whole inputs c.args.kinds.now c.args.files.now c.in-Ok.bytes.items _ c.deref.ensures.value c.in-Ok.ensures.ok c.args.out.now (g.F.Folder.moment folder) (g.F.Folder.left_since folder))
+    (whole inputs c.args.product c.args.kinds.now c.args.files.now c.in-Ok.bytes.items _ c.deref.ensures.value c.in-Ok.ensures.ok c.args.out.now (g.F.Folder.moment folder) (g.F.Folder.left_since folder))
     (c.put.ensures.replaced tells)
