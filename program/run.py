@@ -330,7 +330,7 @@ def drawn(picture):
 
 
 def count_of(room, name, kind):
-    return len(re.findall(rb"(?m)^RTY.....:%s\r?$" % kind.encode(), room.read(name)))
+    return len(re.findall(rb"(?m)^RTYSA03:%s\r?$" % kind.encode(), room.read(name)))
 
 
 def draw_case(room, name, words, wanted):

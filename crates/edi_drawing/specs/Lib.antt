@@ -1,3 +1,4 @@
 pub mod Marked
 pub mod Drawn
 pub mod Runs
+pub mod Laws

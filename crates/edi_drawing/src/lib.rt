@@ -4,6 +4,7 @@
 mod drawing;
 pub mod drawn;
 mod identifiers;
+pub mod laws;
 mod marks;
 mod pictures;
 pub mod runs;

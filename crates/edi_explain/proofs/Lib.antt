@@ -15,4 +15,5 @@ pub mod Parts
 pub mod Barred
 pub mod Miscounted
 pub mod Counted
+pub mod Earlier
 pub mod Remarks

@@ -4,6 +4,7 @@ pub mod Partners
 pub mod Extents
 pub mod RowPartners
 pub mod Refusals
+pub mod Found
 pub mod Lines
 pub mod Explained
 pub mod Barring

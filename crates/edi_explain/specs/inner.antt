@@ -4,4 +4,5 @@ pub mod Barring
 pub mod Hints
 pub mod Lengths
 pub mod Objects
+pub mod Repeats
 pub mod Seeking

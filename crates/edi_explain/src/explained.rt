@@ -5,18 +5,19 @@ ghost use Rattle.edi_line.specs.LineRules.{BreaksLineRule};
 ghost use Rattle.edi_line.specs.Refusal.{IsLeastBroken};
 ghost use Rattle.edi_schema.specs.Roles.{KindCodes};
 ghost use Rattle.edi_schema.specs.SchemaRefusal.{IsSchemaRefusal};
-ghost use Rattle.edi_compare.specs.Refused.{IsRefusal};
 ghost use Rattle.edi_explain.specs.Explained.{DescribesPlan, ExplainsLine, ExplainsSchema, ExplainsSheet, IsRuleWord, charset_line, count_line, count_lines, extent_lines, of_source, reason_lines, rule_page, span_line, worded_line};
+ghost use Rattle.edi_explain.specs.Found.{IsFound};
 ghost use Rattle.edi_explain.specs.Lines.{sentence_of};
 ghost use Rattle.edi_explain.specs.Rules.{IsTextIfAny, rules};
 ghost use Rattle.edi_explain.specs.declared.text.RuleText.{RuleText as Texts};
 
 use crate::barring::barring_line;
 use crate::counts::count_of;
+use crate::examined::Found;
 use crate::extent::{Extent, Span, extent_of};
 use crate::lengths::{counts_characters, push_length_hint};
 use crate::lines::{line_of_file, lines_of_broken, lines_of_refused, push_number};
-use crate::refused::{refused_record, refused_row};
+use crate::refused::{refused_row, refused_with};
 use crate::text::{RuleText, rule_text};
 use edi_compare::Fault;
 use edi_plan::Plan;
@@ -68,16 +69,16 @@ pub fn explain_sheet(
     schema: &Schema,
     bytes: &[u8],
     name: &[u8],
-    fault: &Fault,
+    found: &Found,
 ) -> Result<Vec<u8>, AllocError>
-    requires { IsRefusal schema.now bytes.now fault.now }
-    ensures { IfOk result (λ lines. ExplainsSheet schema.now bytes.now name.now fault.now lines.items) }
+    requires { IsFound schema.now bytes.now found.now }
+    ensures { IfOk result (λ lines. ExplainsSheet schema.now bytes.now name.now found.now.fault lines.items) }
 {
-    match fault {
+    match &found.fault {
         Fault::Memory(error) => Err(*error),
         Fault::Line { rule, at } => explain_line(alloc, &NamedFile { name, bytes }, *rule, *at),
         Fault::Entry { rule, at } => {
-            let sites = refused_record(alloc, schema, bytes, *rule, *at)?;
+            let sites = refused_with(alloc, schema, bytes, *rule, *at, found.earlier)?;
             lines_of_refused(alloc, name, &sites, sentence_for(*rule), *rule)
         }
     }

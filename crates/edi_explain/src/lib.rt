@@ -4,6 +4,7 @@
 pub mod barring;
 mod contents;
 pub mod counts;
+pub mod examined;
 pub mod explained;
 pub mod extent;
 pub mod hints;
@@ -13,6 +14,7 @@ pub mod links;
 pub mod objects;
 pub mod partner;
 pub mod refused;
+mod repeats;
 pub mod rows;
 mod seeking;
 pub mod site;
@@ -22,6 +24,7 @@ mod texts;
 
 pub use barring::barring_line;
 pub use counts::count_of;
+pub use examined::{Found, examine};
 pub use explained::{
     NamedFile, describe_plan, explain_schema, explain_sheet, page_of, rule_of_word,
 };

@@ -124,7 +124,11 @@ fn arc_before(plan: &Plan, place: u64) -> Option<u64>
 }
 
 /// The first object alike the one at a place, if it comes before that one.
-fn object_before(alloc: Global, plan: &Plan, place: u64) -> Result<Option<u64>, AllocError>
+pub(crate) fn object_before(
+    alloc: Global,
+    plan: &Plan,
+    place: u64,
+) -> Result<Option<u64>, AllocError>
     ensures { IfOk result (IsLeastIfAny (IsAlikeObject plan.now place)) }
 {
     if place >= u64::from(plan.len()) {
@@ -219,6 +223,24 @@ fn sites_of(
     }
 }
 
+/// Where the record of a refusal stands, and the earlier one at this place, of which its rule speaks.
+pub(crate) fn refused_with(
+    alloc: Global,
+    schema: &Schema,
+    bytes: &[u8],
+    rule: u16,
+    number: u64,
+    earlier: Option<u64>,
+) -> Result<Refused, AllocError>
+    requires refusal { IsRefusal schema.now bytes.now (AtRecord rule number) }
+    requires earlier { IsEarlierIfAny schema.now bytes.now rule (number - 1) earlier }
+    ensures { IfOk result (IsRefusedAt schema.now bytes.now rule number) }
+{
+    let _ = schema;
+    let _ = rule;
+    sites_of(alloc, bytes, number, earlier)
+}
+
 /// Where the record of a refusal stands, and the earlier record that its rule speaks of. The zones of one record are in
 /// memory at a time, and not beside the records or the plan.
 pub fn refused_record(
@@ -232,7 +254,7 @@ pub fn refused_record(
     ensures { IfOk result (IsRefusedAt schema.now bytes.now rule number) }
 {
     let earlier = earlier_record(alloc, schema, bytes, rule, number)?;
-    sites_of(alloc, bytes, number, earlier)
+    refused_with(alloc, schema, bytes, rule, number, earlier)
 }
 
 /// The place of the earlier record of a schema's file that rule 602 speaks of, in a file that breaks no rule of lines.

@@ -6,9 +6,10 @@ ghost use Rattle.edi_line.specs.LineRules.{BreaksLineRule};
 ghost use Rattle.edi_line.specs.Refusal.{IsUnbroken};
 ghost use Rattle.edi_schema.specs.Roles.{KindCodes};
 ghost use Rattle.edi_schema.specs.SchemaRefusal.{IsSchemaRefusal};
-ghost use Rattle.edi_compare.specs.Refused.{IsProper, IsRefusal};
+ghost use Rattle.edi_compare.specs.Refused.{IsProper};
 ghost use Rattle.edi_compare.specs.Runs.{IsProperSchemaFault, IsTooLong, MatchFault, seen};
 ghost use Rattle.edi_explain.specs.Explained.{DescribesPlan, ExplainsSchema, ExplainsSheet};
+ghost use Rattle.edi_explain.specs.Found.{IsFound};
 ghost use Rattle.edi_explain.specs.Skipped.{DescribesSkipped};
 ghost use Rattle.edicad.specs.Explains.{GiveHints, IsExplainStatus, IsRuleStatus, TellsAccepted, TellsCause, TellsPlan, TellsRefusal};
 ghost use Rattle.edicad.specs.Outcome.{FaultHasNames, ended, schema_text, sheet_text, status_of_fault};
@@ -19,12 +20,13 @@ use crate::folder::Folder;
 use crate::outcome::{Outcome, input_name, line_of_fault, line_of_schema};
 use crate::report;
 use crate::sheets::opened;
-use edi_compare::{Accepted, Fault, RunFault, accept};
+use edi_compare::RunFault;
 use edi_explain::{
-    NamedFile, describe_plan, describe_skipped, explain_schema, explain_sheet, hints_of, page_of,
-    rule_of_word,
+    Found, NamedFile, describe_plan, describe_skipped, examine, explain_schema, explain_sheet,
+    hints_of, page_of, rule_of_word,
 };
 use edi_line::{ByteIn, ByteOut, ReadFault, read_all};
+use edi_plan::Plan;
 use edi_schema::{Kinds, Schema, SchemaFault};
 use edi_words::SheetFiles;
 use edi_write::put_all;
@@ -180,9 +182,9 @@ fn said_of(
         (TellsCause kinds.now files.now bytes.now.scd.items bytes.now.dic.items bytes.now.vec.items said.text.items)) }
 {
     match Schema::load(alloc, &bytes.scd, &bytes.dic, kinds) {
-        Ok(schema) => match accept(alloc, &schema, &bytes.vec) {
-            Ok(accepted) => said_of_accepted(alloc, &accepted),
-            Err(fault) => said_of_sheet(alloc, &schema, &bytes.vec, input_name(files.vec), &fault),
+        Ok(schema) => match examine(alloc, &schema, &bytes.vec) {
+            Ok(sound) => said_of_accepted(alloc, sound.plan()),
+            Err(found) => said_of_sheet(alloc, &schema, &bytes.vec, input_name(files.vec), &found),
         },
         Err(fault) => said_of_schema(
             alloc,
@@ -199,12 +201,12 @@ fn said_of(
     }
 }
 
-// What is said of an accepted sheet.
-fn said_of_accepted(alloc: Global, accepted: &Accepted) -> Result<Account, AllocError>
-    ensures { IfOk result (λ said. (said.is_accepted ≡ true) × ((lines : List ℕ) × DescribesPlan accepted.now lines × (said.text.items ≡ ended (codes "accepted") ++ lines))) }
+// What is said of an accepted sheet, by its plan.
+fn said_of_accepted(alloc: Global, plan: &Plan) -> Result<Account, AllocError>
+    ensures { IfOk result (λ said. (said.is_accepted ≡ true) × ((lines : List ℕ) × DescribesPlan plan.now lines × (said.text.items ≡ ended (codes "accepted") ++ lines))) }
 {
     let mut text = Vec::from_slice(alloc, b"accepted\n")?;
-    let lines = describe_plan(alloc, accepted.sound().plan())?;
+    let lines = describe_plan(alloc, plan)?;
     text.extend_from_slice(&lines)?;
     Ok(Account {
         is_accepted: true,
@@ -218,14 +220,14 @@ fn said_of_sheet(
     schema: &Schema,
     bytes: &[u8],
     name: &[u8],
-    fault: &Fault,
+    found: &Found,
 ) -> Result<Account, AllocError>
-    requires { IsRefusal schema.now bytes.now fault.now }
-    ensures { IfOk result (λ said. (said.is_accepted ≡ false) × IsProper fault.now × ((lines : List ℕ) × ExplainsSheet schema.now bytes.now name.now fault.now lines
-        × (said.text.items ≡ ended (sheet_text [] fault.now) ++ lines))) }
+    requires { IsFound schema.now bytes.now found.now }
+    ensures { IfOk result (λ said. (said.is_accepted ≡ false) × IsProper found.now.fault × ((lines : List ℕ) × ExplainsSheet schema.now bytes.now name.now found.now.fault lines
+        × (said.text.items ≡ ended (sheet_text [] found.now.fault) ++ lines))) }
 {
-    let mut text = line_of_fault(alloc, fault)?;
-    let lines = explain_sheet(alloc, schema, bytes, name, fault)?;
+    let mut text = line_of_fault(alloc, &found.fault)?;
+    let lines = explain_sheet(alloc, schema, bytes, name, found)?;
     text.extend_from_slice(&lines)?;
     Ok(Account {
         is_accepted: false,

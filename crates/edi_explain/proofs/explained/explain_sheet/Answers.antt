@@ -7,7 +7,7 @@ use Rattle.edi_explain.proofs.explained.explain_sheet.Goals as goal
 
 pub explain_line-requires : goal.explain_line-requires
 explain_line-requires c =
-    line_least c.args.schema.now c.args.bytes.now c.in-Line.rule c.in-Line.at (subst (IsRefusal c.args.schema.now c.args.bytes.now) c.in-Line.is c.requires)
+    line_least c.args.schema.now c.args.bytes.now c.in-Line.rule c.in-Line.at (subst (IsRefusal c.args.schema.now c.args.bytes.now) c.in-Line.is c.requires.0)
 
 pub returns-in-Line : goal.returns-in-Line
 returns-in-Line c = rw c.in-Line.is c.explain_line.ensures

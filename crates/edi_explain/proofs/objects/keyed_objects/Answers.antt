@@ -1,6 +1,5 @@
-use Rattle.std.proofs.Common.{Result, Ok, Err, IfOk, length, ap, arith, ◌≡◌}
+use Rattle.std.proofs.Common.{Result, Ok, Err, IfOk, length, ap, arith}
 use Rattle.edi_record.specs.declared.record.Kind.TheVariants.{Pno, Par, Pfe}
-use Rattle.edi_plan.specs.Places.{places_of}
 use Rattle.edi_plan.proofs.PlaceLemmas.{places_few}
 use Rattle.edi_rank.specs.Layers.{ranked}
 use Rattle.edi_rank.proofs.RankedApart.{ranked_apart}

@@ -1,4 +1,4 @@
-use Rattle.std.proofs.Common.{◌≡◌, ◌<◌, ◌++◌, ◌∷◌, ◌∙◌, ap, [], length, arith}
+use Rattle.std.proofs.Common.{◌<◌, ◌++◌, ◌∷◌, ◌∙◌, ap, [], length, arith}
 use Rattle.edi_picture.proofs.ArcsRound.{list_at, list_of}
 use Rattle.edi_picture.proofs.rounds.add_to.Goals as goal
 

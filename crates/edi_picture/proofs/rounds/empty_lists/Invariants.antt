@@ -1,4 +1,4 @@
-use Rattle.std.proofs.Common.{◌≡◌, ℕ, List, [], length, get_or, map}
+use Rattle.std.proofs.Common.{◌≡◌, ℕ, [], length, get_or, map}
 use Rattle.std.specs.Global.{Vec}
 use Rattle.edi_picture.proofs.rounds.empty_lists.Given as goal
 

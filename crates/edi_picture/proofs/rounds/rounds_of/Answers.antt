@@ -1,4 +1,4 @@
-use Rattle.std.proofs.Common.{List, ℕ, ◌++◌, ◌∷◌, [], subst, sym}
+use Rattle.std.proofs.Common.{List, ℕ, subst, sym}
 use Rattle.std.proofs.lemmas.List.{take_more}
 use Rattle.edi_record.specs.declared.record.Kind.TheVariants.{Par}
 use Rattle.edi_picture.specs.inner.Rounds.{HaveArcs}

@@ -4,22 +4,23 @@ use Rattle.edi_schema.specs.SchemaRefusal.{IsGoodSchema, IsSchemaRefusal}
 use Rattle.edi_compare.specs.PlanOfFile.{IsPlanOfFile}
 use Rattle.edi_compare.specs.Refused.{IsRefusal}
 use Rattle.edi_compare.specs.Rules.{IsAccepted}
-use Rattle.edi_explain.specs.Explained.{ExplainsSchema, ExplainsSheet}
+use Rattle.edi_explain.specs.Explained.{DescribesPlan, ExplainsSchema, ExplainsSheet}
 use Rattle.edicad.proofs.Explaining.{accepted_said, schema_said, sheet_said}
 use Rattle.edicad.proofs.explains.said_of.Goals as goal
 
-pub returns-in-Ok-accept : goal.returns-in-Ok-accept
-returns-in-Ok-accept c =
+pub returns-in-Ok-examine : goal.returns-in-Ok-examine
+returns-in-Ok-examine c =
     let kinds = c.args.kinds.now in
     let bytes = c.args.bytes.now in
     let s = c.in-Ok.schema in
     let good = subst (λ (d : List ℕ). IsGoodSchema bytes.scd.items d kinds s) c.deref-2.ensures.value
     (subst (λ (x : List ℕ). IsGoodSchema x c.deref-2.result.now kinds s) c.deref.ensures.value c.in-Ok.ensures.schema) in
-    let p = c.in-Ok-accept.accepted in
-    let accepted = subst (λ (b : List ℕ). IsAccepted s b) c.deref-in-Ok.ensures.value c.in-Ok-accept.ensures.accepted in
-    let plan = subst (λ (b : List ℕ). IsPlanOfFile s b p) c.deref-in-Ok.ensures.value c.in-Ok-accept.ensures.plan in
+    let p = c.in-Ok-examine.sound in
+    let accepted = subst (λ (b : List ℕ). IsAccepted s b) c.deref-in-Ok.ensures.value c.in-Ok-examine.ensures.accepted in
+    let plan = subst (λ (b : List ℕ). IsPlanOfFile s b p) c.deref-in-Ok.ensures.value c.in-Ok-examine.ensures.plan in
     IfOk-weaker c.said_of_accepted.result _ _
-    (λ said h. accepted_said kinds c.args.files.now bytes.scd.items bytes.dic.items bytes.vec.items said.is_accepted said.text.items s good p accepted plan h)
+    (λ said h. accepted_said kinds c.args.files.now bytes.scd.items bytes.dic.items bytes.vec.items said.is_accepted said.text.items s good p accepted plan
+    (h.0, (h.1.0, subst (λ q. DescribesPlan q h.1.0) c.plan.ensures.plan h.1.1, h.1.2)))
     c.said_of_accepted.ensures
 
 pub returns-in-Ok : goal.returns-in-Ok
@@ -29,12 +30,12 @@ returns-in-Ok c =
     let s = c.in-Ok.schema in
     let good = subst (λ (d : List ℕ). IsGoodSchema bytes.scd.items d kinds s) c.deref-2.ensures.value
     (subst (λ (x : List ℕ). IsGoodSchema x c.deref-2.result.now kinds s) c.deref.ensures.value c.in-Ok.ensures.schema) in
-    let f = c.in-Err-accept.fault in
-    let refusal = subst (λ (b : List ℕ). IsRefusal s b f) c.deref-in-Ok.ensures.value c.in-Err-accept.ensures.refusal in
+    let f = c.in-Err-examine.found.fault in
+    let refusal = subst (λ (b : List ℕ). IsRefusal s b f) c.deref-in-Ok.ensures.value c.in-Err-examine.ensures.found.0 in
     IfOk-weaker c.said_of_sheet.result _ _
     (λ said h. sheet_said kinds c.args.files.now bytes.scd.items bytes.dic.items bytes.vec.items said.is_accepted said.text.items s good f c.input_name.result.now
     c.input_name.ensures refusal
-    (h.0, h.1, (h.2.0, subst (λ (b : List ℕ). ExplainsSheet s b c.input_name.result.now f h.2.0) c.deref-in-Err-accept.ensures.value h.2.1, h.2.2)))
+    (h.0, h.1, (h.2.0, subst (λ (b : List ℕ). ExplainsSheet s b c.input_name.result.now f h.2.0) c.deref-in-Err-examine.ensures.value h.2.1, h.2.2)))
     c.said_of_sheet.ensures
 
 pub said_of_schema-requires : goal.said_of_schema-requires

@@ -1,0 +1,30 @@
+-- Which records of a picture of two sheets are coloured.
+use Rattle.std.specs.Prelude.{◌≡◌, ◌↔◌, ℕ, List, []}
+use Rattle.edi_matching.specs.Matchings.{GoesTo, IsMatched}
+use Rattle.edi_matching.specs.declared.matching.Matching.{Matching}
+use Rattle.edi_diff.specs.Changes.{AreChanges}
+use Rattle.edi_diff.specs.Lines.{first_line, second_line}
+use Rattle.edi_diff.specs.Reports.{Report}
+use Rattle.edi_diff.specs.declared.parts.Parts.{Parts}
+use Rattle.edi_diff.specs.declared.sheet.LocatedSheet.{LocatedSheet}
+use Rattle.edi_picture.specs.declared.mark.Mark.TheVariants.{Plain, OnlySecond, Changed}
+use Rattle.edi_drawing.specs.Marked.{first_mark, second_mark}
+
+-- what a text of two sheets tells
+abbrev pub report_of : LocatedSheet → LocatedSheet → Matching → Matching → List Parts → Report
+report_of first second kept became parts = record { first = first; second = second; kept = kept.to; became = became.to; parts = parts }
+
+-- a record of the first sheet is grey exactly if the text has no line for it
+abbrev pub FirstGreyIfUnlisted : Type 0
+FirstGreyIfUnlisted = (first second : LocatedSheet) (kept became : Matching) (parts : List Parts) (i : ℕ)
+    → (first_mark kept became i ≡ Plain) ↔ (first_line (report_of first second kept became parts) i ≡ [])
+
+-- a record of the second sheet has the colour of those that only it has exactly if the text has a line for it
+abbrev pub SecondAloneIfListed : Type 0
+SecondAloneIfListed = (first second : LocatedSheet) (kept became : Matching) (parts : List Parts) (j : ℕ) → AreChanges first.accepted second.accepted kept became
+    → (second_mark kept became j ≡ OnlySecond) ↔ ¬ (second_line (report_of first second kept became parts) j ≡ [])
+
+-- a record of the second sheet has the colour of those that changed exactly if a record of the first that isn't kept became it
+abbrev pub SecondChangedIfBecame : Type 0
+SecondChangedIfBecame = (first second : LocatedSheet) (kept became : Matching) (j : ℕ) → AreChanges first.accepted second.accepted kept became
+    → (second_mark kept became j ≡ Changed) ↔ ((i : ℕ) × (¬ (IsMatched kept.to i)) × GoesTo became.to i j)

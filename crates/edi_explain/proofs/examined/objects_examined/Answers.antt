@@ -1,0 +1,28 @@
+use Rattle.std.proofs.Common.{◌-◌, ℕ, subst}
+use Rattle.std.proofs.lemmas.Result.{IfOk-weaker}
+use Rattle.edi_plan.specs.Plans.{Drawing}
+use Rattle.edi_rank.specs.Alike.{BreaksObjectRule}
+use Rattle.edi_rank.specs.RankRefusal.{IsRankRefusal}
+use Rattle.edi_compare.proofs.Phases.{all_held, object_refusal}
+use Rattle.edi_explain.specs.Partners.{IsAlikeObject, IsLeastIfAny}
+use Rattle.edi_explain.proofs.Earlier.{object_earlier, object_rule}
+use Rattle.edi_explain.proofs.examined.objects_examined.Goals as goal
+
+pub returns-in-Ok-clause-accepted : goal.returns-in-Ok-clause-accepted
+returns-in-Ok-clause-accepted c = all_held c.args.schema.now c.args.bytes.now c.requires.held c.args.sound c.requires.plan c.in-Ok.ensures.distinct
+
+pub returns-in-Err-Memory-clause-found : goal.returns-in-Err-Memory-clause-found
+returns-in-Err-Memory-clause-found c = c.no_memory.ensures c.args.schema.now c.args.bytes.now
+
+pub returns-clause-found : goal.returns-clause-found
+returns-clause-found c =
+    let s = c.args.schema.now in
+    let b = c.args.bytes.now in
+    let p = c.args.sound in
+    let rule = c.in-Err-Broken.rule in
+    let at = c.in-Err-Broken.at in
+    let least = subst (IsRankRefusal (BreaksObjectRule p)) c.in-Err-Broken.field-0-is c.in-Err-Broken.ensures.least in
+    c.found_at.ensures s b (object_refusal s b rule at c.requires.held p c.requires.plan least)
+    (IfOk-weaker c.object_before-earlier.result _ _ (λ earlier found. object_earlier s b p c.requires.plan rule (at - 1) earlier (object_rule p rule at least.is)
+    (subst (λ (q : Drawing). IsLeastIfAny (IsAlikeObject q (at - 1)) earlier) c.plan-plan.ensures.plan
+    (subst (λ (n : ℕ). IsLeastIfAny (IsAlikeObject c.plan-plan.result.now n) earlier) c.saturating_sub-place.ensures found))) c.object_before-earlier.ensures)
