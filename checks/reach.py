@@ -171,21 +171,21 @@ def page(base):
     out = ["# What the claims rest on", "",
            "Every definition that the contracts of three calls reach, file by file, from the claim down. Made by",
            "`checks/reach.py`; the gate checks that it is current. [AUDIT.md](AUDIT.md) says how to read it.", ""]
-    told = set()
+    listed = set()
     for call, what, roots in CLAIMS:
         items = base.reached(roots)
         out += [f"## `{call}`: {what}", "", f"It reaches {count(items)}.", ""]
         by_file = {}
         for item in items:
-            if key_of(item) not in told:
+            if key_of(item) not in listed:
                 by_file.setdefault(item.path, []).append(item)
-        if told:
+        if listed:
             out += ["Beside what stands above:", ""]
         for path, those in by_file.items():
             out += [f"### {path}", ""]
             out += [f"- `{item.name}`" + (f": {item.comment}" if item.comment else "") for item in those]
             out.append("")
-        told.update(map(key_of, items))
+        listed.update(map(key_of, items))
     return "\n".join(out).rstrip("\n") + "\n"
 
 

@@ -91,11 +91,11 @@ def cases():
 
 
 def page():
-    told, defs, sources, tried = sentences(), definitions(), code(), cases()
+    known, defs, sources, tried = sentences(), definitions(), code(), cases()
     out = ["# The rules", ""]
     out += ["Each rule with its definition, its code and the cases that show it. Made by `checks/rules.py` from",
             "docs/FORMAT.md, the crates and the cases of `crates/conform/data`; the gate checks that it is current.", ""]
-    for rule, (sentence, place) in sorted(told.items()):
+    for rule, (sentence, place) in sorted(known.items()):
         out += [f"## {rule}", "", f"Broken where: {sentence}. Place: {place}.", ""]
         for path, name in defs.get(rule, []):
             out.append(f"- defined as `{name}` in {path}")
@@ -115,9 +115,9 @@ WITHOUT_CASE = {110}
 
 def lacking():
     """What a rule lacks: a definition, code or a case."""
-    told, defs, sources, tried = sentences(), definitions(), code(), cases()
+    known, defs, sources, tried = sentences(), definitions(), code(), cases()
     parts = (("definition", defs), ("code", sources), ("case", set(tried) | WITHOUT_CASE))
-    return [f"rule {rule} has no {name}" for rule in sorted(told) for name, part in parts if rule not in part]
+    return [f"rule {rule} has no {name}" for rule in sorted(known) for name, part in parts if rule not in part]
 
 
 def main():

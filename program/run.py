@@ -157,9 +157,9 @@ def explains(room, sheet):
     room.expect("a record with the name of an earlier one", ["explain", "s", "d", "two"], (2, named, b""))
     dashed = named.replace(b"two:", b"standard input:")
     room.expect("the same from standard input", ["explain", "s", "d", "-"], (2, dashed, b""), room.read("two"))
-    room.write("alike", "BOMT 01:X\n" + node.format(1, "a", 4, "7") + node.format(1, "b", 4, "8") + node.format(1, "c", 4, "7") + "EOMT 00:\n")
+    room.write("equal", "BOMT 01:X\n" + node.format(1, "a", 4, "7") + node.format(1, "b", 4, "8") + node.format(1, "c", 4, "7") + "EOMT 00:\n")
     node_line = b"a node with the position, class, attributes and extras of an earlier node [403]\n"
-    room.expect("a node alike an earlier one", ["explain", "s", "d", "alike"], (2, b"refused 403 record 3\nalike:10: PNO c: " + node_line + b"alike:2: PNO a: the earlier node [403]\n", b""))
+    room.expect("a node equal to an earlier one", ["explain", "s", "d", "equal"], (2, b"refused 403 record 3\nequal:10: PNO c: " + node_line + b"equal:2: PNO a: the earlier node [403]\n", b""))
     arc = "RTYSA03:PAR\nRIDSA01:{0}\nSCPCP22:EDAB01;SeSD;PGE;ARC_id\nCORCC04:{1};0;\nCORCC04:{2};0;\n"
     room.write("arcs", "BOMT 01:X\n" + arc.format("a", 1, 2) + arc.format("b", 2, 1) + "EOMT 00:\n")
     arcs = b"refused 405 record 2\narcs:7: PAR b: an arc with an earlier arc's points, in either direction [405]\narcs:2: PAR a: the earlier arc [405]\n"
@@ -236,10 +236,10 @@ def explains_partners(room):
     sides = b"refused 307 record 5\nsides:21: LNK n: a link of a kind whose arc has an earlier link of that kind [307]\nsides:16: LNK m: the earlier link [307]\n"
     room.expect("an arc with two links of a kind", ["explain", "s", "d", "sides"], (2, sides, b""))
     record = "RTYSA03:FEA\nRIDSA01:{0}\nSCPCP27:EDAB01;SeSD;OBJ;PARCELLE_id\n"
-    told = record.format("o") + "ATPCP22:EDAB01;SeSD;ATT;NOM_id\nATVSA01:x\n"
-    room.write("objects", "BOMT 01:X\n" + told + record.format("p") + record.format("q") + "EOMT 00:\n")
-    objects = b"refused 501 record 3\nobjects:10: FEA q: an object alike an earlier one in class, attributes, extras and pieces [501]\nobjects:7: FEA p: the earlier object [501]\n"
-    room.expect("an object alike an earlier one", ["explain", "s", "d", "objects"], (2, objects, b""))
+    full = record.format("o") + "ATPCP22:EDAB01;SeSD;ATT;NOM_id\nATVSA01:x\n"
+    room.write("objects", "BOMT 01:X\n" + full + record.format("p") + record.format("q") + "EOMT 00:\n")
+    objects = b"refused 501 record 3\nobjects:10: FEA q: an object with the class, attributes, extras and pieces of an earlier object [501]\nobjects:7: FEA p: the earlier object [501]\n"
+    room.expect("an object equal to an earlier one", ["explain", "s", "d", "objects"], (2, objects, b""))
     room.write("ends", "BOMT 01:X\n\nREMT 03:EOM\nEOMT 00:\n\nEOMT 00:\n")
     ends = b"refused 107 line 6\nends:6: a zone after the first EOM [107]\nends:4: the earlier line [107]\n"
     room.expect("a zone behind the end", ["explain", "s", "d", "ends"], (2, ends, b""))
@@ -298,18 +298,18 @@ def explains_lengths(room):
     broken = b":3: a byte other than a space follows the value [103]\n"
     front, end = "BOMT 01:X\nRTYSA03:PNO\n", "\nEOMT 00:\n"
 
-    def told(name, value, hints):
+    def hinted(name, value, hints):
         room.write("turned", (front + value + end).encode("utf-8"))
         hinted = b"hint: turned" + hint if hints else b""
         room.expect(name, ["explain", "s", "d", "turned"], (2, b"refused 103 line 3\nturned" + broken + hinted, b""))
 
-    told("a length that counts characters", "RIDSA07:Ch\u00e2teau", True)
-    told("the same with spaces behind the value", "RIDSA07:Ch\u00e2teau  \r", True)
-    told("characters of three and four bytes", "RIDSA03:\u20ac\u20ac\U0001f600", True)
-    told("a value that ends in a space", "RIDSA04:\u00e9\u00e9\u00e9 ", True)
-    told("fewer than the characters", "RIDSA06:Ch\u00e2teau", False)
-    told("fewer than the characters, and a space behind them", "RIDSA06:Ch\u00e2teau ", False)
-    told("as many bytes as characters", "RIDSA06:Chateau", False)
+    hinted("a length that counts characters", "RIDSA07:Ch\u00e2teau", True)
+    hinted("the same with spaces behind the value", "RIDSA07:Ch\u00e2teau  \r", True)
+    hinted("characters of three and four bytes", "RIDSA03:\u20ac\u20ac\U0001f600", True)
+    hinted("a value that ends in a space", "RIDSA04:\u00e9\u00e9\u00e9 ", True)
+    hinted("fewer than the characters", "RIDSA06:Ch\u00e2teau", False)
+    hinted("fewer than the characters, and a space behind them", "RIDSA06:Ch\u00e2teau ", False)
+    hinted("as many bytes as characters", "RIDSA06:Chateau", False)
     room.write("counted", (front + "RIDSA08:Ch\u00e2teau\n").encode("utf-8"))
     room.expect("a length that counts bytes", ["explain", "s", "d", "counted"], (2, b"refused 106 line 4\ncounted:4: there is no EOM [106]\n", b""))
     room.write("classes", room.read("s").replace(b"\n", "\nREMT 03:\u00e9t\u00e9\n".encode("utf-8"), 1))
@@ -367,9 +367,9 @@ def listed(rows):
 def picture_case(room, name, kinds, wanted):
     """What diff says with a picture: the same as without one, and colours exactly for the records that its lines list."""
     report = room.report
-    told = room.run(["diff", *kinds, "s", "d", "a", "b"])
+    wanted_answer = room.run(["diff", *kinds, "s", "d", "a", "b"])
     room.write("p", "kept")
-    room.expect(name + ": with a picture", ["diff", *kinds, "--picture", "p", "s", "d", "a", "b"], told)
+    room.expect(name + ": with a picture", ["diff", *kinds, "--picture", "p", "s", "d", "a", "b"], wanted_answer)
     if wanted[0] > 1:
         report.check(name + ": FILE of a picture", room.read("p"), b"kept")
         os.remove(room.path("p"))
@@ -377,7 +377,7 @@ def picture_case(room, name, kinds, wanted):
     picture = room.read("p")
     found = drawn(picture)
     marked = sorted((MARKS[it[1]], it[0], it[2].split(" ")[1]) for it in found if it[1] != "#777777" and it[0] != "PFE")
-    rows = listed(told[1].decode("latin-1").splitlines())
+    rows = listed(wanted_answer[1].decode("latin-1").splitlines())
     report.check(name + ": the arcs and nodes in colours", marked, [it for it in rows if it[1] != "PFE"])
     faces = [(MARKS[it[1]], it[0], it[2].split(" ")[1]) for it in found if it[1] != "#777777" and it[0] == "PFE"]
     report.check(name + ": faces in colours that no line lists", [it for it in faces if it not in rows], [])
@@ -797,10 +797,10 @@ def differing(room, sheets):
     """A picture of what differs: with the lines of diff, for both answers, and for none where there is another."""
     report = room.report
     for second in ("b", "same", "a", "moved"):
-        told = room.run(["diff", *sheets[:3], second])
+        wanted = room.run(["diff", *sheets[:3], second])
         room.write("b2", room.read("b"))
         room.write("b", room.read(second))
-        picture_case(room, f"the example and {second}", [], told)
+        picture_case(room, f"the example and {second}", [], wanted)
         room.write("b", room.read("b2"))
     room.write("p", "kept")
     room.expect("a picture to -", ["diff", "--picture", "-", *sheets], (3, b"", b"--picture takes a file, and not -\n"))

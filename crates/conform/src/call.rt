@@ -86,7 +86,7 @@ fn answer_over_pairs(
         "compare" => pairs::compared(alloc, setting, case),
         "pairing" => pairs::paired(alloc, setting, case),
         "check_pairing" => pairs::checked(alloc, setting, case),
-        "diff" => diffs::told(alloc, setting, case),
+        "diff" => diffs::contents(alloc, setting, case),
         "verify" => pairings::verified(alloc, setting, case),
         _ => bail!("no call has the name {call}"),
     }

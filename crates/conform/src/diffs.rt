@@ -10,7 +10,7 @@ use std::alloc::Global;
 
 /// What `diff` answers of two sheets: `same` or `different`, and the text. `run_diff` has to answer the same, with the last
 /// line of that text where no more is asked for.
-pub(crate) fn told(alloc: Global, setting: &Setting<'_>, case: &Case<'_>) -> Result<String> {
+pub(crate) fn contents(alloc: Global, setting: &Setting<'_>, case: &Case<'_>) -> Result<String> {
     let schema = setting.schema()?;
     let first = case.input(alloc, 0)?;
     let second = case.input(alloc, 1)?;

@@ -74,7 +74,7 @@ fn run_cases<R: Runtime + AllocGlobal>(
     Ok(())
 }
 
-// What a call answers to a case. Where memory runs out the call is made once more, under the schema that was lent to it.
+// What a call answers to a case. Where memory runs out the call is made once more, under the schema that it borrowed.
 fn answer<R: Runtime + AllocGlobal>(
     rt: &R,
     call: &str,

@@ -1,5 +1,5 @@
 //! A sheet through the calls of each phase, one after the other. A call that lacks memory is made again where it takes
-//! what is lent: a schema, a sound plan, labels.
+//! what is borrowed: a schema, a sound plan, labels.
 
 ghost use Rattle.std.specs.Prelude.{IfOk};
 ghost use Rattle.edi_rank.specs.Labelling.{AreLabels};
@@ -35,7 +35,7 @@ pub(crate) fn canonical(alloc: Global, schema: &Schema, sheet: &[u8]) -> Result<
     }
 }
 
-// The canonical file of a sound plan, or the object that can't be told from an earlier one.
+// The canonical file of a sound plan, or the object that is equal to an earlier one.
 fn written(alloc: Global, schema: &Schema, sound: &Sound) -> Result<String>
     requires { Agrees schema.now sound.now }
 {

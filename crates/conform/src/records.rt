@@ -12,7 +12,7 @@ use edi_record::{
 use std::alloc::Global;
 
 /// The records of a file: of each its type, identifier, class, points, ends, attributes and extras; or the refusal.
-/// The file is read by its zones and once more line by line, and a second answer that differs is told too.
+/// The file is read by its zones and once more line by line, and a second answer that differs is reported too.
 pub(crate) fn stated(alloc: Global, case: &Case<'_>) -> Result<String> {
     let file = case.input(alloc, 0)?;
     let mut text = by_zones(alloc, file.as_bytes())?;

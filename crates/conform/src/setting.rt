@@ -34,7 +34,7 @@ impl<'a> Setting<'a> {
         })
     }
 
-    /// The schema of these files, lent.
+    /// The schema of these files, borrowed.
     pub(crate) fn schema(&self) -> Result<&Schema> {
         self.schema.as_ref().context("the cases have no schema")
     }

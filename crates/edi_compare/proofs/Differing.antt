@@ -82,8 +82,8 @@ differ_unfed : (x y : ℕ) (xs ys : List ℕ) (place : ℕ) → x ≡ y → (x �
 differ_unfed x y xs ys place same other d =
     subst (λ c. DifferAt (lines_of (x ∷ xs)) (lines_of (c ∷ ys)) place) same (rw (ne_eqb x 10 other) (differ_onto x (lines_of xs) (lines_of ys) place d))
 
-told : (line x y : ℕ) (xs ys : List ℕ) (n : ℕ) → x ≡ y → differ_from line (x ∷ xs) (y ∷ ys) ≡ Some n → differ_from (cond (eqb x 10) (line + 1) line) xs ys ≡ Some n
-told line x y xs ys n same e = sym (ap (λ b. cond b (differ_from (cond (eqb x 10) (line + 1) line) xs ys) (Some line)) (eq-eqb x y same)) ∙ e
+later : (line x y : ℕ) (xs ys : List ℕ) (n : ℕ) → x ≡ y → differ_from line (x ∷ xs) (y ∷ ys) ≡ Some n → differ_from (cond (eqb x 10) (line + 1) line) xs ys ≡ Some n
+later line x y xs ys n same e = sym (ap (λ b. cond b (differ_from (cond (eqb x 10) (line + 1) line) xs ys) (Some line)) (eq-eqb x y same)) ∙ e
 
 -- where it is told, they differ there
 
@@ -106,14 +106,14 @@ found line (x ∷ xs) (y ∷ ys) n e = go (cases_eq x y) (cases_eq x 10) (found 
     go (inr other) feed more =
         let b = begins x xs in
         let d = begins y ys in
-        let told : Some line ≡ Some n = sym (ap (λ b. cond b (differ_from (cond (eqb x 10) (line + 1) line) xs ys) (Some line)) (ne_eqb x y other)) ∙ e in
+        let later : Some line ≡ Some n = sym (ap (λ b. cond b (differ_from (cond (eqb x 10) (line + 1) line) xs ys) (Some line)) (ne_eqb x y other)) ∙ e in
         here line (x ∷ xs) (y ∷ ys) n (cc) (λ same. let f : x ∷ b.0 ≡ y ∷ d.0 = sym b.1 ∙ (same ∙ d.1) in other (cc))
     go (inl same) (inl feed) more =
-        let f = more (told line x y xs ys n same e) in
+        let f = more (later line x y xs ys n same e) in
         let counts : n ≡ (line + 1) + f.place = f.counts ∙ ap (λ b. cond b (line + 1) line + f.place) (eq-eqb x 10 feed) in
         record { place = suc f.place; counts = omega (arith, counts); differ = differ_fed x y xs ys f.place feed (sym same ∙ feed) f.differ }
     go (inl same) (inr no_feed) more =
-        let f = more (told line x y xs ys n same e) in
+        let f = more (later line x y xs ys n same e) in
         let counts : n ≡ line + f.place = f.counts ∙ ap (λ b. cond b (line + 1) line + f.place) (ne_eqb x 10 no_feed) in
         record { place = f.place; counts = counts; differ = differ_unfed x y xs ys f.place same no_feed f.differ }
 

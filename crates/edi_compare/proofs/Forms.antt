@@ -3,8 +3,8 @@ use Rattle.std.proofs.Common.{◌≡◌, ◌∙◌, sym, subst, ap, refl, ℕ, �
 use Rattle.std.specs.List.{AllByRecursion, list_all}
 use Rattle.std.proofs.lemmas.List.{length-map}
 use Rattle.edi_line.specs.Refusal.{IsUnbroken}
-use Rattle.edi_record.specs.Layout.{HasPrintableLetters, KeepsRules, settled_end, settled_record}
-use Rattle.edi_record.specs.Layout as records
+use Rattle.edi_record.specs.RecordLayout.{HasPrintableLetters, FollowsRules, settled_end, settled_record}
+use Rattle.edi_record.specs.RecordLayout as records
 use Rattle.edi_record.specs.Shapes.{is_in_shape, may_have_points, may_have_ends}
 use Rattle.edi_record.specs.Sound.{IsSoundFile}
 use Rattle.edi_record.specs.declared.record.Record.{Record}
@@ -17,26 +17,28 @@ use Rattle.edi_schema.specs.Classes.{Classes, IsSchema}
 use Rattle.edi_plan.specs.Joined.{IsJoined}
 use Rattle.edi_plan.specs.Plans.{Drawing}
 use Rattle.edi_topo.specs.TopologyRules.{BreaksTopologyRule}
-use Rattle.edi_rank.specs.Alike.{BreaksObjectRule}
+use Rattle.edi_rank.specs.EqualObjects.{BreaksObjectRule}
 use Rattle.edi_rank.specs.Arranged.{new_place, arranged}
-use Rattle.edi_rank.specs.Labelling.{AreLabels, turned_at}
+use Rattle.edi_rank.specs.Labelling.{Labelling, AreLabels, turned_at}
 use Rattle.edi_rank.specs.Laws.{IsPlanUnder}
 use Rattle.edi_rank.specs.Same.{Same}
 use Rattle.edi_rank.proofs.ArrangedRises.{arranged_in_order}
 use Rattle.edi_rank.proofs.ArrangedUnder.{under_arranged}
 use Rattle.edi_rank.proofs.Arranging.{carries_arranged}
-use Rattle.edi_rank.proofs.Kept.{topology_kept, joins_kept}
-use Rattle.edi_rank.proofs.ObjectsKept.{objects_kept}
+use Rattle.edi_rank.proofs.Preserved.{topology_preserved, joins_kept}
+use Rattle.edi_rank.proofs.ObjectsPreserved.{objects_preserved}
 use Rattle.edi_write.specs.Layout.{layout}
 use Rattle.edi_write.specs.Written.{letters, written_records, CanBePrinted, HasAttributeClasses}
 use Rattle.edi_write.proofs.KindNames.{kinds_printable}
 use Rattle.edi_write.proofs.WrittenPrinted.{letters_printable, written_printable, attribute_classes}
 use Rattle.edi_write.proofs.WrittenRecords.{written_layout, written_plan, written_count}
 use Rattle.edi_write.proofs.WrittenReferences.{written_references}
-use Rattle.edi_compare.specs.Canonical.{IsCanonical, IsLayoutOf}
+use Rattle.edi_compare.specs.Canonical.{IsCanonical}
+use Rattle.edi_compare.specs.inner.Canonical.{IsLayoutOf}
 use Rattle.edi_compare.specs.Headline.{IsFormOf}
 use Rattle.edi_line.specs.Bytes.{IsBytes}
-use Rattle.edi_compare.specs.Forms.{HasForm}
+use Rattle.edi_compare.specs.inner.Forms.{HasForm, IsPlanForm}
+use Rattle.edi_compare.specs.HeldPlans.{IsHeldPlan}
 use Rattle.edi_compare.specs.PlanOfFile.{IsSheetOf, IsPlanOfFile, StateSame}
 use Rattle.edi_compare.specs.Rules.{ReferencesHold, IsAccepted}
 use Rattle.edi_compare.specs.declared.canonical.Form.{Form}
@@ -49,7 +51,7 @@ use Rattle.edi_compare.proofs.Reading.{reading_is_one}
 settled_shape : (s : records.Letters) (r : Record) → is_in_shape (settled_record s r) ≡ is_in_shape r
 settled_shape s r = ap (λ n. may_have_points r.kind (length r.points) && may_have_ends r.kind n) (length-map r.ends settled_end)
 
-settled_in_shape : (s : records.Letters) (rs : List Record) → AllByRecursion KeepsRules rs → list_all is_in_shape (map (settled_record s) rs) ≡ true
+settled_in_shape : (s : records.Letters) (rs : List Record) → AllByRecursion FollowsRules rs → list_all is_in_shape (map (settled_record s) rs) ≡ true
 settled_in_shape s [] all = refl
 settled_in_shape s (r ∷ rs) all = rw (settled_shape s r, all.0.shape) (settled_in_shape s rs all.1)
 
@@ -134,8 +136,8 @@ module _ (s : Classes) (b c : List ℕ) (f : IsLayoutOf s b c) (keeps : IsSchema
 
   form_accepted : IsAccepted s c
   form_accepted =
-      subst (IsAccepted s) laid_out (accepts s q keeps under' printable (joins_kept s p q under under' same joined) types (topology_kept s p q under under' same topology)
-      (objects_kept s p q under under' joined same (objects_hold s b f.accepted p f.states)))
+      subst (IsAccepted s) laid_out (accepts s q keeps under' printable (joins_kept s p q under under' same joined) types (topology_preserved s p q under under' same topology)
+      (objects_preserved s p q under under' joined same (objects_hold s b f.accepted p f.states)))
 
   canonical : IsBytes c → IsCanonical s c
   canonical bytes = record {
@@ -161,14 +163,25 @@ canonical_file s b c keeps short bytes f =
     let same = states_same s b c f keeps short in
     record { accepted = f.accepted; canonical = form; same = same; only = decide reading_is_one s keeps b c f.accepted form same }
 
+-- the layout of an accepted plan is its canonical file
+pub plan_form : (s : Classes) (p : Drawing) (l : Labelling) (c : List ℕ) → IsSchema s → IsBytes c → IsHeldPlan s p → AreLabels s p l → c ≡ layout s (arranged s l p) → IsPlanForm s p l c
+plan_form s p l c keeps bytes held labels laid_out = record {
+  accepted = (held.0, held.2, held.3);
+  labels = labels;
+  canonical = canonical s held.0 c layout_of keeps held.1 bytes;
+  arranged_plan = states_arranged s held.0 c layout_of keeps held.1;
+}
+  where
+    layout_of : IsLayoutOf s held.0 c
+    layout_of = record { plan = p; labels = l; accepted = held.2; states = held.3; are_labels = labels; laid_out = laid_out }
+
 -- and what is kept of the sheet is its form
 pub has_form : (s : Classes) (b : List ℕ) (form : Form) → IsSchema s → length b < 2 ^ 64 → IsBytes form.file.items → IsAccepted s b → IsPlanOfFile s b form.labelled.sound
     → AreLabels s form.labelled.sound form.labelled.labels → form.file.items ≡ layout s (arranged s form.labelled.labels form.labelled.sound) → HasForm s b form
 has_form s b form keeps short bytes accepted states labels laid_out = record {
   file = canonical_file s b form.file.items keeps short bytes layout_of;
   plan = states;
-  labels = labels;
-  arranged_plan = states_arranged s b form.file.items layout_of keeps short;
+  plan_form = plan_form s form.labelled.sound form.labelled.labels form.file.items keeps bytes (b, short, accepted, states) labels laid_out;
 }
   where
     layout_of : IsLayoutOf s b form.file.items

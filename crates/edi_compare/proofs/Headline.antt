@@ -10,7 +10,7 @@ use Rattle.edi_plan.specs.Joined.{IsJoined}
 use Rattle.edi_plan.proofs.Built.{plans_whole, plans_agreeing, one_plan_of}
 use Rattle.edi_plan.proofs.JoinedLemmas.{plans_joined}
 use Rattle.edi_topo.specs.TopologyRules.{BreaksTopologyRule}
-use Rattle.edi_rank.specs.Alike.{BreaksObjectRule}
+use Rattle.edi_rank.specs.EqualObjects.{BreaksObjectRule}
 use Rattle.edi_rank.specs.Same.{Carries, Same}
 use Rattle.edi_rank.specs.Laws.{IsPlanUnder}
 use Rattle.edi_rank.proofs.SameLaws.{same_refl, same_sym, same_trans}

@@ -5,7 +5,8 @@ use Rattle.std.specs.Prelude.{slice_get, ◌==◌}
 use Rattle.edi_record.proofs.RulesSaid.{record_rule_read}
 use Rattle.edi_line.specs.Entry.{Entry}
 use Rattle.edi_line.specs.LineRules.{BreaksLineRule, IsZonesOf}
-use Rattle.edi_line.specs.Refusal.{IsUnbroken, IsLeastBroken, first_broken}
+use Rattle.edi_line.specs.Refusal.{IsUnbroken, IsLeastBroken}
+use Rattle.edi_line.specs.inner.Refusal.{first_broken}
 use Rattle.edi_line.specs.inner.Spelling.{reading_of, has_head}
 use Rattle.edi_line.specs.Zones.{groups_of}
 use Rattle.edi_line.specs.inner.Zones.{zones_of}
@@ -28,8 +29,8 @@ use Rattle.edi_plan.specs.ReferenceRules.{BreaksReferenceRule, IsAt, HasRole, Jo
 use Rattle.edi_plan.specs.ReferenceRules.BreaksReferenceRule.{repeats_name, lacks_class, lacks_attribute_class, leaves_subset, names_nothing, joins_wrong, repeats_side}
 use Rattle.edi_topo.specs.TopologyRules.{BreaksTopologyRule}
 use Rattle.edi_topo.proofs.AtPlaces.{breaks_of_node, broken_place}
-use Rattle.edi_rank.specs.Alike.{BreaksObjectRule}
-use Rattle.edi_rank.specs.Alike.BreaksObjectRule.{repeats_object}
+use Rattle.edi_rank.specs.EqualObjects.{BreaksObjectRule}
+use Rattle.edi_rank.specs.EqualObjects.BreaksObjectRule.{repeats_object}
 use Rattle.edi_rank.specs.Arranged.{arranged}
 use Rattle.edi_rank.specs.EndOrder.{OthersInOrder}
 use Rattle.edi_rank.specs.InOrder.{Both}
@@ -195,14 +196,14 @@ topology_holds rule at broken =
     let early = repeats.1.1 in
     omega (arith, early)
 
-no_alike : IsUnbroken (BreaksObjectRule node_plan)
-no_alike rule at (repeats_object e at_is less h) = let second = h.second in omega (arith, less, one_place _ second)
+no_equal : IsUnbroken (BreaksObjectRule node_plan)
+no_equal rule at (repeats_object e at_is less h) = let second = h.second in omega (arith, less, one_place _ second)
 
 pub sheet_accepted : IsAccepted node_classes node_sheet
 sheet_accepted =
     let records = records_held node_classes node_sheet sheet_lines (zones_of node_sheet) sheet_zones (records_unbroken (zones_of node_sheet) node_group node_zones node_rules) in
     let references = references_held node_classes node_sheet records the_sheet states_sheet references_hold in
-    all_held node_classes node_sheet (topology_held node_classes node_sheet references node_plan states_node topology_holds) node_plan states_node no_alike
+    all_held node_classes node_sheet (topology_held node_classes node_sheet references node_plan states_node topology_holds) node_plan states_node no_equal
 
 -- its labels
 
@@ -315,15 +316,15 @@ empty_references rule at (names_nothing e h) = none_at at h.0 h.1
 empty_references rule at (joins_wrong e h) = none_at at h.0 h.1
 empty_references rule at (repeats_side e h) = none_at at h.3 h.7
 
-none_alike : IsUnbroken (BreaksObjectRule empty_plan)
-none_alike rule at (repeats_object e at_is less h) = let second = h.second in omega (arith, second)
+none_equal : IsUnbroken (BreaksObjectRule empty_plan)
+none_equal rule at (repeats_object e at_is less h) = let second = h.second in omega (arith, second)
 
 pub empty_accepted : IsAccepted node_classes empty_sheet
 empty_accepted =
     let records = records_held node_classes empty_sheet empty_lines (zones_of empty_sheet) empty_zones empty_records in
     let references = references_held node_classes empty_sheet records no_records states_none empty_references in
     let topology : IsUnbroken (BreaksTopologyRule empty_plan) = λ rule at broken. (let place = (broken_place empty_plan rule at broken).2 in omega (arith, place)) in
-    all_held node_classes empty_sheet (topology_held node_classes empty_sheet references empty_plan states_empty topology) empty_plan states_empty none_alike
+    all_held node_classes empty_sheet (topology_held node_classes empty_sheet references empty_plan states_empty topology) empty_plan states_empty none_equal
 
 no_orders : (kind : Kind) (i k : ℕ) → slice_get (order_of empty_labels kind) i ≡ Some k → IsPlace empty_plan k × ((record_at empty_plan k).kind ≡ kind) × (number_of empty_labels k ≡ i + 1)
 no_orders Pno i k e = cc

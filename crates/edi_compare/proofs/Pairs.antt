@@ -22,11 +22,11 @@ use Rattle.edi_compare.specs.declared.numbered.NumberedRecords.{NumberedRecords}
 use Rattle.edi_compare.specs.declared.pairing.Pairing.{Pairing}
 
 -- what `!=` says of truths
-told_differ : (a b : Bool) → not (beq a b) ≡ differ a b
-told_differ true true = refl
-told_differ true false = refl
-told_differ false true = refl
-told_differ false false = refl
+known_differ : (a b : Bool) → not (beq a b) ≡ differ a b
+known_differ true true = refl
+known_differ true false = refl
+known_differ false true = refl
+known_differ false false = refl
 
 module _ (s : Classes) (p q : Drawing) (l m : Labelling) (labels : AreLabels s p l) (labels' : AreLabels s q m) (f : NumberedRecords) (first : IsNumbered p l f) where
   number_is : (k : ℕ) → number_at f k ≡ number_of l k
@@ -89,7 +89,7 @@ module _ (s : Classes) (p q : Drawing) (l m : Labelling) (labels : AreLabels s p
     turns i h =
         let there = subst (λ n. i < n) (sym first.long) h in
         by.turned i there
-        ∙ (told_differ (turned_at f.turned i) (turned_at m.turned (namesake f m i))
+        ∙ (known_differ (turned_at f.turned i) (turned_at m.turned (namesake f m i))
         ∙ ap₂ differ (turned_is s p q l m labels labels' f first i) (ap (turned_at m.turned) (sym (by.to i there))))
 
     pub pairing_carries : IsPlanUnder s p → IsPlanUnder s q → PairingCarries s p q pairing
@@ -106,8 +106,8 @@ module _ (s : Classes) (p q : Drawing) (l m : Labelling) (labels : AreLabels s p
     }
 
 -- one value more of a map
-pub one_more_told : {X : Type 0} (f : ℕ → X) (d : X) (xs ys : List X) (x : X) (i : ℕ) → ys ≡ xs ++ x ∷ [] → length xs ≡ i → ((k : ℕ) → k < i → get_or xs k d ≡ f k) → x ≡ f i
+pub one_more_known : {X : Type 0} (f : ℕ → X) (d : X) (xs ys : List X) (x : X) (i : ℕ) → ys ≡ xs ++ x ∷ [] → length xs ≡ i → ((k : ℕ) → k < i → get_or xs k d ≡ f k) → x ≡ f i
     → (k : ℕ) → k < i + 1 → get_or ys k d ≡ f k
-one_more_told f d xs ys x i e long told is = below_more _ i
-    (λ k h. ap (λ zs. get_or zs k d) e ∙ (get_or_append_left xs (x ∷ []) d k (omega arith) ∙ told k h))
+one_more_known f d xs ys x i e long contents is = below_more _ i
+    (λ k h. ap (λ zs. get_or zs k d) e ∙ (get_or_append_left xs (x ∷ []) d k (omega arith) ∙ contents k h))
     (ap (λ zs. get_or zs i d) e ∙ (get_or_push xs x d i long ∙ is))

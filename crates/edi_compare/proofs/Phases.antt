@@ -21,8 +21,8 @@ use Rattle.edi_plan.specs.ReferenceRules.BreaksReferenceRule.{repeats_name, lack
 use Rattle.edi_plan.proofs.Built.{one_plan_of}
 use Rattle.edi_topo.specs.TopologyRules.{BreaksTopologyRule}
 use Rattle.edi_topo.specs.TopologyRules.BreaksTopologyRule.{starts_elsewhere, ends_elsewhere, repeats_node, equals_reverse, repeats_arc, bounds_nothing}
-use Rattle.edi_rank.specs.Alike.{BreaksObjectRule}
-use Rattle.edi_rank.specs.Alike.BreaksObjectRule.{repeats_object}
+use Rattle.edi_rank.specs.EqualObjects.{BreaksObjectRule}
+use Rattle.edi_rank.specs.EqualObjects.BreaksObjectRule.{repeats_object}
 use Rattle.edi_compare.specs.PlanOfFile.{IsSheetOf, IsPlanOfFile}
 use Rattle.edi_compare.specs.Rules.{LinesHold, RecordsHold, ReferencesHold, TopologyHolds, Breaks, IsAccepted}
 use Rattle.edi_compare.specs.Rules.Breaks.{of_lines, of_records, of_references, of_topology, of_objects}

@@ -12,12 +12,12 @@ use Rattle.edi_plan.specs.declared.record.PlanEnd.{PlanEnd}
 use Rattle.edi_plan.proofs.Orders.{first_tied, then_tied, exact_options, bytes_total, bytes_exact}
 use Rattle.edi_rank.specs.Same.{moved}
 use Rattle.edi_rank.proofs.SameLaws.{map-map}
-use Rattle.edi_compare.specs.Checking.{placed_end, placed_end_cmp}
+use Rattle.edi_compare.specs.inner.Checking.{placed_end, placed_end_cmp}
 use Rattle.edi_compare.specs.declared.moved_ends.MovedEnd.{MovedEnd}
 use Rattle.edi_compare.specs.contracts.moved_ends.MovedEndOrd.TheImpl.{ghosts as ends}
 use Rattle.edi_compare.specs.contracts.moved_ends.MovedEndOrd.TheImpl.Laws.{lawful as laws}
 use Rattle.edi_compare.specs.contracts.moved_ends.MovedEndPartialEq.TheImpl.{ghosts as end_eq}
-use Rattle.edi_compare.proofs.Alike.{decided, permuted, one_order}
+use Rattle.edi_compare.proofs.Equal.{decided, permuted, one_order}
 
 pub placed_order : (a b : MovedEnd) → ends.cmp a b ≡ placed_end_cmp a b
 placed_order a b = refl
@@ -71,8 +71,8 @@ alone_there to r x y ends others e f h = rw (e, f) (alone to r x y h)
 
 -- the first end, and what is told of the others
 
-pub first_told : {E : Type 0} (to : ℕ → ℕ) (x y : PlanEnd) (ends others rest more : List PlanEnd) (r : Result Bool E) → ends ≡ x ∷ rest → others ≡ y ∷ more → y ≡ moved to x
+pub first_known : {E : Type 0} (to : ℕ → ℕ) (x y : PlanEnd) (ends others rest more : List PlanEnd) (r : Result Bool E) → ends ≡ x ∷ rest → others ≡ y ∷ more → y ≡ moved to x
     → IfOk r (λ answer. IsTrue answer ↔ IsPermutation (map (moved to) rest) more)
     → IfOk r (λ answer. IsTrue answer ↔ ((first_of others ≡ option_map (moved to) (first_of ends)) × IsPermutation (map (moved to) (rest_of ends)) (rest_of others)))
-first_told to x y ends others rest more (Ok answer) e f same told = rw (e, f) (λ t. (ap Some same, told.0 t), λ both. told.1 both.1)
-first_told to x y ends others rest more (Err error) e f same told = tt
+first_known to x y ends others rest more (Ok answer) e f same contents = rw (e, f) (λ t. (ap Some same, contents.0 t), λ both. contents.1 both.1)
+first_known to x y ends others rest more (Err error) e f same contents = tt

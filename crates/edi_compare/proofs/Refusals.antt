@@ -15,19 +15,10 @@ use Rattle.edi_record.specs.declared.fault.SheetFault.{SheetFault}
 use Rattle.edi_record.specs.declared.fault.SheetFault.TheVariants as file
 use Rattle.edi_schema.specs.Classes.{Classes}
 use Rattle.edi_plan.specs.Plans.{Drawing}
-use Rattle.edi_plan.specs.ReferenceRefusal.{IsReferenceRefusal}
 use Rattle.edi_plan.specs.ReferenceRules.{BreaksReferenceRule}
-use Rattle.edi_plan.specs.declared.fault.RefFault.{RefFault}
-use Rattle.edi_plan.specs.declared.fault.RefFault.TheVariants as reference
-use Rattle.edi_topo.specs.TopologyRefusal.{IsTopologyRefusal}
 use Rattle.edi_topo.specs.TopologyRules.{BreaksTopologyRule}
-use Rattle.edi_topo.specs.declared.fault.TopoFault.{TopoFault}
-use Rattle.edi_topo.specs.declared.fault.TopoFault.TheVariants as topology
-use Rattle.edi_rank.specs.Alike.{BreaksObjectRule}
-use Rattle.edi_rank.specs.RankRefusal.{IsRankRefusal}
-use Rattle.edi_rank.specs.declared.fault.RankFault.{RankFault}
-use Rattle.edi_rank.specs.declared.fault.RankFault.TheVariants as rank
-use Rattle.edi_compare.specs.Faults.{of_line, of_record, of_sheet, of_reference, of_topology, of_rank, of_first, of_second}
+use Rattle.edi_rank.specs.EqualObjects.{BreaksObjectRule}
+use Rattle.edi_compare.specs.Faults.{of_line, of_record, of_sheet, of_first, of_second}
 use Rattle.edi_compare.specs.PlanOfFile.{IsSheetOf, IsPlanOfFile}
 use Rattle.edi_compare.specs.Refused.{IsRefusal, IsPairRefusal}
 use Rattle.edi_compare.specs.Rules.{LinesHold, RecordsHold, ReferencesHold, TopologyHolds, IsAccepted}
@@ -53,17 +44,17 @@ module _ (s : Classes) (b : List ℕ) where
   sheet_fault (file.Line f) h = line_fault f h
   sheet_fault (file.Record f) h = record_fault h.0 h.1.0 h.1.1 f h.1.2
 
-  pub reference_fault : RecordsHold s b → (sheet : Sheet) → IsSheetOf b sheet → (f : RefFault) → IsReferenceRefusal (BreaksReferenceRule s sheet.list) f → IsRefusal s b (of_reference f)
-  reference_fault records sheet states (reference.Memory e) h = tt
-  reference_fault records sheet states (reference.Broken rule at) h = reference_refusal s b rule at records sheet states h
+  pub reference_fault : RecordsHold s b → (sheet : Sheet) → IsSheetOf b sheet → (f : RecordFault) → IsRecordRefusal (BreaksReferenceRule s sheet.list) f → IsRefusal s b (of_record f)
+  reference_fault records sheet states (record_.Memory e) h = tt
+  reference_fault records sheet states (record_.Broken rule at) h = reference_refusal s b rule at records sheet states h
 
-  pub topology_fault : ReferencesHold s b → (plan : Drawing) → IsPlanOfFile s b plan → (f : TopoFault) → IsTopologyRefusal (BreaksTopologyRule plan) f → IsRefusal s b (of_topology f)
-  topology_fault references plan states (topology.Memory e) h = tt
-  topology_fault references plan states (topology.Broken rule at) h = topology_refusal s b rule at references plan states h
+  pub topology_fault : ReferencesHold s b → (plan : Drawing) → IsPlanOfFile s b plan → (f : RecordFault) → IsRecordRefusal (BreaksTopologyRule plan) f → IsRefusal s b (of_record f)
+  topology_fault references plan states (record_.Memory e) h = tt
+  topology_fault references plan states (record_.Broken rule at) h = topology_refusal s b rule at references plan states h
 
-  pub rank_fault : TopologyHolds s b → (plan : Drawing) → IsPlanOfFile s b plan → (f : RankFault) → IsRankRefusal (BreaksObjectRule plan) f → IsRefusal s b (of_rank f)
-  rank_fault topology plan states (rank.Memory e) h = tt
-  rank_fault topology plan states (rank.Broken rule at) h = object_refusal s b rule at topology plan states h
+  pub rank_fault : TopologyHolds s b → (plan : Drawing) → IsPlanOfFile s b plan → (f : RecordFault) → IsRecordRefusal (BreaksObjectRule plan) f → IsRefusal s b (of_record f)
+  rank_fault topology plan states (record_.Memory e) h = tt
+  rank_fault topology plan states (record_.Broken rule at) h = object_refusal s b rule at topology plan states h
 
 -- the faults of two sheets
 

@@ -5,12 +5,6 @@ use Rattle.edi_record.specs.declared.fault.RecordFault.{RecordFault}
 use Rattle.edi_record.specs.declared.fault.RecordFault.TheVariants as record_
 use Rattle.edi_record.specs.declared.fault.SheetFault.{SheetFault}
 use Rattle.edi_record.specs.declared.fault.SheetFault.TheVariants as sheet
-use Rattle.edi_plan.specs.declared.fault.RefFault.{RefFault}
-use Rattle.edi_plan.specs.declared.fault.RefFault.TheVariants as reference
-use Rattle.edi_topo.specs.declared.fault.TopoFault.{TopoFault}
-use Rattle.edi_topo.specs.declared.fault.TopoFault.TheVariants as topology
-use Rattle.edi_rank.specs.declared.fault.RankFault.{RankFault}
-use Rattle.edi_rank.specs.declared.fault.RankFault.TheVariants as rank
 use Rattle.edi_compare.specs.declared.fault.Fault.{Fault}
 use Rattle.edi_compare.specs.declared.fault.Fault.TheVariants.{Memory, Line, Entry}
 use Rattle.edi_compare.specs.declared.fault.CompareFault.{CompareFault}
@@ -27,18 +21,6 @@ of_record (record_.Broken rule at) = Entry rule at
 abbrev pub of_sheet : SheetFault → Fault
 of_sheet (sheet.Line fault) = of_line fault
 of_sheet (sheet.Record fault) = of_record fault
-
-abbrev pub of_reference : RefFault → Fault
-of_reference (reference.Memory e) = Memory e
-of_reference (reference.Broken rule at) = Entry rule at
-
-abbrev pub of_topology : TopoFault → Fault
-of_topology (topology.Memory e) = Memory e
-of_topology (topology.Broken rule at) = Entry rule at
-
-abbrev pub of_rank : RankFault → Fault
-of_rank (rank.Memory e) = Memory e
-of_rank (rank.Broken rule at) = Entry rule at
 
 -- the fault of the first of two sheets, or of the second
 abbrev pub of_first : Fault → CompareFault

@@ -9,7 +9,7 @@ use Rattle.edi_schema.specs.Classes.{Classes}
 use Rattle.edi_plan.specs.Plans.{Drawing}
 use Rattle.edi_plan.specs.ReferenceRules.{BreaksReferenceRule}
 use Rattle.edi_topo.specs.TopologyRules.{BreaksTopologyRule}
-use Rattle.edi_rank.specs.Alike.{BreaksObjectRule}
+use Rattle.edi_rank.specs.EqualObjects.{BreaksObjectRule}
 use Rattle.edi_compare.specs.PlanOfFile.{IsSheetOf, IsPlanOfFile}
 
 module _ (s : Classes) (b : List ℕ) where

@@ -1,10 +1,10 @@
 -- What runs over sheets of one schema answer.
-use Rattle.std.specs.Prelude.{◌≡◌, ◌≤◌, ℕ, List, IfSome, IsTrue}
+use Rattle.std.specs.Prelude.{◌≡◌, ◌≤◌, ℕ, IfSome, IsTrue}
 use Rattle.edi_schema.specs.Classes.{Classes}
 use Rattle.edi_schema.specs.Roles.{KindCodes}
 use Rattle.edi_compare.specs.declared.fault.RunFault.{RunFault}
 use Rattle.edi_compare.specs.Refused.{IsProper, IsRefusal}
-use Rattle.edi_compare.specs.Runs.{IsRead, IsTooLong, MatchFault, RefusesSchema, Seen, TellBoth}
+use Rattle.edi_compare.specs.Runs.{IsRead, IsTooLong, MatchFault, RefusesSchema, Seen, IfBothKnown}
 
 -- the fact of the input of this number, of two, where A says that the first was read
 abbrev pub OfTwo : ℕ → Type 0 → Type 0 → Type 0 → Type 0
@@ -16,12 +16,8 @@ abbrev pub SchemaFilesFault : KindCodes → Seen → Seen → Type 0 → RunFaul
 SchemaFilesFault kinds scd dic dic_stays e = MatchFault e
     (λ n. OfTwo n (IsRead scd) (IsTrue scd.failed × dic_stays) (IsTrue dic.failed))
     (λ n. OfTwo n (IsRead scd) (IsTooLong scd.before × dic_stays) (IsTooLong dic.before))
-    (λ f. TellBoth scd.before dic.before (λ s d. RefusesSchema kinds s d f))
+    (λ f. IfBothKnown scd.before dic.before (λ s d. RefusesSchema kinds s d f))
     (λ _. ⊥) (λ _. ⊥) (λ _. ⊥)
-
--- the refusal of a sheet that was read
-abbrev pub UnderSchema : Classes → List ℕ → RunFault → Type 0
-UnderSchema s b e = MatchFault e (λ _. ⊥) (λ _. ⊥) (λ _. ⊥) (λ f. IsProper f × IsRefusal s b f) (λ _. ⊥) (λ _. ⊥)
 
 -- why a sheet has no canonical file under a schema: it can't be read, is too long, or is refused
 abbrev pub UnderFault : Classes → Seen → RunFault → Type 0

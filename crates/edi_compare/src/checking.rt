@@ -4,7 +4,7 @@ ghost use Rattle.std.specs.Prelude.{◌≡◌, ◌↔◌, ◌<◌, ℕ, IsTrue, 
 ghost use Rattle.edi_record.specs.declared.record.Kind.TheVariants.{Par};
 ghost use Rattle.edi_plan.specs.Plans.{IsPlace, record_at};
 ghost use Rattle.edi_rank.specs.Labelling.{turned_at};
-ghost use Rattle.edi_compare.specs.Checking.{HasSameBody, IsCarried, IsFitting};
+ghost use Rattle.edi_compare.specs.inner.Checking.{HasSameBody, IsCarried, IsFitting};
 ghost use Rattle.edi_compare.specs.Pairings.{HasClasses, PairingCarries};
 
 use crate::accepted::Accepted;
@@ -65,7 +65,7 @@ struct Pairs<'a> {
 }
 
 impl<'a> Model for Pairs<'a> {
-    ghost use Rattle.edi_compare.specs.Checking.{Matching, IsFitting};
+    ghost use Rattle.edi_compare.specs.inner.Checking.{Matching, IsFitting};
 
     ghost Value = { Matching };
 

@@ -3,7 +3,7 @@
 ghost use Rattle.std.specs.Prelude.{◌≡◌, ◌↔◌, IsTrue, IfOk, IsPermutation, option_copied, reverse};
 ghost use Rattle.edi_rank.specs.Same.{directed};
 
-use edi_line::LentEach;
+use edi_line::ListOfBorrowed;
 use edi_plan::{PlanAttribute, sorted_attributes};
 use edi_record::{Extra, Point};
 use std::alloc::{AllocError, Global};
@@ -53,7 +53,7 @@ pub fn same_attributes(
     }
     let first = sorted_attributes(alloc, attributes)?;
     let second = sorted_attributes(alloc, others)?;
-    Ok(LentEach::from_vec(first) == LentEach::from_vec(second))
+    Ok(ListOfBorrowed::from_vec(first) == ListOfBorrowed::from_vec(second))
 }
 
 /// Whether two texts are equal, or both are missing.

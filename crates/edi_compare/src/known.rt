@@ -9,7 +9,7 @@ ghost use Rattle.edi_compare.specs.declared.fault.Fault.TheVariants.{Line};
 ghost use Rattle.std.specs.Prelude.{[]};
 
 /// Known sheets are accepted, canonical, the same, different or refused, as they should be.
-pub fn known_sheets_are_told()
+pub fn known_sheets_are_answered()
     ensures accepted { IsAccepted node_classes node_sheet }
     ensures canonical { IsCanonical node_classes node_file }
     ensures same { StateSame node_classes node_sheet node_file }

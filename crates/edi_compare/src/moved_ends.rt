@@ -4,24 +4,24 @@ ghost use Rattle.std.specs.Prelude.{◌≡◌, ◌↔◌, ◌<◌, IsTrue, IfOk,
 ghost use Rattle.std.specs.List.{AllByRecursion};
 ghost use Rattle.edi_plan.specs.Plans.{first_of, rest_of};
 ghost use Rattle.edi_rank.specs.Same.{moved};
-ghost use Rattle.edi_compare.specs.Checking.{placed_end};
+ghost use Rattle.edi_compare.specs.inner.Checking.{placed_end};
 
-use edi_line::Lent;
+use edi_line::BorrowedList;
 use edi_plan::PlanEnd;
 use std::alloc::{AllocError, Global};
 
-/// An end by the place of what it names, with its SNS as the plan lends it. Ends go by place, then SNS.
+/// An end by the place of what it names, with its SNS borrowed from the plan. Ends go by place, then SNS.
 #[derive(Debug, Drop, PartialEq, Eq, PartialOrd, Ord)]
 pub(crate) struct MovedEnd<'a> {
     target: u32,
-    sns: Option<Lent<'a, u8>>,
+    sns: Option<BorrowedList<'a, u8>>,
 }
 
 fn end_at(target: u32, end: &PlanEnd) -> MovedEnd<'_>
     ensures { result ≡ record { target = target; sns = end.now.sns } }
 {
     let sns = match &end.sns {
-        Some(text) => Some(Lent::of(text.as_slice())),
+        Some(text) => Some(BorrowedList::of(text.as_slice())),
         None => None,
     };
     MovedEnd { target, sns }

@@ -2,8 +2,9 @@
 ghost use Rattle.std.specs.Prelude.{◌≡◌, IfErr, IfOk, IfSome, OnOk};
 ghost use Rattle.edi_schema.specs.SchemaRefusal.{IsGoodSchema};
 ghost use Rattle.edi_compare.specs.Headline.{IsFormOf};
-ghost use Rattle.edi_compare.specs.Runs.{AfterReading, IsRead, TellBoth, seen};
-ghost use Rattle.edi_compare.specs.Under.{SchemaFilesFault, UnderFault, UnderSchema};
+ghost use Rattle.edi_compare.specs.Runs.{AfterReading, IsRead, IfBothKnown, seen};
+ghost use Rattle.edi_compare.specs.Under.{SchemaFilesFault, UnderFault};
+ghost use Rattle.edi_compare.specs.inner.Under.{UnderSchema};
 
 use crate::canonical::canon_from;
 use crate::fault::{Fault, RunFault};
@@ -20,12 +21,12 @@ pub fn schema_of<S: ByteIn, D: ByteIn>(
     scd: &mut S,
     dic: &mut D,
 ) -> Result<Schema, RunFault>
-    ensures ok { IfOk result (λ schema. TellBoth (S.told scd.old) (D.told dic.old) (λ s d. IsGoodSchema s d kinds.now schema)) }
-    ensures read { OnOk result (IsRead (seen (S.told scd.old) (S.told scd.new) (S.has_failed scd.new)) × IsRead (seen (D.told dic.old) (D.told dic.new) (D.has_failed dic.new))) }
-    ensures err { IfErr result (SchemaFilesFault kinds.now (seen (S.told scd.old) (S.told scd.new) (S.has_failed scd.new))
-        (seen (D.told dic.old) (D.told dic.new) (D.has_failed dic.new)) (dic.new ≡ dic.old)) }
-    ensures after { IfErr result (λ e. AfterReading e (IsRead (seen (S.told scd.old) (S.told scd.new) (S.has_failed scd.new))
-        × IsRead (seen (D.told dic.old) (D.told dic.new) (D.has_failed dic.new)))) }
+    ensures ok { IfOk result (λ schema. IfBothKnown (S.contents scd.old) (D.contents dic.old) (λ s d. IsGoodSchema s d kinds.now schema)) }
+    ensures read { OnOk result (IsRead (seen (S.contents scd.old) (S.contents scd.new) (S.has_failed scd.new)) × IsRead (seen (D.contents dic.old) (D.contents dic.new) (D.has_failed dic.new))) }
+    ensures err { IfErr result (SchemaFilesFault kinds.now (seen (S.contents scd.old) (S.contents scd.new) (S.has_failed scd.new))
+        (seen (D.contents dic.old) (D.contents dic.new) (D.has_failed dic.new)) (dic.new ≡ dic.old)) }
+    ensures after { IfErr result (λ e. AfterReading e (IsRead (seen (S.contents scd.old) (S.contents scd.new) (S.has_failed scd.new))
+        × IsRead (seen (D.contents dic.old) (D.contents dic.new) (D.has_failed dic.new)))) }
 {
     let scd = read_input(alloc, scd, 1)?;
     let dic = read_input(alloc, dic, 2)?;
@@ -38,10 +39,10 @@ pub fn canon_under<V: ByteIn>(
     schema: &Schema,
     vec: &mut V,
 ) -> Result<Vec<u8>, RunFault>
-    ensures ok { IfOk result (λ c. IfSome (V.told vec.old) (λ v. IsFormOf schema.now v c.items)) }
-    ensures read { OnOk result (IsRead (seen (V.told vec.old) (V.told vec.new) (V.has_failed vec.new))) }
-    ensures err { IfErr result (UnderFault schema.now (seen (V.told vec.old) (V.told vec.new) (V.has_failed vec.new))) }
-    ensures after { IfErr result (λ e. AfterReading e (IsRead (seen (V.told vec.old) (V.told vec.new) (V.has_failed vec.new)))) }
+    ensures ok { IfOk result (λ c. IfSome (V.contents vec.old) (λ v. IsFormOf schema.now v c.items)) }
+    ensures read { OnOk result (IsRead (seen (V.contents vec.old) (V.contents vec.new) (V.has_failed vec.new))) }
+    ensures err { IfErr result (UnderFault schema.now (seen (V.contents vec.old) (V.contents vec.new) (V.has_failed vec.new))) }
+    ensures after { IfErr result (λ e. AfterReading e (IsRead (seen (V.contents vec.old) (V.contents vec.new) (V.has_failed vec.new)))) }
 {
     let vec = read_input(alloc, vec, 3)?;
     form_or_fault(alloc, schema, vec)

@@ -1,5 +1,5 @@
-pub mod Told
+pub mod Reported
 pub mod Sited
 pub mod Outcomes
 pub mod Steps
-pub mod PartsTold
+pub mod PartsReported

@@ -1,5 +1,5 @@
 -- Matchings as changes, and what leaves nothing out.
-use Rattle.std.proofs.Common.{◌≡◌, ℕ, zero, suc, ◌<◌, Bool, ◌||◌, true, false, IsTrue, List, [], ◌∷◌, length, get_or, Option, None, Some, refl, sym, ap, ◌∙◌, subst, eq-eqb, Result, Ok, Err, IfOk}
+use Rattle.std.proofs.Common.{◌≡◌, ℕ, zero, suc, ◌<◌, Bool, ◌||◌, true, false, IsTrue, List, [], ◌∷◌, length, get_or, Option, None, Some, refl, sym, ap, ◌∙◌, subst, eq-eqb}
 use Rattle.std.proofs.lemmas.Bool.{eqb-true}
 use Rattle.std.specs.Option.{is_some}
 use Rattle.edi_schema.specs.Classes.{Classes}
@@ -8,7 +8,7 @@ use Rattle.edi_matching.specs.Matchings.{GoesTo, IsMatched, IsTotal, MatchingHol
 use Rattle.edi_matching.specs.declared.matching.Matching.{Matching}
 use Rattle.edi_diff.specs.Changes.{AreChanges, ArePartsOfEach}
 use Rattle.edi_diff.specs.Differences.{IsDifferenceText}
-use Rattle.edi_diff.specs.Lines.{is_reached, told_text, went_to}
+use Rattle.edi_diff.specs.Lines.{is_reached, text_of_report, went_to}
 use Rattle.edi_diff.specs.Reports.{HasSites}
 use Rattle.edi_diff.specs.declared.parts.Parts.{Parts}
 use Rattle.edi_diff.specs.declared.sheet.LocatedSheet.{LocatedSheet}
@@ -27,9 +27,9 @@ no_changes s p q m h = record {
   types = λ i j goes. (h.each i j goes).kind;
 }
 
-pub fits : (first second : LocatedSheet) (kept became : Matching) (parts : List Parts) → HasSites first → HasSites second → length kept.to ≡ length first.accepted.list
-    → AreChanges first.accepted second.accepted kept became → IsFitting (record { first = first; second = second; kept = kept.to; became = became.to; parts = parts })
-fits first second kept became parts here there long are = record {
+pub fits : (first second : LocatedSheet) (unchanged became : Matching) (parts : List Parts) → HasSites first → HasSites second → length unchanged.to ≡ length first.accepted.list
+    → AreChanges first.accepted second.accepted unchanged became → IsFitting (record { first = first; second = second; unchanged = unchanged.to; became = became.to; parts = parts })
+fits first second unchanged became parts here there long are = record {
   first_sites = here;
   second_sites = there;
   all_kept = long;
@@ -65,9 +65,9 @@ reached_goes [] j e = cc
 reached_goes (None ∷ to) j e = let w = reached_goes to j e in (suc w.0, w.1)
 reached_goes (Some k ∷ to) j e = here_or_there k to j (reached_goes to j) e
 
-pub total_told : (p q : Drawing) (m : Matching) (marks : List Bool) → length m.to ≡ length p.list → AreMarks m.to (length q.list) marks
+pub total_reported : (p q : Drawing) (m : Matching) (marks : List Bool) → length m.to ≡ length p.list → AreMarks m.to (length q.list) marks
     → ((i : ℕ) → i < length m.to → IsMatched m.to i) → ((j : ℕ) → j < length marks → get_or marks j false ≡ true) → IsTotal p q m
-total_told p q m marks long are went marked = record {
+total_reported p q m marks long are went marked = record {
   each = λ i h. went i (subst (λ (n : ℕ). i < n) (sym long) h);
   onto = λ j h. reached_goes m.to j (sym (are.each j h) ∙ marked j (subst (λ (n : ℕ). j < n) (sym are.long) h));
 }
@@ -83,20 +83,20 @@ total_marked p q m marks are total j h =
 
 -- ---- the text
 
-pub told_by : (s : Classes) (first second : LocatedSheet) (m became : Matching) (parts : List Parts) (brief : Bool) (text : List ℕ)
-    (kept went : List (Option ℕ)) (told_parts : List Parts) → AreChanges first.accepted second.accepted m became → ArePartsOfEach s first.accepted second.accepted m became parts
-    → kept ≡ m.to → went ≡ became.to → told_parts ≡ parts
-    → text ≡ told_text brief (record { first = first; second = second; kept = kept; became = went; parts = told_parts })
+pub text_by : (s : Classes) (first second : LocatedSheet) (m became : Matching) (parts : List Parts) (brief : Bool) (text : List ℕ)
+    (unchanged went : List (Option ℕ)) (reported_parts : List Parts) → AreChanges first.accepted second.accepted m became → ArePartsOfEach s first.accepted second.accepted m became parts
+    → unchanged ≡ m.to → went ≡ became.to → reported_parts ≡ parts
+    → text ≡ text_of_report brief (record { first = first; second = second; unchanged = unchanged; became = went; parts = reported_parts })
     → (x : IsDifferenceText s first second m brief text) × (x.became ≡ became)
-told_by s first second m became parts brief text kept went told_parts are are_parts is_kept is_went is_parts told = (
+text_by s first second m became parts brief text unchanged went reported_parts are are_parts is_kept is_went is_parts reporter = (
   record {
     became = became;
     parts = parts;
     changes = are;
     are_parts = are_parts;
-    is_text = told ∙ (ap (λ to. told_text brief (record { first = first; second = second; kept = to; became = went; parts = told_parts })) is_kept
-        ∙ (ap (λ to. told_text brief (record { first = first; second = second; kept = m.to; became = to; parts = told_parts })) is_went
-        ∙ ap (λ ps. told_text brief (record { first = first; second = second; kept = m.to; became = became.to; parts = ps })) is_parts));
+    is_text = reporter ∙ (ap (λ to. text_of_report brief (record { first = first; second = second; unchanged = to; became = went; parts = reported_parts })) is_kept
+        ∙ (ap (λ to. text_of_report brief (record { first = first; second = second; unchanged = m.to; became = to; parts = reported_parts })) is_went
+        ∙ ap (λ ps. text_of_report brief (record { first = first; second = second; unchanged = m.to; became = became.to; parts = ps })) is_parts));
   },
   refl,
 )

@@ -1,12 +1,12 @@
 -- One change more.
-use Rattle.std.proofs.Common.{◌≡◌, ◌≢◌, ℕ, zero, suc, ◌<◌, [], ◌∷◌, ◌⊎◌, inl, inr, Bool, ◌||◌, true, false, true≢false, List, Option, None, Some, length, get_or, set, refl, sym, ap, ◌∙◌, subst, arith}
+use Rattle.std.proofs.Common.{◌≡◌, ◌≢◌, ℕ, zero, suc, ◌<◌, [], ◌∷◌, ◌⊎◌, inl, inr, Bool, true, false, true≢false, List, Option, None, Some, length, get_or, set, refl, sym, ap, ◌∙◌, subst, arith}
 use Rattle.std.proofs.lemmas.Bool.{cases_eq}
 use Rattle.std.proofs.lemmas.List.{get_or-set_other, get_or-set_same, length-set}
 use Rattle.edi_record.specs.declared.record.Kind.TheVariants.{Par}
 use Rattle.std.specs.Option.{is_some}
 use Rattle.edi_schema.specs.Classes.{Classes}
 use Rattle.edi_plan.specs.Plans.{Drawing, IsPlace, record_at}
-use Rattle.edi_matching.specs.Matchings.{GoesTo, IsMatched, MatchingHolds}
+use Rattle.edi_matching.specs.Matchings.{GoesTo, MatchingHolds}
 use Rattle.edi_matching.specs.declared.matching.Matching.{Matching}
 use Rattle.edi_diff.specs.Changes.{AreChanges}
 use Rattle.edi_diff.specs.Lines.{is_reached}
@@ -14,7 +14,7 @@ use Rattle.edi_diff.specs.inner.Steps.{AreSteps, MayGo}
 use Rattle.edi_diff.specs.inner.Tables.{AreMarks}
 use Rattle.edi_diff.proofs.Outcomes.{goes_reached, no_changes, reached_goes}
 
-module _ (p q : Drawing) (kept : Matching) (to : List (Option ℕ)) (turned reached : List Bool) (are : AreSteps p q kept to turned reached)
+module _ (p q : Drawing) (unchanged : Matching) (to : List (Option ℕ)) (turned reached : List Bool) (are : AreSteps p q unchanged to turned reached)
     (i j : ℕ) (t : Bool) (may : MayGo p q i j) (arc : t ≡ true → (record_at p i).kind ≡ Par) (free : get_or to i None ≡ None) (unmet : get_or reached j false ≡ false) where
   here : i < length to
   here = subst (λ (n : ℕ). i < n) (sym are.changes.all_entered) may.here
@@ -68,7 +68,7 @@ module _ (p q : Drawing) (kept : Matching) (to : List (Option ℕ)) (turned reac
       ap (λ x. (record_at p x).kind) same ∙ arc (sym (get_or-set_same turned i t false here_turned) ∙ there)
   arcs_more k place is (inr ne) = are.changes.arcs k place (sym (turned_other k ne) ∙ is)
 
-  pub changed_more : AreChanges p q kept (record { to = set to i (Some j); turned = set turned i t })
+  pub changed_more : AreChanges p q unchanged (record { to = set to i (Some j); turned = set turned i t })
   changed_more = record {
     all_entered = length-set to i (Some j) ∙ are.changes.all_entered;
     all_directed = length-set turned i t ∙ are.changes.all_directed;
@@ -105,7 +105,7 @@ module _ (p q : Drawing) (kept : Matching) (to : List (Option ℕ)) (turned reac
       go (inl a) = absurd (ne a.1)
       go (inr a) = get_or-set_other reached j l true false ne ∙ (are.marks.each l less ∙ goes_reached to w.0 l a)
 
-  pub one_step : AreSteps p q kept (set to i (Some j)) (set turned i t) (set reached j true)
+  pub one_step : AreSteps p q unchanged (set to i (Some j)) (set turned i t) (set reached j true)
   one_step = record {
     changes = changed_more;
     marks = record {
@@ -118,11 +118,11 @@ pub none_there : (o : Option ℕ) → is_some o ≡ false → o ≡ None
 none_there None none = refl
 none_there (Some j) none = cc
 
-pub no_steps : (s : Classes) (p q : Drawing) (kept : Matching) (to : List (Option ℕ)) (turned reached : List Bool) → MatchingHolds s p q kept
-    → to ≡ kept.to → turned ≡ kept.turned → AreMarks kept.to (length q.list) reached → AreSteps p q kept to turned reached
-no_steps s p q kept to turned reached h is_to is_turned marks = record {
-  changes = subst (λ (ts : List Bool). AreChanges p q kept (record { to = to; turned = ts })) (sym is_turned)
-      (subst (λ (os : List (Option ℕ)). AreChanges p q kept (record { to = os; turned = kept.turned })) (sym is_to) (no_changes s p q kept h));
+pub no_steps : (s : Classes) (p q : Drawing) (unchanged : Matching) (to : List (Option ℕ)) (turned reached : List Bool) → MatchingHolds s p q unchanged
+    → to ≡ unchanged.to → turned ≡ unchanged.turned → AreMarks unchanged.to (length q.list) reached → AreSteps p q unchanged to turned reached
+no_steps s p q unchanged to turned reached h is_to is_turned marks = record {
+  changes = subst (λ (ts : List Bool). AreChanges p q unchanged (record { to = to; turned = ts })) (sym is_turned)
+      (subst (λ (os : List (Option ℕ)). AreChanges p q unchanged (record { to = os; turned = unchanged.turned })) (sym is_to) (no_changes s p q unchanged h));
   marks = subst (λ (os : List (Option ℕ)). AreMarks os (length q.list) reached) (sym is_to) marks;
 }
 

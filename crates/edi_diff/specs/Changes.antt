@@ -14,11 +14,11 @@ use Rattle.edi_diff.specs.declared.parts.Parts.{Parts}
 
 -- Beside the records of p that are matched, some others go to records of q of their types, which they became; no two go to one.
 -- Those of them that are reversed are arcs.
-pub record AreChanges (p q : Drawing) (kept became : Matching) : Type 0 where
+pub record AreChanges (p q : Drawing) (unchanged became : Matching) : Type 0 where
   pub all_entered : length became.to ≡ length p.list
   pub all_directed : length became.turned ≡ length p.list
-  pub keeps : (i j : ℕ) → GoesTo kept.to i j → GoesTo became.to i j
-  pub directions : (i : ℕ) → IsMatched kept.to i → turned_at became.turned i ≡ turned_at kept.turned i
+  pub keeps : (i j : ℕ) → GoesTo unchanged.to i j → GoesTo became.to i j
+  pub directions : (i : ℕ) → IsMatched unchanged.to i → turned_at became.turned i ≡ turned_at unchanged.turned i
   pub arcs : (i : ℕ) → IsPlace p i → turned_at became.turned i ≡ true → (record_at p i).kind ≡ Par
   pub within : (i j : ℕ) → GoesTo became.to i j → IsPlace q j
   pub apart : (i k j : ℕ) → GoesTo became.to i j → GoesTo became.to k j → i ≡ k
@@ -40,4 +40,4 @@ pub record AreParts (s : Classes) (became : Matching) (i : ℕ) (a b : PlanRecor
 
 -- the parts of each record that changed
 abbrev pub ArePartsOfEach : Classes → Drawing → Drawing → Matching → Matching → List Parts → Type 0
-ArePartsOfEach s p q kept became parts = (i j : ℕ) → ¬ (IsMatched kept.to i) → GoesTo became.to i j → AreParts s became i (record_at p i) (record_at q j) (parts_at parts i)
+ArePartsOfEach s p q unchanged became parts = (i j : ℕ) → ¬ (IsMatched unchanged.to i) → GoesTo became.to i j → AreParts s became i (record_at p i) (record_at q j) (parts_at parts i)

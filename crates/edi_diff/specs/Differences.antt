@@ -7,7 +7,7 @@ use Rattle.edi_matching.specs.Differences.{IsTotalIfSame, MatchesPartners}
 use Rattle.edi_matching.specs.Matchings.{MatchingHolds}
 use Rattle.edi_matching.specs.declared.matching.Matching.{Matching}
 use Rattle.edi_diff.specs.Changes.{AreChanges, ArePartsOfEach}
-use Rattle.edi_diff.specs.Lines.{told_text}
+use Rattle.edi_diff.specs.Lines.{text_of_report}
 use Rattle.edi_diff.specs.Sites.{AreSitesOf}
 use Rattle.edi_diff.specs.declared.differing.Difference.{Difference}
 use Rattle.edi_diff.specs.declared.differing.Findings.{Findings}
@@ -16,12 +16,12 @@ use Rattle.edi_diff.specs.declared.sheet.LocatedSheet.{LocatedSheet}
 
 -- The text of what differs, or its last line alone, by a matching of the records that are the same: of the other records some
 -- became others, and the text names the parts in which these differ.
-pub record IsDifferenceText (s : Classes) (first second : LocatedSheet) (kept : Matching) (brief : Bool) (text : List ℕ) : Type 0 where
+pub record IsDifferenceText (s : Classes) (first second : LocatedSheet) (unchanged : Matching) (brief : Bool) (text : List ℕ) : Type 0 where
   pub became : Matching
   pub parts : List Parts
-  pub changes : AreChanges first.accepted second.accepted kept became
-  pub are_parts : ArePartsOfEach s first.accepted second.accepted kept became parts
-  pub is_text : text ≡ told_text brief (record { first = first; second = second; kept = kept.to; became = became.to; parts = parts })
+  pub changes : AreChanges first.accepted second.accepted unchanged became
+  pub are_parts : ArePartsOfEach s first.accepted second.accepted unchanged became parts
+  pub is_text : text ≡ text_of_report brief (record { first = first; second = second; unchanged = unchanged.to; became = became.to; parts = parts })
 
 -- the plan of a file, and where its records stand
 pub record IsLocated (s : Classes) (b : List ℕ) (sheet : LocatedSheet) : Type 0 where
@@ -36,17 +36,17 @@ pub record IsDifference (s : Classes) (a b : List ℕ) (brief : Bool) (differenc
   pub second : LocatedSheet
   pub is_first : IsLocated s a first
   pub is_second : IsLocated s b second
-  pub kept : Matching
-  pub holds : MatchingHolds s first.accepted second.accepted kept
-  pub total : IsTotalIfSame s first.accepted second.accepted kept
-  pub partners : MatchesPartners first.accepted second.accepted kept
-  pub is_text : IsDifferenceText s first second kept brief difference.text.items
+  pub unchanged : Matching
+  pub holds : MatchingHolds s first.accepted second.accepted unchanged
+  pub total : IsTotalIfSame s first.accepted second.accepted unchanged
+  pub partners : MatchesPartners first.accepted second.accepted unchanged
+  pub is_text : IsDifferenceText s first second unchanged brief difference.text.items
   pub same : IsTrue difference.same ↔ Same s first.accepted second.accepted
 
--- what differs between two files, with the sheets, the matching and the changes that it is told by
+-- what differs between two files, with the sheets, the matching and the changes that its text is made from
 pub record AreFindings (s : Classes) (a b : List ℕ) (brief : Bool) (found : Findings) : Type 0 where
-  pub told : IsDifference s a b brief found.difference
-  pub by_first : told.first ≡ found.first
-  pub by_second : told.second ≡ found.second
-  pub by_kept : told.kept ≡ found.kept
-  pub by_became : told.is_text.became ≡ found.became
+  pub differs : IsDifference s a b brief found.difference
+  pub by_first : differs.first ≡ found.first
+  pub by_second : differs.second ≡ found.second
+  pub by_kept : differs.unchanged ≡ found.unchanged
+  pub by_became : differs.is_text.became ≡ found.became

@@ -49,7 +49,7 @@ line_by r i None (Some j) = changed_line r i j
 line_by r i None None = lone_line (codes "- ") r.first i
 
 abbrev pub first_line : Report → ℕ → List ℕ
-first_line r i = line_by r i (slice_index_or r.kept i None) (slice_index_or r.became i None)
+first_line r i = line_by r i (slice_index_or r.unchanged i None) (slice_index_or r.became i None)
 
 -- a record went to this place
 abbrev pub went_to : ℕ → Option ℕ → Bool
@@ -93,7 +93,7 @@ added_count r = count_by (λ j. not (is_reached r.became j)) (range_with_len 0 (
 
 -- how many records of the first sheet changed
 abbrev pub changed_count : Report → ℕ
-changed_count r = count_by (λ went. is_none went.0 && not (is_none went.1)) (zip r.kept r.became)
+changed_count r = count_by (λ went. is_none went.0 && not (is_none went.1)) (zip r.unchanged r.became)
 
 -- a count and what it counts
 abbrev pub counted : ℕ → List ℕ → List ℕ
@@ -107,5 +107,5 @@ abbrev pub report_text : Report → List ℕ
 report_text r = charset_line r.first.accepted.cse r.second.accepted.cse ++ lines_of r Fea ++ lines_of r Pfe ++ lines_of r Par ++ lines_of r Pno ++ lines_of r Lnk ++ count_line r
 
 -- that text, or its last line alone
-abbrev pub told_text : Bool → Report → List ℕ
-told_text brief r = if brief then count_line r else report_text r
+abbrev pub text_of_report : Bool → Report → List ℕ
+text_of_report brief r = if brief then count_line r else report_text r

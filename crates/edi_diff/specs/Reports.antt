@@ -9,7 +9,7 @@ use Rattle.edi_diff.specs.declared.site.Site.{Site}
 pub record Report : Type 0 where
   pub first : LocatedSheet
   pub second : LocatedSheet
-  pub kept : List (Option ℕ)
+  pub unchanged : List (Option ℕ)
   pub became : List (Option ℕ)
   pub parts : List Parts
 

@@ -5,7 +5,7 @@ ghost use Rattle.edi_record.specs.declared.record.Kind.TheVariants.{Par};
 ghost use Rattle.edi_plan.specs.Plans.{record_at};
 ghost use Rattle.edi_schema.specs.Classes.{Classes};
 ghost use Rattle.edi_matching.specs.Matchings.{MatchingHolds};
-ghost use Rattle.edi_matching.specs.declared.matching.Matching.{Matching as KeptMatching};
+ghost use Rattle.edi_matching.specs.declared.matching.Matching.{Matching as UnchangedMatching};
 ghost use Rattle.edi_diff.specs.inner.Steps.{AreSteps, MayGo};
 ghost use Rattle.edi_diff.specs.inner.Tables.{AreMarks};
 
@@ -41,12 +41,12 @@ pub(crate) fn changes_between(
     alloc: Global,
     plan: &Plan,
     other: &Plan,
-    kept: &Matching,
+    unchanged: &Matching,
 ) -> Result<Changes, AllocError>
-    requires { (s : Classes) × MatchingHolds s plan.now other.now kept.now }
-    ensures { IfOk result (λ c. AreSteps plan.now other.now kept.now c.to.items c.turned.items c.reached.items) }
+    requires { (s : Classes) × MatchingHolds s plan.now other.now unchanged.now }
+    ensures { IfOk result (λ c. AreSteps plan.now other.now unchanged.now c.to.items c.turned.items c.reached.items) }
 {
-    let mut changes = kept_alone(alloc, other, kept)?;
+    let mut changes = unchanged_alone(alloc, other, unchanged)?;
     for way in WAYS {
         changes.grow(alloc, plan, other, way)?;
     }
@@ -73,14 +73,14 @@ const WAYS: [Way; 6] = [
 ];
 
 /// The matched records.
-fn kept_alone(alloc: Global, other: &Plan, kept: &Matching) -> Result<Changes, AllocError>
-    ensures to { IfOk result (λ c. c.to.items ≡ kept.now.to) }
-    ensures turned { IfOk result (λ c. c.turned.items ≡ kept.now.turned) }
-    ensures reached { IfOk result (λ c. AreMarks kept.now.to (length other.now.list) c.reached.items) }
+fn unchanged_alone(alloc: Global, other: &Plan, unchanged: &Matching) -> Result<Changes, AllocError>
+    ensures to { IfOk result (λ c. c.to.items ≡ unchanged.now.to) }
+    ensures turned { IfOk result (λ c. c.turned.items ≡ unchanged.now.turned) }
+    ensures reached { IfOk result (λ c. AreMarks unchanged.now.to (length other.now.list) c.reached.items) }
 {
-    let to = Vec::from_slice(alloc, kept.to.as_slice())?;
-    let turned = Vec::from_slice(alloc, kept.turned.as_slice())?;
-    let reached = marks_of(alloc, kept.to.as_slice(), other.len())?;
+    let to = Vec::from_slice(alloc, unchanged.to.as_slice())?;
+    let turned = Vec::from_slice(alloc, unchanged.turned.as_slice())?;
+    let reached = marks_of(alloc, unchanged.to.as_slice(), other.len())?;
     Ok(Changes {
         to,
         turned,
@@ -91,8 +91,8 @@ fn kept_alone(alloc: Global, other: &Plan, kept: &Matching) -> Result<Changes, A
 impl Changes {
     /// Lets records become others that are found in one way.
     fn grow(&mut self, alloc: Global, plan: &Plan, other: &Plan, way: Way) -> Result<(), AllocError>
-        ensures { (kept : KeptMatching) → AreSteps plan.now other.now kept self.old.to.items self.old.turned.items self.old.reached.items
-            → AreSteps plan.now other.now kept self.new.to.items self.new.turned.items self.new.reached.items }
+        ensures { (unchanged : UnchangedMatching) → AreSteps plan.now other.now unchanged self.old.to.items self.old.turned.items self.old.reached.items
+            → AreSteps plan.now other.now unchanged self.new.to.items self.new.turned.items self.new.reached.items }
     {
         let proposals = self.proposals(alloc, plan, other, way)?;
         self.add_all(plan, other, &proposals);
@@ -122,8 +122,8 @@ impl Changes {
 
     /// Lets each of these records become the other, in this order, if it may.
     fn add_all(&mut self, plan: &Plan, other: &Plan, proposals: &[Proposal])
-        ensures { (kept : KeptMatching) → AreSteps plan.now other.now kept self.old.to.items self.old.turned.items self.old.reached.items
-            → AreSteps plan.now other.now kept self.new.to.items self.new.turned.items self.new.reached.items }
+        ensures { (unchanged : UnchangedMatching) → AreSteps plan.now other.now unchanged self.old.to.items self.old.turned.items self.old.reached.items
+            → AreSteps plan.now other.now unchanged self.new.to.items self.new.turned.items self.new.reached.items }
     {
         for proposal in proposals {
             self.add(plan, other, *proposal);
@@ -132,8 +132,8 @@ impl Changes {
 
     /// Lets a record become another, if neither is met yet and both are of one type.
     fn add(&mut self, plan: &Plan, other: &Plan, proposal: Proposal)
-        ensures { (kept : KeptMatching) → AreSteps plan.now other.now kept self.old.to.items self.old.turned.items self.old.reached.items
-            → AreSteps plan.now other.now kept self.new.to.items self.new.turned.items self.new.reached.items }
+        ensures { (unchanged : UnchangedMatching) → AreSteps plan.now other.now unchanged self.old.to.items self.old.turned.items self.old.reached.items
+            → AreSteps plan.now other.now unchanged self.new.to.items self.new.turned.items self.new.reached.items }
     {
         let i = proposal.place as usize;
         let j = proposal.target as usize;

@@ -11,7 +11,7 @@ ghost use Rattle.edi_diff.specs.Reports.{HasSites};
 
 use crate::changes::{Changes, changes_between};
 use crate::parting::parts_of;
-use crate::report::Told;
+use crate::report::Reporter;
 use crate::sheet::{LocatedSheet, locate_from};
 use crate::totals::is_same;
 use edi_compare::{CompareFault, first_refused, second_refused};
@@ -30,13 +30,13 @@ pub struct Difference {
     pub text: Vec<u8>,
 }
 
-/// What differs between two sheets, with the sheets and the matching that it is told by.
+/// What differs between two sheets, with the sheets and the matching that it is reported by.
 #[derive(Drop)]
 pub struct Findings {
     pub first: LocatedSheet,
     pub second: LocatedSheet,
     /// The records of the first sheet that are records of the second.
-    pub kept: Matching,
+    pub unchanged: Matching,
     /// These, and beside them those that became records of the second.
     pub became: Matching,
     pub difference: Difference,
@@ -44,7 +44,7 @@ pub struct Findings {
 
 /// A text of what differs, and the records that it tells as changed, beside those that are the same.
 #[derive(Drop)]
-struct ToldChanges {
+struct ChangesWithText {
     became: Matching,
     text: Vec<u8>,
 }
@@ -65,24 +65,24 @@ pub fn difference_text(
     requires holds { MatchingHolds schema.now first.now.accepted second.now.accepted matching.now }
     ensures { IfOk result (λ text. IsDifferenceText schema.now first.now second.now matching.now brief text.items) }
 {
-    let told = told_changes(alloc, schema, first, second, matching, brief)?;
-    Ok(told.text)
+    let reporter = changes_with_text(alloc, schema, first, second, matching, brief)?;
+    Ok(reporter.text)
 }
 
 /// That text, and what became of the records of the first sheet.
-fn told_changes(
+fn changes_with_text(
     alloc: Global,
     schema: &Schema,
     first: &LocatedSheet,
     second: &LocatedSheet,
     matching: &Matching,
     brief: bool,
-) -> Result<ToldChanges, AllocError>
+) -> Result<ChangesWithText, AllocError>
     requires classes { HasClasses schema.now first.now.accepted }
     requires first_sites { HasSites first.now }
     requires second_sites { HasSites second.now }
     requires holds { MatchingHolds schema.now first.now.accepted second.now.accepted matching.now }
-    ensures { IfOk result (λ told. (text : IsDifferenceText schema.now first.now second.now matching.now brief told.text.items) × (text.became ≡ told.became)) }
+    ensures { IfOk result (λ reporter. (text : IsDifferenceText schema.now first.now second.now matching.now brief reporter.text.items) × (text.became ≡ reporter.became)) }
 {
     let plan = first.accepted.sound().plan();
     let other = second.accepted.sound().plan();
@@ -96,16 +96,16 @@ fn told_changes(
         turned: Sequence::from_vec(turned),
     };
     let parts = parts_of(alloc, schema, plan, other, matching, &became)?;
-    let told = Told {
+    let reporter = Reporter {
         first,
         second,
-        kept: matching.to.as_slice(),
+        unchanged: matching.to.as_slice(),
         became: became.to.as_slice(),
         parts: &parts,
         reached: &reached,
     };
-    let text = told.text(alloc, brief)?;
-    Ok(ToldChanges { became, text })
+    let text = reporter.text(alloc, brief)?;
+    Ok(ChangesWithText { became, text })
 }
 
 /// What differs between two sheets under a schema, or its last line alone; or the refusal that `edi_compare::compare`
@@ -150,7 +150,7 @@ pub(crate) fn diff_from(
 }
 
 /// What `diff` gives of files that are let go, where they are owned, one after the other; with the sheets and the matching
-/// that it is told by. The classes of both plans are of the schema.
+/// that it is reported by. The classes of both plans are of the schema.
 pub fn find_differences(
     alloc: Global,
     schema: &Schema,
@@ -173,13 +173,15 @@ pub fn find_differences(
         Ok(sheet) => sheet,
         Err(fault) => return Err(second_refused(fault)),
     };
-    let kept = differences(alloc, schema, &first.accepted, &second.accepted)?;
-    let same = is_same(alloc, &first, &second, &kept)?;
-    let ToldChanges { became, text } = told_changes(alloc, schema, &first, &second, &kept, brief)?;
+    let unchanged = differences(alloc, schema, &first.accepted, &second.accepted)?;
+    let same = is_same(alloc, &first, &second, &unchanged)?;
+    let ChangesWithText { became, text } = changes_with_text(
+        alloc, schema, &first, &second, &unchanged, brief,
+    )?;
     Ok(Findings {
         first,
         second,
-        kept,
+        unchanged,
         became,
         difference: Difference { same, text },
     })

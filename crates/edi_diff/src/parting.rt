@@ -29,20 +29,20 @@ pub(crate) fn parts_of(
     schema: &Schema,
     plan: &Plan,
     other: &Plan,
-    kept: &Matching,
+    unchanged: &Matching,
     became: &Matching,
 ) -> Result<Vec<Parts>, AllocError>
     requires classes { HasClasses schema.now plan.now }
-    requires long { length kept.now.to ≡ length plan.now.list }
-    requires changes { AreChanges plan.now other.now kept.now became.now }
-    ensures { IfOk result (λ parts. ArePartsOfEach schema.now plan.now other.now kept.now became.now parts.items) }
+    requires long { length unchanged.now.to ≡ length plan.now.list }
+    requires changes { AreChanges plan.now other.now unchanged.now became.now }
+    ensures { IfOk result (λ parts. ArePartsOfEach schema.now plan.now other.now unchanged.now became.now parts.items) }
 {
     let targets = targets_of(alloc, became.to.as_slice())?;
     let compared = Compared {
         schema,
         plan,
         other,
-        kept: kept.to.as_slice(),
+        unchanged: unchanged.to.as_slice(),
         to: became.to.as_slice(),
         targets: &targets,
         turned: became.turned.as_slice(),
@@ -56,7 +56,7 @@ struct Compared<'a> {
     schema: &'a Schema,
     plan: &'a Plan,
     other: &'a Plan,
-    kept: &'a [Option<u32>],
+    unchanged: &'a [Option<u32>],
     to: &'a [Option<u32>],
     targets: &'a [u32],
     turned: &'a [bool],
@@ -67,15 +67,15 @@ impl<'a> Model for Compared<'a> {
 
     ghost Value = { Comparison };
 
-    ghost view = { λ p. record { classes = p.schema.now; plan = p.plan.now; other = p.other.now; kept = p.kept.now; to = p.to.now; targets = p.targets.now; turned = p.turned.now } };
+    ghost view = { λ p. record { classes = p.schema.now; plan = p.plan.now; other = p.other.now; unchanged = p.unchanged.now; to = p.to.now; targets = p.targets.now; turned = p.turned.now } };
 
-    ghost invariant = { λ p. IsComparable (record { classes = p.schema.now; plan = p.plan.now; other = p.other.now; kept = p.kept.now; to = p.to.now; targets = p.targets.now; turned = p.turned.now }) };
+    ghost invariant = { λ p. IsComparable (record { classes = p.schema.now; plan = p.plan.now; other = p.other.now; unchanged = p.unchanged.now; to = p.to.now; targets = p.targets.now; turned = p.turned.now }) };
 }
 
 impl<'a> Compared<'a> {
     /// The parts of each record, none for one that is kept or became nothing.
     fn all_parts(&self, alloc: Global) -> Result<Vec<Parts>, AllocError>
-        ensures { IfOk result (λ parts. (i j : ℕ) → ¬ (IsMatched self.now.kept i) → GoesTo self.now.to i j
+        ensures { IfOk result (λ parts. (i j : ℕ) → ¬ (IsMatched self.now.unchanged i) → GoesTo self.now.to i j
             → AreParts self.now.classes (became self.now) i (record_at self.now.plan i) (record_at self.now.other j) (parts_at parts.items i)) }
     {
         let mut parts = Vec::with_capacity(alloc, self.plan.len() as usize)?;
@@ -88,10 +88,10 @@ impl<'a> Compared<'a> {
     /// The parts of one record.
     fn parts_at(&self, alloc: Global, place: u32) -> Result<Parts, AllocError>
         requires { IsPlace self.now.plan place }
-        ensures { IfOk result (λ parts. (j : ℕ) → ¬ (IsMatched self.now.kept place) → GoesTo self.now.to place j
+        ensures { IfOk result (λ parts. (j : ℕ) → ¬ (IsMatched self.now.unchanged place) → GoesTo self.now.to place j
             → AreParts self.now.classes (became self.now) place (record_at self.now.plan place) (record_at self.now.other j) parts) }
     {
-        if self.kept[place as usize].is_some() {
+        if self.unchanged[place as usize].is_some() {
             return Ok(NO_PARTS);
         }
         match self.to[place as usize] {

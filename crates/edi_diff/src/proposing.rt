@@ -1,7 +1,7 @@
 //! Which records plainly became others: those that share a key with one record of the other sheet, and with no other record.
 
 use crate::changes::{Changes, Proposal};
-use edi_line::{Lent, LentEach, Sequence};
+use edi_line::{BorrowedList, ListOfBorrowed, Sequence};
 use edi_plan::{Plan, PlanAttribute, PlanEnd, sorted_attributes};
 use edi_record::{Extra, Kind};
 use edi_schema::ClassRef;
@@ -252,13 +252,16 @@ fn contents_key(
     let attributes = sorted_attributes(alloc, plan.attributes(place))?;
     Ok(Some((
         (plan.kind(place), plan.scp(place)),
-        (LentEach::from_vec(attributes), Lent::of(plan.extras(place))),
+        (
+            ListOfBorrowed::from_vec(attributes),
+            BorrowedList::of(plan.extras(place)),
+        ),
     )))
 }
 
 type ContentsKey<'a> = (
     (Kind, ClassRef),
-    (LentEach<'a, PlanAttribute>, Lent<'a, Extra>),
+    (ListOfBorrowed<'a, PlanAttribute>, BorrowedList<'a, Extra>),
 );
 
 /// What links join a record with, of all that they join.

@@ -2,7 +2,7 @@
 
 ghost use Rattle.std.specs.Prelude.{◌≡◌, ◌++◌, ◌<◌, IfOk, OnOk, count_by, length, not};
 ghost use Rattle.edi_plan.specs.Plans.{IsPlace};
-ghost use Rattle.edi_diff.specs.Lines.{added_count, changed_count, changed_line, count_line, first_line, gone_count, lines_of, report_text, second_line, told_text};
+ghost use Rattle.edi_diff.specs.Lines.{added_count, changed_count, changed_line, count_line, first_line, gone_count, lines_of, report_text, second_line, text_of_report};
 ghost use Rattle.edi_diff.specs.Reports.{parts_at};
 ghost use Rattle.edi_plan.specs.Places.{places_of};
 ghost use Rattle.std.specs.List.{flat_map};
@@ -18,11 +18,11 @@ use std::marker::Model;
 
 /// Two sheets, and what became of the records of the first in the second.
 #[derive(Drop)]
-pub(crate) struct Told<'a> {
+pub(crate) struct Reporter<'a> {
     pub(crate) first: &'a LocatedSheet,
     pub(crate) second: &'a LocatedSheet,
     /// For each record of the first sheet the one of the second that it is.
-    pub(crate) kept: &'a [Option<u32>],
+    pub(crate) unchanged: &'a [Option<u32>],
     /// For each record of the first sheet the one of the second that it is or became.
     pub(crate) became: &'a [Option<u32>],
     /// The parts in which those that changed differ.
@@ -31,23 +31,23 @@ pub(crate) struct Told<'a> {
     pub(crate) reached: &'a [bool],
 }
 
-impl<'a> Model for Told<'a> {
+impl<'a> Model for Reporter<'a> {
     ghost use Rattle.std.specs.Prelude.{length};
     ghost use Rattle.edi_diff.specs.Reports.{Report};
     ghost use Rattle.edi_diff.specs.inner.Tables.{AreMarks, IsFitting};
 
     ghost Value = { Report };
 
-    ghost view = { λ t. record { first = t.first.now; second = t.second.now; kept = t.kept.now; became = t.became.now; parts = t.parts.now } };
+    ghost view = { λ t. record { first = t.first.now; second = t.second.now; unchanged = t.unchanged.now; became = t.became.now; parts = t.parts.now } };
 
-    ghost invariant = { λ t. IsFitting (record { first = t.first.now; second = t.second.now; kept = t.kept.now; became = t.became.now; parts = t.parts.now })
+    ghost invariant = { λ t. IsFitting (record { first = t.first.now; second = t.second.now; unchanged = t.unchanged.now; became = t.became.now; parts = t.parts.now })
         × AreMarks t.became.now (length t.second.now.accepted.list) t.reached.now };
 }
 
-impl<'a> Told<'a> {
+impl<'a> Reporter<'a> {
     /// The text, or its last line alone.
     pub(crate) fn text(&self, alloc: Global, brief: bool) -> Result<Vec<u8>, AllocError>
-        ensures { IfOk result (λ text. text.items ≡ told_text brief self.now) }
+        ensures { IfOk result (λ text. text.items ≡ text_of_report brief self.now) }
     {
         if brief {
             self.counts(alloc)
@@ -115,7 +115,7 @@ impl<'a> Told<'a> {
         requires { IsPlace self.now.first.accepted place }
         ensures { OnOk result (text.new.items ≡ text.old.items ++ first_line self.now place) }
     {
-        if self.kept[place as usize].is_some() {
+        if self.unchanged[place as usize].is_some() {
             return Ok(());
         }
         match self.became[place as usize] {
@@ -187,10 +187,10 @@ impl<'a> Told<'a> {
     fn changed_count(&self) -> usize
         ensures { result ≡ changed_count self.now }
     {
-        self.kept
+        self.unchanged
             .iter()
             .zip(self.became)
-            .filter(|(kept, became)| kept.is_none() && became.is_some())
+            .filter(|(unchanged, became)| unchanged.is_none() && became.is_some())
             .count()
     }
 }

@@ -1,7 +1,8 @@
 //! The run that tells what differs between two sheets.
 ghost use Rattle.std.specs.Prelude.{◌≡◌, IfOk, IfErr, OnOk};
 ghost use Rattle.std.specs.Cow.{cow_slice_items};
-ghost use Rattle.edi_compare.specs.Runs.{AfterReading, AreFourRead, ComparingFault, PairFault, TellFour, seen};
+ghost use Rattle.edi_compare.specs.Runs.{AfterReading, AreFourRead, ComparingFault, IfFourKnown, seen};
+ghost use Rattle.edi_compare.specs.inner.Runs.{PairFault};
 ghost use Rattle.edi_diff.specs.Runs.{IsDifferenceUnder};
 
 use crate::differing::{Difference, diff_from};
@@ -11,7 +12,7 @@ use edi_schema::Kinds;
 use std::alloc::Global;
 use std::borrow::CowSlice;
 
-/// Reads four files, and tells what differs between the third and the fourth, two sheets under the schema of the first
+/// Reads four files, and answers what differs between the third and the fourth, two sheets under the schema of the first
 /// two; or the last line of that alone. All are read before one is looked at, and the second sheet is looked at only if the
 /// first is accepted. The faults are those of `edi_compare::run_compare`.
 pub fn run_diff<S: ByteIn, D: ByteIn, A: ByteIn, B: ByteIn>(
@@ -23,15 +24,15 @@ pub fn run_diff<S: ByteIn, D: ByteIn, A: ByteIn, B: ByteIn>(
     second: &mut B,
     brief: bool,
 ) -> Result<Difference, RunFault>
-    ensures ok { IfOk result (λ difference. TellFour (S.told scd.old) (D.told dic.old) (A.told first.old) (B.told second.old)
+    ensures ok { IfOk result (λ difference. IfFourKnown (S.contents scd.old) (D.contents dic.old) (A.contents first.old) (B.contents second.old)
         (λ s d a b. IsDifferenceUnder kinds.now s d a b brief difference)) }
-    ensures read { OnOk result (AreFourRead (seen (S.told scd.old) (S.told scd.new) (S.has_failed scd.new)) (seen (D.told dic.old) (D.told dic.new) (D.has_failed dic.new))
-        (seen (A.told first.old) (A.told first.new) (A.has_failed first.new)) (seen (B.told second.old) (B.told second.new) (B.has_failed second.new))) }
-    ensures err { IfErr result (ComparingFault kinds.now (seen (S.told scd.old) (S.told scd.new) (S.has_failed scd.new)) (seen (D.told dic.old) (D.told dic.new) (D.has_failed dic.new))
-        (seen (A.told first.old) (A.told first.new) (A.has_failed first.new)) (seen (B.told second.old) (B.told second.new) (B.has_failed second.new))
+    ensures read { OnOk result (AreFourRead (seen (S.contents scd.old) (S.contents scd.new) (S.has_failed scd.new)) (seen (D.contents dic.old) (D.contents dic.new) (D.has_failed dic.new))
+        (seen (A.contents first.old) (A.contents first.new) (A.has_failed first.new)) (seen (B.contents second.old) (B.contents second.new) (B.has_failed second.new))) }
+    ensures err { IfErr result (ComparingFault kinds.now (seen (S.contents scd.old) (S.contents scd.new) (S.has_failed scd.new)) (seen (D.contents dic.old) (D.contents dic.new) (D.has_failed dic.new))
+        (seen (A.contents first.old) (A.contents first.new) (A.has_failed first.new)) (seen (B.contents second.old) (B.contents second.new) (B.has_failed second.new))
         (record { dic = dic.new ≡ dic.old; first = first.new ≡ first.old; second = second.new ≡ second.old })) }
-    ensures after { IfErr result (λ e. AfterReading e (AreFourRead (seen (S.told scd.old) (S.told scd.new) (S.has_failed scd.new)) (seen (D.told dic.old) (D.told dic.new) (D.has_failed dic.new))
-        (seen (A.told first.old) (A.told first.new) (A.has_failed first.new)) (seen (B.told second.old) (B.told second.new) (B.has_failed second.new)))) }
+    ensures after { IfErr result (λ e. AfterReading e (AreFourRead (seen (S.contents scd.old) (S.contents scd.new) (S.has_failed scd.new)) (seen (D.contents dic.old) (D.contents dic.new) (D.has_failed dic.new))
+        (seen (A.contents first.old) (A.contents first.new) (A.has_failed first.new)) (seen (B.contents second.old) (B.contents second.new) (B.has_failed second.new)))) }
 {
     let scd = read_input(alloc, scd, 1)?;
     let dic = read_input(alloc, dic, 2)?;

@@ -12,11 +12,11 @@ ghost use Rattle.edi_diff.specs.Reports.{HasSites};
 ghost use Rattle.edi_diff.specs.Sites.{AreSitesOf};
 
 use crate::site::{Site, sites};
-use edi_compare::{Accepted, Fault, accept};
-use edi_line::{LineFault, Sequence};
+use edi_compare::{Accepted, Fault, accept_from, line_refused};
+use edi_line::Sequence;
 use edi_record::Kind;
 use edi_schema::Schema;
-use std::alloc::{AllocError, Global};
+use std::alloc::Global;
 use std::borrow::CowSlice;
 
 /// An accepted sheet, with where its records stand in their file.
@@ -46,15 +46,11 @@ pub fn locate(alloc: Global, schema: &Schema, bytes: &[u8]) -> Result<LocatedShe
     ensures all { IfOk result HasSites }
     ensures refusal { IfErr result (IsRefusal schema.now bytes.now) }
 {
-    let accepted = accept(alloc, schema, bytes)?;
-    let sites = sites_of(alloc, bytes)?;
-    Ok(LocatedSheet {
-        accepted,
-        sites: Sequence::from_vec(sites),
-    })
+    locate_from(alloc, schema, CowSlice::Borrowed(bytes))
 }
 
-/// What `locate` gives of a file that is let go, where it is owned, as soon as its plan and its sites are there.
+/// What `locate` gives of a file that is let go, where it is owned, as soon as its sites and its records are read: its bytes
+/// are not in memory beside the plan.
 pub fn locate_from(
     alloc: Global,
     schema: &Schema,
@@ -67,17 +63,21 @@ pub fn locate_from(
     ensures all { IfOk result HasSites }
     ensures refusal { IfErr result (IsRefusal schema.now (cow_slice_items bytes.entry)) }
 {
-    locate(alloc, schema, bytes.as_slice())
+    let sites = sites_of(alloc, bytes.as_slice())?;
+    let accepted = accept_from(alloc, schema, bytes)?;
+    Ok(LocatedSheet {
+        accepted,
+        sites: Sequence::from_vec(sites),
+    })
 }
 
-/// The sites of the records of an accepted sheet.
-fn sites_of(alloc: Global, bytes: &[u8]) -> Result<Vec<Site>, AllocError>
-    requires { (s : Classes) × IsAccepted s bytes.now }
-    ensures { IfOk result (λ sites. AreSitesOf bytes.now sites.items) }
+/// The sites of the records of a file. Where its lines break a rule, a sheet is refused under any schema.
+fn sites_of(alloc: Global, bytes: &[u8]) -> Result<Vec<Site>, Fault>
+    ensures sites { IfOk result (λ sites. AreSitesOf bytes.now sites.items) }
+    ensures refusal { IfErr result (λ fault. (s : Classes) → IsRefusal s bytes.now fault) }
 {
     match sites(alloc, bytes) {
         Ok(sites) => Ok(sites),
-        Err(LineFault::Memory(error)) => Err(error),
-        Err(LineFault::Broken { .. }) => unreachable!(),
+        Err(fault) => Err(line_refused(fault)),
     }
 }

@@ -18,11 +18,11 @@ grey_by r i None (Some j) = (λ e. absurd cc, λ e. absurd cc)
 grey_by r i None None = (λ e. absurd cc, λ e. absurd cc)
 
 pub grey : FirstGreyIfUnlisted
-grey first second kept became parts i = grey_by (report_of first second kept became parts) i (get_or kept.to i None) (get_or became.to i None)
+grey first second unchanged became parts i = grey_by (report_of first second unchanged became parts) i (get_or unchanged.to i None) (get_or became.to i None)
 
 -- what is kept is among what became
-kept_reached : (p q : Drawing) (kept became : Matching) (j : ℕ) → AreChanges p q kept became → is_reached kept.to j ≡ true → is_reached became.to j ≡ true
-kept_reached p q kept became j are h = let w = reached_goes kept.to j h in goes_reached became.to w.0 j (are.keeps w.0 j w.1)
+kept_reached : (p q : Drawing) (unchanged became : Matching) (j : ℕ) → AreChanges p q unchanged became → is_reached unchanged.to j ≡ true → is_reached became.to j ≡ true
+kept_reached p q unchanged became j are h = let w = reached_goes unchanged.to j h in goes_reached became.to w.0 j (are.keeps w.0 j w.1)
 
 alone_by : (line : List ℕ) → ¬ (line ≡ []) → (a b : Bool) → (a ≡ true → b ≡ true)
     → ((if a then Hidden else if b then Changed else OnlySecond) ≡ OnlySecond) ↔ ¬ ((if b then [] else line) ≡ [])
@@ -35,8 +35,8 @@ lone_said : (sheet : LocatedSheet) (j : ℕ) → ¬ (lone_line (codes "+ ") shee
 lone_said sheet j e = cc
 
 pub alone : SecondAloneIfListed
-alone first second kept became parts j are =
-    alone_by (lone_line (codes "+ ") second j) (lone_said second j) (is_reached kept.to j) (is_reached became.to j) (kept_reached first.accepted second.accepted kept became j are)
+alone first second unchanged became parts j are =
+    alone_by (lone_line (codes "+ ") second j) (lone_said second j) (is_reached unchanged.to j) (is_reached became.to j) (kept_reached first.accepted second.accepted unchanged became j are)
 
 changed_said : (a b : Bool) → (if a then Hidden else if b then Changed else OnlySecond) ≡ Changed → (a ≡ false) × (b ≡ true)
 changed_said true b e = absurd cc
@@ -51,28 +51,28 @@ no_case true h = absurd (h refl)
 no_case false h = refl
 
 pub changed : SecondChangedIfBecame
-changed first second kept became j are = (onto, back)
+changed first second unchanged became j are = (onto, back)
   where
-    onto : (if is_reached kept.to j then Hidden else if is_reached became.to j then Changed else OnlySecond) ≡ Changed → (i : ℕ) × (¬ (IsMatched kept.to i)) × GoesTo became.to i j
+    onto : (if is_reached unchanged.to j then Hidden else if is_reached became.to j then Changed else OnlySecond) ≡ Changed → (i : ℕ) × (¬ (IsMatched unchanged.to i)) × GoesTo became.to i j
     onto e =
-        let parts = changed_said (is_reached kept.to j) (is_reached became.to j) e in
+        let parts = changed_said (is_reached unchanged.to j) (is_reached became.to j) e in
         let w = reached_goes became.to j parts.1 in
         (w.0, (λ m. free parts.0 w.0 w.1 m), w.1)
       where
-        free : is_reached kept.to j ≡ false → (i : ℕ) → GoesTo became.to i j → IsMatched kept.to i → ⊥
+        free : is_reached unchanged.to j ≡ false → (i : ℕ) → GoesTo became.to i j → IsMatched unchanged.to i → ⊥
         free unreached i goes m =
             let other = are.keeps i m.0 m.1 in
             let same : m.0 ≡ j = one_place m.0 j (sym other ∙ goes) in
-            let there = goes_reached kept.to i j (m.1 ∙ ap Some same) in
+            let there = goes_reached unchanged.to i j (m.1 ∙ ap Some same) in
             cc
           where
             one_place : (x y : ℕ) → Some x ≡ Some y → x ≡ y
             one_place x y e = cc
 
-    back : (i : ℕ) × (¬ (IsMatched kept.to i)) × GoesTo became.to i j → (if is_reached kept.to j then Hidden else if is_reached became.to j then Changed else OnlySecond) ≡ Changed
-    back w = changed_from (is_reached kept.to j) (is_reached became.to j) (no_case (is_reached kept.to j) (λ h. taken (reached_goes kept.to j h))) (goes_reached became.to w.0 j w.2)
+    back : (i : ℕ) × (¬ (IsMatched unchanged.to i)) × GoesTo became.to i j → (if is_reached unchanged.to j then Hidden else if is_reached became.to j then Changed else OnlySecond) ≡ Changed
+    back w = changed_from (is_reached unchanged.to j) (is_reached became.to j) (no_case (is_reached unchanged.to j) (λ h. taken (reached_goes unchanged.to j h))) (goes_reached became.to w.0 j w.2)
       where
-        taken : (k : ℕ) × GoesTo kept.to k j → ⊥
+        taken : (k : ℕ) × GoesTo unchanged.to k j → ⊥
         taken t =
             let same : w.0 ≡ t.0 = are.apart w.0 t.0 j w.2 (are.keeps t.0 j t.1) in
-            w.1 (j, ap (λ n. get_or kept.to n None) same ∙ t.1)
+            w.1 (j, ap (λ n. get_or unchanged.to n None) same ∙ t.1)

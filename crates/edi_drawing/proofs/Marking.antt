@@ -32,12 +32,12 @@ pub one_more : (f : ℕ → Mark) (n : ℕ) (old new : List Mark) (m : Mark) →
 one_more f n old new m done is pushed =
     pushed ∙ (ap (λ xs. xs ++ m ∷ []) done ∙ (ap (λ x. map f (range_with_len 0 n) ++ x ∷ []) is ∙ sym (map-range_with_len_more f 0 n n (omega arith))))
 
-pub second_marked : (kept became : Matching) (n : ℕ) (start mid marks : List Mark) → start ≡ map (λ k. OnlySecond) (range_with_len 0 n) → length mid ≡ length start → length marks ≡ length mid
+pub second_marked : (unchanged became : Matching) (n : ℕ) (start mid marks : List Mark) → start ≡ map (λ k. OnlySecond) (range_with_len 0 n) → length mid ≡ length start → length marks ≡ length mid
     → ((j : ℕ) → j < length start → get_or mid j Hidden ≡ (if is_reached became.to j then Changed else get_or start j Hidden))
-    → ((j : ℕ) → j < length mid → get_or marks j Hidden ≡ (if is_reached kept.to j then Hidden else get_or mid j Hidden))
-    → marks ≡ map (second_mark kept became) (range_with_len 0 n)
-second_marked kept became n start mid marks begun long longer first second =
-    ext_get_or Hidden marks (map (second_mark kept became) (range_with_len 0 n)) (all ∙ sym (length-map-range_with_len (second_mark kept became) 0 n)) each
+    → ((j : ℕ) → j < length mid → get_or marks j Hidden ≡ (if is_reached unchanged.to j then Hidden else get_or mid j Hidden))
+    → marks ≡ map (second_mark unchanged became) (range_with_len 0 n)
+second_marked unchanged became n start mid marks begun long longer first second =
+    ext_get_or Hidden marks (map (second_mark unchanged became) (range_with_len 0 n)) (all ∙ sym (length-map-range_with_len (second_mark unchanged became) 0 n)) each
   where
     started : length start ≡ n
     started = ap length begun ∙ length-map-range_with_len (λ k. OnlySecond) 0 n
@@ -45,12 +45,12 @@ second_marked kept became n start mid marks begun long longer first second =
     all : length marks ≡ n
     all = longer ∙ (long ∙ started)
 
-    each : (i : ℕ) → i < length marks → get_or marks i Hidden ≡ get_or (map (second_mark kept became) (range_with_len 0 n)) i Hidden
+    each : (i : ℕ) → i < length marks → get_or marks i Hidden ≡ get_or (map (second_mark unchanged became) (range_with_len 0 n)) i Hidden
     each i h =
         let less : i < n = subst (λ k. i < k) all h in
         let in_mid : i < length mid = subst (λ k. i < k) longer h in
         let in_start : i < length start = subst (λ k. i < k) long in_mid in
         second i in_mid
-        ∙ (ap (λ x. if is_reached kept.to i then Hidden else x)
+        ∙ (ap (λ x. if is_reached unchanged.to i then Hidden else x)
         (first i in_start ∙ ap (λ x. if is_reached became.to i then Changed else x) (ap (λ ms. get_or ms i Hidden) begun ∙ get_or-map-range_with_len (λ k. OnlySecond) 0 n i i Hidden less (omega arith)))
-        ∙ sym (get_or-map-range_with_len (second_mark kept became) 0 n i i Hidden less (omega arith)))
+        ∙ sym (get_or-map-range_with_len (second_mark unchanged became) 0 n i i Hidden less (omega arith)))

@@ -10,15 +10,15 @@ use Rattle.edi_drawing.specs.Drawn.{IsDrawnDifference}
 use Rattle.edi_drawing.specs.Marked.{marked_sheets}
 
 pub drawn_by : (s : Classes) (a b : List ℕ) (brief : Bool) (found : Findings) (picture : Vec ℕ) → AreFindings s a b brief found
-    → IsPicture s (marked_sheets found.first found.second found.kept found.became) picture.items
+    → IsPicture s (marked_sheets found.first found.second found.unchanged found.became) picture.items
     → IsDrawnDifference s a b brief (record { difference = found.difference; picture = picture })
 drawn_by s a b brief found picture are drawn = record {
-  told = are.told;
+  differs = are.differs;
   is_picture = subst (λ (sheets : List Sheet). IsPicture s sheets picture.items) (sym all) drawn;
 }
   where
-    all : marked_sheets are.told.first are.told.second are.told.kept are.told.is_text.became ≡ marked_sheets found.first found.second found.kept found.became
+    all : marked_sheets are.differs.first are.differs.second are.differs.unchanged are.differs.is_text.became ≡ marked_sheets found.first found.second found.unchanged found.became
     all =
-        ap (λ x. marked_sheets x are.told.second are.told.kept are.told.is_text.became) are.by_first
-        ∙ (ap (λ x. marked_sheets found.first x are.told.kept are.told.is_text.became) are.by_second
-        ∙ (ap (λ x. marked_sheets found.first found.second x are.told.is_text.became) are.by_kept ∙ ap (λ x. marked_sheets found.first found.second found.kept x) are.by_became))
+        ap (λ x. marked_sheets x are.differs.second are.differs.unchanged are.differs.is_text.became) are.by_first
+        ∙ (ap (λ x. marked_sheets found.first x are.differs.unchanged are.differs.is_text.became) are.by_second
+        ∙ (ap (λ x. marked_sheets found.first found.second x are.differs.is_text.became) are.by_kept ∙ ap (λ x. marked_sheets found.first found.second found.unchanged x) are.by_became))

@@ -27,12 +27,12 @@ mark_by None (Some j) = Changed
 mark_by None None = OnlyFirst
 
 abbrev pub first_mark : Matching → Matching → ℕ → Mark
-first_mark kept became i = mark_by (slice_index_or kept.to i None) (slice_index_or became.to i None)
+first_mark unchanged became i = mark_by (slice_index_or unchanged.to i None) (slice_index_or became.to i None)
 
 -- the mark of a record of the second sheet: it isn't drawn where it is one of the first, which is drawn already
 abbrev pub second_mark : Matching → Matching → ℕ → Mark
-second_mark kept became j = if is_reached kept.to j then Hidden else if is_reached became.to j then Changed else OnlySecond
+second_mark unchanged became j = if is_reached unchanged.to j then Hidden else if is_reached became.to j then Changed else OnlySecond
 
--- two sheets, by what is kept of the first in the second and what became of it there
+-- two sheets, by what is unchanged of the first in the second and what became of it there
 abbrev pub marked_sheets : LocatedSheet → LocatedSheet → Matching → Matching → List Sheet
-marked_sheets first second kept became = marked_sheet first (first_mark kept became) ∷ marked_sheet second (second_mark kept became) ∷ []
+marked_sheets first second unchanged became = marked_sheet first (first_mark unchanged became) ∷ marked_sheet second (second_mark unchanged became) ∷ []

@@ -21,10 +21,10 @@ fn target_at(matching: &Matching, place: u32) -> Option<u32>
 }
 
 /// The mark of a record of the first sheet, by the one of the second that it is, and the one that it is or became.
-fn mark_of(kept: Option<u32>, became: Option<u32>) -> Mark
-    ensures { result ≡ mark_by kept became }
+fn mark_of(unchanged: Option<u32>, became: Option<u32>) -> Mark
+    ensures { result ≡ mark_by unchanged became }
 {
-    match kept {
+    match unchanged {
         Some(_) => Mark::Plain,
         None => match became {
             Some(_) => Mark::Changed,
@@ -34,24 +34,24 @@ fn mark_of(kept: Option<u32>, became: Option<u32>) -> Mark
 }
 
 /// The mark of the record of the first sheet at a place.
-fn first_mark_at(kept: &Matching, became: &Matching, place: u32) -> Mark
-    ensures { result ≡ first_mark kept.now became.now place }
+fn first_mark_at(unchanged: &Matching, became: &Matching, place: u32) -> Mark
+    ensures { result ≡ first_mark unchanged.now became.now place }
 {
-    mark_of(target_at(kept, place), target_at(became, place))
+    mark_of(target_at(unchanged, place), target_at(became, place))
 }
 
 /// The marks of the records of the first sheet, in file order.
 pub(crate) fn first_marks(
     alloc: Global,
-    kept: &Matching,
+    unchanged: &Matching,
     became: &Matching,
     count: u32,
 ) -> Result<Vec<Mark>, AllocError>
-    ensures { IfOk result (λ marks. marks.items ≡ map (first_mark kept.now became.now) (range_with_len 0 count)) }
+    ensures { IfOk result (λ marks. marks.items ≡ map (first_mark unchanged.now became.now) (range_with_len 0 count)) }
 {
     let mut marks = Vec::new(alloc);
     for place in 0..count {
-        marks.push(first_mark_at(kept, became, place))?;
+        marks.push(first_mark_at(unchanged, became, place))?;
     }
     Ok(marks)
 }
@@ -92,14 +92,14 @@ fn stamp_all(marks: &mut Vec<Mark>, to: &[Option<u32>], mark: Mark)
 /// The marks of the records of the second sheet, in file order.
 pub(crate) fn second_marks(
     alloc: Global,
-    kept: &Matching,
+    unchanged: &Matching,
     became: &Matching,
     count: u32,
 ) -> Result<Vec<Mark>, AllocError>
-    ensures { IfOk result (λ marks. marks.items ≡ map (second_mark kept.now became.now) (range_with_len 0 count)) }
+    ensures { IfOk result (λ marks. marks.items ≡ map (second_mark unchanged.now became.now) (range_with_len 0 count)) }
 {
     let mut marks = one_mark_each(alloc, Mark::OnlySecond, count)?;
     stamp_all(&mut marks, became.to.as_slice(), Mark::Changed);
-    stamp_all(&mut marks, kept.to.as_slice(), Mark::Hidden);
+    stamp_all(&mut marks, unchanged.to.as_slice(), Mark::Hidden);
     Ok(marks)
 }

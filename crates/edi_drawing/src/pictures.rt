@@ -35,14 +35,14 @@ pub(crate) fn picture_of_both(
 ) -> Result<Vec<u8>, AllocError>
     requires first { HasClasses schema.now found.now.first.accepted }
     requires second { HasClasses schema.now found.now.second.accepted }
-    ensures { IfOk result (λ picture. IsPicture schema.now (marked_sheets found.now.first found.now.second found.now.kept found.now.became) picture.items) }
+    ensures { IfOk result (λ picture. IsPicture schema.now (marked_sheets found.now.first found.now.second found.now.unchanged found.now.became) picture.items) }
 {
     let plan = found.first.accepted.sound().plan();
     let other = found.second.accepted.sound().plan();
     let identifiers = identifiers_of(alloc, &found.first)?;
     let others = identifiers_of(alloc, &found.second)?;
-    let marks = first_marks(alloc, &found.kept, &found.became, plan.len())?;
-    let other_marks = second_marks(alloc, &found.kept, &found.became, other.len())?;
+    let marks = first_marks(alloc, &found.unchanged, &found.became, plan.len())?;
+    let other_marks = second_marks(alloc, &found.unchanged, &found.became, other.len())?;
     let one = Shown::new(plan, identifiers, marks);
     let two = Shown::new(other, others, other_marks);
     picture(alloc, schema, &[one, two])

@@ -1,7 +1,8 @@
 //! The runs that draw.
 ghost use Rattle.std.specs.Prelude.{◌≡◌, IfOk, IfErr, OnOk};
 ghost use Rattle.std.specs.Cow.{cow_slice_items};
-ghost use Rattle.edi_compare.specs.Runs.{AfterReading, AreFourRead, AreRead, ComparingFault, FilesFault, PairFault, SheetFault, TellFour, Told, seen};
+ghost use Rattle.edi_compare.specs.Runs.{AfterReading, AreFourRead, AreRead, ComparingFault, FilesFault, IfFourKnown, IfThreeKnown, seen};
+ghost use Rattle.edi_compare.specs.inner.Runs.{PairFault, SheetFault};
 ghost use Rattle.edi_drawing.specs.Runs.{IsDrawnDifferenceUnder, IsPictureUnder};
 
 use crate::drawing::{draw_difference_from, draw_from};
@@ -21,14 +22,14 @@ pub fn run_draw<S: ByteIn, D: ByteIn, V: ByteIn>(
     dic: &mut D,
     vec: &mut V,
 ) -> Result<Vec<u8>, RunFault>
-    ensures ok { IfOk result (λ picture. Told (S.told scd.old) (D.told dic.old) (V.told vec.old) (λ s d v. IsPictureUnder kinds.now s d v picture.items)) }
-    ensures read { OnOk result (AreRead (seen (S.told scd.old) (S.told scd.new) (S.has_failed scd.new))
-        (seen (D.told dic.old) (D.told dic.new) (D.has_failed dic.new)) (seen (V.told vec.old) (V.told vec.new) (V.has_failed vec.new))) }
-    ensures err { IfErr result (FilesFault kinds.now (seen (S.told scd.old) (S.told scd.new) (S.has_failed scd.new))
-        (seen (D.told dic.old) (D.told dic.new) (D.has_failed dic.new)) (seen (V.told vec.old) (V.told vec.new) (V.has_failed vec.new))
+    ensures ok { IfOk result (λ picture. IfThreeKnown (S.contents scd.old) (D.contents dic.old) (V.contents vec.old) (λ s d v. IsPictureUnder kinds.now s d v picture.items)) }
+    ensures read { OnOk result (AreRead (seen (S.contents scd.old) (S.contents scd.new) (S.has_failed scd.new))
+        (seen (D.contents dic.old) (D.contents dic.new) (D.has_failed dic.new)) (seen (V.contents vec.old) (V.contents vec.new) (V.has_failed vec.new))) }
+    ensures err { IfErr result (FilesFault kinds.now (seen (S.contents scd.old) (S.contents scd.new) (S.has_failed scd.new))
+        (seen (D.contents dic.old) (D.contents dic.new) (D.has_failed dic.new)) (seen (V.contents vec.old) (V.contents vec.new) (V.has_failed vec.new))
         (dic.new ≡ dic.old) (vec.new ≡ vec.old) (λ _. ⊥)) }
-    ensures after { IfErr result (λ e. AfterReading e (AreRead (seen (S.told scd.old) (S.told scd.new) (S.has_failed scd.new))
-        (seen (D.told dic.old) (D.told dic.new) (D.has_failed dic.new)) (seen (V.told vec.old) (V.told vec.new) (V.has_failed vec.new)))) }
+    ensures after { IfErr result (λ e. AfterReading e (AreRead (seen (S.contents scd.old) (S.contents scd.new) (S.has_failed scd.new))
+        (seen (D.contents dic.old) (D.contents dic.new) (D.has_failed dic.new)) (seen (V.contents vec.old) (V.contents vec.new) (V.has_failed vec.new)))) }
 {
     let scd = read_input(alloc, scd, 1)?;
     let dic = read_input(alloc, dic, 2)?;
@@ -36,8 +37,8 @@ pub fn run_draw<S: ByteIn, D: ByteIn, V: ByteIn>(
     draw_or_fault(alloc, kinds, &scd, &dic, CowSlice::Owned(vec))
 }
 
-/// Reads four files, and tells what differs between the third and the fourth, two sheets under the schema of the first
-/// two, with a picture of both. What is told and the faults are those of `edi_diff::run_diff`.
+/// Reads four files, and answers what differs between the third and the fourth, two sheets under the schema of the first
+/// two, with a picture of both. What is reported and the faults are those of `edi_diff::run_diff`.
 pub fn run_draw_difference<S: ByteIn, D: ByteIn, A: ByteIn, B: ByteIn>(
     alloc: Global,
     kinds: &Kinds<'_>,
@@ -47,15 +48,15 @@ pub fn run_draw_difference<S: ByteIn, D: ByteIn, A: ByteIn, B: ByteIn>(
     second: &mut B,
     brief: bool,
 ) -> Result<DrawnDifference, RunFault>
-    ensures ok { IfOk result (λ drawn. TellFour (S.told scd.old) (D.told dic.old) (A.told first.old) (B.told second.old)
+    ensures ok { IfOk result (λ drawn. IfFourKnown (S.contents scd.old) (D.contents dic.old) (A.contents first.old) (B.contents second.old)
         (λ s d a b. IsDrawnDifferenceUnder kinds.now s d a b brief drawn)) }
-    ensures read { OnOk result (AreFourRead (seen (S.told scd.old) (S.told scd.new) (S.has_failed scd.new)) (seen (D.told dic.old) (D.told dic.new) (D.has_failed dic.new))
-        (seen (A.told first.old) (A.told first.new) (A.has_failed first.new)) (seen (B.told second.old) (B.told second.new) (B.has_failed second.new))) }
-    ensures err { IfErr result (ComparingFault kinds.now (seen (S.told scd.old) (S.told scd.new) (S.has_failed scd.new)) (seen (D.told dic.old) (D.told dic.new) (D.has_failed dic.new))
-        (seen (A.told first.old) (A.told first.new) (A.has_failed first.new)) (seen (B.told second.old) (B.told second.new) (B.has_failed second.new))
+    ensures read { OnOk result (AreFourRead (seen (S.contents scd.old) (S.contents scd.new) (S.has_failed scd.new)) (seen (D.contents dic.old) (D.contents dic.new) (D.has_failed dic.new))
+        (seen (A.contents first.old) (A.contents first.new) (A.has_failed first.new)) (seen (B.contents second.old) (B.contents second.new) (B.has_failed second.new))) }
+    ensures err { IfErr result (ComparingFault kinds.now (seen (S.contents scd.old) (S.contents scd.new) (S.has_failed scd.new)) (seen (D.contents dic.old) (D.contents dic.new) (D.has_failed dic.new))
+        (seen (A.contents first.old) (A.contents first.new) (A.has_failed first.new)) (seen (B.contents second.old) (B.contents second.new) (B.has_failed second.new))
         (record { dic = dic.new ≡ dic.old; first = first.new ≡ first.old; second = second.new ≡ second.old })) }
-    ensures after { IfErr result (λ e. AfterReading e (AreFourRead (seen (S.told scd.old) (S.told scd.new) (S.has_failed scd.new)) (seen (D.told dic.old) (D.told dic.new) (D.has_failed dic.new))
-        (seen (A.told first.old) (A.told first.new) (A.has_failed first.new)) (seen (B.told second.old) (B.told second.new) (B.has_failed second.new)))) }
+    ensures after { IfErr result (λ e. AfterReading e (AreFourRead (seen (S.contents scd.old) (S.contents scd.new) (S.has_failed scd.new)) (seen (D.contents dic.old) (D.contents dic.new) (D.has_failed dic.new))
+        (seen (A.contents first.old) (A.contents first.new) (A.has_failed first.new)) (seen (B.contents second.old) (B.contents second.new) (B.has_failed second.new)))) }
 {
     let scd = read_input(alloc, scd, 1)?;
     let dic = read_input(alloc, dic, 2)?;

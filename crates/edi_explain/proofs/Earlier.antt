@@ -3,14 +3,14 @@ use Rattle.std.proofs.Common.{◌≡◌, ◌≢◌, ◌<◌, ◌≤◌, ◌⊎�
 use Rattle.edi_line.specs.Refusal.{IsLeastBroken}
 use Rattle.edi_plan.specs.Plans.{Drawing}
 use Rattle.edi_schema.specs.Classes.{Classes}
-use Rattle.edi_topo.specs.Arcs.{RepeatsAnEarlierArc}
-use Rattle.edi_topo.specs.Nodes.{RepeatsAnEarlier}
+use Rattle.edi_topo.specs.inner.Arcs.{RepeatsAnEarlierArc}
+use Rattle.edi_topo.specs.inner.Nodes.{RepeatsAnEarlier}
 use Rattle.edi_topo.specs.TopologyRules.{BreaksTopologyRule}
 use Rattle.edi_topo.specs.TopologyRules.BreaksTopologyRule.{starts_elsewhere, ends_elsewhere, repeats_node, equals_reverse, repeats_arc, bounds_nothing}
-use Rattle.edi_rank.specs.Alike.{BreaksObjectRule}
-use Rattle.edi_rank.specs.Alike.BreaksObjectRule.{repeats_object}
+use Rattle.edi_rank.specs.EqualObjects.{BreaksObjectRule}
+use Rattle.edi_rank.specs.EqualObjects.BreaksObjectRule.{repeats_object}
 use Rattle.edi_compare.specs.PlanOfFile.{IsPlanOfFile}
-use Rattle.edi_explain.specs.Partners.{IsAlikeNode, IsAlikeObject, IsLeast, IsLeastIfAny, SharesPoints}
+use Rattle.edi_explain.specs.Partners.{IsEqualNode, IsEqualObject, IsLeast, IsLeastIfAny, SharesPoints}
 use Rattle.edi_explain.specs.Refusals.{IsEarlierIfAny}
 
 topology_between : (p : Drawing) (rule at : ℕ) → BreaksTopologyRule p rule at → (400 < rule) × (rule < 407)
@@ -34,7 +34,7 @@ module _ (p : Drawing) where
   node_there : (rule n : ℕ) → rule ≡ 403 → BreaksTopologyRule p rule (suc n) → RepeatsAnEarlier p n
   node_there rule n is (starts_elsewhere e h) = absurd (omega (arith, is, e))
   node_there rule n is (ends_elsewhere e h) = absurd (omega (arith, is, e))
-  node_there rule n is (repeats_node e h) = let same : h.1 ≡ n = omega (arith, h.2) in (h.0, subst (λ k. h.0 < k) same h.3, subst (λ k. Rattle.edi_topo.specs.TopologyRules.AreAlikeNodes p h.0 k) same h.4)
+  node_there rule n is (repeats_node e h) = let same : h.1 ≡ n = omega (arith, h.2) in (h.0, subst (λ k. h.0 < k) same h.3, subst (λ k. Rattle.edi_topo.specs.TopologyRules.AreEqualNodes p h.0 k) same h.4)
   node_there rule n is (equals_reverse e h) = absurd (omega (arith, is, e))
   node_there rule n is (repeats_arc e h) = absurd (omega (arith, is, e))
   node_there rule n is (bounds_nothing e h) = absurd (omega (arith, is, e))
@@ -53,7 +53,7 @@ module _ (p : Drawing) where
   not_past n k r q (inl less) = omega (arith, less)
   not_past n k r q (inr same) = omega (arith, same.0)
 
-  -- the least broken rule is 403: the node is the first that is alike an earlier one
+  -- the least broken rule is 403: the node is the first that is equal to an earlier one
   pub first_node : (rule n : ℕ) → rule ≡ 403 → IsLeastBroken (BreaksTopologyRule p) rule (suc n) → IsLeast (RepeatsAnEarlier p) n
   first_node rule n is h = record {
     is = node_there rule n is h.is;
@@ -68,7 +68,7 @@ module _ (p : Drawing) where
   }
 
 module _ (s : Classes) (b : List ℕ) (p : Drawing) (states : IsPlanOfFile s b p) (rule place : ℕ) where
-  pub node_earlier : (earlier : Option ℕ) → rule ≡ 403 → IsLeastIfAny (IsAlikeNode p place) earlier → IsEarlierIfAny s b rule place earlier
+  pub node_earlier : (earlier : Option ℕ) → rule ≡ 403 → IsLeastIfAny (IsEqualNode p place) earlier → IsEarlierIfAny s b rule place earlier
   node_earlier earlier is found = record {
     names = λ e. absurd (omega (arith, e, is));
     subsets = λ e. absurd (omega (arith, e, is));
@@ -90,7 +90,7 @@ module _ (s : Classes) (b : List ℕ) (p : Drawing) (states : IsPlanOfFile s b p
     others = λ a d f g h i. absurd (h is);
   }
 
-  pub object_earlier : (earlier : Option ℕ) → rule ≡ 501 → IsLeastIfAny (IsAlikeObject p place) earlier → IsEarlierIfAny s b rule place earlier
+  pub object_earlier : (earlier : Option ℕ) → rule ≡ 501 → IsLeastIfAny (IsEqualObject p place) earlier → IsEarlierIfAny s b rule place earlier
   object_earlier earlier is found = record {
     names = λ e. absurd (omega (arith, e, is));
     subsets = λ e. absurd (omega (arith, e, is));

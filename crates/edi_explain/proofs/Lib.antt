@@ -8,7 +8,7 @@ pub mod Spans
 pub mod RuleWords
 pub mod InTurn
 pub mod OneArc
-pub mod Alike
+pub mod Equal
 pub mod Sought
 pub mod Quality
 pub mod Parts

@@ -9,8 +9,8 @@ use Rattle.edi_plan.specs.ReferenceRules.{HasRole, Names}
 use Rattle.edi_schema.specs.Classes.{Classes}
 use Rattle.edi_schema.specs.declared.role.Role.{Role}
 use Rattle.edi_schema.specs.declared.role.Role.TheVariants.{Plain}
-use Rattle.edi_topo.specs.TopologyRules.{AreAlikeNodes, HasPoints}
-use Rattle.edi_rank.specs.Alike.{AreAlike}
+use Rattle.edi_topo.specs.TopologyRules.{AreEqualNodes, HasPoints}
+use Rattle.edi_rank.specs.EqualObjects.{AreEqualObjects}
 
 -- the least number of which this holds
 pub record IsLeast (P : ℕ → Type 0) (n : ℕ) : Type 0 where
@@ -38,15 +38,15 @@ abbrev pub SharesSide : Classes → List Record → ℕ → ℕ → Type 0
 SharesSide s list place m = (q r : Record) × (role : Role) × (m < place) × (slice_get list m ≡ Some q) × (slice_get list place ≡ Some r)
     × (role ≢ Plain) × HasRole s list q role × HasRole s list r role × ShareArc s list q r
 
--- of rule 403: an earlier node alike the one at this place
-abbrev pub IsAlikeNode : Drawing → ℕ → ℕ → Type 0
-IsAlikeNode p place m = (m < place) × AreAlikeNodes p m place
+-- of rule 403: an earlier node equal to the one at this place
+abbrev pub IsEqualNode : Drawing → ℕ → ℕ → Type 0
+IsEqualNode p place m = (m < place) × AreEqualNodes p m place
 
 -- of rule 405: an earlier arc with the points of the one at this place, in either direction
 abbrev pub SharesPoints : Drawing → ℕ → ℕ → Type 0
 SharesPoints p place m = (earlier points : List Point) × (m < place) × HasPoints p Par m earlier × HasPoints p Par place points
     × ((points ≡ earlier) ⊎ (points ≡ reverse earlier))
 
--- of rule 501: an earlier object alike the one at this place
-abbrev pub IsAlikeObject : Drawing → ℕ → ℕ → Type 0
-IsAlikeObject p place m = (m < place) × AreAlike p m place
+-- of rule 501: an earlier object equal to the one at this place
+abbrev pub IsEqualObject : Drawing → ℕ → ℕ → Type 0
+IsEqualObject p place m = (m < place) × AreEqualObjects p m place

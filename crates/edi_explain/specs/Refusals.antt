@@ -7,22 +7,22 @@ use Rattle.edi_record.specs.declared.sheet.Sheet.{Sheet}
 use Rattle.edi_plan.specs.Plans.{Drawing}
 use Rattle.edi_schema.specs.Classes.{Classes}
 use Rattle.edi_compare.specs.PlanOfFile.{IsPlanOfFile, IsSheetOf}
-use Rattle.edi_explain.specs.Partners.{HasEnd, IsAlikeNode, IsAlikeObject, IsLeastIfAny, SharesName, SharesPoints, SharesSide}
+use Rattle.edi_explain.specs.Partners.{HasEnd, IsEqualNode, IsEqualObject, IsLeastIfAny, SharesName, SharesPoints, SharesSide}
 use Rattle.edi_explain.specs.RowPartners.{SharesRowName}
 use Rattle.edi_explain.specs.Sites.{IsSiteIfAny}
 use Rattle.edi_explain.specs.declared.refused.Refused.{Refused}
 use Rattle.edi_explain.specs.declared.site.RecordSite.{RecordSite}
 
 -- The earlier record of a sheet that a rule speaks of at a place, or none; places are from 0. It is the least that breaks
--- the rule with the record at the place: 301 by its name, 304 by its subset, 307 by the side of an arc, 403 as an alike node,
--- 405 as the same arc, 501 as an alike object.
+-- the rule with the record at the place: 301 by its name, 304 by its subset, 307 by the side of an arc, 403 as an equal node,
+-- 405 as the same arc, 501 as an equal object.
 pub record IsEarlierIfAny (s : Classes) (b : List ℕ) (rule place : ℕ) (found : Option ℕ) : Type 0 where
   pub names : rule ≡ 301 → (sheet : Sheet) × IsSheetOf b sheet × IsLeastIfAny (SharesName sheet.list place) found
   pub subsets : rule ≡ 304 → (sheet : Sheet) × IsSheetOf b sheet × IsLeastIfAny (HasEnd sheet.list place) found
   pub sides : rule ≡ 307 → (sheet : Sheet) × IsSheetOf b sheet × IsLeastIfAny (SharesSide s sheet.list place) found
-  pub nodes : rule ≡ 403 → (p : Drawing) × IsPlanOfFile s b p × IsLeastIfAny (IsAlikeNode p place) found
+  pub nodes : rule ≡ 403 → (p : Drawing) × IsPlanOfFile s b p × IsLeastIfAny (IsEqualNode p place) found
   pub arcs : rule ≡ 405 → (p : Drawing) × IsPlanOfFile s b p × IsLeastIfAny (SharesPoints p place) found
-  pub objects : rule ≡ 501 → (p : Drawing) × IsPlanOfFile s b p × IsLeastIfAny (IsAlikeObject p place) found
+  pub objects : rule ≡ 501 → (p : Drawing) × IsPlanOfFile s b p × IsLeastIfAny (IsEqualObject p place) found
   pub others : rule ≢ 301 → rule ≢ 304 → rule ≢ 307 → rule ≢ 403 → rule ≢ 405 → rule ≢ 501 → found ≡ None
 
 -- the same of a file of a schema: the least record with the name, for 602

@@ -3,7 +3,7 @@
 ghost use Rattle.std.specs.Prelude.{◌≡◌, ◌-◌, ℕ, suc, List, OnOk, IfOk, IfErr};
 ghost use Rattle.edi_line.specs.Refusal.{IsLeastBroken};
 ghost use Rattle.edi_plan.specs.Plans.{Drawing};
-ghost use Rattle.edi_rank.specs.Alike.{BreaksObjectRule};
+ghost use Rattle.edi_rank.specs.EqualObjects.{BreaksObjectRule};
 ghost use Rattle.edi_topo.specs.TopologyRules.{BreaksTopologyRule};
 ghost use Rattle.edi_compare.specs.PlanOfFile.{IsPlanOfFile};
 ghost use Rattle.edi_compare.specs.Refused.{IsRefusal};

@@ -31,8 +31,8 @@ pub use explained::{
 pub use extent::{Extent, Span, extent_of};
 pub use hints::{Part, hints_of, hints_on, part_of, part_of_type};
 pub use links::same_side;
-pub use objects::alike_object;
-pub use partner::{alike_node, first_link, namesake, same_arc};
+pub use objects::equal_object;
+pub use partner::{equal_node, first_link, namesake, same_arc};
 pub use refused::{Refused, earlier_record, refused_record, refused_row};
 pub use rows::row_namesake;
 pub use site::{RecordSite, record_site};

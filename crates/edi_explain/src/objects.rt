@@ -7,7 +7,7 @@ ghost use Rattle.edi_plan.specs.Plans.{IsPlace};
 ghost use Rattle.edi_rank.specs.Labelling.{NumbersEach};
 ghost use Rattle.edi_rank.specs.Pieces.{object_key_at};
 ghost use Rattle.edi_explain.specs.inner.Objects.{AreKeyed};
-ghost use Rattle.edi_explain.specs.Partners.{IsAlikeObject, IsLeastIfAny};
+ghost use Rattle.edi_explain.specs.Partners.{IsEqualObject, IsLeastIfAny};
 
 use edi_plan::Plan;
 use edi_rank::{ObjectKey, ObjectLayer};
@@ -84,8 +84,8 @@ fn keyed_objects<'a>(alloc: Global, plan: &'a Plan) -> Result<ObjectLayer<'a>, A
     ObjectLayer::of_plan(alloc, plan, &nodes, &arcs, &faces)
 }
 
-/// The place of the first object alike an object, if it comes before that one.
-fn first_alike(
+/// The place of the first object equal to an object, if it comes before that one.
+fn first_equal(
     alloc: Global,
     plan: &Plan,
     objects: &ObjectLayer<'_>,
@@ -93,7 +93,7 @@ fn first_alike(
 ) -> Result<Option<u32>, AllocError>
     requires keys { AreKeyed plan.now objects.now }
     requires member { member < length (places_of Fea plan.now) }
-    ensures { IfOk result (IsLeastIfAny (IsAlikeObject plan.now (slice_index (places_of Fea plan.now) member))) }
+    ensures { IfOk result (IsLeastIfAny (IsEqualObject plan.now (slice_index (places_of Fea plan.now) member))) }
 {
     plan.keeps();
     let places = plan.places(Kind::Fea);
@@ -106,16 +106,16 @@ fn first_alike(
     Ok(None)
 }
 
-/// The first object alike the one at a place, if it comes before that one: rule 501. `None` also where the record isn't an
+/// The first object equal to the one at a place, if it comes before that one: rule 501. `None` also where the record isn't an
 /// object.
-pub fn alike_object(alloc: Global, plan: &Plan, place: u32) -> Result<Option<u32>, AllocError>
+pub fn equal_object(alloc: Global, plan: &Plan, place: u32) -> Result<Option<u32>, AllocError>
     requires { IsPlace plan.now place }
-    ensures { IfOk result (IsLeastIfAny (IsAlikeObject plan.now place)) }
+    ensures { IfOk result (IsLeastIfAny (IsEqualObject plan.now place)) }
 {
     plan.keeps();
     let Some(member) = member_at(plan.places(Kind::Fea), place) else {
         return Ok(None);
     };
     let objects = keyed_objects(alloc, plan)?;
-    first_alike(alloc, plan, &objects, member)
+    first_equal(alloc, plan, &objects, member)
 }

@@ -5,8 +5,8 @@ ghost use Rattle.edi_record.specs.declared.record.Kind.TheVariants.{Pno};
 ghost use Rattle.edi_plan.specs.PlanOf.{own_name};
 ghost use Rattle.edi_plan.specs.Plans.{IsPlace, record_at};
 ghost use Rattle.edi_topo.specs.NodeKeys.{node_key};
-ghost use Rattle.edi_topo.specs.TopologyRules.{AreAlikeNodes};
-ghost use Rattle.edi_explain.specs.Partners.{HasEnd, IsAlikeNode, IsLeastIfAny, SharesName, SharesPoints};
+ghost use Rattle.edi_topo.specs.TopologyRules.{AreEqualNodes};
+ghost use Rattle.edi_explain.specs.Partners.{HasEnd, IsEqualNode, IsLeastIfAny, SharesName, SharesPoints};
 
 use edi_plan::Plan;
 use edi_record::{Kind, Record};
@@ -55,8 +55,8 @@ pub fn first_link(records: &[Record], place: usize) -> Option<usize>
     None
 }
 
-/// Whether the record at a place is a node alike the one with this key.
-fn is_alike_node(
+/// Whether the record at a place is a node equal to the one with this key.
+fn is_equal_node(
     alloc: Global,
     plan: &Plan,
     key: &NodeKey<'_>,
@@ -67,7 +67,7 @@ fn is_alike_node(
     requires earlier { IsPlace plan.now earlier }
     requires node { (record_at plan.now place).kind ≡ Pno }
     requires key { key.now ≡ node_key (record_at plan.now place) }
-    ensures { IfOk result (λ answer. IsTrue answer ↔ AreAlikeNodes plan.now earlier place) }
+    ensures { IfOk result (λ answer. IsTrue answer ↔ AreEqualNodes plan.now earlier place) }
 {
     plan.keeps();
     if plan.kind(earlier) != Kind::Pno {
@@ -79,16 +79,16 @@ fn is_alike_node(
 
 /// The first node with the position, the class, the attributes and the extras of the node at a place,
 /// if it comes before that one: rule 403. `None` also where the record isn't a node.
-pub fn alike_node(alloc: Global, plan: &Plan, place: u32) -> Result<Option<u32>, AllocError>
+pub fn equal_node(alloc: Global, plan: &Plan, place: u32) -> Result<Option<u32>, AllocError>
     requires { IsPlace plan.now place }
-    ensures { IfOk result (IsLeastIfAny (IsAlikeNode plan.now place)) }
+    ensures { IfOk result (IsLeastIfAny (IsEqualNode plan.now place)) }
 {
     if plan.kind(place) != Kind::Pno {
         return Ok(None);
     }
     let key = node_key_at(alloc, plan, place)?;
     for earlier in 0..place {
-        if is_alike_node(alloc, plan, &key, place, earlier)? {
+        if is_equal_node(alloc, plan, &key, place, earlier)? {
             return Ok(Some(earlier));
         }
     }

@@ -8,12 +8,12 @@ ghost use Rattle.edi_compare.specs.PlanOfFile.{IsPlanOfFile, IsSheetOf};
 ghost use Rattle.edi_compare.specs.Refused.{IsRefusal};
 ghost use Rattle.edi_compare.specs.Rules.{RecordsHold, ReferencesHold};
 ghost use Rattle.edi_compare.specs.declared.fault.Fault.TheVariants.{Entry as AtRecord};
-ghost use Rattle.edi_explain.specs.Partners.{HasEnd, IsAlikeNode, IsAlikeObject, IsLeastIfAny, SharesName, SharesPoints, SharesSide};
+ghost use Rattle.edi_explain.specs.Partners.{HasEnd, IsEqualNode, IsEqualObject, IsLeastIfAny, SharesName, SharesPoints, SharesSide};
 ghost use Rattle.edi_explain.specs.Refusals.{AreSites, IsEarlierIfAny, IsEarlierRowIfAny, IsRefusedAt, IsRowRefusedAt};
 
 use crate::links::same_side;
-use crate::objects::alike_object;
-use crate::partner::{alike_node, first_link, namesake, same_arc};
+use crate::objects::equal_object;
+use crate::partner::{equal_node, first_link, namesake, same_arc};
 use crate::rows::row_namesake;
 use crate::seeking::sites_in;
 use crate::site::RecordSite;
@@ -97,14 +97,14 @@ fn side_before(schema: &Schema, records: &[Record], place: u64) -> Option<u64>
     }
 }
 
-/// The first node alike the one at a place, if it comes before that one.
+/// The first node equal to the one at a place, if it comes before that one.
 fn node_before(alloc: Global, plan: &Plan, place: u64) -> Result<Option<u64>, AllocError>
-    ensures { IfOk result (IsLeastIfAny (IsAlikeNode plan.now place)) }
+    ensures { IfOk result (IsLeastIfAny (IsEqualNode plan.now place)) }
 {
     if place >= u64::from(plan.len()) {
         return Ok(None);
     }
-    match alike_node(alloc, plan, place as u32)? {
+    match equal_node(alloc, plan, place as u32)? {
         Some(earlier) => Ok(Some(u64::from(earlier))),
         None => Ok(None),
     }
@@ -123,18 +123,18 @@ fn arc_before(plan: &Plan, place: u64) -> Option<u64>
     }
 }
 
-/// The first object alike the one at a place, if it comes before that one.
+/// The first object equal to the one at a place, if it comes before that one.
 pub(crate) fn object_before(
     alloc: Global,
     plan: &Plan,
     place: u64,
 ) -> Result<Option<u64>, AllocError>
-    ensures { IfOk result (IsLeastIfAny (IsAlikeObject plan.now place)) }
+    ensures { IfOk result (IsLeastIfAny (IsEqualObject plan.now place)) }
 {
     if place >= u64::from(plan.len()) {
         return Ok(None);
     }
-    match alike_object(alloc, plan, place as u32)? {
+    match equal_object(alloc, plan, place as u32)? {
         Some(earlier) => Ok(Some(u64::from(earlier))),
         None => Ok(None),
     }
@@ -163,7 +163,7 @@ fn earlier_in_sheet(
     }
 }
 
-/// The earlier record that a rule of topology or of objects speaks of: an alike node, the same arc, or an alike object.
+/// The earlier record that a rule of topology or of objects speaks of: an equal node, the same arc, or an equal object.
 fn earlier_in_plan(
     alloc: Global,
     schema: &Schema,

@@ -4,11 +4,12 @@ ghost use Rattle.std.specs.Prelude.{◌≡◌, ◌<◌, ◌≤◌, ℕ, [], leng
 ghost use Rattle.edi_record.specs.declared.record.Kind.TheVariants.{Par, Pno};
 ghost use Rattle.edi_plan.specs.Places.{places_of};
 ghost use Rattle.edi_topo.specs.Arcs as arcs_;
+ghost use Rattle.edi_topo.specs.inner.Arcs as repeats_;
 ghost use Rattle.edi_topo.specs.NodeKeys.{no_node, node_keys};
-ghost use Rattle.edi_topo.specs.Nodes as nodes_;
+ghost use Rattle.edi_topo.specs.inner.Nodes as nodes_;
 ghost use Rattle.edi_explain.specs.inner.Repeats.{IsOfFirstArc, IsOfFirstNode};
 
-use crate::partner::{alike_node, same_arc};
+use crate::partner::{equal_node, same_arc};
 use edi_plan::Plan;
 use edi_record::Kind;
 use edi_topo::{ForwardPoints, Layer, NodeKey, TieFault, node_key_at, ranks};
@@ -65,7 +66,7 @@ impl<'a> Layer for PlanArcs<'a> {
     }
 }
 
-/// The place of the first node that is alike an earlier one.
+/// The place of the first node that is equal to an earlier one.
 fn first_repeated_node(alloc: Global, plan: &Plan) -> Result<Option<u32>, AllocError>
     ensures { IfOk result (nodes_.IsFirstRepeatIfAny plan.now) }
 {
@@ -80,7 +81,7 @@ fn first_repeated_node(alloc: Global, plan: &Plan) -> Result<Option<u32>, AllocE
 
 /// The place of the first arc with the points of an earlier one, in either direction.
 fn first_repeated_arc(alloc: Global, plan: &Plan) -> Result<Option<u32>, AllocError>
-    ensures { IfOk result (arcs_.IsFirstRepeatIfAny plan.now) }
+    ensures { IfOk result (repeats_.IsFirstRepeatIfAny plan.now) }
 {
     plan.keeps();
     let arcs = PlanArcs { plan };
@@ -91,13 +92,13 @@ fn first_repeated_arc(alloc: Global, plan: &Plan) -> Result<Option<u32>, AllocEr
     }
 }
 
-/// The first node that the first repeated node is alike.
+/// The first node that the first repeated node is equal to.
 pub(crate) fn node_repeated(alloc: Global, plan: &Plan) -> Result<Option<u32>, AllocError>
     ensures { IfOk result (IsOfFirstNode plan.now) }
 {
     let first = first_repeated_node(alloc, plan)?;
     match first {
-        Some(place) => alike_node(alloc, plan, place),
+        Some(place) => equal_node(alloc, plan, place),
         None => Ok(None),
     }
 }

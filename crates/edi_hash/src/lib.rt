@@ -1,22 +1,23 @@
 //! A hash for names that strangers choose.
 //!
 //! A table that finds names by a hash which anybody can compute is slow on names that somebody chose to fall into one
-//! place of it. This program has no source of chance, so its key comes from the names themselves: it is a SHA-256 digest
+//! place of it. This program has no source of chance, so its key comes from the names themselves: it is a SHA-512 digest
 //! of all of them. Whoever changes a name changes the key, and the places of all other names with it, so names can't be
 //! chosen for the key that they will have.
 #![tactic(auto)]
 
 ghost use Rattle.std.specs.Prelude.{◌≡◌, ◌++◌, ◌∷◌, [], List, ℕ};
-ghost use Rattle.edi_hash.specs.Keys.{Holds, keyed_by};
+ghost use Rattle.sha2.specs.Hashers.{Holds512};
+ghost use Rattle.edi_hash.specs.Keys.{Holds, keyed_by, length_mark};
 
-use sha2::{Digest, Sha256};
+use sha2::{Digest, Sha512};
 use std::hash::{BuildHasher, DefaultHasher, Hasher};
 use std::marker::Model;
 
 /// The names that a table is going to hold, of which its key is made.
 #[derive(Drop)]
 pub struct KeyNames {
-    digest: Sha256,
+    digest: Sha512,
 }
 
 impl KeyNames {
@@ -25,7 +26,7 @@ impl KeyNames {
         ensures { Holds result [] }
     {
         KeyNames {
-            digest: Sha256::new(),
+            digest: Sha512::new(),
         }
     }
 
@@ -33,8 +34,20 @@ impl KeyNames {
     pub fn add(&mut self, part: &[u8])
         ensures { (parts : List (List ℕ)) → Holds self.old parts → Holds self.new (parts ++ part.now ∷ []) }
     {
-        self.digest.update(&(part.len() as u64).to_le_bytes());
+        self.add_length(part.len());
         self.digest.update(part);
+    }
+
+    /// Adds the length of a part, so that the same bytes cut into other parts make another key.
+    fn add_length(&mut self, length: usize)
+        ensures { (m : List ℕ) → Holds512 self.old.digest m → Holds512 self.new.digest (m ++ length_mark length) }
+    {
+        if length < 255 {
+            self.digest.update(&[length as u8]);
+        } else {
+            self.digest.update(&[255u8]);
+            self.digest.update(&(length as u64).to_le_bytes());
+        }
     }
 
     /// The hash under the digest of these names.

@@ -1,4 +1,4 @@
-//! Hashes whose values come from other programs: SHA-256 of Python's hashlib, and SipHash-1-3 by its published steps.
+//! Hashes whose values come from other programs: SHA-512 of Python's hashlib, and SipHash-1-3 by its published steps.
 
 use crate::KeyNames;
 use std::hash::{BuildHasher, DefaultHasher, Hasher};
@@ -20,14 +20,21 @@ fn hashes_without_a_key(rt: HostRuntime) {
 fn hashes_under_the_key_of_names(rt: HostRuntime) {
     let one: &[u8] = b"Noeud_1";
     let other: &[u8] = b"Noeud_2";
-    assert_eq!(rt; hash_of(&[], 7), 0x2b89_8c85_27b1_801f);
-    assert_eq!(rt; hash_of(&[one], 7), 0x225c_15d8_8882_b33e);
-    assert_eq!(rt; hash_of(&[one, other], 7), 0xd8c9_a0e0_b2d4_1a75);
+    assert_eq!(rt; hash_of(&[], 7), 0x8169_23b0_aad8_57de);
+    assert_eq!(rt; hash_of(&[one], 7), 0xafa5_29fd_dc24_f3ff);
+    assert_eq!(rt; hash_of(&[one, other], 7), 0x6ece_baa1_caff_10f6);
 }
 
 #[test]
 fn another_cut_is_another_key(rt: HostRuntime) {
     let one: &[u8] = b"Noeud_1N";
     let other: &[u8] = b"oeud_2";
-    assert_eq!(rt; hash_of(&[one, other], 7), 0x5fdb_28bc_d8a2_df5e);
+    assert_eq!(rt; hash_of(&[one, other], 7), 0x00fd_b6a4_599d_18c2);
+}
+
+#[test]
+fn lengths_of_255_and_more_take_nine_bytes(rt: HostRuntime) {
+    assert_eq!(rt; hash_of(&[&[b'x'; 254]], 7), 0x124f_b69b_fe30_4a38);
+    assert_eq!(rt; hash_of(&[&[b'x'; 255]], 7), 0xafd5_c0c2_4161_da66);
+    assert_eq!(rt; hash_of(&[&[b'x'; 300]], 7), 0xf4c5_81eb_ad57_8179);
 }

@@ -23,4 +23,5 @@ pub mod PrintedRules
 pub mod KnownFiles
 pub mod FirstByte
 pub mod HeldZones
-pub mod LentZones
+pub mod BorrowedZones
+pub mod ZoneLists

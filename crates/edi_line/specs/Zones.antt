@@ -54,9 +54,9 @@ pub record IsContinued (lines : List Reading) (line : ℕ) : Type 0 where
   pub nothing_else : some_bears starts between ≡ false
   pub continues : bears is_next next ≡ true
 
--- the value is lent by the file, unless a NEX line continues it
-abbrev pub IsLentUnlessContinued : List Reading → Zone → Type 0
-IsLentUnlessContinued lines zone = IsOwnedSlice zone.value → IsContinued lines zone.line
+-- the value is borrowed from the file, unless a NEX line continues it
+abbrev pub IsBorrowedUnlessContinued : List Reading → Zone → Type 0
+IsBorrowedUnlessContinued lines zone = IsOwnedSlice zone.value → IsContinued lines zone.line
 
 -- ---- shape
 

@@ -3,8 +3,10 @@ pub mod Number
 pub mod Spelling
 pub mod Lines
 pub mod Zones
+pub mod ZoneLists
 pub mod Held
 pub mod Feeding
 pub mod Groups
 pub mod Texts
-pub mod Lent
+pub mod Borrowed
+pub mod Refusal

@@ -9,7 +9,7 @@ use std::io::{Read, Write};
 /// `None` says that it has failed, and nothing else does; from then on it answers `None`.
 pub trait ByteIn {
     /// The bytes that are left, or none claimed.
-    ghost told: { Self → Option (List ℕ) };
+    ghost contents: { Self → Option (List ℕ) };
 
     /// Whether it has failed.
     ghost has_failed: { Self → Bool };
@@ -19,10 +19,10 @@ pub trait ByteIn {
 
     /// Puts the next bytes at the front of the buffer and says how many, at most as many as the
     /// buffer has. 0 for a buffer of one byte or more comes only where no bytes are left, if the
-    /// source tells its bytes.
+    /// bytes are known.
     fn read(&mut self, buffer: &mut [u8]) -> Option<usize>
         ensures bound { IfSome result (λ n. n ≤ length buffer.new) }
-        ensures bytes { Reads (told self.old) (told self.new) result buffer.new }
+        ensures bytes { Reads (contents self.old) (contents self.new) result buffer.new }
         ensures fails { has_failed self.new ≡ is_none result }
         ensures for_good { IsTrue (has_failed self.old) → IsNone result }
         ensures at_least { reads self.old ≤ reads self.new }
@@ -35,7 +35,7 @@ pub trait ByteIn {
 /// it answers one of the two.
 pub trait ByteOut {
     /// The bytes that it has taken, or none claimed.
-    ghost told: { Self → Option (List ℕ) };
+    ghost contents: { Self → Option (List ℕ) };
 
     /// Whether it has failed.
     ghost has_failed: { Self → Bool };
@@ -46,7 +46,7 @@ pub trait ByteOut {
     /// Takes bytes off the front of these and says how many.
     fn write(&mut self, bytes: &[u8]) -> Option<usize>
         ensures bound { IfSome result (λ n. n ≤ length bytes.now) }
-        ensures bytes { Writes (told self.old) (told self.new) result bytes.now }
+        ensures bytes { Writes (contents self.old) (contents self.new) result bytes.now }
         ensures fails { has_failed self.new ≡ (has_failed self.old || is_refusal result bytes.now) }
         ensures for_good { IsTrue (has_failed self.old) → IfSome result (λ n. n ≡ 0) }
         ensures at_least { writes self.old ≤ writes self.new }
@@ -63,7 +63,7 @@ pub struct FromRead<R> {
 impl<R: Read> FromRead<R> {
     /// The source of what the reader has left. Nothing is read yet.
     pub fn new(inner: R) -> FromRead<R>
-        ensures told { ⟦<FromRead<R> as ByteIn>⟧.told result ≡ R.remaining inner }
+        ensures contents { ⟦<FromRead<R> as ByteIn>⟧.contents result ≡ R.remaining inner }
         ensures fresh { ⟦<FromRead<R> as ByteIn>⟧.has_failed result ≡ false }
     {
         FromRead {
@@ -74,7 +74,7 @@ impl<R: Read> FromRead<R> {
 }
 
 impl<R: Read> ByteIn for FromRead<R> {
-    ghost told = { λ s. R.remaining s.inner };
+    ghost contents = { λ s. R.remaining s.inner };
 
     ghost has_failed = { λ s. s.failed };
 
@@ -104,7 +104,7 @@ pub struct ToWrite<W> {
 impl<W: Write> ToWrite<W> {
     /// The sink that writes to the writer. Nothing is written yet.
     pub fn new(inner: W) -> ToWrite<W>
-        ensures told { ⟦<ToWrite<W> as ByteOut>⟧.told result ≡ W.contents inner }
+        ensures contents { ⟦<ToWrite<W> as ByteOut>⟧.contents result ≡ W.contents inner }
         ensures fresh { ⟦<ToWrite<W> as ByteOut>⟧.has_failed result ≡ false }
     {
         ToWrite {
@@ -115,7 +115,7 @@ impl<W: Write> ToWrite<W> {
 }
 
 impl<W: Write> ByteOut for ToWrite<W> {
-    ghost told = { λ s. W.contents s.inner };
+    ghost contents = { λ s. W.contents s.inner };
 
     ghost has_failed = { λ s. s.failed };
 

@@ -51,7 +51,7 @@ impl Refusal {
     }
 }
 
-/// A file on its way, in pieces that may be cut anywhere. It keeps the zones so far and the bytes of
+/// A file on its way, in pieces that may be cut anywhere. It stores the zones so far and the bytes of
 /// the line that hasn't ended.
 #[derive(Drop)]
 pub struct Feed {

@@ -64,7 +64,7 @@ pub fn read_groups<O: GroupOut>(
     Ok(charset)
 }
 
-/// Hands the zones of a record on, or keeps the character set of those in front of the first one.
+/// Hands the zones of a record on, or stores the character set of those in front of the first one.
 fn hand_on<O: GroupOut>(
     alloc: Global,
     zones: &[Zone<'_>],

@@ -1,12 +1,12 @@
 //! Numbers, lines and zones of an exchange file, and the devices that its bytes come from.
 #![tactic(auto)]
 
+pub mod borrowed;
 pub mod device;
 pub mod fault;
 pub mod feed;
 pub mod groups;
 mod known;
-pub mod lent;
 mod lines;
 pub mod num;
 mod order;
@@ -17,13 +17,14 @@ mod spelling;
 pub mod text;
 pub mod whole;
 pub mod zone;
+mod zone_list;
 
+pub use borrowed::{BorrowedList, ListOfBorrowed};
 pub use device::{ByteIn, ByteOut, FromRead, ToWrite};
 pub use fault::LineFault;
 pub use feed::{Feed, zones_of_pieces};
 pub use groups::{GroupOut, read_groups};
 pub use known::{known_lines_are_read, known_numbers_are_read};
-pub use lent::{Lent, LentEach};
 pub use lines::lines_are_unique;
 pub use num::{Num, numbers_are_unique, spellings_are_read};
 pub use reading::{printed_zones_are_read_again, zones, zones_are_unique};

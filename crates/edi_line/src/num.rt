@@ -1,4 +1,4 @@
-//! Decimal numbers, kept as whole millionths.
+//! Decimal numbers, stored as whole millionths.
 
 ghost use Rattle.std.specs.Prelude.{◌≡◌, ℕ, List, ◌+◌, ◌*◌, ◌/◌, ◌%◌, ◌^◌, ◌<◌, ◌≤◌, ◌↔◌, [], ◌∷◌, ◌++◌, length, IsTrue, IfOk, OnOk, OnErr, MatchOption, Some, All, ℤ, pos, ◌==◌, position};
 ghost use Rattle.std.specs.Str.Parse.{AllDigits, digits_value};
@@ -176,7 +176,23 @@ fn fraction_value(digits: &[u8]) -> Option<u64>
         return None;
     }
     let worth = digits_worth(rest)?;
-    Some(worth * 10u64.pow(6 - rest.len() as u32))
+    Some(worth * power_of_ten(6 - rest.len()))
+}
+
+/// 10 to a power of at most 6.
+fn power_of_ten(exponent: usize) -> u64
+    requires { exponent ≤ 6 }
+    ensures { result ≡ 10 ^ exponent }
+{
+    match exponent {
+        0 => 1,
+        1 => 10,
+        2 => 100,
+        3 => 1_000,
+        4 => 10_000,
+        5 => 100_000,
+        _ => 1_000_000,
+    }
 }
 
 /// Whole units, and the fraction if there is one.
@@ -210,7 +226,7 @@ fn push_fraction(text: &mut Vec<u8>, millionths: u64) -> Result<(), AllocError>
     let mut places = 6;
     while rest != 0 {
         places -= 1;
-        let unit = 10u64.pow(places);
+        let unit = power_of_ten(places);
         text.push(b'0' + (rest / unit) as u8)?;
         rest %= unit;
     }

@@ -3,16 +3,17 @@
 ghost use Rattle.std.specs.Prelude.{Option, Some, None, true, false, ◌≡◌, ℕ, List, ◌+◌, ◌^◌, ◌<◌, ◌≤◌, [], ◌∷◌, ◌++◌, length, map, OnOk, IfOk, IfErr, IfSome, option_map, option_to_list};
 ghost use Rattle.edi_line.specs.Bytes.{most_records};
 ghost use Rattle.edi_line.specs.Entry.{Entry, entry, entries};
-ghost use Rattle.edi_line.specs.Zones.{HasShape, IsFileOf, IsLentUnlessContinued, IsZonesIn, groups_of, charset_of, ends_group as zone_ends_group};
+ghost use Rattle.edi_line.specs.Zones.{HasShape, IsFileOf, IsBorrowedUnlessContinued, IsZonesIn, groups_of, charset_of};
 ghost use Rattle.edi_line.specs.inner.Groups.{has_group};
-ghost use Rattle.edi_line.specs.inner.Zones.{with_more, part_by};
+ghost use Rattle.edi_line.specs.inner.Zones.{part_by};
 ghost use Rattle.edi_line.specs.LineKinds.{kind_of as kind_in};
 ghost use Rattle.edi_line.specs.LineRules.{BreaksLineRule, IsZonesOf};
 ghost use Rattle.edi_line.specs.Refusal.{IsUnbroken, IsLineRefusal, IfBroken};
 ghost use Rattle.std.specs.List.{AllByRecursion};
 ghost use Rattle.std.specs.Cow.{cow_slice_items};
 ghost use Rattle.edi_line.specs.Printing.{IsPrintable, printed, numbered};
-ghost use Rattle.edi_line.specs.inner.Lent.{Lends, IsClosed, Leaves, LeavesAfter, begins_at};
+ghost use Rattle.edi_line.specs.inner.Borrowed.{BorrowsLines, Leaves, LeavesAfter};
+ghost use Rattle.edi_line.specs.inner.ZoneLists.{done_in, open_in};
 ghost use Rattle.edi_line.specs.inner.Held.{rule_of_kind, noted_kind, opened, Steps, Takes, Refuses, Stands, zoned, step, closed};
 ghost use Rattle.edi_line.specs.Spelling.{Reading, AreReadings};
 ghost use Rattle.edi_line.specs.inner.Spelling.{reading_of, spelling_shown};
@@ -22,16 +23,16 @@ use crate::lines;
 use crate::order::{Order, ZoneKind, kind_of};
 use crate::spelling::{Spelled, read_content};
 use crate::zone::Zone;
+use crate::zone_list::ZoneList;
 use std::alloc::{AllocError, Global};
 use std::borrow::CowSlice;
 
-/// What is kept of the lines that have come.
+/// What is stored of the lines that have come.
 #[derive(Drop)]
 pub(crate) struct Reader<'a> {
     line: u64,
     order: Order,
-    zones: Vec<Zone<'a>>,
-    open_zone: Option<Zone<'a>>,
+    zones: ZoneList<'a>,
 }
 
 impl<'a> Reader<'a> {
@@ -41,27 +42,26 @@ impl<'a> Reader<'a> {
         Reader {
             line: 0,
             order: Order::new(),
-            zones: Vec::new(alloc),
-            open_zone: None,
+            zones: ZoneList::new(alloc),
         }
     }
 
-    /// Takes the content of the next line, whose value a zone that begins there is lent.
+    /// Takes the content of the next line, whose value a zone that begins there borrows.
     pub(crate) fn take_line(&mut self, alloc: Global, content: &'a [u8]) -> Result<(), LineFault>
         requires line { self.old.line + 1 < 2 ^ 64 }
         requires records { self.old.order.records ≤ self.old.line }
         ensures ok { OnOk result (Takes self.old (reading_of content.now) self.new) }
-        ensures lends { OnOk result ((lines : List Reading) → length lines ≡ self.old.line → Lends lines self.old
-            → Lends (lines ++ reading_of content.now ∷ []) self.new) }
+        ensures borrows { OnOk result ((lines : List Reading) → length lines ≡ self.old.line → BorrowsLines lines self.old
+            → BorrowsLines (lines ++ reading_of content.now ∷ []) self.new) }
         ensures broken { IfErr result (IfBroken (Refuses self.old (reading_of content.now))) }
     {
         if let Some(spelled) = self.step(alloc, content)? {
-            self.begin(spelled, CowSlice::Borrowed(spelled.value));
+            self.begin(spelled, CowSlice::Borrowed(spelled.value))?;
         }
         Ok(())
     }
 
-    /// Takes the content of the next line, of whose value a zone that begins there keeps a copy.
+    /// Takes the content of the next line, of whose value a zone that begins there has a copy.
     pub(crate) fn take_copied(&mut self, alloc: Global, content: &[u8]) -> Result<(), LineFault>
         requires line { self.old.line + 1 < 2 ^ 64 }
         requires records { self.old.order.records ≤ self.old.line }
@@ -70,7 +70,7 @@ impl<'a> Reader<'a> {
     {
         if let Some(spelled) = self.step(alloc, content)? {
             let value = Vec::from_slice(alloc, spelled.value)?;
-            self.begin(spelled, CowSlice::Owned(value));
+            self.begin(spelled, CowSlice::Owned(value))?;
         }
         Ok(())
     }
@@ -85,7 +85,7 @@ impl<'a> Reader<'a> {
         requires records { self.old.order.records ≤ self.old.line }
         ensures ok { IfOk result (λ begun. Steps self.old (reading_of content.now) (option_map spelling_shown begun) self.new) }
         ensures leaves { OnOk result (LeavesAfter (reading_of content.now) self.old self.new) }
-        ensures begun { IfOk result (λ begun. IfSome begun (λ s. self.new.open_zone ≡ None)) }
+        ensures begun { IfOk result (λ begun. IfSome begun (λ s. open_in self.new.zones ≡ None)) }
         ensures broken { IfErr result (IfBroken (Refuses self.old (reading_of content.now))) }
     {
         self.line += 1;
@@ -112,7 +112,7 @@ impl<'a> Reader<'a> {
         ensures zones { IfOk result (λ begun. opened self.old.line (option_map spelling_shown begun) (zoned self.new)
             ≡ step (part_by (kind_in spelled.entry.code) self.old.line (spelling_shown spelled.entry)) (zoned self.old)) }
         ensures leaves { OnOk result (Leaves (kind_in spelled.entry.code) self.old self.new) }
-        ensures begun { IfOk result (λ begun. IfSome begun (λ s. self.new.open_zone ≡ None)) }
+        ensures begun { IfOk result (λ begun. IfSome begun (λ s. open_in self.new.zones ≡ None)) }
         ensures broken { IfErr result (IfBroken (λ rule at.
             (at ≡ self.old.line) × (rule_of_kind self.old.order (kind_in spelled.entry.code) ≡ Some rule))) }
     {
@@ -139,13 +139,13 @@ impl<'a> Reader<'a> {
         ensures zones { IfOk result (λ begun. opened self.old.line (option_map spelling_shown begun) (zoned self.new)
             ≡ step (part_by kind self.old.line (spelling_shown spelled.entry)) (zoned self.old)) }
         ensures leaves { OnOk result (Leaves kind self.old self.new) }
-        ensures begun { IfOk result (λ begun. IfSome begun (λ s. self.new.open_zone ≡ None)) }
+        ensures begun { IfOk result (λ begun. IfSome begun (λ s. open_in self.new.zones ≡ None)) }
     {
         match kind {
-            ZoneKind::Next => self.lengthen(alloc, spelled.value)?,
-            ZoneKind::Remark => self.close()?,
+            ZoneKind::Next => self.zones.lengthen(alloc, spelled.value)?,
+            ZoneKind::Remark => self.zones.close(),
             _ => {
-                self.close()?;
+                self.zones.close();
                 return Ok(Some(spelled));
             }
         }
@@ -153,64 +153,36 @@ impl<'a> Reader<'a> {
     }
 
     /// Opens the zone that the last line begins, with its value.
-    fn begin(&mut self, spelled: Spelled<'_>, value: CowSlice<'a, u8>)
-        requires { cow_slice_items value ≡ spelled.value.now }
-        ensures line { self.new.line ≡ self.old.line }
-        ensures order { self.new.order ≡ self.old.order }
-        ensures zones { zoned self.new ≡ opened self.old.line (Some (spelling_shown spelled.entry)) (zoned self.old) }
-        ensures done { self.new.zones ≡ self.old.zones }
-        ensures open_zone { IfSome self.new.open_zone (λ z. (z.line ≡ self.old.line) × (z.value ≡ value.entry)) }
+    fn begin(&mut self, spelled: Spelled<'_>, value: CowSlice<'a, u8>) -> Result<(), AllocError>
+        requires value { cow_slice_items value ≡ spelled.value.now }
+        requires none { open_in self.old.zones ≡ None }
+        ensures line { OnOk result (self.new.line ≡ self.old.line) }
+        ensures order { OnOk result (self.new.order ≡ self.old.order) }
+        ensures zones { OnOk result (zoned self.new ≡ opened self.old.line (Some (spelling_shown spelled.entry)) (zoned self.old)) }
+        ensures done { OnOk result (done_in self.new.zones ≡ done_in self.old.zones) }
+        ensures open_zone { OnOk result (IfSome (open_in self.new.zones) (λ z. (z.line ≡ self.old.line) × (z.value ≡ value.entry))) }
     {
-        self.open_zone = Some(Zone {
+        self.zones.open(Zone {
             line: self.line,
             code: spelled.code,
             nature: spelled.nature,
             format: spelled.format,
             value,
-        });
-    }
-
-    /// Lengthens the open zone, if there is one.
-    fn lengthen(&mut self, alloc: Global, more: &[u8]) -> Result<(), AllocError>
-        ensures line { OnOk result (self.new.line ≡ self.old.line) }
-        ensures order { OnOk result (self.new.order ≡ self.old.order) }
-        ensures done { OnOk result (self.new.zones ≡ self.old.zones) }
-        ensures open_zone { OnOk result (option_map entry self.new.open_zone ≡ option_map (with_more more.now) (option_map entry self.old.open_zone)) }
-    {
-        match &mut self.open_zone {
-            Some(zone) => zone.lengthen(alloc, more),
-            None => Ok(()),
-        }
-    }
-
-    /// Adds the open zone, if there is one, to those that are done.
-    fn close(&mut self) -> Result<(), AllocError>
-        ensures line { OnOk result (self.new.line ≡ self.old.line) }
-        ensures order { OnOk result (self.new.order ≡ self.old.order) }
-        ensures zones { OnOk result (zoned self.new ≡ record { done = closed (zoned self.old); open_zone = None }) }
-        ensures closed { OnOk result (IsClosed self.old self.new) }
-    {
-        if let Some(zone) = self.open_zone.take() {
-            self.zones.push(zone)?;
-        }
-        Ok(())
+        })
     }
 
     /// Whether zones are done, and the next record or the end has begun.
     pub(crate) fn has_group(&self) -> bool
         ensures { result ≡ has_group (zoned self.now) }
     {
-        match &self.open_zone {
-            Some(zone) => ends_group(zone) && !self.zones.is_empty(),
-            None => false,
-        }
+        self.zones.has_group()
     }
 
     /// The zones that are done.
     pub(crate) fn done(&self) -> &[Zone<'a>]
         ensures { entries result.now ≡ (zoned self.now).done }
     {
-        &self.zones
+        self.zones.done()
     }
 
     /// Lets the zones go that are done.
@@ -219,14 +191,14 @@ impl<'a> Reader<'a> {
         ensures order { self.new.order ≡ self.old.order }
         ensures zones { zoned self.new ≡ record { done = []; open_zone = (zoned self.old).open_zone } }
     {
-        self.zones.clear();
+        self.zones.let_go();
     }
 
     /// All lines have come.
-    pub(crate) fn finish(mut self) -> Result<Vec<Zone<'a>>, LineFault>
+    pub(crate) fn finish(self) -> Result<Vec<Zone<'a>>, LineFault>
         requires { self.line + 1 < 2 ^ 64 }
         ensures ok { IfOk result (λ zones. (entries zones.items ≡ closed (zoned self.entry)) × (self.entry.order.eom ≡ true)) }
-        ensures zones { IfOk result (λ zones. zones.items ≡ self.entry.zones.items ++ option_to_list self.entry.open_zone) }
+        ensures zones { IfOk result (λ zones. zones.items ≡ done_in self.entry.zones ++ option_to_list (open_in self.entry.zones)) }
         ensures broken { IfErr result (IfBroken (λ rule at. (rule ≡ 106) × (at ≡ self.entry.line + 1) × (self.entry.order.eom ≡ false))) }
     {
         if !self.order.eom {
@@ -235,21 +207,13 @@ impl<'a> Reader<'a> {
                 at: self.line + 1,
             });
         }
-        self.close()?;
         let Reader { zones, .. } = self;
-        Ok(zones)
+        Ok(zones.into_zones())
     }
 }
 
-/// Whether a zone begins the next record or is the end.
-fn ends_group(zone: &Zone<'_>) -> bool
-    ensures { result ≡ zone_ends_group (entry zone.now) }
-{
-    zone.code == *b"RTY" || zone.code == *b"EOM"
-}
-
 /// The zones of a file in the order of its lines, without remarks: BOM, then CSE or nothing, then
-/// records each led by RTY, then EOM. A value that no NEX line continues is lent by the file, and not copied.
+/// records each led by RTY, then EOM. A value that no NEX line continues is borrowed from the file, and not copied.
 ///
 /// Where one of the rules 101 to 110 is broken, the fault names the least line with a broken rule,
 /// and the least rule that is broken there.
@@ -257,8 +221,8 @@ pub fn zones<'a>(alloc: Global, bytes: &'a [u8]) -> Result<Vec<Zone<'a>>, LineFa
     ensures zones { IfOk result (λ zones. IsZonesOf bytes.now (entries zones.items)) }
     ensures shape { IfOk result (λ zones. HasShape (entries zones.items)) }
     ensures few { IfOk result (λ zones. length (groups_of (entries zones.items)) ≤ most_records) }
-    ensures lent { IfOk result (λ zones. (readings : List Reading) → AreReadings bytes.now readings
-        → AllByRecursion (IsLentUnlessContinued readings) zones.items) }
+    ensures borrowed { IfOk result (λ zones. (readings : List Reading) → AreReadings bytes.now readings
+        → AllByRecursion (IsBorrowedUnlessContinued readings) zones.items) }
     ensures sound { OnOk result (IsUnbroken (BreaksLineRule bytes.now)) }
     ensures least { IfErr result (IsLineRefusal (BreaksLineRule bytes.now)) }
 {

@@ -1,4 +1,4 @@
-//! Devices for tests, which give, take and fail as they are told to.
+//! Devices for tests, which give, take and fail as a script says.
 ghost use Rattle.std.specs.Prelude.{◌≡◌, ◌+◌, ◌-◌, ◌≤◌, ◌^◌, ◌||◌, ◌++◌, ℕ, Some, List, [], length, take, drop, min, max, IsTrue, IfSome, IsNone, IfOk, is_none, vec_len, vec_capacity, false};
 ghost use Rattle.edi_line.specs.Device.{Reads, Writes, is_refusal};
 ghost use Rattle.edi_line.specs.Script.{InScript, OutScript, one_more, is_past, left_at, start_at, piece_at, is_zero_answer};
@@ -77,7 +77,7 @@ fn copy_piece(from: &[u8], piece: usize, buffer: &mut [u8]) -> usize
 }
 
 impl<'a> ByteIn for ScriptIn<'a> {
-    ghost told = { λ s. left_at s.bytes s.endless s.at };
+    ghost contents = { λ s. left_at s.bytes s.endless s.at };
 
     ghost has_failed = { λ s. is_past s.fault_at s.calls };
 
@@ -176,7 +176,7 @@ impl ScriptOut {
 }
 
 impl ByteOut for ScriptOut {
-    ghost told = { λ s. Some s.out };
+    ghost contents = { λ s. Some s.out };
 
     ghost has_failed = { λ s. is_past s.fault_at s.calls || s.refused };
 

@@ -41,7 +41,7 @@ impl<T> Sequence<T> {
         self.vec
     }
 
-    /// The elements, lent.
+    /// The elements, borrowed.
     pub fn as_slice(&self) -> &[T]
         ensures { result.now ≡ self.now }
     {

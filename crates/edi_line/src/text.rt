@@ -56,7 +56,7 @@ impl Text {
         Ok(Text { alloc, bytes })
     }
 
-    /// The bytes, lent.
+    /// The bytes, borrowed.
     pub fn as_slice(&self) -> &[u8]
         ensures { result.now ≡ self.now }
     {

@@ -27,13 +27,13 @@ const CHUNK: usize = 65536;
 ///
 /// It makes at most `limit` + 2 reads. After a fault the source has lost what was read.
 pub fn read_all<R: ByteIn>(alloc: Global, reader: &mut R, limit: u64) -> Result<Vec<u8>, ReadFault>
-    ensures all { IfOk result (λ bytes. IfSome (R.told reader.old) (λ told. bytes.items ≡ told)) }
-    ensures end { OnOk result (IsAtEnd (R.told reader.new)) }
+    ensures all { IfOk result (λ bytes. IfSome (R.contents reader.old) (λ contents. bytes.items ≡ contents)) }
+    ensures end { OnOk result (IsAtEnd (R.contents reader.new)) }
     ensures sound { OnOk result (R.has_failed reader.new ≡ false) }
     ensures bound { IfOk result (λ bytes. vec_len bytes ≤ limit) }
     ensures failed { IsErrOf result ReadFault.Read → IsTrue (R.has_failed reader.new) }
     ensures too_long { IsErrOf result ReadFault.TooLong → (came : List ℕ)
-        × Consumes (R.told reader.old) (R.told reader.new) came × (limit < length came) }
+        × Consumes (R.contents reader.old) (R.contents reader.new) came × (limit < length came) }
     ensures cost { R.reads reader.new ≤ R.reads reader.old + limit + 2 }
 {
     let mut bytes = Vec::new(alloc);

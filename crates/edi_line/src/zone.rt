@@ -18,7 +18,7 @@ pub struct Zone<'a> {
     pub nature: u8,
     /// A byte; in a file from 0x20 to 0x7E.
     pub format: u8,
-    /// The value's bytes; as `zones` gives them, lent by the file where no NEX line continues them,
+    /// The value's bytes; as `zones` gives them, borrowed from the file where no NEX line continues them,
     /// and as `Feed` gives them, owned.
     pub value: CowSlice<'a, u8>,
 }

@@ -41,11 +41,11 @@ matched_more to ends i x h is matched all = (λ left. all.0 (back (here, left)),
 
 -- what is asked of a record that goes somewhere
 
-pub holds_told : {E : Type 0} (m : Proposal) (i j : ℕ) → GoesTo m.to i j → (turned_at m.turned i ≡ true → (record_at m.plan i).kind ≡ Par)
+pub holds_known : {E : Type 0} (m : Proposal) (i j : ℕ) → GoesTo m.to i j → (turned_at m.turned i ≡ true → (record_at m.plan i).kind ≡ Par)
     → AllByRecursion (λ e. IsMatched m.to e.target) (record_at m.plan i).ends → (r : Result Bool E)
     → IfOk r (λ answer. IsTrue answer ↔ IsCarried m i j) → IfOk r (λ answer. IsTrue answer ↔ HoldsAt m i)
-holds_told m i j goes arc ends (Err e) told = tt
-holds_told m i j goes arc ends (Ok answer) told = (λ t. holds (told.0 t), λ h. told.1 (h.carries j goes))
+holds_known m i j goes arc ends (Err e) contents = tt
+holds_known m i j goes arc ends (Ok answer) contents = (λ t. holds (contents.0 t), λ h. contents.1 (h.carries j goes))
   where
     one : (k : ℕ) → GoesTo m.to i k → j ≡ k
     one k e = let f : Some j ≡ Some k = sym goes ∙ e in cc
@@ -88,13 +88,13 @@ module _ (s : Classes) (p q : Drawing) (m : Matching) (targets : List ℕ) (same
   each_holds holds i h = record { arc = holds.arcs i h; ends = holds.ends i; carries = λ j e. carried_back i j (holds.each i j e) }
 
 -- the same of plans and lists that are those of the matching
-pub all_told : {E : Type 0} (s : Classes) (p q p' q' : Drawing) (m : Matching) (to : List (Option ℕ)) (turned : List Bool) (targets : List ℕ) → p' ≡ p → q' ≡ q → to ≡ m.to → turned ≡ m.turned → targets ≡ targets_of to
+pub all_reported : {E : Type 0} (s : Classes) (p q p' q' : Drawing) (m : Matching) (to : List (Option ℕ)) (turned : List Bool) (targets : List ℕ) → p' ≡ p → q' ≡ q → to ≡ m.to → turned ≡ m.turned → targets ≡ targets_of to
     → length to ≡ length p'.list → length turned ≡ length p'.list → AreApart to (length q'.list) → (r : Result Bool E)
     → IfOk r (λ answer. IsTrue answer ↔ ((i : ℕ) → IsPlace p' i → HoldsAt (record { classes = s; plan = p'; other = q'; to = to; targets = targets; turned = turned }) i))
     → IfOk r (λ answer. IsTrue answer ↔ MatchingHolds s p q m)
-all_told s p q p' q' m to turned targets is is' same same' aim entered directed apart (Err e) told = tt
-all_told s p q p' q' m to turned targets is is' same same' aim entered directed apart (Ok answer) told =
+all_reported s p q p' q' m to turned targets is is' same same' aim entered directed apart (Err e) contents = tt
+all_reported s p q p' q' m to turned targets is is' same same' aim entered directed apart (Ok answer) contents =
     subst (λ (x : Drawing). IsTrue answer ↔ MatchingHolds s x q m) is
     (subst (λ (y : Drawing). IsTrue answer ↔ MatchingHolds s p' y m) is'
     (subst (λ (n : Matching). IsTrue answer ↔ MatchingHolds s p' q' n) (λ k. record { to = same k; turned = same' k })
-    (λ t. all_hold s p' q' (record { to = to; turned = turned }) targets aim entered directed apart (told.0 t), λ holds. told.1 (each_holds s p' q' (record { to = to; turned = turned }) targets aim holds))))
+    (λ t. all_hold s p' q' (record { to = to; turned = turned }) targets aim entered directed apart (contents.0 t), λ holds. contents.1 (each_holds s p' q' (record { to = to; turned = turned }) targets aim holds))))

@@ -23,7 +23,7 @@ use Rattle.edi_plan.proofs.Orders.{attribute_total, attribute_exact, points_tota
 use Rattle.edi_plan.proofs.PlaceLemmas.{has_place, place_there, place_of_kind}
 use Rattle.edi_topo.specs.Arcs.{forward_keys}
 use Rattle.edi_topo.specs.Directions.{forward}
-use Rattle.edi_topo.specs.Keyed.{keyed}
+use Rattle.edi_topo.specs.inner.Keyed.{keyed}
 use Rattle.edi_topo.specs.NodeKeys.{node_key, node_keys, node_key_cmp, no_node, no_point}
 use Rattle.edi_topo.specs.TopologyRules.{BreaksTopologyRule}
 use Rattle.edi_topo.specs.declared.node_key.NodeKey.{NodeKey}
@@ -38,23 +38,23 @@ use Rattle.edi_matching.specs.inner.Partners.{TwoPlans, IsOnlyAt, IsSameIfAny}
 
 -- members that are found by their keys
 
-module _ {K : Type 0} (cmp : K → K → Ordering) (total : IsTotalOrder cmp) (exact : CmpEqualImpliesEq cmp) (q : Drawing) (kind : Kind) (told : ℕ → K) (keys : ℕ → K)
-    (is : (m : ℕ) → m < length (places_of kind q) → keys m ≡ told (get_or (places_of kind q) m 0))
+module _ {K : Type 0} (cmp : K → K → Ordering) (total : IsTotalOrder cmp) (exact : CmpEqualImpliesEq cmp) (q : Drawing) (kind : Kind) (contents : ℕ → K) (keys : ℕ → K)
+    (is : (m : ℕ) → m < length (places_of kind q) → keys m ≡ contents (get_or (places_of kind q) m 0))
     (pairs : List (K × ℕ)) (members : IsPermutation (keyed keys (length (places_of kind q))) pairs) (key : K) where
   abbrev count : ℕ
   count = length (places_of kind q)
 
-  pub none_told : All (λ (x : K × ℕ). cmp x.0 key ≢ Equal) pairs → (j : ℕ) → IsPlace q j → (record_at q j).kind ≡ kind → told j ≢ key
-  none_told none j h of_kind e =
+  pub none_known : All (λ (x : K × ℕ). cmp x.0 key ≢ Equal) pairs → (j : ℕ) → IsPlace q j → (record_at q j).kind ≡ kind → contents j ≢ key
+  none_known none j h of_kind e =
       let w = has_place kind q j h of_kind in
-      let same : keys w.0 ≡ key = is w.0 w.1 ∙ (ap told w.2 ∙ e) in
+      let same : keys w.0 ≡ key = is w.0 w.1 ∙ (ap contents w.2 ∙ e) in
       let c = Contains-permutation (keyed keys count) pairs (keys w.0, w.0) members (has_member keys count w.0 w.1) in
       let apart : cmp (get_or pairs c.0 (keys w.0, w.0)).0 key ≢ Equal = none c.0 (keys w.0, w.0) c.1 in
       apart (ap (λ (x : K × ℕ). cmp x.0 key) c.2 ∙ (ap (λ k. cmp k key) same ∙ tied_itself total key))
 
-  pub one_told : (m k : ℕ) → k < length pairs → ((d : K × ℕ) → (cmp (get_or pairs k d).0 key ≡ Equal) × ((get_or pairs k d).1 ≡ m))
-      → (m < count) × (told (get_or (places_of kind q) m 0) ≡ key)
-  one_told m k h found =
+  pub one_known_of : (m k : ℕ) → k < length pairs → ((d : K × ℕ) → (cmp (get_or pairs k d).0 key ≡ Equal) × ((get_or pairs k d).1 ≡ m))
+      → (m < count) × (contents (get_or (places_of kind q) m 0) ≡ key)
+  one_known_of m k h found =
       let d : K × ℕ = (key, m) in
       let member : ((get_or pairs k d).1 < count) × ((get_or pairs k d).0 ≡ keys (get_or pairs k d).1) =
       All-permutation (λ (x : K × ℕ). (x.1 < count) × (x.0 ≡ keys x.1)) (keyed keys count) pairs members (AreMembers keys count) k d h in
@@ -88,49 +88,49 @@ module _ (p q : Drawing) (whole : IsWhole q) (sound : IsUnbroken (BreaksTopology
   two = record { plan = p; other = q }
 
   module _ (node : (record_at p i).kind ≡ Pno) (pairs : List (NodeKey × ℕ)) (members : IsPermutation (keyed (λ m. get_or (node_keys q) m no_node) (length (places_of Pno q))) pairs) where
-    abbrev told : ℕ → NodeKey
-    told j = node_key (record_at q j)
+    abbrev contents : ℕ → NodeKey
+    contents j = node_key (record_at q j)
 
-    keys_are : (m : ℕ) → m < length (places_of Pno q) → get_or (node_keys q) m no_node ≡ told (get_or (places_of Pno q) m 0)
-    keys_are m h = get_or-map told (places_of Pno q) m 0 no_node h
+    keys_are : (m : ℕ) → m < length (places_of Pno q) → get_or (node_keys q) m no_node ≡ contents (get_or (places_of Pno q) m 0)
+    keys_are m h = get_or-map contents (places_of Pno q) m 0 no_node h
 
-    partner_key : (j : ℕ) (turned : Bool) → ArePartners p q i j turned → told j ≡ node_key (record_at p i)
+    partner_key : (j : ℕ) (turned : Bool) → ArePartners p q i j turned → contents j ≡ node_key (record_at p i)
     partner_key j turned are = node_keys_same (record_at p i) (record_at q j) turned are.same node
 
     pub no_node_partner : All (λ (x : NodeKey × ℕ). node_key_cmp x.0 (node_key (record_at p i)) ≢ Equal) pairs → IsOnlyAt two i None
     no_node_partner none j turned are =
-        none_told node_key_cmp node_key_total node_key_exact q Pno told (λ m. get_or (node_keys q) m no_node) keys_are pairs members (node_key (record_at p i)) none j are.there (are.same.kind ∙ node)
+        none_known node_key_cmp node_key_total node_key_exact q Pno contents (λ m. get_or (node_keys q) m no_node) keys_are pairs members (node_key (record_at p i)) none j are.there (are.same.kind ∙ node)
         (partner_key j turned are)
 
     pub node_member : (m k : ℕ) → k < length pairs → ((d : NodeKey × ℕ) → (node_key_cmp (get_or pairs k d).0 (node_key (record_at p i)) ≡ Equal) × ((get_or pairs k d).1 ≡ m))
         → (m < length (places_of Pno q)) × IsOnlyAt two i (Some (get_or (places_of Pno q) m 0))
     node_member m k h found =
-        let w = one_told node_key_cmp node_key_total node_key_exact q Pno told (λ m. get_or (node_keys q) m no_node) keys_are pairs members (node_key (record_at p i)) m k h found in
+        let w = one_known_of node_key_cmp node_key_total node_key_exact q Pno contents (λ m. get_or (node_keys q) m no_node) keys_are pairs members (node_key (record_at p i)) m k h found in
         let there = place_there Pno q m w.0 in
         (w.0, (there, λ j turned are. one_node q whole (λ at. sound 403 at) j (get_or (places_of Pno q) m 0) are.there there (are.same.kind ∙ node) (place_of_kind Pno q m w.0) (partner_key j turned are ∙ sym w.1)))
 
   module _ (arc : (record_at p i).kind ≡ Par) (pairs : List (List Point × ℕ)) (members : IsPermutation (keyed (λ m. get_or (forward_keys q) m []) (length (places_of Par q))) pairs) where
-    abbrev arc_told : ℕ → List Point
-    arc_told j = forward (record_at q j).points
+    abbrev arc_known : ℕ → List Point
+    arc_known j = forward (record_at q j).points
 
     abbrev arc_key : List Point
     arc_key = forward (record_at p i).points
 
-    arc_keys_are : (m : ℕ) → m < length (places_of Par q) → get_or (forward_keys q) m [] ≡ arc_told (get_or (places_of Par q) m 0)
-    arc_keys_are m h = get_or-map arc_told (places_of Par q) m 0 [] h
+    arc_keys_are : (m : ℕ) → m < length (places_of Par q) → get_or (forward_keys q) m [] ≡ arc_known (get_or (places_of Par q) m 0)
+    arc_keys_are m h = get_or-map arc_known (places_of Par q) m 0 [] h
 
-    arc_partner_key : (j : ℕ) (turned : Bool) → ArePartners p q i j turned → arc_told j ≡ arc_key
+    arc_partner_key : (j : ℕ) (turned : Bool) → ArePartners p q i j turned → arc_known j ≡ arc_key
     arc_partner_key j turned are = arc_keys_same (record_at p i) (record_at q j) turned are.same
 
     pub no_arc_partner : All (λ (x : List Point × ℕ). points_cmp x.0 arc_key ≢ Equal) pairs → IsOnlyAt two i None
     no_arc_partner none j turned are =
-        none_told points_cmp points_total (exact_lists point_cmp point_exact) q Par arc_told (λ m. get_or (forward_keys q) m []) arc_keys_are pairs members arc_key none j are.there (are.same.kind ∙ arc)
+        none_known points_cmp points_total (exact_lists point_cmp point_exact) q Par arc_known (λ m. get_or (forward_keys q) m []) arc_keys_are pairs members arc_key none j are.there (are.same.kind ∙ arc)
         (arc_partner_key j turned are)
 
     pub arc_member : (m k : ℕ) → k < length pairs → ((d : List Point × ℕ) → (points_cmp (get_or pairs k d).0 arc_key ≡ Equal) × ((get_or pairs k d).1 ≡ m))
         → (m < length (places_of Par q)) × IsOnlyAt two i (Some (get_or (places_of Par q) m 0))
     arc_member m k h found =
-        let w = one_told points_cmp points_total (exact_lists point_cmp point_exact) q Par arc_told (λ m. get_or (forward_keys q) m []) arc_keys_are pairs members arc_key m k h found in
+        let w = one_known_of points_cmp points_total (exact_lists point_cmp point_exact) q Par arc_known (λ m. get_or (forward_keys q) m []) arc_keys_are pairs members arc_key m k h found in
         let there = place_there Par q m w.0 in
         (w.0, (there, λ j turned are. one_arc q (λ at. sound 405 at) j (get_or (places_of Par q) m 0) are.there there (are.same.kind ∙ arc) (place_of_kind Par q m w.0) (arc_partner_key j turned are ∙ sym w.1)))
 
@@ -225,6 +225,6 @@ module _ (t : TwoPlans) (p q : Drawing) (is : record { plan = p; other = q } ≡
 -- where the only place has another record, there is no partner
 pub not_there : (t : TwoPlans) (p q : Drawing) → record { plan = p; other = q } ≡ t → (i k : ℕ) → ((j : ℕ) (turned : Bool) → ArePartners t.plan t.other i j turned → j ≡ k)
     → (found : Option Bool) → found ≡ None → IsSameIfAny (record_at p i) (record_at q k) found → (j : ℕ) (turned : Bool) → ¬ (ArePartners t.plan t.other i j turned)
-not_there t p q is i k only (Some x) e told j turned are = cc
-not_there t p q is i k only None e told j turned are =
-    told turned (subst (λ (x : TwoPlans). HoldsSame (record_at x.plan i) (record_at x.other k) turned) (sym is) (subst (λ n. HoldsSame (record_at t.plan i) (record_at t.other n) turned) (only j turned are) are.same))
+not_there t p q is i k only (Some x) e contents j turned are = cc
+not_there t p q is i k only None e contents j turned are =
+    contents turned (subst (λ (x : TwoPlans). HoldsSame (record_at x.plan i) (record_at x.other k) turned) (sym is) (subst (λ n. HoldsSame (record_at t.plan i) (record_at t.other n) turned) (only j turned are) are.same))

@@ -118,10 +118,10 @@ one_goes_more two to to' ts ts' x t n e f long long' each more = below_more (λ 
     along k o b g h goes = subst (λ (c : Bool). GoesToPartner two k (get_or to' k None) c) h (subst (λ (r : Option ℕ). GoesToPartner two k r b) g goes)
 
 -- the same of the lists that the code has when each record has been looked at
-pub partners_told : (two : TwoPlans) → IsWhole two.plan → IsWhole two.other → IsUnbroken (BreaksTopologyRule two.plan) → (to : List (Option ℕ)) (ts : List Bool) (to' : List (Option ℕ)) (ts' : List Bool) → to' ≡ to → ts' ≡ ts
+pub partners_known : (two : TwoPlans) → IsWhole two.plan → IsWhole two.other → IsUnbroken (BreaksTopologyRule two.plan) → (to : List (Option ℕ)) (ts : List Bool) (to' : List (Option ℕ)) (ts' : List Bool) → to' ≡ to → ts' ≡ ts
     → (n : ℕ) → n ≡ length two.plan.list → length to ≡ n → length ts ≡ n → ((k : ℕ) → k < n → GoesToPartner two k (get_or to k None) (get_or ts k false))
     → ((s : Classes) → MatchingHolds s two.plan two.other (record { to = to'; turned = ts' })) × MatchesPartners two.plan two.other (record { to = to'; turned = ts' })
-partners_told two whole whole' sound to ts to' ts' e f n all long long' each =
+partners_known two whole whole' sound to ts to' ts' e f n all long long' each =
     subst (λ (m : Matching). ((s : Classes) → MatchingHolds s two.plan two.other m) × MatchesPartners two.plan two.other m) (λ i. record { to = sym e i; turned = sym f i })
     (partners_hold two.plan two.other whole whole' sound (record { to = to; turned = ts }) (long ∙ all) (long' ∙ all) here, partners_matched two.plan two.other whole whole' sound (record { to = to; turned = ts }) (long ∙ all) (long' ∙ all) here)
   where
@@ -130,23 +130,23 @@ partners_told two whole whole' sound to ts to' ts' e f n all long long' each =
 
 -- a matching is total exactly if the plans are the same
 
-pub pairing_told : {E : Type 0} (s : Classes) (p q : Drawing) (pairing : Pairing) → IsWhole p → PairingCarries s p q pairing → (r : Result Matching E) → IfOk r (λ m. m ≡ matching_of pairing)
+pub pairing_known : {E : Type 0} (s : Classes) (p q : Drawing) (pairing : Pairing) → IsWhole p → PairingCarries s p q pairing → (r : Result Matching E) → IfOk r (λ m. m ≡ matching_of pairing)
     → IfOk r (MatchingHolds s p q) × IfOk r (IsTotalIfSame s p q) × IfOk r (MatchesPartners p q)
-pairing_told s p q pairing whole c (Err e) is = (tt, tt, tt)
-pairing_told s p q pairing whole c (Ok m) is = (
+pairing_known s p q pairing whole c (Err e) is = (tt, tt, tt)
+pairing_known s p q pairing whole c (Ok m) is = (
   subst (MatchingHolds s p q) (sym is) (pairing_holds s p q pairing whole c),
   subst (IsTotalIfSame s p q) (sym is) (λ total. (slice_index pairing.to, turned_at pairing.turned, c.carries), λ same. (pairing_total s p q pairing whole c, c.carries.cse)),
   subst (MatchesPartners p q) (sym is) (λ i j t both. (pairing_total s p q pairing whole c).each i both.here),
 )
 
-pub different_told : {E : Type 0} (s : Classes) (p q : Drawing) → ¬ (Same s p q) → (r : Result Matching E) → IfOk r (MatchingHolds s p q) → IfOk r (IsTotalIfSame s p q)
-different_told s p q none (Err e) holds = tt
-different_told s p q none (Ok m) holds = (
+pub different_known : {E : Type 0} (s : Classes) (p q : Drawing) → ¬ (Same s p q) → (r : Result Matching E) → IfOk r (MatchingHolds s p q) → IfOk r (IsTotalIfSame s p q)
+different_known s p q none (Err e) holds = tt
+different_known s p q none (Ok m) holds = (
   λ total. let c = total_carries s p q m holds total.0 total.1 in (slice_index (targets_of m.to), turned_at m.turned, c.carries),
   λ same. absurd (none same),
 )
 
 -- what matches more matches partners too
 pub partners_kept : {E : Type 0} (p q : Drawing) (m : Matching) → MatchesPartners p q m → (r : Result Matching E) → IfOk r (λ n. (i : ℕ) → IsMatched m.to i → IsMatched n.to i) → IfOk r (MatchesPartners p q)
-partners_kept p q m matched (Err e) kept = tt
-partners_kept p q m matched (Ok n) kept = λ i j t both. kept i (matched i j t both)
+partners_kept p q m matched (Err e) unchanged = tt
+partners_kept p q m matched (Ok n) unchanged = λ i j t both. unchanged i (matched i j t both)

@@ -8,7 +8,7 @@ use Rattle.edi_schema.specs.Classes.{Classes, IsSchema}
 use Rattle.edi_plan.specs.Agreeing.{Agrees}
 use Rattle.edi_plan.specs.Plans.{Drawing, record_at}
 use Rattle.edi_topo.specs.TopologyRules.{BreaksTopologyRule}
-use Rattle.edi_rank.specs.Alike.{BreaksObjectRule}
+use Rattle.edi_rank.specs.EqualObjects.{BreaksObjectRule}
 use Rattle.edi_rank.specs.Arranged.{arranged, new_place}
 use Rattle.edi_rank.specs.Labelling.{Labelling, AreLabels, order_of, number_of, turned_at}
 use Rattle.edi_rank.specs.Laws.{IsPlanUnder}
@@ -96,7 +96,7 @@ module _ (s : Classes) (p q : Drawing) (l m : Labelling) (keeps : IsSchema s) (a
   sound' = topology_hold s accepted'.0 accepted'.1 q accepted'.2
 
   pub not_as_many : (answer : Bool) → (IsTrue answer ↔ AreAsMany l m) → answer ≡ false → ¬ (Same s p q)
-  not_as_many answer told e same = true≢false (sym (told.1 (same_many s p q l m labels labels' under under' sound sound' same)) ∙ e)
+  not_as_many answer contents e same = true≢false (sym (contents.1 (same_many s p q l m labels labels' under under' sound sound' same)) ∙ e)
 
   pub not_carried : (f : NumberedRecords) → IsNumbered p l f → (pairing : Pairing) → PairsByNumber f m pairing → (answer : Bool) → (IsTrue answer ↔ PairingCarries s p q pairing) → answer ≡ false → ¬ (Same s p q)
-  not_carried f first pairing by answer told e same = true≢false (sym (told.1 (same_carries s p q l m labels labels' under under' sound sound' same f first pairing by)) ∙ e)
+  not_carried f first pairing by answer contents e same = true≢false (sym (contents.1 (same_carries s p q l m labels labels' under under' sound sound' same f first pairing by)) ∙ e)

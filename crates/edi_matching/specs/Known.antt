@@ -1,4 +1,4 @@
--- A plan of two nodes, the same with one of them moved and the other behind it, and what of it is kept.
+-- A plan of two nodes, the same with one of them moved and the other behind it, and what of it is unchanged.
 use Rattle.std.specs.Prelude.{ℕ, pos, false, [], ◌∷◌, Some, None}
 use Rattle.edi_record.specs.declared.record.Kind.TheVariants.{Pno}
 use Rattle.edi_schema.specs.declared.role.Role.TheVariants.{Plain}

@@ -5,7 +5,7 @@ ghost use Rattle.edi_plan.specs.Plans.{IsPlace};
 ghost use Rattle.edi_compare.specs.Pairings.{HasClasses};
 
 use crate::added::target_of;
-use edi_line::{Lent, LentEach, Sequence};
+use edi_line::{BorrowedList, ListOfBorrowed, Sequence};
 use edi_plan::{Plan, PlanEnd, sorted_attributes};
 use edi_rank::{LinkKey, NumberedEnd, class_turned};
 use edi_record::Kind;
@@ -130,8 +130,8 @@ fn key_with<'a>(
     Ok(LinkKey {
         class,
         ends: Sequence::from_vec(ends),
-        attributes: LentEach::from_vec(attributes),
-        extras: Lent::of(plan.extras(place)),
+        attributes: ListOfBorrowed::from_vec(attributes),
+        extras: BorrowedList::of(plan.extras(place)),
     })
 }
 
@@ -167,7 +167,7 @@ fn end_there<'a>(plan: &Plan, to: &[Option<u32>], end: &'a PlanEnd) -> Option<Nu
         return None;
     }
     let sns = match &end.sns {
-        Some(text) => Some(Lent::of(text.as_slice())),
+        Some(text) => Some(BorrowedList::of(text.as_slice())),
         None => None,
     };
     Some(NumberedEnd {

@@ -3,7 +3,7 @@
 ghost use Rattle.std.specs.Prelude.{◌≡◌, ◌≢◌, ◌<◌, ℕ, length, All, IfOk, IsPermutation, IsSorted, MatchOption, OnOk};
 ghost use Rattle.std.specs.List.{slice_index_or};
 ghost use Rattle.std.specs.Ordering.{nat_cmp, ordering_then};
-ghost use Rattle.edi_topo.specs.Keyed.{keyed};
+ghost use Rattle.edi_topo.specs.inner.Keyed.{keyed};
 
 use edi_topo::Layer;
 use std::alloc::{AllocError, Global};

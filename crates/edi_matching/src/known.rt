@@ -5,7 +5,7 @@ ghost use Rattle.edi_matching.specs.Known.{both_nodes, kept_node, moved_node, tw
 ghost use Rattle.edi_matching.specs.Matchings.{IsTotal, MatchingHolds};
 
 /// Known matchings hold or don't, and are total or not, as they should be.
-pub fn known_matchings_are_told()
+pub fn known_matchings_hold()
     ensures holds { MatchingHolds node_classes two_nodes moved_node kept_node }
     ensures partial { ¬ (IsTotal two_nodes moved_node kept_node) }
     ensures moved { ¬ (MatchingHolds node_classes two_nodes moved_node both_nodes) }

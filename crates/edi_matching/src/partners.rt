@@ -7,7 +7,7 @@ ghost use Rattle.edi_record.specs.declared.record.Kind.TheVariants.{Pno, Par};
 ghost use Rattle.edi_plan.specs.Places.{places_of};
 ghost use Rattle.edi_plan.specs.Plans.{IsPlace, record_at};
 ghost use Rattle.edi_topo.specs.Arcs.{forward_keys};
-ghost use Rattle.edi_topo.specs.Keyed.{keyed};
+ghost use Rattle.edi_topo.specs.inner.Keyed.{keyed};
 ghost use Rattle.edi_topo.specs.NodeKeys.{no_node, node_key_cmp, node_keys};
 ghost use Rattle.edi_schema.specs.Classes.{Classes};
 ghost use Rattle.edi_matching.specs.Differences.{ArePartners, MatchesPartners};
@@ -41,7 +41,7 @@ impl<'a> Model for Partners<'a> {
     ghost use Rattle.edi_record.specs.declared.record.Kind.TheVariants.{Pno, Par};
     ghost use Rattle.edi_plan.specs.Places.{places_of};
     ghost use Rattle.edi_topo.specs.Arcs.{forward_keys};
-    ghost use Rattle.edi_topo.specs.Keyed.{keyed};
+    ghost use Rattle.edi_topo.specs.inner.Keyed.{keyed};
     ghost use Rattle.edi_topo.specs.NodeKeys.{no_node, node_key_cmp, node_keys};
     ghost use Rattle.edi_matching.specs.inner.Partners.{TwoPlans, AreSound};
 

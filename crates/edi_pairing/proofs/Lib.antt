@@ -4,4 +4,4 @@ pub mod LineLemmas
 pub mod TextLemmas
 pub mod VerifyLemmas
 pub mod CarriedPairs
-pub mod TellingFive
+pub mod FiveKnown

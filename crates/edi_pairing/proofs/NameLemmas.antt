@@ -8,7 +8,7 @@ use Rattle.std.proofs.lemmas.Option.{slice_get_within}
 use Rattle.edi_line.specs.Bytes.{line_feed}
 use Rattle.edi_line.specs.Printing.{IsOneLine}
 use Rattle.edi_record.proofs.ReadRecords.{sheet_read}
-use Rattle.edi_record.specs.Layout.{IsLineRecord, KeepsRules}
+use Rattle.edi_record.specs.RecordLayout.{IsLineRecord, FollowsRules}
 use Rattle.edi_record.specs.Readable.{IsPrintableSheet}
 use Rattle.edi_record.specs.RecordRules.{is_identifier}
 use Rattle.edi_record.specs.Shapes.{kind_code}
@@ -114,7 +114,7 @@ module _ (s : Classes) (bytes : List ℕ) (sheet : Sheet) (is_sheet : IsSheetOf 
     unfolding named
     plain_there k below =
         let r = record_there sheet.list k below in
-        let rules : KeepsRules r.0 = holds_there KeepsRules sheet.list k r.0 printable.rules r.1 in
+        let rules : FollowsRules r.0 = holds_there FollowsRules sheet.list k r.0 printable.rules r.1 in
         let lines : IsLineRecord r.0 = holds_there IsLineRecord sheet.list k r.0 printable.lines r.1 in
         ap (λ (n : RecordName). list_any is_mark n.rid) (named_there sheet.list k r.0 r.1) ∙ plain_identifier r.0.rid rules.identifier lines.rid
 

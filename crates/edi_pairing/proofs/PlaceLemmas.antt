@@ -14,8 +14,8 @@ use Rattle.edi_record.specs.contracts.record.KindPartialEq.TheImpl.{ghosts as ki
 use Rattle.edi_pairing.specs.Names.{AreNames, name_at}
 use Rattle.edi_pairing.specs.inner.Places.{name_of, IsPlaceIfAny}
 use Rattle.edi_pairing.specs.declared.names.RecordName.{RecordName}
-use Rattle.edi_pairing.specs.declared.places.LentName.{LentName}
-use Rattle.edi_pairing.specs.contracts.places.LentNamePartialEq.TheImpl.{ghosts as names}
+use Rattle.edi_pairing.specs.declared.places.BorrowedName.{BorrowedName}
+use Rattle.edi_pairing.specs.contracts.places.BorrowedNamePartialEq.TheImpl.{ghosts as names}
 
 kind_same : (a b : Kind) → kinds.eq a b ≡ true → a ≡ b
 kind_same Pno Pno h = refl
@@ -57,14 +57,14 @@ both true false h = cc
 both false b h = cc
 
 -- two lent names that `==` holds equal are one name
-pub eq_name : (a b : LentName) → names.eq a b ≡ true → name_of a ≡ name_of b
+pub eq_name : (a b : BorrowedName) → names.eq a b ≡ true → name_of a ≡ name_of b
 eq_name a b h =
     let parts = both (kinds.eq a.kind b.kind) (bytes_eq a.rid.now b.rid.now) h in
     let kind = kind_same a.kind b.kind parts.0 in
     let rid = (bytes_eq-Decides a.rid.now b.rid.now).0 parts.1 in
     λ i. record { kind = kind i; rid = rid i }
 
-pub name_eq : (a b : LentName) → name_of a ≡ name_of b → names.eq a b ≡ true
+pub name_eq : (a b : BorrowedName) → name_of a ≡ name_of b → names.eq a b ≡ true
 name_eq a b h =
     let kind : kinds.eq a.kind b.kind ≡ true = subst (λ k. kinds.eq a.kind k ≡ true) (ap (λ (n : RecordName). n.kind) h) (kind_itself a.kind) in
     let rid : bytes_eq a.rid.now b.rid.now ≡ true = (bytes_eq-Decides a.rid.now b.rid.now).1 (ap (λ (n : RecordName). n.rid) h) in
@@ -74,7 +74,7 @@ name_eq a b h =
     go p q hp hq = cc
 
 -- a name that some key equals is one of the keys' names
-any_at : (name : LentName) (keys : List LentName) → list_any (names.eq name) keys ≡ true → (j : ℕ) × (j < length keys) × (name_at (map name_of keys) j ≡ name_of name)
+any_at : (name : BorrowedName) (keys : List BorrowedName) → list_any (names.eq name) keys ≡ true → (j : ℕ) × (j < length keys) × (name_at (map name_of keys) j ≡ name_of name)
 any_at name [] h = cc
 any_at name (k ∷ ks) h = go (names.eq name k) refl h (any_at name ks)
   where
@@ -90,7 +90,7 @@ bool_false false other = refl
 
 module _ (all : List RecordName) (are : AreNames all) where
   -- the next name goes last
-  pub name_added : (keys new : List LentName) (i : ℕ) (name : LentName) (x : RecordName) → i < length all → map name_of keys ≡ take i all → x ≡ get_or all i x → name_of name ≡ x → new ≡ insert_key names.eq keys name
+  pub name_added : (keys new : List BorrowedName) (i : ℕ) (name : BorrowedName) (x : RecordName) → i < length all → map name_of keys ≡ take i all → x ≡ get_or all i x → name_of name ≡ x → new ≡ insert_key names.eq keys name
       → map name_of new ≡ take (i + 1) all
   name_added keys new i name x less e at is added =
       let here : name_at all i ≡ name_of name = get_or_default all i _ x less ∙ (sym at ∙ sym is) in
@@ -105,7 +105,7 @@ module _ (all : List RecordName) (are : AreNames all) where
       ap (map name_of) put ∙ (map-append name_of keys (name ∷ []) ∙ (ap (λ ns. ns ++ name_of name ∷ []) e ∙ (ap (λ n. take i all ++ n ∷ []) (is ∙ at) ∙ sym (take_more all i x less))))
 
 -- what a look-up finds
-pub place_found : (keys : List LentName) (name : LentName) (found : Option ℕ) → found ≡ position (names.eq name) keys → IsPlaceIfAny (map name_of keys) (name_of name) found
+pub place_found : (keys : List BorrowedName) (name : BorrowedName) (found : Option ℕ) → found ≡ position (names.eq name) keys → IsPlaceIfAny (map name_of keys) (name_of name) found
 place_found keys name None e = λ t less is.
     let within : t < length keys = omega (arith, length-map keys name_of) in
     let fails = fails_before_first (names.eq name) keys t name (omega (arith, place_at_None (names.eq name) keys (sym e))) in

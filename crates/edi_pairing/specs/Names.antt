@@ -20,7 +20,7 @@ name_at names place = slice_index_or names place (record { kind = Pno; rid = [] 
 abbrev pub is_mark : ℕ → Bool
 is_mark c = c == semicolon || c == line_feed
 
--- what the names of an accepted sheet keep: identifiers hold neither mark, and no two records have one name
+-- what holds of the names of an accepted sheet: identifiers hold neither mark, and no two records have one name
 pub record AreNames (names : List RecordName) : Type 0 where
   pub few : length names ≤ 9999999
   pub plain : (k : ℕ) → k < length names → list_any is_mark (name_at names k).rid ≡ false

@@ -4,7 +4,8 @@ use Rattle.edi_schema.specs.Classes.{Classes}
 use Rattle.edi_schema.specs.Roles.{KindCodes}
 use Rattle.edi_schema.specs.SchemaRefusal.{IsGoodSchema}
 use Rattle.edi_compare.specs.Rules.{IsAccepted}
-use Rattle.edi_compare.specs.Runs.{AfterReading, IsRead, IsTooLong, MatchFault, PairFault, RefusesSchema, RefusesSecond, RefusesSheet, Seen, TellBoth, TellFour, Told}
+use Rattle.edi_compare.specs.Runs.{AfterReading, IsRead, IsTooLong, MatchFault, RefusesSchema, RefusesSecond, RefusesSheet, Seen, IfBothKnown, IfFourKnown, IfThreeKnown}
+use Rattle.edi_compare.specs.inner.Runs.{PairFault}
 use Rattle.edi_compare.specs.declared.fault.RunFault.{RunFault}
 use Rattle.edi_pairing.specs.Verified.{IsFirstWrongOf, IsVerified}
 use Rattle.edi_pairing.specs.declared.fault.VerifyRunFault.{VerifyRunFault}
@@ -36,40 +37,40 @@ abbrev pub AreAllRead : Inputs → Type 0
 AreAllRead i = IsRead i.scd × IsRead i.dic × IsRead i.first × IsRead i.second × IsRead i.file
 
 -- what a run leaves of the inputs behind one that fails: whether each from the second on is as it was
-pub record Kept : Type 1 where
+pub record Untouched : Type 1 where
   pub dic : Type 0
   pub first : Type 0
   pub second : Type 0
   pub file : Type 0
 
 -- a fact of the input of this number: those before it were read whole, and those after it are as they were
-abbrev pub OfInput : Inputs → Kept → (Seen → Type 0) → ℕ → Type 0
-OfInput i kept P n = (1 ≤ n) × (n ≤ 5)
-    × (n ≡ 1 → P i.scd × kept.dic × kept.first × kept.second × kept.file)
-    × (n ≡ 2 → IsRead i.scd × P i.dic × kept.first × kept.second × kept.file)
-    × (n ≡ 3 → IsRead i.scd × IsRead i.dic × P i.first × kept.second × kept.file)
-    × (n ≡ 4 → IsRead i.scd × IsRead i.dic × IsRead i.first × P i.second × kept.file)
+abbrev pub OfInput : Inputs → Untouched → (Seen → Type 0) → ℕ → Type 0
+OfInput i untouched P n = (1 ≤ n) × (n ≤ 5)
+    × (n ≡ 1 → P i.scd × untouched.dic × untouched.first × untouched.second × untouched.file)
+    × (n ≡ 2 → IsRead i.scd × P i.dic × untouched.first × untouched.second × untouched.file)
+    × (n ≡ 3 → IsRead i.scd × IsRead i.dic × P i.first × untouched.second × untouched.file)
+    × (n ≡ 4 → IsRead i.scd × IsRead i.dic × IsRead i.first × P i.second × untouched.file)
     × (n ≡ 5 → IsRead i.scd × IsRead i.dic × IsRead i.first × IsRead i.second × P i.file)
 
--- a fact of what five inputs tell
-abbrev pub TellFive : Option (List ℕ) → Option (List ℕ) → Option (List ℕ) → Option (List ℕ) → Option (List ℕ) → (List ℕ → List ℕ → List ℕ → List ℕ → List ℕ → Type 0) → Type 0
-TellFive a b c d e P = IfSome e (λ v. TellFour a b c d (λ x y z w. P x y z w v))
+-- a fact of the contents of five inputs, if they are known
+abbrev pub IfFiveKnown : Option (List ℕ) → Option (List ℕ) → Option (List ℕ) → Option (List ℕ) → Option (List ℕ) → (List ℕ → List ℕ → List ℕ → List ℕ → List ℕ → Type 0) → Type 0
+IfFiveKnown a b c d e P = IfSome e (λ v. IfFourKnown a b c d (λ x y z w. P x y z w v))
 
-abbrev pub TellAll : Inputs → (List ℕ → List ℕ → List ℕ → List ℕ → List ℕ → Type 0) → Type 0
-TellAll i P = TellFive i.scd.before i.dic.before i.first.before i.second.before i.file.before P
+abbrev pub IfAllKnown : Inputs → (List ℕ → List ℕ → List ℕ → List ℕ → List ℕ → Type 0) → Type 0
+IfAllKnown i P = IfFiveKnown i.scd.before i.dic.before i.first.before i.second.before i.file.before P
 
 -- Why there is no answer: the first input that can't be read or is too long, the refusal of the schema, that of the first
 -- sheet, that of the second where the first is accepted, or that of the file where both are.
-abbrev pub VerifyingFault : KindCodes → Inputs → Kept → VerifyRunFault → Type 0
-VerifyingFault kinds i kept e = MatchRun e
+abbrev pub VerifyingFault : KindCodes → Inputs → Untouched → VerifyRunFault → Type 0
+VerifyingFault kinds i untouched e = MatchRun e
     (λ f. MatchFault f
-    (OfInput i kept (λ input. IsTrue input.failed))
-    (OfInput i kept (λ input. IsTooLong input.before))
-    (λ r. TellBoth i.scd.before i.dic.before (λ s d. RefusesSchema kinds s d r))
-    (λ r. Told i.scd.before i.dic.before i.first.before (λ s d a. RefusesSheet kinds s d a r))
-    (λ r. TellFour i.scd.before i.dic.before i.first.before i.second.before (λ s d a b. RefusesSecond kinds s d a b r))
+    (OfInput i untouched (λ input. IsTrue input.failed))
+    (OfInput i untouched (λ input. IsTooLong input.before))
+    (λ r. IfBothKnown i.scd.before i.dic.before (λ s d. RefusesSchema kinds s d r))
+    (λ r. IfThreeKnown i.scd.before i.dic.before i.first.before (λ s d a. RefusesSheet kinds s d a r))
+    (λ r. IfFourKnown i.scd.before i.dic.before i.first.before i.second.before (λ s d a b. RefusesSecond kinds s d a b r))
     (λ _. ⊥))
-    (λ at. TellAll i (λ s d a b file. RefusesFile kinds s d a b file at))
+    (λ at. IfAllKnown i (λ s d a b file. RefusesFile kinds s d a b file at))
 
 -- the fact holds where the fault came after reading
 abbrev pub AfterAllRead : VerifyRunFault → Type 0 → Type 0

@@ -44,7 +44,7 @@ impl Names {
         }
     }
 
-    /// The names, lent.
+    /// The names, borrowed.
     pub fn as_slice(&self) -> &[RecordName]
         ensures is { result.now ≡ self.now }
         ensures names { AreNames self.now }

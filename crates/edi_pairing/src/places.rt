@@ -16,14 +16,14 @@ use std::alloc::{AllocError, Global};
 use std::hash::{Hash, Hasher};
 use std::marker::Model;
 
-/// A type and an identifier, lent.
+/// A type and an identifier, borrowed.
 #[derive(Clone, Copy, Debug, PartialEq, Eq)]
-pub(crate) struct LentName<'a> {
+pub(crate) struct BorrowedName<'a> {
     pub(crate) kind: Kind,
     pub(crate) rid: &'a [u8],
 }
 
-impl<'a> Hash for LentName<'a> {
+impl<'a> Hash for BorrowedName<'a> {
     ghost hash_input = { λ n. kinds.hash_input n.kind ++ (n.rid.now ∷ []) };
 
     ghost respects_eq = { Prim.search (hashing, rules) };
@@ -37,7 +37,7 @@ impl<'a> Hash for LentName<'a> {
 /// The places of the records of a sheet by their names.
 #[derive(Drop)]
 pub(crate) struct Places<'a> {
-    names: IndexSet<LentName<'a>, NameHash>,
+    names: IndexSet<BorrowedName<'a>, NameHash>,
 }
 
 impl<'a> Model for Places<'a> {
@@ -65,10 +65,10 @@ fn hash_of(names: &[RecordName]) -> NameHash
     parts.hash()
 }
 
-fn lent(name: &RecordName) -> LentName<'_>
+fn borrowed(name: &RecordName) -> BorrowedName<'_>
     ensures { name_of result ≡ name.now }
 {
-    LentName {
+    BorrowedName {
         kind: name.kind,
         rid: name.rid.as_slice(),
     }
@@ -82,7 +82,7 @@ impl<'a> Places<'a> {
         let list = names.as_slice();
         let mut set = IndexSet::with_capacity_and_hasher(alloc, list.len(), hash_of(list))?;
         for name in list {
-            set.insert(lent(name))?;
+            set.insert(borrowed(name))?;
         }
         Ok(Places { names: set })
     }
@@ -92,7 +92,7 @@ impl<'a> Places<'a> {
         ensures names { AreNames self.now }
         ensures place { IsPlaceIfAny self.now (record { kind = kind; rid = rid.now }) result }
     {
-        let name = LentName { kind, rid };
+        let name = BorrowedName { kind, rid };
         match self.names.get_index_of(&name) {
             Some(place) => Some(place as u32),
             None => None,

@@ -1,8 +1,9 @@
 //! The runs that write a pairing's file and check one.
 ghost use Rattle.std.specs.Prelude.{◌≡◌, IfOk, IfErr, OnOk};
-ghost use Rattle.edi_compare.specs.Runs.{AfterReading, AreFourRead, ComparingFault, PairFault, TellFour, seen};
+ghost use Rattle.edi_compare.specs.Runs.{AfterReading, AreFourRead, ComparingFault, IfFourKnown, seen};
+ghost use Rattle.edi_compare.specs.inner.Runs.{PairFault};
 ghost use Rattle.edi_pairing.specs.CompareRuns.{IsComparedUnder};
-ghost use Rattle.edi_pairing.specs.VerifyRuns.{AfterAllRead, AreAllRead, FilesFault, IsVerifiedUnder, TellFive, VerifyingFault};
+ghost use Rattle.edi_pairing.specs.VerifyRuns.{AfterAllRead, AreAllRead, FilesFault, IsVerifiedUnder, IfFiveKnown, VerifyingFault};
 
 use crate::fault::{VerifyFault, VerifyRunFault};
 use crate::verifying::verify;
@@ -12,7 +13,7 @@ use edi_line::ByteIn;
 use edi_schema::Kinds;
 use std::alloc::Global;
 
-/// Reads four files, and tells whether the third and the fourth, two sheets under the schema of the first two, state the
+/// Reads four files, and answers whether the third and the fourth, two sheets under the schema of the first two, state the
 /// same plan, with a pairing of them as a file. The second sheet is looked at only if the first is accepted.
 pub fn run_compare_to_file<S: ByteIn, D: ByteIn, A: ByteIn, B: ByteIn>(
     alloc: Global,
@@ -22,15 +23,15 @@ pub fn run_compare_to_file<S: ByteIn, D: ByteIn, A: ByteIn, B: ByteIn>(
     first: &mut A,
     second: &mut B,
 ) -> Result<Compared, RunFault>
-    ensures ok { IfOk result (λ compared. TellFour (S.told scd.old) (D.told dic.old) (A.told first.old) (B.told second.old)
+    ensures ok { IfOk result (λ compared. IfFourKnown (S.contents scd.old) (D.contents dic.old) (A.contents first.old) (B.contents second.old)
         (λ s d a b. IsComparedUnder kinds.now s d a b compared)) }
-    ensures read { OnOk result (AreFourRead (seen (S.told scd.old) (S.told scd.new) (S.has_failed scd.new)) (seen (D.told dic.old) (D.told dic.new) (D.has_failed dic.new))
-        (seen (A.told first.old) (A.told first.new) (A.has_failed first.new)) (seen (B.told second.old) (B.told second.new) (B.has_failed second.new))) }
-    ensures err { IfErr result (ComparingFault kinds.now (seen (S.told scd.old) (S.told scd.new) (S.has_failed scd.new)) (seen (D.told dic.old) (D.told dic.new) (D.has_failed dic.new))
-        (seen (A.told first.old) (A.told first.new) (A.has_failed first.new)) (seen (B.told second.old) (B.told second.new) (B.has_failed second.new))
+    ensures read { OnOk result (AreFourRead (seen (S.contents scd.old) (S.contents scd.new) (S.has_failed scd.new)) (seen (D.contents dic.old) (D.contents dic.new) (D.has_failed dic.new))
+        (seen (A.contents first.old) (A.contents first.new) (A.has_failed first.new)) (seen (B.contents second.old) (B.contents second.new) (B.has_failed second.new))) }
+    ensures err { IfErr result (ComparingFault kinds.now (seen (S.contents scd.old) (S.contents scd.new) (S.has_failed scd.new)) (seen (D.contents dic.old) (D.contents dic.new) (D.has_failed dic.new))
+        (seen (A.contents first.old) (A.contents first.new) (A.has_failed first.new)) (seen (B.contents second.old) (B.contents second.new) (B.has_failed second.new))
         (record { dic = dic.new ≡ dic.old; first = first.new ≡ first.old; second = second.new ≡ second.old })) }
-    ensures after { IfErr result (λ e. AfterReading e (AreFourRead (seen (S.told scd.old) (S.told scd.new) (S.has_failed scd.new)) (seen (D.told dic.old) (D.told dic.new) (D.has_failed dic.new))
-        (seen (A.told first.old) (A.told first.new) (A.has_failed first.new)) (seen (B.told second.old) (B.told second.new) (B.has_failed second.new)))) }
+    ensures after { IfErr result (λ e. AfterReading e (AreFourRead (seen (S.contents scd.old) (S.contents scd.new) (S.has_failed scd.new)) (seen (D.contents dic.old) (D.contents dic.new) (D.has_failed dic.new))
+        (seen (A.contents first.old) (A.contents first.new) (A.has_failed first.new)) (seen (B.contents second.old) (B.contents second.new) (B.has_failed second.new)))) }
 {
     let scd = read_input(alloc, scd, 1)?;
     let dic = read_input(alloc, dic, 2)?;
@@ -39,7 +40,7 @@ pub fn run_compare_to_file<S: ByteIn, D: ByteIn, A: ByteIn, B: ByteIn>(
     compare_or_fault(alloc, kinds, &scd, &dic, &first, &second)
 }
 
-/// Reads five files, and tells whether the fifth states a pairing that carries the plan of the third onto that of the
+/// Reads five files, and answers whether the fifth states a pairing that carries the plan of the third onto that of the
 /// fourth, two sheets under the schema of the first two. All are read before one is looked at. The second sheet is looked
 /// at only if the first is accepted, and the pairing's file only if both are.
 pub fn run_verify<S: ByteIn, D: ByteIn, A: ByteIn, B: ByteIn, F: ByteIn>(
@@ -51,29 +52,29 @@ pub fn run_verify<S: ByteIn, D: ByteIn, A: ByteIn, B: ByteIn, F: ByteIn>(
     second: &mut B,
     file: &mut F,
 ) -> Result<bool, VerifyRunFault>
-    ensures ok { IfOk result (λ answer. TellFive (S.told scd.old) (D.told dic.old) (A.told first.old) (B.told second.old) (F.told file.old)
+    ensures ok { IfOk result (λ answer. IfFiveKnown (S.contents scd.old) (D.contents dic.old) (A.contents first.old) (B.contents second.old) (F.contents file.old)
         (λ s d a b f. IsVerifiedUnder kinds.now s d a b f answer)) }
     ensures read { OnOk result (AreAllRead (record {
-      scd = seen (S.told scd.old) (S.told scd.new) (S.has_failed scd.new);
-      dic = seen (D.told dic.old) (D.told dic.new) (D.has_failed dic.new);
-      first = seen (A.told first.old) (A.told first.new) (A.has_failed first.new);
-      second = seen (B.told second.old) (B.told second.new) (B.has_failed second.new);
-      file = seen (F.told file.old) (F.told file.new) (F.has_failed file.new);
+      scd = seen (S.contents scd.old) (S.contents scd.new) (S.has_failed scd.new);
+      dic = seen (D.contents dic.old) (D.contents dic.new) (D.has_failed dic.new);
+      first = seen (A.contents first.old) (A.contents first.new) (A.has_failed first.new);
+      second = seen (B.contents second.old) (B.contents second.new) (B.has_failed second.new);
+      file = seen (F.contents file.old) (F.contents file.new) (F.has_failed file.new);
     })) }
     ensures err { IfErr result (VerifyingFault kinds.now (record {
-      scd = seen (S.told scd.old) (S.told scd.new) (S.has_failed scd.new);
-      dic = seen (D.told dic.old) (D.told dic.new) (D.has_failed dic.new);
-      first = seen (A.told first.old) (A.told first.new) (A.has_failed first.new);
-      second = seen (B.told second.old) (B.told second.new) (B.has_failed second.new);
-      file = seen (F.told file.old) (F.told file.new) (F.has_failed file.new);
+      scd = seen (S.contents scd.old) (S.contents scd.new) (S.has_failed scd.new);
+      dic = seen (D.contents dic.old) (D.contents dic.new) (D.has_failed dic.new);
+      first = seen (A.contents first.old) (A.contents first.new) (A.has_failed first.new);
+      second = seen (B.contents second.old) (B.contents second.new) (B.has_failed second.new);
+      file = seen (F.contents file.old) (F.contents file.new) (F.has_failed file.new);
     })
         (record { dic = dic.new ≡ dic.old; first = first.new ≡ first.old; second = second.new ≡ second.old; file = file.new ≡ file.old })) }
     ensures after { IfErr result (λ e. AfterAllRead e (AreAllRead (record {
-      scd = seen (S.told scd.old) (S.told scd.new) (S.has_failed scd.new);
-      dic = seen (D.told dic.old) (D.told dic.new) (D.has_failed dic.new);
-      first = seen (A.told first.old) (A.told first.new) (A.has_failed first.new);
-      second = seen (B.told second.old) (B.told second.new) (B.has_failed second.new);
-      file = seen (F.told file.old) (F.told file.new) (F.has_failed file.new);
+      scd = seen (S.contents scd.old) (S.contents scd.new) (S.has_failed scd.new);
+      dic = seen (D.contents dic.old) (D.contents dic.new) (D.has_failed dic.new);
+      first = seen (A.contents first.old) (A.contents first.new) (A.has_failed first.new);
+      second = seen (B.contents second.old) (B.contents second.new) (B.has_failed second.new);
+      file = seen (F.contents file.old) (F.contents file.new) (F.has_failed file.new);
     }))) }
 {
     let scd = read_input(alloc, scd, 1)?;

@@ -2,7 +2,8 @@
 use Rattle.std.proofs.Common.{◌≡◌, ◌≢◌, ℕ, zero, suc, ◌+◌, ◌-◌, ◌<◌, ◌≤◌, ◌⊎◌, inl, inr, Bool, true, false, cond, not, ◌&&◌, is_some, is_none, List, [], ◌∷◌, length, flat_map, Option, Some, None, MatchOption, option_map, nat_eq, slice_get, refl, sym, ap, ◌∙◌, subst, arith, Any, true≢false, eqb-true, eq-eqb}
 use Rattle.std.specs.List.{AllZip}
 use Rattle.std.proofs.lemmas.Bool.{cases_lt}
-use Rattle.edi_line.specs.Refusal.{Breaks, first_broken, IsLeastBroken}
+use Rattle.edi_line.specs.Refusal.{Breaks, IsLeastBroken}
+use Rattle.edi_line.specs.inner.Refusal.{first_broken}
 use Rattle.edi_line.proofs.FirstBroken.{none_broken, first_is_least}
 use Rattle.edi_record.specs.declared.record.End.{End}
 use Rattle.edi_record.specs.declared.record.Kind.{Kind}
@@ -12,16 +13,16 @@ use Rattle.edi_schema.specs.Classes.{Classes, place_of}
 use Rattle.edi_schema.specs.Roles.{is_plain, same_role, role_rank}
 use Rattle.edi_schema.specs.declared.role.Role.{Role}
 use Rattle.edi_schema.specs.declared.role.Role.TheVariants.{Initial, Final, Left, Right, Plain}
-use Rattle.edi_plan.specs.Done.{JoinsIn, IsLinkAt, JoinsBefore, IsJoinIfAny, IsDone}
+use Rattle.edi_plan.specs.inner.Done.{JoinsIn, IsLinkAt, JoinsBefore, IsJoinIfAny, IsDone}
 use Rattle.edi_plan.specs.Joined.{beside}
-use Rattle.edi_plan.specs.Names.{RepeatsAt}
+use Rattle.edi_plan.specs.inner.Names.{RepeatsAt}
 use Rattle.edi_plan.specs.Plans.{first_of}
 use Rattle.edi_plan.specs.ReferenceRules.{IsAt, Names, HasRole, JoinsArcTo, JoinsWrong, RepeatsSide, LeavesSubset, BreaksReferenceRule}
 use Rattle.edi_plan.specs.ReferenceRules.BreaksReferenceRule.{repeats_name, lacks_class, lacks_attribute_class, leaves_subset, names_nothing, joins_wrong, repeats_side}
-use Rattle.edi_plan.specs.Resolving.{LacksClass, is_elsewhere, leaves, first_subset, role_of_link, reference_tests}
-use Rattle.edi_plan.specs.Resolving as resolving
-use Rattle.edi_plan.specs.SideTable.{side_at, side_after, link_join, is_taken, IsNoted}
-use Rattle.edi_plan.specs.Targets.{IsTargetIfAny}
+use Rattle.edi_plan.specs.inner.Resolving.{LacksClass, is_elsewhere, leaves, first_subset, role_of_link, reference_tests}
+use Rattle.edi_plan.specs.inner.Resolving as resolving
+use Rattle.edi_plan.specs.inner.SideTable.{side_at, side_after, link_join, is_taken, IsNoted}
+use Rattle.edi_plan.specs.inner.Targets.{IsTargetIfAny}
 use Rattle.edi_schema.specs.declared.by_role.ByRole.{ByRole}
 use Rattle.edi_plan.specs.declared.sides.Join.{Join}
 use Rattle.edi_plan.specs.declared.targets.Target.{Target}

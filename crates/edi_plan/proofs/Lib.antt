@@ -1,7 +1,10 @@
+pub mod ClassNames
 pub mod Built
+pub mod RecordBlocks
+pub mod RecordLists
 pub mod Orders
 pub mod DerivedOrders
-pub mod Lent
+pub mod Borrowed
 pub mod PlaceLemmas
 pub mod NameLemmas
 pub mod TargetLemmas

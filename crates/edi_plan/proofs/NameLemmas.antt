@@ -1,5 +1,5 @@
 -- Names that records lend, and the first record of a name.
-use Rattle.std.proofs.Common.{◌≡◌, ◌≢◌, ℕ, zero, suc, ◌+◌, ◌<◌, ◌≤◌, ◌⊎◌, inl, inr, Bool, true, false, cond, not, ◌&&◌, nat_lt, List, [], ◌∷◌, length, Option, Some, None, is_some, unwrap_or, if◌then◌else◌, MatchOption, slice_get, refl, sym, ap, ◌∙◌, subst, arith}
+use Rattle.std.proofs.Common.{◌≡◌, ◌≢◌, ℕ, zero, suc, ◌+◌, ◌<◌, ◌≤◌, ◌⊎◌, inl, inr, Bool, true, false, cond, not, ◌&&◌, nat_lt, List, [], ◌∷◌, length, Option, Some, None, is_some, unwrap_or, if◌then◌else◌, MatchOption, slice_get, refl, sym, ap, ◌∙◌, subst, arith, codes}
 use Rattle.std.specs.List.{position_or_len}
 use Rattle.std.specs.Option.{option_or}
 use Rattle.std.specs.Map.{lookup}
@@ -14,7 +14,9 @@ use Rattle.edi_record.specs.declared.record.Record.{Record}
 use Rattle.edi_record.specs.contracts.record.KindPartialEq.TheImpl.{ghosts as kinds}
 use Rattle.edi_schema.proofs.Names.{same_name, name_itself}
 use Rattle.edi_schema.specs.Classes.{is_name}
-use Rattle.edi_plan.specs.Names.{named, place_in, IsPut, RepeatsAt, IsFirstRepeat, IsFirstRepeatIfAny}
+use Rattle.edi_plan.specs.Plans.{is_link}
+use Rattle.edi_plan.specs.inner.LinkNames.{LinksDiffer}
+use Rattle.edi_plan.specs.inner.Names.{named, place_in, is_tabled, IsPut, RepeatsAt, IsFirstRepeat, IsFirstRepeatIfAny}
 use Rattle.edi_plan.specs.PlanOf.{own_name, place_named}
 use Rattle.edi_plan.specs.declared.names.RecordName.{RecordName}
 use Rattle.edi_plan.specs.contracts.names.RecordNamePartialEq.TheImpl.{ghosts as names}
@@ -49,6 +51,38 @@ kind_apart Lnk Lnk = refl
 
 pub name_apart : (a b : RecordName) → names.eq a b ≡ is_name (named a) (named b)
 name_apart a b = ap (λ k. k && bytes_eq a.rid.now b.rid.now) (kind_apart a.kind b.kind)
+
+link_code : (k : Kind) → is_link k ≡ bytes_eq (kind_code k) (codes "LNK")
+link_code Pno = refl
+link_code Par = refl
+link_code Pfe = refl
+link_code Fea = refl
+link_code Lnk = refl
+
+pub coded_link : (a b : Kind) → kind_code a ≡ kind_code b → is_link a ≡ is_link b
+coded_link a b same = link_code a ∙ (ap (λ code. bytes_eq code (codes "LNK")) same ∙ sym (link_code b))
+
+-- ---- names that go into no table
+
+pub left_out : (rise : Bool) (k : Kind) → is_tabled rise k ≡ false → (rise ≡ true) × (is_link k ≡ true)
+left_out rise k h = go rise (is_link k) h
+  where
+    go : (a b : Bool) → not (a && b) ≡ false → (a ≡ true) × (b ≡ true)
+    go true true e = (refl, refl)
+    go true false e = absurd cc
+    go false b e = absurd cc
+
+pub no_link : (rise : Bool) (k : Kind) → rise ≡ true → is_tabled rise k ≡ true → is_link k ≡ false
+no_link rise k on h = go rise (is_link k) on h
+  where
+    go : (a b : Bool) → a ≡ true → not (a && b) ≡ true → b ≡ false
+    go true true on e = absurd cc
+    go true false on e = refl
+    go false b on e = absurd cc
+
+pub looked_up : (rise : Bool) (k : Kind) → is_link k ≡ false → is_tabled rise k ≡ true
+looked_up true k h = ap not h
+looked_up false k h = refl
 
 -- ---- the first record of a name
 
@@ -169,6 +203,19 @@ module _ (list : List Record) (n : ℕ) (r : Record) (here : slice_get list n �
   repeat_none None None first some h = none_more h (fresh first)
   repeat_none None (Some m) first some h = (omega (arith, h.0), h.1)
 
+  -- a link of another identifier than all other links
+  pub repeat_apart : LinksDiffer list → is_link r.kind ≡ true → (repeat : Option ℕ) → RepeatTo list n repeat → RepeatTo list (n + 1) repeat
+  repeat_apart differ link None h = none_more h apart
+    where
+      apart : ¬ (RepeatsAt list n)
+      apart d =
+          let is : is_link d.2.kind ≡ true = subst (λ (x : Record). is_link x.kind ≡ true) (sym (one_there d.2 d.5)) link in
+          differ d.0 n d.1 d.2 d.3 d.4 d.5 (coded_link d.1.kind d.2.kind (ap (λ (m : Name). m.rty) d.6) ∙ is) is (ap (λ (m : Name). m.rid) d.6)
+  repeat_apart differ link (Some m) h = (omega (arith, h.0), h.1)
+
+  pub first_apart : (q : RecordName) → is_link q.kind ≡ false → is_link r.kind ≡ true → (found : Option ℕ) → FirstTo list n (named q) found → FirstTo list (n + 1) (named q) found
+  first_apart q other link found h = kept_first (named q) found h (λ is none. let e : is_link r.kind ≡ is_link q.kind = coded_link r.kind q.kind (ap (λ (m : Name). m.rty) is) in cc)
+
 -- a name has another place than a new one exactly if an earlier record has the name
 pub was_there : (list : List Record) (n : ℕ) (name : Name) (found : Option ℕ) → FirstTo list n name found → unwrap_or found n ≢ n → is_some found ≡ true
 was_there list n name None h other = absurd (other refl)
@@ -215,28 +262,31 @@ module _ (old new : List (RecordName × ℕ)) (name : RecordName) (place : ℕ) 
           let alike : lookup (names.eq name) old ≡ place_in old other = by_eq name old ∙ same_place name other (same_name (named name) (named other) t) old in
           ap Some (is ∙ ap (λ o. unwrap_or o place) alike) ∙ or_some (place_in old other)
 
-module _ (list : List Record) (n : ℕ) (r : Record) (here : slice_get list n ≡ Some r) (name : RecordName) (e : named name ≡ own_name r) (old new : List (RecordName × ℕ))
-    (put : IsPut old name n new) (first : (q : RecordName) → FirstTo list n (named q) (place_in old q)) where
+module _ (list : List Record) (n : ℕ) (r : Record) (here : slice_get list n ≡ Some r) (rise : Bool) (in_table : is_tabled rise r.kind ≡ true)
+    (name : RecordName) (e : named name ≡ own_name r) (old new : List (RecordName × ℕ))
+    (put : IsPut old name n new) (first : (q : RecordName) → is_tabled rise q.kind ≡ true → FirstTo list n (named q) (place_in old q)) where
   pub first_own : FirstTo list n (own_name r) (place_in old name)
-  first_own = subst (λ m. FirstTo list n m (place_in old name)) e (first name)
+  first_own =
+      let tabled = ap (λ b. not (rise && b)) (coded_link name.kind r.kind (ap (λ (m : Name). m.rty) e)) ∙ in_table in
+      subst (λ m. FirstTo list n m (place_in old name)) e (first name tabled)
 
-  pub first_put : (q : RecordName) → FirstTo list (n + 1) (named q) (place_in new q)
-  first_put q = subst (FirstTo list (n + 1) (named q)) (sym (put q)) (go (is_name (named name) (named q)) refl (place_in old q) (first q))
+  pub first_put : (q : RecordName) → is_tabled rise q.kind ≡ true → FirstTo list (n + 1) (named q) (place_in new q)
+  first_put q tabled = subst (FirstTo list (n + 1) (named q)) (sym (put q)) (go (is_name (named name) (named q)) refl (place_in old q) (first q tabled))
     where
       go : (b : Bool) → is_name (named name) (named q) ≡ b → (found : Option ℕ) → FirstTo list n (named q) found → FirstTo list (n + 1) (named q) (option_or found (if b then Some n else None))
       go b t (Some k) h = kept_first list n r here (named q) (Some k) h (λ is none. cc)
       go true t None h = put_first list n r here (named q) (sym e ∙ same_name (named name) (named q) t) h
       go false t None h = kept_first list n r here (named q) None h (λ is none. let no : true ≡ false = sym (subst (λ m. is_name (named name) m ≡ true) (e ∙ is) (name_itself (named name))) ∙ t in cc)
 
-pub names_of : (list : List Record) (n : ℕ) → length list ≤ n → (table : List (RecordName × ℕ)) → ((q : RecordName) → FirstTo list n (named q) (place_in table q))
-    → (name : RecordName) → place_in table name ≡ place_named list (named name)
-names_of list n past table first name = named_from list (named name) (place_in table name) (first_all list n (named name) (place_in table name) past (first name))
+pub names_of : (list : List Record) (n : ℕ) → length list ≤ n → (rise : Bool) (table : List (RecordName × ℕ)) → ((q : RecordName) → is_tabled rise q.kind ≡ true → FirstTo list n (named q) (place_in table q))
+    → (name : RecordName) → is_link name.kind ≡ false → place_in table name ≡ place_named list (named name)
+names_of list n past rise table first name no_link = named_from list (named name) (place_in table name) (first_all list n (named name) (place_in table name) past (first name (looked_up rise name.kind no_link)))
 
 pub no_names : (list : List Record) (q : RecordName) → FirstTo list 0 (named q) None
 no_names list q = λ j r less. absurd (omega arith)
 
-pub found_at : (list : List Record) (es : List (RecordName × ℕ)) → ((name : RecordName) → lookup (λ t. is_name (named name) (named t)) es ≡ place_named list (named name))
-    → (name : RecordName) (target : Name) → named name ≡ target → (o : Option ℕ) → o ≡ lookup (names.eq name) es → place_named list target ≡ o
-found_at list es are name target is o e =
-    let known = (λ i. lookup (λ (t : RecordName). name_apart name t i) es) ∙ are name in
+pub found_at : (list : List Record) (es : List (RecordName × ℕ)) (name : RecordName) → lookup (λ t. is_name (named name) (named t)) es ≡ place_named list (named name)
+    → (target : Name) → named name ≡ target → (o : Option ℕ) → o ≡ lookup (names.eq name) es → place_named list target ≡ o
+found_at list es name are target is o e =
+    let known = (λ i. lookup (λ (t : RecordName). name_apart name t i) es) ∙ are in
     sym (e ∙ (known ∙ ap (place_named list) is))

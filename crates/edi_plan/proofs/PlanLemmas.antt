@@ -12,14 +12,14 @@ use Rattle.edi_schema.specs.Classes.{Classes}
 use Rattle.edi_schema.specs.Roles.{is_plain}
 use Rattle.edi_schema.specs.declared.role.Role.{Role}
 use Rattle.edi_schema.specs.declared.role.Role.TheVariants.{Initial, Final, Left, Right, Plain}
-use Rattle.edi_plan.specs.Done.{JoinsIn, IsLinkAt, JoinsBefore, IsJoinIfAny, IsDone}
+use Rattle.edi_plan.specs.inner.Done.{JoinsIn, IsLinkAt, JoinsBefore, IsJoinIfAny, IsDone}
 use Rattle.edi_plan.specs.Joined.{beside}
 use Rattle.edi_plan.specs.PlanOf.{IsPlanOf, StatesPlanEnd, StatesPlanRecord}
 use Rattle.edi_plan.specs.Plans.{Drawing, IsPlace, record_at, blank}
 use Rattle.edi_plan.specs.ReferenceRules.{BreaksReferenceRule, Names}
 use Rattle.edi_plan.specs.ReferenceRules.BreaksReferenceRule.{repeats_name, lacks_class, lacks_attribute_class, leaves_subset, names_nothing, joins_wrong, repeats_side}
 use Rattle.edi_plan.specs.Sides.{Side, IsSideIfAny, targets}
-use Rattle.edi_plan.specs.SideTable.{AreSides, side_at}
+use Rattle.edi_plan.specs.inner.SideTable.{AreSides, side_at}
 use Rattle.edi_plan.specs.declared.record.PlanEnd.{PlanEnd}
 use Rattle.edi_schema.specs.declared.by_role.ByRole.{ByRole}
 use Rattle.edi_plan.proofs.Built.{zip_at, zip_back, zip_length}

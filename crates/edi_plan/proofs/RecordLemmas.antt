@@ -7,11 +7,11 @@ use Rattle.std.proofs.Math.Seq.{get_or-append_seam}
 use Rattle.edi_record.specs.declared.record.End.{End}
 use Rattle.edi_record.specs.declared.record.Record.{Record}
 use Rattle.edi_schema.specs.Classes.{Classes}
-use Rattle.edi_plan.specs.Names.{RepeatsAt, IsFirstRepeatIfAny}
+use Rattle.edi_plan.specs.inner.Names.{RepeatsAt, IsFirstRepeatIfAny}
 use Rattle.edi_plan.specs.PlanOf.{StatesPlanEnd, StatesPlanRecord}
-use Rattle.edi_plan.specs.Resolving.{AreGiven, IsPlanned}
-use Rattle.edi_plan.specs.SideTable.{HaveEntries}
-use Rattle.edi_plan.specs.Targets.{IsTargetIfAny, AreTargets}
+use Rattle.edi_plan.specs.inner.Resolving.{AreGiven, IsPlanned}
+use Rattle.edi_plan.specs.inner.SideTable.{HaveEntries}
+use Rattle.edi_plan.specs.inner.Targets.{IsTargetIfAny, AreTargets}
 use Rattle.edi_plan.specs.declared.record.PlanEnd.{PlanEnd}
 use Rattle.edi_plan.specs.declared.record.PlanRecord.{PlanRecord}
 use Rattle.edi_schema.specs.declared.by_role.ByRole.{ByRole}

@@ -7,7 +7,7 @@ use Rattle.edi_record.specs.declared.record.Attribute.{Attribute}
 use Rattle.edi_schema.specs.Classes.{Classes, place_of, role_of, role_named, class_at, class_named}
 use Rattle.edi_schema.specs.declared.class.Class.{Class}
 use Rattle.edi_schema.specs.declared.role.Role.TheVariants.{Plain}
-use Rattle.edi_plan.specs.Resolving.{Resolves}
+use Rattle.edi_plan.specs.inner.Resolving.{Resolves}
 use Rattle.edi_plan.specs.PlanOf.{StatesPlanAttribute}
 use Rattle.edi_plan.specs.declared.record.PlanAttribute.{PlanAttribute}
 use Rattle.edi_plan.proofs.Built.{named_at}

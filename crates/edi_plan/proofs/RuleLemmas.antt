@@ -16,13 +16,13 @@ use Rattle.edi_schema.specs.Classes.{Classes, place_of, role_named}
 use Rattle.edi_schema.specs.Roles.{is_plain}
 use Rattle.edi_schema.specs.declared.role.Role.{Role}
 use Rattle.edi_schema.specs.declared.role.Role.TheVariants.{Initial, Final, Left, Right, Plain}
-use Rattle.edi_plan.specs.Done.{JoinsIn}
+use Rattle.edi_plan.specs.inner.Done.{JoinsIn}
 use Rattle.edi_plan.specs.Joined.{beside}
 use Rattle.edi_plan.specs.Plans.{is_link, same_kind, kind_rank}
 use Rattle.edi_plan.specs.ReferenceRules.{Names, HasRole}
-use Rattle.edi_plan.specs.Resolving.{AreGiven, Gives, LacksClass, lacks_class, is_elsewhere, role_of_link}
-use Rattle.edi_plan.specs.SideTable.{join_of_two, join_in, link_join}
-use Rattle.edi_plan.specs.Targets.{Leads, IsTargetIfAny}
+use Rattle.edi_plan.specs.inner.Resolving.{AreGiven, Gives, LacksClass, lacks_class, is_elsewhere, role_of_link}
+use Rattle.edi_plan.specs.inner.SideTable.{join_of_two, join_in, link_join}
+use Rattle.edi_plan.specs.inner.Targets.{Leads, IsTargetIfAny}
 use Rattle.edi_plan.specs.declared.record.PlanEnd.{PlanEnd}
 use Rattle.edi_plan.specs.declared.sides.Join.{Join}
 use Rattle.edi_plan.specs.declared.targets.Target.{Target}

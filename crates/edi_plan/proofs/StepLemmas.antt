@@ -5,7 +5,7 @@ use Rattle.std.specs.Result.{IsErrAnd, IfErr}
 use Rattle.std.proofs.lemmas.Slice.Eq.{bytes_eq-Decides}
 use Rattle.std.proofs.Math.Seq.{drop-cons}
 use Rattle.std.proofs.Math.ListN.{drop_of_length-le}
-use Rattle.edi_line.specs.Refusal.{first_broken}
+use Rattle.edi_line.specs.inner.Refusal.{first_broken}
 use Rattle.edi_record.specs.Records as records
 use Rattle.edi_record.specs.declared.record.Attribute.{Attribute}
 use Rattle.edi_record.specs.declared.record.End.{End}
@@ -16,8 +16,8 @@ use Rattle.edi_schema.specs.Classes.{Classes, place_of, role_named}
 use Rattle.edi_schema.specs.declared.role.Role.{Role}
 use Rattle.edi_schema.specs.declared.role.Role.TheVariants.{Plain}
 use Rattle.edi_plan.specs.Plans.{is_link}
-use Rattle.edi_plan.specs.Resolving.{AreGiven, IsUnresolved, Resolves, lacks_class, leaves, reference_tests, role_of_link}
-use Rattle.edi_plan.specs.SideTable.{link_tests}
+use Rattle.edi_plan.specs.inner.Resolving.{AreGiven, IsUnresolved, Resolves, lacks_class, leaves, reference_tests, role_of_link}
+use Rattle.edi_plan.specs.inner.SideTable.{link_tests}
 use Rattle.edi_plan.specs.declared.references.Subset.{Subset}
 use Rattle.edi_schema.specs.declared.by_role.ByRole.{ByRole}
 use Rattle.edi_plan.specs.declared.fault.Unresolved.{Unresolved}

@@ -11,10 +11,10 @@ use Rattle.edi_record.specs.declared.record.End.{End}
 use Rattle.edi_record.specs.declared.record.Kind.{Kind}
 use Rattle.edi_record.specs.declared.record.Kind.TheVariants.{Pno, Par, Pfe, Fea, Lnk}
 use Rattle.edi_record.specs.declared.record.Record.{Record}
-use Rattle.edi_plan.specs.Names.{named, IsFirstRepeatIfAny}
+use Rattle.edi_plan.specs.inner.Names.{named, IsFirstRepeatIfAny}
 use Rattle.edi_plan.specs.PlanOf.{place_named}
 use Rattle.edi_plan.specs.Plans.{is_link}
-use Rattle.edi_plan.specs.Targets.{target_kind, HasNameAt, Leads, IsTargetIfAny}
+use Rattle.edi_plan.specs.inner.Targets.{target_kind, HasNameAt, Leads, IsTargetIfAny}
 use Rattle.edi_plan.specs.declared.names.RecordName.{RecordName}
 use Rattle.edi_plan.specs.declared.targets.Target.{Target}
 use Rattle.edi_plan.proofs.NameLemmas.{first_named, has_name}

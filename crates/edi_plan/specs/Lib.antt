@@ -3,14 +3,9 @@ pub mod Whole
 pub mod PlanOf
 pub mod Agreeing
 pub mod Sides
-pub mod SideTable
 pub mod Joined
 pub mod ReferenceRules
-pub mod ReferenceRefusal
 pub mod Laws
 pub mod Orders
 pub mod Places
-pub mod Names
-pub mod Targets
-pub mod Resolving
-pub mod Done
+pub mod inner

@@ -8,13 +8,17 @@ use crate::record::PlanAttribute;
 use itertools::Itertools;
 use std::alloc::{AllocError, Global};
 
-/// The attributes by class, then character set, then value, lent.
+/// The attributes by class, then character set, then value, borrowed.
 pub fn sorted_attributes<'a>(
     alloc: Global,
     attributes: &'a [PlanAttribute],
 ) -> Result<Vec<&'a PlanAttribute>, AllocError>
     ensures { IfOk result (λ sorted. map (λ a. a.now) sorted.items ≡ sort_by attribute_cmp attributes.now) }
 {
+    // Most records have none.
+    if attributes.is_empty() {
+        return Ok(Vec::new(alloc));
+    }
     let sorted = attributes.iter().sorted_unstable(alloc)?;
     sorted.collect_vec(alloc)
 }

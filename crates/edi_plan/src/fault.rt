@@ -1,34 +1,10 @@
 ghost use Rattle.std.specs.Prelude.{◌≡◌, alloc_error};
-ghost use Rattle.edi_plan.specs.declared.fault.RefFault.TheVariants.{Memory};
 ghost use Rattle.edi_plan.specs.declared.fault.Unresolved.TheVariants.{Memory as NoMemory};
 
 use std::alloc::{AllocError, AllocFailed};
-use thiserror::Error;
 
-/// Why records state no plan.
-#[derive(Debug, Drop, Error)]
-pub enum RefFault {
-    #[error("out of memory")]
-    Memory(AllocError),
-    #[error("rule {rule} is broken at record {at}")]
-    Broken { rule: u16, at: u64 },
-}
-
-impl From<AllocError> for RefFault {
-    ghost from_gives = { λ _ e. e ≡ Memory alloc_error };
-
-    fn from(fault: AllocError) -> RefFault {
-        RefFault::Memory(fault)
-    }
-}
-
-impl<T: Drop> From<AllocFailed<T>> for RefFault {
-    ghost from_gives = { λ _ e. e ≡ Memory alloc_error };
-
-    fn from(_fault: AllocFailed<T>) -> RefFault {
-        RefFault::Memory(AllocError)
-    }
-}
+/// Why records state no plan: one of the rules 301 to 307 with its record, counted from 1, or want of memory.
+pub use edi_record::RecordFault as RefFault;
 
 /// Why a record has no place in a plan: the least rule that it breaks, or want of memory.
 #[derive(Debug, Drop)]

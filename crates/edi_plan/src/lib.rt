@@ -8,6 +8,8 @@ mod names;
 mod places;
 pub mod plan;
 pub mod record;
+mod record_block;
+mod record_list;
 mod records;
 mod references;
 mod sides;

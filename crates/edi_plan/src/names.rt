@@ -1,11 +1,12 @@
 //! The names of records: rule 301.
 
-ghost use Rattle.std.specs.Prelude.{◌≡◌, ◌∷◌, [], ◌≤◌, length, map, unwrap_or, IfOk, OnOk};
+ghost use Rattle.std.specs.Prelude.{◌≡◌, ◌∷◌, [], ◌≤◌, true, length, map, unwrap_or, IfOk, OnOk};
 ghost use Rattle.std.specs.Cmp.Rules.{hashing};
 ghost use Rattle.std.proofs.Common.{rules};
 ghost use Rattle.edi_hash.specs.Keys.{keyed_by};
 ghost use Rattle.edi_plan.specs.PlanOf.{own_name};
-ghost use Rattle.edi_plan.specs.Names.{named, place_in, IsPut, AreNamesOf, IsFirstRepeatIfAny};
+ghost use Rattle.edi_plan.specs.inner.Names.{named, place_in, is_tabled as tabled_test, tabled, IsPut, AreNamesOf, IsFirstRepeatIfAny};
+ghost use Rattle.edi_plan.specs.inner.LinkNames.{with_digit, end_number, LinksDiffer};
 
 use edi_hash::{KeyNames, NameHash};
 use edi_record::{Kind, Record};
@@ -13,7 +14,7 @@ use indexmap::IndexMap;
 use std::alloc::{AllocError, Global};
 use std::hash::{Hash, Hasher};
 
-/// The type and the identifier of a record, lent by it.
+/// The type and the identifier of a record, borrowed from it.
 #[derive(Clone, Copy, Debug, PartialEq, Eq)]
 pub(crate) struct RecordName<'a> {
     pub(crate) kind: Kind,
@@ -48,16 +49,79 @@ pub(crate) fn name_of(stated: &Record) -> RecordName<'_>
     }
 }
 
-/// The hash for the names of these records, under a key made of their identifiers. Their types are left out:
-/// one identifier makes five names at most, too few to choose among.
-fn hash_of(records: &[Record]) -> NameHash
-    ensures { result ≡ keyed_by (map (λ r. r.rid) records.now) }
+/// A number with a digit more, or 0 behind any other byte.
+fn with_digit(number: u64, byte: u8) -> u64
+    ensures { result ≡ with_digit number byte }
+{
+    if byte.is_ascii_digit() {
+        number.wrapping_mul(10).wrapping_add(u64::from(byte - b'0'))
+    } else {
+        0
+    }
+}
+
+/// The number that the digits at the end of an identifier spell, as far as 64 bits hold it.
+#[tactic(auto, unfolding(crate::specs::inner::LinkNames::end_number))]
+fn end_number(rid: &[u8]) -> u64
+    ensures { result ≡ end_number rid.now }
+{
+    let mut number: u64 = 0;
+    for byte in rid {
+        number = with_digit(number, *byte);
+    }
+    number
+}
+
+/// Whether the numbers of the links rise, as they do in most sheets. Then no two links have one identifier.
+fn links_rise(records: &[Record]) -> bool
+    ensures { result ≡ true → LinksDiffer records.now }
+{
+    let mut least: u64 = 0;
+    for record in records {
+        if !record.kind.is_link() {
+            continue;
+        }
+        let number = end_number(record.rid.as_slice());
+        if number < least || number == u64::MAX {
+            return false;
+        }
+        least = number + 1;
+    }
+    true
+}
+
+/// Whether a name goes into the table. Nothing looks links up, so where these are known to differ theirs stay out.
+fn is_tabled(links_rise: bool, kind: Kind) -> bool
+    ensures { result ≡ tabled_test links_rise kind }
+{
+    !(links_rise && kind.is_link())
+}
+
+/// The hash for the names of these records that go into the table, under a key made of their identifiers. Their types are left
+/// out: one identifier makes five names at most, too few to choose among.
+fn hash_of(links_rise: bool, records: &[Record]) -> NameHash
+    ensures { result ≡ keyed_by (map (λ r. r.rid) (tabled links_rise records.now)) }
 {
     let mut names = KeyNames::new();
     for record in records {
-        names.add(record.rid.as_slice());
+        if is_tabled(links_rise, record.kind) {
+            names.add(record.rid.as_slice());
+        }
     }
     names.hash()
+}
+
+/// How many names go into the table.
+fn count_tabled(links_rise: bool, records: &[Record]) -> usize
+    ensures { result ≡ length (tabled links_rise records.now) }
+{
+    let mut count: usize = 0;
+    for record in records {
+        if is_tabled(links_rise, record.kind) {
+            count += 1;
+        }
+    }
+    count
 }
 
 /// The place of a name, which is this one if it had none.
@@ -79,10 +143,15 @@ impl<'a> Names<'a> {
         ensures names { IfOk result (AreNamesOf records.now) }
         ensures repeat { IfOk result (λ names. IsFirstRepeatIfAny records.now names.repeat) }
     {
-        let hash = hash_of(records);
-        let mut places = IndexMap::with_capacity_and_hasher(alloc, records.len(), hash)?;
+        let links_rise = links_rise(records);
+        let hash = hash_of(links_rise, records);
+        let count = count_tabled(links_rise, records);
+        let mut places = IndexMap::with_capacity_and_hasher(alloc, count, hash)?;
         let mut repeat: Option<usize> = None;
         for (place, record) in records.iter().enumerate() {
+            if !is_tabled(links_rise, record.kind) {
+                continue;
+            }
             let first = place_or(&mut places, name_of(record), place as u32)?;
             if first as usize != place {
                 repeat = repeat.or(Some(place));

@@ -2,10 +2,11 @@
 
 ghost use Rattle.std.specs.Prelude.{◌≡◌, ◌<◌, ◌≤◌, ◌∷◌, ◌++◌, [], length, slice_index_or, if◌then◌else◌, IfOk, OnOk};
 ghost use Rattle.edi_record.specs.declared.record.Kind.{Kind as Kinds};
-ghost use Rattle.edi_plan.specs.Places.{listed, ArePlacesOf};
+ghost use Rattle.edi_plan.specs.inner.Places.{listed, ArePlacesOf};
 ghost use Rattle.edi_plan.specs.Plans.{same_kind};
+ghost use Rattle.edi_plan.specs.inner.RecordLists.{records_of, AreWithin};
 
-use crate::record::PlanRecord;
+use crate::record_list::RecordList;
 use edi_record::Kind;
 use std::alloc::{AllocError, Global};
 
@@ -53,13 +54,14 @@ impl Places {
     }
 
     /// The types of these records, and their places, from 0.
-    pub(crate) fn among(alloc: Global, list: &[PlanRecord]) -> Result<Places, AllocError>
-        requires { length list.now ≤ 9999999 }
-        ensures { IfOk result (ArePlacesOf list.now) }
+    pub(crate) fn among(alloc: Global, list: &RecordList) -> Result<Places, AllocError>
+        requires few { length (records_of list.now) ≤ 9999999 }
+        requires within { AreWithin list.now }
+        ensures { IfOk result (ArePlacesOf (records_of list.now)) }
     {
         let mut places = Places::none(alloc);
-        for (place, record) in list.iter().enumerate() {
-            places.add(record.kind, place as u32)?;
+        for place in 0..list.len() {
+            places.add(list.kind(place), place as u32)?;
         }
         Ok(places)
     }

@@ -3,7 +3,8 @@ ghost use Rattle.edi_line.specs.Refusal.{IsUnbroken};
 
 use crate::fault::RefFault;
 use crate::places::Places;
-use crate::record::{PlanAttribute, PlanEnd, PlanRecord};
+use crate::record::{PlanAttribute, PlanEnd};
+use crate::record_list::RecordList;
 use crate::records::plan_records;
 use crate::references::References;
 use edi_line::{Sequence, Text};
@@ -16,21 +17,22 @@ use std::marker::Model;
 #[derive(Drop)]
 pub struct Plan {
     cse: Option<Text>,
-    list: Sequence<PlanRecord>,
+    list: RecordList,
     sides: Sequence<ByRole<Option<u32>>>,
     places: Places,
 }
 
 impl Model for Plan {
     ghost use Rattle.edi_plan.specs.Plans.{Drawing};
-    ghost use Rattle.edi_plan.specs.Places.{ArePlacesOf};
-    ghost use Rattle.edi_plan.specs.SideTable.{IsKept};
+    ghost use Rattle.edi_plan.specs.inner.Places.{ArePlacesOf};
+    ghost use Rattle.edi_plan.specs.inner.SideTable.{HoldsSides};
+    ghost use Rattle.edi_plan.specs.inner.RecordLists.{records_of, AreWithin};
 
     ghost Value = { Drawing };
 
-    ghost view = { λ p. record { cse = p.cse; list = p.list } };
+    ghost view = { λ p. record { cse = p.cse; list = records_of p.list } };
 
-    ghost invariant = { λ p. IsKept (record { cse = p.cse; list = p.list }) p.sides × ArePlacesOf p.list p.places };
+    ghost invariant = { λ p. HoldsSides (record { cse = p.cse; list = records_of p.list }) p.sides × ArePlacesOf (records_of p.list) p.places × AreWithin p.list };
 }
 
 impl Plan {
@@ -42,7 +44,7 @@ impl Plan {
     ghost use Rattle.edi_plan.specs.Joined.{IsJoined};
     ghost use Rattle.edi_plan.specs.Whole.{IsWhole};
     ghost use Rattle.edi_plan.specs.ReferenceRules.{BreaksReferenceRule};
-    ghost use Rattle.edi_plan.specs.ReferenceRefusal.{IsReferenceRefusal};
+    ghost use Rattle.edi_record.specs.RecordRefusal.{IsRecordRefusal};
 
     /// The plan of a sheet under a schema, or the least record that breaks a rule of references
     /// (301 to 307) and the least rule there.
@@ -50,7 +52,7 @@ impl Plan {
         ensures plan { IfOk result (IsPlanOf schema.now sheet) }
         ensures agrees { IfOk result (Agrees schema.now) }
         ensures sound { OnOk result (IsUnbroken (BreaksReferenceRule schema.now sheet.list)) }
-        ensures least { IfErr result (IsReferenceRefusal (BreaksReferenceRule schema.now sheet.list)) }
+        ensures least { IfErr result (IsRecordRefusal (BreaksReferenceRule schema.now sheet.list)) }
     {
         let Sheet { cse, list } = sheet;
         let references = References::among(alloc, list.as_slice())?;
@@ -58,7 +60,7 @@ impl Plan {
         let places = Places::among(alloc, &planned.list)?;
         Ok(Plan {
             cse,
-            list: Sequence::from_vec(planned.list),
+            list: planned.list,
             sides: Sequence::from_vec(planned.sides),
             places,
         })
@@ -68,7 +70,7 @@ impl Plan {
     pub fn len(&self) -> u32
         ensures { result ≡ length self.now.list }
     {
-        self.list.as_slice().len() as u32
+        self.list.len() as u32
     }
 
     /// The character set of the sheet, if it names one.
@@ -94,7 +96,7 @@ impl Plan {
         requires { IsPlace self.now place }
         ensures { result ≡ (record_at self.now place).class }
     {
-        self.list.as_slice()[place as usize].class
+        self.list.class(place as usize)
     }
 
     /// The kind of link that the class of a record has. It says something of links alone, though records of other types may have such a class.
@@ -102,7 +104,7 @@ impl Plan {
         requires { IsPlace self.now place }
         ensures { result ≡ (record_at self.now place).role }
     {
-        self.list.as_slice()[place as usize].role
+        self.list.role(place as usize)
     }
 
     /// The points of a node or an arc, in file order; their coordinates are whole millionths of the file's unit.
@@ -110,7 +112,7 @@ impl Plan {
         requires { IsPlace self.now place }
         ensures { result.now ≡ (record_at self.now place).points }
     {
-        self.list.as_slice()[place as usize].points.as_slice()
+        self.list.points(place as usize)
     }
 
     /// The attributes of a record, in file order.
@@ -118,7 +120,7 @@ impl Plan {
         requires { IsPlace self.now place }
         ensures { result.now ≡ (record_at self.now place).attributes }
     {
-        self.list.as_slice()[place as usize].attributes.as_slice()
+        self.list.attributes(place as usize)
     }
 
     /// The extra zones of a record, in file order.
@@ -126,7 +128,7 @@ impl Plan {
         requires { IsPlace self.now place }
         ensures { result.now ≡ (record_at self.now place).extras }
     {
-        self.list.as_slice()[place as usize].extras.as_slice()
+        self.list.extras(place as usize)
     }
 
     /// The ends of a link, the origin first.
@@ -134,7 +136,7 @@ impl Plan {
         requires { IsPlace self.now place }
         ensures { result.now ≡ (record_at self.now place).ends }
     {
-        self.list.as_slice()[place as usize].ends.as_slice()
+        self.list.ends(place as usize)
     }
 
     /// The node or the face that an arc has by its link of a role, or `None` where it has no such link.

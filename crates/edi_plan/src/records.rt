@@ -1,24 +1,27 @@
 //! The records of a plan: rules 302 to 307.
 
-ghost use Rattle.std.specs.Prelude.{◌≡◌, ◌+◌, ◌<◌, ◌≤◌, true, length, is_none, Any, IfOk, IfErr, OnOk, MatchOption, Some, IsTrue, ◌↔◌, codes};
+ghost use Rattle.std.specs.Prelude.{◌≡◌, ◌+◌, ◌<◌, ◌≤◌, true, length, is_none, Any, IfOk, IfErr, IfSome, OnOk, MatchOption, Some, IsTrue, ◌↔◌, codes};
 ghost use Rattle.std.specs.List.{AllZip, list_any};
-ghost use Rattle.edi_line.specs.Refusal.{first_broken};
+ghost use Rattle.edi_line.specs.inner.Refusal.{first_broken};
 ghost use Rattle.edi_record.specs.Records.{IsValueOf};
-ghost use Rattle.edi_plan.specs.Done.{IsDone};
+ghost use Rattle.edi_schema.specs.Classes.{place_of};
+ghost use Rattle.edi_plan.specs.inner.Done.{IsDone};
 ghost use Rattle.edi_plan.specs.PlanOf.{StatesPlanRecord};
-ghost use Rattle.edi_plan.specs.ReferenceRefusal.{IsReferenceRefusal};
+ghost use Rattle.edi_record.specs.RecordRefusal.{IsRecordRefusal};
 ghost use Rattle.edi_plan.specs.ReferenceRules.{BreaksReferenceRule};
-ghost use Rattle.edi_plan.specs.Resolving.{is_elsewhere, leaves, reference_tests, role_of_link, AreGiven, Gives, AreReferences, IsPlanned, IsUnresolved, LacksClass, Resolves};
-ghost use Rattle.edi_plan.specs.SideTable.{link_join, HaveEntries, IsNoted};
+ghost use Rattle.edi_plan.specs.inner.Resolving.{IsClassOfName, is_elsewhere, leaves, reference_tests, role_of_link, AreGiven, Gives, AreReferences, IsPlanned, IsUnresolved, LacksClass, Resolves};
+ghost use Rattle.edi_plan.specs.inner.SideTable.{link_join, HaveEntries, IsNoted};
+ghost use Rattle.edi_plan.specs.inner.RecordLists.{records_of, AreWithin};
 
 use crate::fault::{RefFault, Unresolved};
 use crate::record::{PlanAttribute, PlanEnd, PlanRecord};
+use crate::record_list::RecordList;
 use crate::references::{References, Subset};
 use crate::sides::{note_link, without_links};
 use crate::targets::Target;
 use edi_line::{Num, Sequence, Text};
-use edi_record::{Attribute, End, Record, Value};
-use edi_schema::{ByRole, Schema};
+use edi_record::{Attribute, End, Name, Record, Value};
+use edi_schema::{ByRole, ClassRef, Schema};
 use std::alloc::Global;
 
 fn value_of(may_be_number: bool, text: Text) -> Value
@@ -107,7 +110,7 @@ fn plan_ends(
 }
 
 /// Whether an end has another lot or subset.
-#[tactic(auto, unfolding(crate::specs::Resolving::is_elsewhere))]
+#[tactic(auto, unfolding(crate::specs::inner::Resolving::is_elsewhere))]
 fn is_other(subset: &Subset, end: &End) -> bool
     ensures { result ≡ is_elsewhere subset.now end.now }
 {
@@ -135,15 +138,31 @@ fn leaves_subset(subset: &Option<Subset>, ends: &[End]) -> bool
     }
 }
 
-/// The record in the plan, or the least of the rules 302 to 307 that it breaks. What a link joins is noted.
+/// The class of a name, where that of the record before, if it has one, is known. Records of one class mostly follow one another.
+fn class_of(schema: &Schema, last: Option<ClassRef>, name: &Name) -> Option<ClassRef>
+    requires { IsClassOfName schema.now last }
+    ensures class { result ≡ place_of schema.now name.now }
+    ensures within { IfSome result (λ class. class < length schema.now) }
+{
+    match last {
+        Some(class) if schema.name(class) == name => last,
+        _ => schema.class(name),
+    }
+}
+
+/// The record in the plan, whose class is known if the schema has it; or the least of the rules 302 to 307 that the record breaks.
+/// What a link joins is noted.
 fn plan_record(
     alloc: Global,
     schema: &Schema,
     subset: &Option<Subset>,
     targets: &[Option<Target>],
     sides: &mut [ByRole<Option<u32>>],
+    class: Option<ClassRef>,
     record: Record,
 ) -> Result<PlanRecord, Unresolved>
+    requires class { class ≡ place_of schema.now «record».scp }
+    requires within { IfSome class (λ class. class < length schema.now) }
     requires long { length targets.now ≡ length «record».ends }
     requires entries { HaveEntries sides.old targets.now }
     ensures planned { IfOk result (IsPlanned schema.now targets.now «record») }
@@ -151,7 +170,7 @@ fn plan_record(
     ensures sound { OnOk result (first_broken (reference_tests schema.now subset.now targets.now sides.old «record») ≡ None) }
     ensures least { IfErr result (IsUnresolved (λ rule. first_broken (reference_tests schema.now subset.now targets.now sides.old «record») ≡ Some rule)) }
 {
-    let Some(class) = schema.class(&record.scp) else {
+    let Some(class) = class else {
         return Err(Unresolved::Broken(302));
     };
     let attributes = plan_attributes(alloc, schema, record.attributes)?;
@@ -197,7 +216,7 @@ fn broken(rule: u16, place: usize) -> RefFault
 /// The records of a plan, with what its arcs have.
 #[derive(Drop)]
 pub(crate) struct Planned {
-    pub(crate) list: Vec<PlanRecord>,
+    pub(crate) list: RecordList,
     pub(crate) sides: Vec<ByRole<Option<u32>>>,
 }
 
@@ -210,20 +229,32 @@ pub(crate) fn plan_records(
 ) -> Result<Planned, RefFault>
     requires few { length records ≤ 9999999 }
     requires references { AreReferences records references.now }
-    ensures each { IfOk result (λ p. AllZip (StatesPlanRecord schema.now records) records p.list.items) }
+    ensures within { IfOk result (λ p. AreWithin p.list) }
+    ensures each { IfOk result (λ p. AllZip (StatesPlanRecord schema.now records) records (records_of p.list)) }
     ensures sides { IfOk result (λ p. IsDone schema.now records (length records) p.sides.items) }
-    ensures least { IfErr result (IsReferenceRefusal (BreaksReferenceRule schema.now records)) }
+    ensures least { IfErr result (IsRecordRefusal (BreaksReferenceRule schema.now records)) }
 {
-    let mut list = Vec::with_capacity(alloc, records.len())?;
+    let mut list = RecordList::with_capacity(alloc, records.len())?;
     let mut sides = without_links(alloc, records.len())?;
     let mut targets = references.targets.as_slice();
     let mut place: usize = 0;
+    let mut last: Option<ClassRef> = None;
     for record in records.into_vec() {
         if is_place(references.repeat, place) {
             return Err(broken(301, place));
         }
         let (own, rest) = targets.split_at(record.ends.len());
-        match plan_record(alloc, schema, &references.subset, own, &mut sides, record) {
+        let class = class_of(schema, last, &record.scp);
+        last = class;
+        match plan_record(
+            alloc,
+            schema,
+            &references.subset,
+            own,
+            &mut sides,
+            class,
+            record,
+        ) {
             Ok(planned) => list.push(planned)?,
             Err(Unresolved::Memory(error)) => return Err(RefFault::Memory(error)),
             Err(Unresolved::Broken(rule)) => return Err(broken(rule, place)),

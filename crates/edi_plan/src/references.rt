@@ -2,7 +2,7 @@
 
 ghost use Rattle.std.specs.Prelude.{◌≡◌, ◌≤◌, length, flat_map, option_copied, option_map, IfOk};
 ghost use Rattle.edi_plan.specs.Plans.{first_of};
-ghost use Rattle.edi_plan.specs.Resolving.{first_subset, AreReferences};
+ghost use Rattle.edi_plan.specs.inner.Resolving.{first_subset, AreReferences};
 
 use crate::names::Names;
 use crate::targets::{Target, targets};
@@ -51,7 +51,7 @@ fn subset_of(alloc: Global, records: &[Record]) -> Result<Option<Subset>, AllocE
 }
 
 impl References {
-    /// The references among the records of a sheet. An end is looked up once, among names that the records lend.
+    /// The references among the records of a sheet. An end is looked up once, among names borrowed from the records.
     pub(crate) fn among(alloc: Global, records: &[Record]) -> Result<References, AllocError>
         requires { length records.now ≤ 9999999 }
         ensures { IfOk result (AreReferences records.now) }

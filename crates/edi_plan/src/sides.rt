@@ -1,12 +1,12 @@
 //! The nodes and the faces of arcs, by the kinds of their links: rules 306 and 307.
 
 ghost use Rattle.std.specs.Prelude.{◌≡◌, ◌<◌, ◌↔◌, ◌&&◌, None, Some, false, length, nat_eq, replicate, if◌then◌else◌, IsTrue, IfOk, IfErr, OnOk};
-ghost use Rattle.edi_line.specs.Refusal.{first_broken};
+ghost use Rattle.edi_line.specs.inner.Refusal.{first_broken};
 ghost use Rattle.edi_schema.specs.Roles.{is_plain};
 ghost use Rattle.edi_plan.specs.Joined.{beside as beside_of};
-ghost use Rattle.edi_plan.specs.Resolving.{IsUnresolved};
+ghost use Rattle.edi_plan.specs.inner.Resolving.{IsUnresolved};
 ghost use Rattle.edi_schema.specs.ByRole.{no_values};
-ghost use Rattle.edi_plan.specs.SideTable.{side_at, join_in, join_of_two, link_join, link_tests, HaveEntries, IsNoted};
+ghost use Rattle.edi_plan.specs.inner.SideTable.{side_at, join_in, join_of_two, link_join, link_tests, HaveEntries, IsNoted};
 
 use crate::fault::Unresolved;
 use crate::targets::Target;

@@ -1,11 +1,12 @@
 //! The records that the ends of links name.
 
-ghost use Rattle.std.specs.Prelude.{◌≡◌, ◌++◌, List, IfOk, IfSome, OnOk, true};
+ghost use Rattle.std.specs.Prelude.{◌≡◌, ◌++◌, List, IfOk, IfSome, OnOk, true, false};
 ghost use Rattle.std.specs.List.{AllZip};
 ghost use Rattle.edi_record.specs.declared.record.End.{End as Ends};
-ghost use Rattle.edi_plan.specs.Names.{named, AreNamesOf, IsFirstRepeatIfAny};
+ghost use Rattle.edi_plan.specs.inner.Names.{named, AreNamesOf, IsFirstRepeatIfAny};
 ghost use Rattle.edi_plan.specs.PlanOf.{place_named};
-ghost use Rattle.edi_plan.specs.Targets.{target_kind, HasNameAt, IsTargetIfAny, AreTargets};
+ghost use Rattle.edi_plan.specs.Plans.{is_link};
+ghost use Rattle.edi_plan.specs.inner.Targets.{target_kind, HasNameAt, IsTargetIfAny, AreTargets};
 
 use crate::names::{Names, RecordName, name_of};
 use edi_record::{End, Kind, Record};
@@ -100,6 +101,7 @@ fn place_near(records: &[Record], last: u32, name: &RecordName<'_>) -> Option<u3
 
 /// The place of the first record of a name. Where no two records have one name, any of that name is the first.
 fn place_of(records: &[Record], names: &Names<'_>, last: u32, name: &RecordName<'_>) -> Option<u32>
+    requires no_link { is_link name.now.kind ≡ false }
     requires names { AreNamesOf records.now names.now }
     requires repeat { IsFirstRepeatIfAny records.now names.now.repeat }
     ensures { result ≡ place_named records.now (named name.now) }

@@ -5,7 +5,7 @@ use Rattle.std.specs.declared.cmp.Ordering.{Ordering}
 use Rattle.std.specs.declared.cmp.Ordering.TheVariants.{Less}
 use Rattle.edi_schema.specs.Classes.{Classes}
 use Rattle.edi_plan.specs.Plans.{Drawing}
-use Rattle.edi_topo.specs.TopologyRules.{AreAlikeNodes}
+use Rattle.edi_topo.specs.TopologyRules.{AreEqualNodes}
 use Rattle.edi_compare.specs.Canonical.{IsCanonical}
 use Rattle.edi_compare.specs.Headline.{IsFormOf}
 use Rattle.edi_compare.specs.Rules.{IsAccepted}
@@ -82,7 +82,7 @@ canonical_by_two s c flat can = record {
 
 -- ---- three coordinates and today
 
-shared : (p : Drawing) (m n : ℕ) → AreAlikeNodes p m n → ShareAPosition p m n
+shared : (p : Drawing) (m n : ℕ) → AreEqualNodes p m n → ShareAPosition p m n
 shared p m n h = record { first = h.first; second = h.second; first_node = h.first_node; second_node = h.second_node; points = h.points }
 
 topology_today : (p : Drawing) (rule at : ℕ) → BreaksTopology today p rule at → BreaksTopology three_coordinates p rule at

@@ -29,8 +29,8 @@ use Rattle.edi_plan.specs.Plans.{Drawing, IsPlace, record_at, others_of, kind_ra
 use Rattle.edi_plan.specs.ReferenceRules.{BreaksReferenceRule}
 use Rattle.edi_plan.specs.declared.record.PlanRecord.{PlanRecord}
 use Rattle.edi_topo.specs.NodeKeys.{node_key, node_key_cmp}
-use Rattle.edi_topo.specs.TopologyRules.{AreAlikeNodes, BreaksTopologyRule}
-use Rattle.edi_rank.specs.Alike.{BreaksObjectRule}
+use Rattle.edi_topo.specs.TopologyRules.{AreEqualNodes, BreaksTopologyRule}
+use Rattle.edi_rank.specs.EqualObjects.{BreaksObjectRule}
 use Rattle.edi_rank.specs.InOrder.{Both}
 use Rattle.edi_rank.specs.Keys.{end_cmp, face_key_cmp, least_side, link_key, link_key_cmp, numbered, object_key, object_key_cmp}
 use Rattle.edi_rank.specs.Turned.{is_forward}
@@ -71,7 +71,7 @@ three_coordinates = record { position = IsPosition; repeats = ShareAPosition; no
 
 -- the rules of today
 abbrev pub today : Profile
-today = record { position = IsPosition; repeats = AreAlikeNodes; node_cmp = λ a b. node_key_cmp (node_key a) (node_key b) }
+today = record { position = IsPosition; repeats = AreEqualNodes; node_cmp = λ a b. node_key_cmp (node_key a) (node_key b) }
 
 -- ---- the rules by a profile
 

@@ -2,11 +2,12 @@
 use Rattle.std.proofs.Common.{◌≡◌, ℕ, zero, suc, ◌+◌, ◌<◌, List, [], ◌∷◌, map, filter_map, length, Some, refl, sym, ap, ◌∙◌, subst, arith, IsPermutation, get_or, nat_cmp}
 use Rattle.std.proofs.lemmas.Cmp.{nat_cmp_total}
 use Rattle.std.proofs.lemmas.List.Sorted.{IsPermutation-sym, IsPermutation-trans}
-use Rattle.edi_schema.specs.Sorted.{SameCounts, sort_by}
+use Rattle.edi_schema.specs.Sorted.{sort_by}
+use Rattle.edi_schema.specs.inner.Sorted.{SameCounts}
 use Rattle.edi_rank.specs.Same.{OneToOne}
 use Rattle.std.proofs.lemmas.Map.Lookups.{exact_unsigned}
 use Rattle.edi_schema.proofs.SortedLists.{sort_by-same, IsPermutation-sort_by}
-use Rattle.edi_rank.proofs.Gathered.{gathered_alike}
+use Rattle.edi_rank.proofs.Gathered.{gathered_equal}
 
 -- n places from one on
 abbrev pub places_from : ℕ → ℕ → List ℕ
@@ -49,4 +50,4 @@ places_permuted to n m places =
     counts : SameCounts (map to (places_from n 0)) (places_from m 0)
     counts = subst (λ xs. SameCounts xs (places_from m 0)) (all_kept to (places_from n 0))
         (subst (SameCounts (filter_map (λ i. Some (to i)) (places_from n 0))) (all_there (places_from m 0))
-        (gathered_alike to (places_from n 0) (places_from m 0) 0 long (λ i. Some (to i)) (λ i. Some i) same))
+        (gathered_equal to (places_from n 0) (places_from m 0) 0 long (λ i. Some (to i)) (λ i. Some i) same))

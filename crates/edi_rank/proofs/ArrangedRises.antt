@@ -27,7 +27,7 @@ use Rattle.edi_rank.specs.Turned.{is_forward, turned_record, role_after}
 use Rattle.edi_rank.proofs.ArrangedOrder.{by_type, attributes_in_order, both_before, kind_from, nodes_rise, arcs_rise}
 use Rattle.edi_rank.proofs.ArrangedUnder.{all_along, directed_long, plain_after}
 use Rattle.edi_rank.proofs.Arranging.{From, came_from, new_places, record_placed, carries_record, carries_arranged, numbered_total}
-use Rattle.edi_rank.proofs.KeysKept.{Kept, kept_from, all_weaker, two_hold, counted_alike, link_key_kept, face_key_kept, object_key_kept}
+use Rattle.edi_rank.proofs.KeysPreserved.{Kept, kept_from, all_weaker, two_hold, counted_equal, link_key_preserved, face_key_preserved, object_key_preserved}
 use Rattle.edi_rank.proofs.TurnedRecords.{record_turned, turned_long, reverse_forward}
 use Rattle.edi_rank.proofs.Renumbered.{up, shift, shift_cmp, link_shift, link_shift_cmp, object_shift, object_shift_cmp, face_shift, faces_shift_cmp, link_up, object_up, least_up, shifted, shifted_is, never-map}
 use Rattle.edi_rank.proofs.SameLaws.{map_alike, map-map}
@@ -78,7 +78,7 @@ module _ (s : Classes) (p : Drawing) (l : Labelling) (labels : AreLabels s p l) 
     where
       one_arc : (k : ℕ) → IsPlace p k → is_plain (role_after (turned_at l.turned) (record_at p k)) ≡ false → count_by (λ e. is_arc (record_at turned e.target).kind) (record_at p k).ends ≤ 1
       one_arc k h kind = subst (λ n. n ≤ 1)
-          (sym (counted_alike (λ (e : PlanEnd). IsPlace p e.target) (λ e. is_arc (record_at turned e.target).kind) (λ e. is_arc (record_at p e.target).kind)
+          (sym (counted_equal (λ (e : PlanEnd). IsPlace p e.target) (λ e. is_arc (record_at turned e.target).kind) (λ e. is_arc (record_at p e.target).kind)
           (λ e t. ap is_arc (kind_turned e.target (there_too e.target t))) (record_at p k).ends (whole.there k h)))
           (whole.one_arc k h (sym (plain_after (turned_at l.turned) (record_at p k)) ∙ kind))
 
@@ -113,16 +113,16 @@ module _ (s : Classes) (p : Drawing) (l : Labelling) (labels : AreLabels s p l) 
 
   face_made : (j : ℕ) (w : From s p l labels j) → least_side made suc j ≡ Rattle.std.proofs.Common.option_map (face_shift off) (least_side turned (number_of l) w.old)
   face_made j w = ap (least_side made suc) (sym w.is)
-      ∙ (ap first_of (face_key_kept turned made whole_turned.there to places kept number suc role_kept (λ t h arc. number_is t h) w.old (there_too w.old w.there)) ∙ least_up off turned (number_of l) w.old)
+      ∙ (ap first_of (face_key_preserved turned made whole_turned.there to places kept number suc role_kept (λ t h arc. number_is t h) w.old (there_too w.old w.there)) ∙ least_up off turned (number_of l) w.old)
 
   object_made : (j : ℕ) (w : From s p l labels j) → (record_at turned w.old).kind ≡ Fea → object_key made suc j ≡ object_shift off (object_key turned (number_of l) w.old)
   object_made j w object = ap (object_key made suc) (sym w.is)
-      ∙ (object_key_kept turned made whole_turned to places kept number suc (λ t h lower. number_is t h) w.old (there_too w.old w.there) (ap is_object object)
+      ∙ (object_key_preserved turned made whole_turned to places kept number suc (λ t h lower. number_is t h) w.old (there_too w.old w.there) (ap is_object object)
       (class_kept w.old (there_too w.old w.there)) (λ i h piece. class_kept i h) ∙ object_up off turned (number_of l) w.old)
 
   link_made : (j : ℕ) (w : From s p l labels j) → link_key made suc (record_at made j) ≡ link_shift off (link_key turned (number_of l) (record_at turned w.old))
   link_made j w = ap (λ i. link_key made suc (record_at made i)) (sym w.is)
-      ∙ (link_key_kept turned made whole_turned.there to places kept number suc (record_at turned w.old) (record_at made (to w.old)) (kept w.old (there_too w.old w.there)) (class_kept w.old (there_too w.old w.there))
+      ∙ (link_key_preserved turned made whole_turned.there to places kept number suc (record_at turned w.old) (record_at made (to w.old)) (kept w.old (there_too w.old w.there)) (class_kept w.old (there_too w.old w.there))
       (all_weaker (λ e. IsPlace turned e.target) (λ e. IsPlace turned e.target × (suc (to e.target) ≡ number e.target)) (λ e t. (t, number_is e.target t)) (record_at turned w.old).ends (whole_turned.there w.old (there_too w.old w.there)))
       ∙ link_up off turned (number_of l) (record_at turned w.old))
 

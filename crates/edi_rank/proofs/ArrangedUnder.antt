@@ -26,7 +26,7 @@ use Rattle.edi_rank.specs.Laws.{IsPlanUnder}
 use Rattle.edi_rank.specs.Same.{OneToOne, moved, has_turned_arc, class_after, directed, Carries}
 use Rattle.edi_rank.specs.Turned.{role_after}
 use Rattle.edi_rank.proofs.Arranging.{carries_arranged, From, came_from, new_places}
-use Rattle.edi_rank.proofs.KeysKept.{all_weaker, two_hold, count_by-map, counted_alike}
+use Rattle.edi_rank.proofs.KeysPreserved.{all_weaker, two_hold, count_by-map, counted_equal}
 use Rattle.edi_rank.proofs.SameLaws.{ends_moved, record_agrees}
 use Rattle.edi_rank.proofs.Sums.{sum_below-renamed}
 use Rattle.edi_rank.proofs.Unique.{all_places}
@@ -177,7 +177,7 @@ module _ (s : Classes) (p : Drawing) (l : Labelling) (labels : AreLabels s p l) 
             ∙ (ap (λ (r : PlanRecord). is_plain r.role) (sym (Rattle.edi_rank.proofs.Arranging.record_placed s p l labels k h)) ∙ kind) in
             let counts = sym (counts_from_permutation _ _ (moved_ends k h) (λ (e : PlanEnd). is_arc (record_at (arranged s l p) e.target).kind)) in
             let mapped = count_by-map (λ (e : PlanEnd). is_arc (record_at (arranged s l p) e.target).kind) (moved (new_place l p)) (record_at p k).ends in
-            let alike = counted_alike (λ (e : PlanEnd). IsPlace p e.target) (λ e. is_arc (record_at (arranged s l p) (new_place l p e.target)).kind) (λ e. is_arc (record_at p e.target).kind)
+            let alike = counted_equal (λ (e : PlanEnd). IsPlace p e.target) (λ e. is_arc (record_at (arranged s l p) (new_place l p e.target)).kind) (λ e. is_arc (record_at p e.target).kind)
             (λ e t. ap is_arc (kind_kept e.target t)) (record_at p k).ends (whole.there k h) in
             subst (λ n. n ≤ 1) (sym (counts ∙ (mapped ∙ alike))) (whole.one_arc k h before)
 

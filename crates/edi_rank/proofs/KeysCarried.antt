@@ -1,4 +1,4 @@
--- What carries one plan onto another keeps the keys, where it keeps the numbers of the layers below.
+-- What carries one plan onto another keeps the keys, where it preserves the numbers of the layers below.
 use Rattle.std.proofs.Common.{◌≡◌, ℕ, suc, ◌<◌, ◌⊎◌, inl, inr, Bool, true, false, true≢false, not, ◌&&◌, List, [], map, reverse, length, refl, sym, ap, ap₂, ◌∙◌, subst, arith}
 use Rattle.std.specs.List.{AllByRecursion}
 use Rattle.std.proofs.Math.Bool.{not-not}
@@ -18,7 +18,7 @@ use Rattle.edi_plan.specs.declared.record.PlanEnd.{PlanEnd}
 use Rattle.edi_topo.specs.Directions.{forward}
 use Rattle.edi_topo.specs.TopologyRules.BreaksTopologyRule.{equals_reverse}
 use Rattle.edi_topo.proofs.FirstArcRepeat.{one_direction}
-use Rattle.edi_rank.specs.KeyLaws.{IsNowhereBroken, IsKept}
+use Rattle.edi_rank.specs.KeyLaws.{IsNowhereBroken, IsPreserved}
 use Rattle.edi_rank.specs.Keys.{least_side, object_key}
 use Rattle.edi_rank.specs.Laws.{IsPlanUnder}
 use Rattle.edi_rank.specs.Layers.{forward_plan}
@@ -26,9 +26,9 @@ use Rattle.edi_rank.specs.Same.{OneToOne, has_turned_arc, directed, Carries}
 use Rattle.edi_rank.specs.Turned.{is_forward, is_backward, role_after, turned_record}
 use Rattle.edi_rank.proofs.Arranging.{backward_arc}
 use Rattle.edi_rank.proofs.FacesApart.{exchanged_back}
-use Rattle.edi_rank.proofs.Kept.{role_turned, plain_turned, plain_stays, role_carried}
-use Rattle.edi_rank.proofs.KeysKept.{Kept, kept_from, all_weaker, face_key_kept, object_key_kept}
-use Rattle.edi_rank.proofs.ObjectsKept.{class_kept, piece_class}
+use Rattle.edi_rank.proofs.Preserved.{role_turned, plain_turned, plain_stays, role_carried}
+use Rattle.edi_rank.proofs.KeysPreserved.{Kept, kept_from, all_weaker, face_key_preserved, object_key_preserved}
+use Rattle.edi_rank.proofs.ObjectsPreserved.{class_kept, piece_class}
 use Rattle.edi_rank.proofs.SameLaws.{carries_itself, differ, map_alike, passes_alike, any_differ, tested_before}
 use Rattle.edi_rank.proofs.Sided.{arc_is}
 use Rattle.edi_rank.proofs.TurnedRecords.{record_turned, turned_long, reverse_forward}
@@ -36,7 +36,7 @@ use Rattle.edi_rank.proofs.Unique.{all_places}
 
 -- arcs
 
-pub arc_carried : (s : Classes) (p q : Drawing) (to : ℕ → ℕ) (turned : ℕ → Bool) → Carries s to turned p q → IsKept p Par to (λ a. forward (record_at p a).points) (λ a. forward (record_at q a).points)
+pub arc_carried : (s : Classes) (p q : Drawing) (to : ℕ → ℕ) (turned : ℕ → Bool) → Carries s to turned p q → IsPreserved p Par to (λ a. forward (record_at p a).points) (λ a. forward (record_at q a).points)
 arc_carried s p q to turned c i h is = sym (one_direction (record_at p i).points (record_at q (to i)).points (either (turned i) (record_at p i).points (record_at q (to i)).points (c.each i h).points))
   where
     either : (t : Bool) (xs ys : List Point) → ys ≡ directed t xs → (ys ≡ xs) ⊎ (ys ≡ reverse xs)
@@ -127,17 +127,17 @@ module _ (s : Classes) (p q : Drawing) (under : IsPlanUnder s p) (under' : IsPla
       let h = before i l in
       ap (λ (r : PlanRecord). r.role) (after q (to i) (c.places.within i h)) ∙ (role_forward i h ∙ sym (ap (λ (r : PlanRecord). r.role) (after p i h)))
 
-  pub face_carried : (number number' : ℕ → ℕ) → IsKept p Par to number number' → IsKept p Pfe to (least_side (forward_plan p) number) (least_side (forward_plan q) number')
+  pub face_carried : (number number' : ℕ → ℕ) → IsPreserved p Par to number number' → IsPreserved p Pfe to (least_side (forward_plan p) number) (least_side (forward_plan q) number')
   face_carried number number' numbers x h is =
-      ap first_of (face_key_kept (forward_plan p) (forward_plan q) ends_there to places kept number number' roles
+      ap first_of (face_key_preserved (forward_plan p) (forward_plan q) ends_there to places kept number number' roles
       (λ t l arc. numbers t (before t l) (arc_is (record_at p t).kind (sym (ap (λ (r : PlanRecord). is_arc r.kind) (after p t (before t l))) ∙ arc))) x (omega (arith, h, long p)))
 
 -- objects
 
 pub object_carried : (s : Classes) (p q : Drawing) → IsWhole p → IsJoined p → (to : ℕ → ℕ) (turned : ℕ → Bool) → Carries s to turned p q
-    → (number number' : ℕ → ℕ) → IsKept p Pno to number number' → IsKept p Par to number number' → IsKept p Pfe to number number' → IsKept p Fea to (object_key p number) (object_key q number')
+    → (number number' : ℕ → ℕ) → IsPreserved p Pno to number number' → IsPreserved p Par to number number' → IsPreserved p Pfe to number number' → IsPreserved p Fea to (object_key p number) (object_key q number')
 object_carried s p q whole joined to turned c number number' nodes arcs faces m h is =
-    object_key_kept p q whole to c.places (λ i l. kept_from s to turned i (record_at p i) (record_at q (to i)) (c.each i l)) number number' (λ t l. below t l (record_at p t).kind refl) m h (ap is_object is)
+    object_key_preserved p q whole to c.places (λ i l. kept_from s to turned i (record_at p i) (record_at q (to i)) (c.each i l)) number number' (λ t l. below t l (record_at p t).kind refl) m h (ap is_object is)
     (class_kept s p q whole joined to turned c m h is) (λ i l piece. piece_class s p q whole joined to turned c m i l is piece)
   where
     below : (t : ℕ) → IsPlace p t → (kind : Kind) → (record_at p t).kind ≡ kind → kind_rank kind < 3 → number' (to t) ≡ number t

@@ -31,13 +31,13 @@ use Rattle.edi_rank.specs.Labelling.{Labelling, AreLabels, NumbersEach, number_o
 use Rattle.edi_topo.specs.Arcs.{forward_keys, IsForwardRanking}
 use Rattle.edi_topo.specs.Directions.{forward}
 use Rattle.edi_topo.proofs.FirstArcRepeat.{key_is}
-use Rattle.edi_rank.specs.Layers.{face_keys, no_side, ranked, IsFaceRanking, IsLinkRanking, LinkSource, turned_link_key, placed_link_key, placed_link_cmp}
+use Rattle.edi_rank.specs.Layers.{face_keys, no_side, ranked}
+use Rattle.edi_rank.specs.inner.Layers.{IsFaceRanking, IsLinkRanking, LinkSource, turned_link_key, placed_link_key, placed_link_cmp}
 use Rattle.edi_rank.specs.Same.{class_after, directed}
 use Rattle.edi_rank.specs.Turned.{is_forward, is_backward, turned_record}
 use Rattle.edi_rank.proofs.ArrangedOrder.{no_ends}
-use Rattle.edi_rank.proofs.FaceKeys.{least_alike}
 use Rattle.edi_rank.proofs.FacesApart.{least_is}
-use Rattle.edi_rank.proofs.KeysKept.{all_weaker, two_hold}
+use Rattle.edi_rank.proofs.KeysPreserved.{all_weaker, two_hold}
 use Rattle.edi_rank.proofs.LinksApart.{placed_total}
 use Rattle.edi_rank.proofs.OthersSorted.{in_order_alike, rest_hold}
 use Rattle.edi_rank.proofs.TurnedRecords.{record_turned, turned_place}
@@ -45,7 +45,7 @@ use Rattle.edi_rank.proofs.Orders.{face_key_total}
 use Rattle.edi_rank.proofs.RankedApart.{place_of_member}
 use Rattle.edi_rank.proofs.Rankings.{ranks_each, keys_rise}
 use Rattle.edi_rank.proofs.SameLaws.{map_alike}
-use Rattle.edi_rank.proofs.Sided.{arc_is}
+use Rattle.edi_rank.proofs.Sided.{arc_is, least_equal}
 
 -- the numbers of the members of a kind, and their places by number
 pub record KindLabels (p : Drawing) (kind : Kind) (ranks order : List ℕ) : Type 0 where
@@ -207,7 +207,7 @@ module _ (s : Classes) (p : Drawing) (whole : IsWhole p) (joined : IsJoined p) (
   face_stays k h is =
       let m = member Pfe k h is in
       let arcs = kinds Par in
-      least_alike p whole (partner_of s) (λ c. c) (turned_at l.turned) (is_backward p) directions (λ j g. refl) (number_of l) (ranked p [] r.arcs []) (λ j g e.
+      least_equal p whole joined (partner_of s) (λ c. c) (turned_at l.turned) (is_backward p) directions (λ j g. refl) (number_of l) (ranked p [] r.arcs []) (λ j g e.
       let par = arc_is (record_at p j).kind e in
       number_is Par j g par ∙ sym (ap (λ kind. Rattle.edi_rank.specs.Layers.number_by [] r.arcs [] kind (member_of p j)) par)) k
       ∙ (ap (least_side (Rattle.edi_rank.specs.Layers.forward_plan p) (ranked p [] r.arcs [])) (sym m.1) ∙ least_is p whole joined r.arcs arcs.each arcs.ranks_long sound (member_of p k) m.0)

@@ -2,9 +2,9 @@ pub mod SameLaws
 pub mod Sums
 pub mod Gathered
 pub mod Orders
-pub mod KeysKept
+pub mod KeysPreserved
 pub mod Unique
-pub mod Kept
+pub mod Preserved
 pub mod UpTo
 pub mod Owners
 pub mod ObjectTies
@@ -16,9 +16,9 @@ pub mod LinksApart
 pub mod FacesApart
 pub mod Rankings
 pub mod OthersSorted
-pub mod FaceKeys
 pub mod KindNumbers
 pub mod LeastSides
+pub mod SidesTaken
 pub mod Sided
 pub mod KeyOrders
 pub mod Along
@@ -26,7 +26,7 @@ pub mod TurnedRecords
 pub mod Arranging
 pub mod ArrangedUnder
 pub mod ArrangedOrder
-pub mod ObjectsKept
+pub mod ObjectsPreserved
 pub mod ObjectKeys
 pub mod Renumbered
 pub mod ArrangedRises

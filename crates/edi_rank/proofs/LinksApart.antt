@@ -9,7 +9,7 @@ use Rattle.edi_plan.specs.Places.{places_of}
 use Rattle.edi_plan.proofs.Orders.{then_tied}
 use Rattle.edi_plan.proofs.PlaceLemmas.{places_rise}
 use Rattle.edi_topo.specs.Ranking.{Ties}
-use Rattle.edi_rank.specs.Layers.{LinkSource, placed_link_key, placed_link_cmp}
+use Rattle.edi_rank.specs.inner.Layers.{LinkSource, placed_link_key, placed_link_cmp}
 use Rattle.edi_rank.specs.inner.PlacedLinks.{placed_cmp}
 use Rattle.edi_rank.specs.declared.keys.LinkKey.{LinkKey}
 use Rattle.edi_rank.proofs.KeyOrders.{link_order}

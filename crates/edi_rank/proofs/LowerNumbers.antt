@@ -11,7 +11,8 @@ use Rattle.edi_topo.specs.Arcs.{forward_keys, IsForwardRanking}
 use Rattle.edi_topo.proofs.NodeOrders.{node_key_total}
 use Rattle.edi_rank.specs.Keys.{face_key_cmp}
 use Rattle.edi_rank.specs.Laws.{TellsApart}
-use Rattle.edi_rank.specs.Layers.{face_keys, no_side, number_by, ranked, IsFaceRanking}
+use Rattle.edi_rank.specs.Layers.{face_keys, no_side, number_by, ranked}
+use Rattle.edi_rank.specs.inner.Layers.{IsFaceRanking}
 use Rattle.edi_rank.proofs.Orders.{face_key_total}
 use Rattle.edi_rank.proofs.RankedApart.{ranked_apart}
 use Rattle.edi_rank.proofs.Rankings.{ranks_each}

@@ -1,11 +1,12 @@
--- The keys of two objects are equal exactly if the objects are alike.
+-- The keys of two objects are equal exactly if the objects are equal.
 use Rattle.std.proofs.Common.{◌≡◌, ℕ, ◌+◌, ◌-◌, ◌<◌, Bool, true, false, cond, true≢false, ◌==◌, nat_eq, List, [], ◌∷◌, map, filter_map, Option, Some, None, option_map, refl, sym, ap, ap₂, ◌∙◌, subst, arith, IsPermutation, count_by, eqb-true, Ordering}
 use Rattle.std.specs.Cmp.{IsTotalOrder}
 use Rattle.std.specs.List.{AllByRecursion, AllZip, list_any, slice_get}
 use Rattle.std.proofs.lemmas.List.Sorted.{IsPermutation-refl, IsPermutation-sym, IsPermutation-trans, IsPermutation-map}
 use Rattle.edi_record.specs.declared.record.Kind.{Kind}
 use Rattle.edi_record.specs.declared.record.Kind.TheVariants.{Pno, Par, Pfe, Fea, Lnk}
-use Rattle.edi_schema.specs.Sorted.{SameCounts, sort_by}
+use Rattle.edi_schema.specs.Sorted.{sort_by}
+use Rattle.edi_schema.specs.inner.Sorted.{SameCounts}
 use Rattle.edi_schema.proofs.SortedLists.{sort_by-same, IsPermutation-sort_by, counts_from_permutation, count_by-cons}
 use Rattle.edi_plan.specs.Orders.{attribute_cmp}
 use Rattle.edi_plan.specs.Plans.{Drawing, IsPlace, record_at, blank, kind_rank, is_object, is_link, first_of, rest_of}
@@ -13,7 +14,7 @@ use Rattle.edi_plan.specs.Whole.{IsWhole}
 use Rattle.edi_plan.specs.declared.record.PlanRecord.{PlanRecord}
 use Rattle.edi_plan.specs.declared.record.PlanEnd.{PlanEnd}
 use Rattle.edi_plan.proofs.Orders.{attribute_total, attribute_exact}
-use Rattle.edi_rank.specs.Alike.{Mark, mark, Piece, piece, pieces, SamePiece, SameUpTo, AreAlike}
+use Rattle.edi_rank.specs.EqualObjects.{Mark, mark, Piece, piece, pieces, SamePiece, SameUpTo, AreEqualObjects}
 use Rattle.edi_rank.specs.Keys.{end_cmp, link_key_cmp, numbered, ends_key, link_key, is_piece, marked, piece_by, object_key}
 use Rattle.edi_schema.specs.Classes.{Classes}
 use Rattle.edi_rank.specs.Labelling.{Labelling, AreLabels, order_of, number_of}
@@ -22,8 +23,8 @@ use Rattle.edi_rank.specs.declared.keys.NumberedEnd.{NumberedEnd}
 use Rattle.edi_rank.specs.declared.keys.LinkKey.{LinkKey}
 use Rattle.edi_rank.specs.declared.keys.ObjectKey.{ObjectKey}
 use Rattle.edi_rank.proofs.ArrangedUnder.{all_along, all_mapped}
-use Rattle.edi_rank.proofs.KeysKept.{all_weaker, two_hold}
-use Rattle.edi_rank.proofs.ObjectsKept.{all_three}
+use Rattle.edi_rank.proofs.KeysPreserved.{all_weaker, two_hold}
+use Rattle.edi_rank.proofs.ObjectsPreserved.{all_three}
 use Rattle.edi_rank.proofs.Orders.{end_total, end_exact, link_key_total, link_key_exact}
 use Rattle.edi_rank.proofs.Unique.{all_places}
 use Rattle.edi_rank.proofs.UpTo.{zip_moved}
@@ -46,12 +47,12 @@ zip_own : {X Y : Type 0} (f : X → Y) (xs : List X) → AllZip (λ y x. y ≡ f
 zip_own f [] = tt
 zip_own f (x ∷ xs) = (refl, zip_own f xs)
 
-zip_told : {X Y : Type 0} (f : X → Y) (P : X → Type 0) (R : X → X → Type 0) → ((x y : X) → P x → P y → f x ≡ f y → R x y) → (xs ys : List X) → AllByRecursion P xs → AllByRecursion P ys
+zip_known : {X Y : Type 0} (f : X → Y) (P : X → Type 0) (R : X → X → Type 0) → ((x y : X) → P x → P y → f x ≡ f y → R x y) → (xs ys : List X) → AllByRecursion P xs → AllByRecursion P ys
     → AllZip (λ y x. y ≡ f x) (map f xs) ys → AllZip R xs ys
-zip_told f P R told [] [] all all' h = tt
-zip_told f P R told [] (y ∷ ys) all all' h = absurd h
-zip_told f P R told (x ∷ xs) [] all all' h = absurd h
-zip_told f P R told (x ∷ xs) (y ∷ ys) all all' h = (told x y all.0 all'.0 h.0, zip_told f P R told xs ys all.1 all'.1 h.1)
+zip_known f P R key [] [] all all' h = tt
+zip_known f P R key [] (y ∷ ys) all all' h = absurd h
+zip_known f P R key (x ∷ xs) [] all all' h = absurd h
+zip_known f P R key (x ∷ xs) (y ∷ ys) all all' h = (key x y all.0 all'.0 h.0, zip_known f P R key xs ys all.1 all'.1 h.1)
 
 zip_one : {X : Type 0} (xs ys : List X) → AllZip (λ x y. x ≡ y) xs ys → xs ≡ ys
 zip_one [] [] h = refl
@@ -60,16 +61,16 @@ zip_one (x ∷ xs) [] h = absurd h
 zip_one (x ∷ xs) (y ∷ ys) h = ap₂ ◌∷◌ h.0 (zip_one xs ys h.1)
 
 -- what f tells apart goes back from the order of what f makes
-told_up_to : {X Y : Type 0} (f : X → Y) (P : X → Type 0) (R : X → X → Type 0) → ((x y : X) → P x → P y → f x ≡ f y → R x y) → (xs ys : List X) → AllByRecursion P xs → AllByRecursion P ys
+known_up_to : {X Y : Type 0} (f : X → Y) (P : X → Type 0) (R : X → X → Type 0) → ((x y : X) → P x → P y → f x ≡ f y → R x y) → (xs ys : List X) → AllByRecursion P xs → AllByRecursion P ys
     → IsPermutation (map f ys) (map f xs) → SameUpTo R xs ys
-told_up_to {X} {Y} f P R told xs ys all all' same =
+known_up_to {X} {Y} f P R key xs ys all all' same =
     let w = zip_moved (λ (y : Y) (x : X). y ≡ f x) (map f ys) (map f xs) ys same (zip_own f ys) in
-    (w.0, w.1, zip_told f P R told xs w.0 all (all_along P ys w.0 w.1 all') w.2)
+    (w.0, w.1, zip_known f P R key xs w.0 all (all_along P ys w.0 w.1 all') w.2)
 
 permuted_back : {X Y : Type 0} (f : X → Y) (P : X → Type 0) → ((x y : X) → P x → P y → f x ≡ f y → x ≡ y) → (xs ys : List X) → AllByRecursion P xs → AllByRecursion P ys
     → IsPermutation (map f xs) (map f ys) → IsPermutation xs ys
 permuted_back f P one xs ys all all' same =
-    let w = told_up_to f P (λ x y. x ≡ y) one ys xs all' all same in
+    let w = known_up_to f P (λ x y. x ≡ y) one ys xs all' all same in
     subst (IsPermutation xs) (sym (zip_one ys w.0 w.2)) w.1
 
 sorted_back : {X : Type 0} (cmp : X → X → Ordering) → IsTotalOrder cmp → (xs ys : List X) → sort_by cmp xs ≡ sort_by cmp ys → IsPermutation xs ys
@@ -187,8 +188,8 @@ module _ (p : Drawing) (number : ℕ → ℕ) where
       let e = h.extras in
       λ i. record { class = c i; ends = x i; attributes = t i; extras = e i }
 
-  pub alike_one_key : (m n : ℕ) → AreAlike p m n → object_key p number m ≡ object_key p number n
-  alike_one_key m n a =
+  pub equal_one_key : (m n : ℕ) → AreEqualObjects p m n → object_key p number m ≡ object_key p number n
+  equal_one_key m n a =
       let c = a.class in
       let t = sort_by-same attribute_cmp attribute_total attribute_exact (record_at p m).attributes (record_at p n).attributes (counts_from_permutation _ _ a.attributes) in
       let e = a.extras in
@@ -228,18 +229,18 @@ module _ (p : Drawing) (number : ℕ → ℕ) where
         let w = ap (λ (k : NumberedEnd). k.sns) e in
         λ i. record { target = t i; sns = w i }
 
-    ends_told : (x y : Option Mark) (ms ns : List Mark) → IsOrigin x ms → IsOrigin y ns → AllByRecursion Known ms → AllByRecursion Known ns → piece_ends x ms ≡ piece_ends y ns → (x ≡ y) × IsPermutation ms ns
-    ends_told None None ms ns h g all all' e = (refl, subst (IsPermutation ms) (h ∙ sym g) (IsPermutation-refl ms))
-    ends_told None (Some y) ms ns h g all all' e = cc
-    ends_told (Some x) None ms ns h g all all' e = cc
-    ends_told (Some x) (Some y) ms ns h g all all' e =
+    ends_answered : (x y : Option Mark) (ms ns : List Mark) → IsOrigin x ms → IsOrigin y ns → AllByRecursion Known ms → AllByRecursion Known ns → piece_ends x ms ≡ piece_ends y ns → (x ≡ y) × IsPermutation ms ns
+    ends_answered None None ms ns h g all all' e = (refl, subst (IsPermutation ms) (h ∙ sym g) (IsPermutation-refl ms))
+    ends_answered None (Some y) ms ns h g all all' e = cc
+    ends_answered (Some x) None ms ns h g all all' e = cc
+    ends_answered (Some x) (Some y) ms ns h g all all' e =
         let first : mark_key x ≡ mark_key y = cc in
         let rest : sort_by end_cmp (map mark_key ms) ≡ sort_by end_cmp (map mark_key ns) = cc in
         (ap Some (one_mark x y h g first), permuted_back mark_key Known one_mark ms ns all all' (sorted_back end_cmp end_total (map mark_key ms) (map mark_key ns) rest))
 
-    piece_told : (a b : Piece) → KnownPiece a → KnownPiece b → piece_key a ≡ piece_key b → SamePiece a b
-    piece_told a b h g e =
-        let ends = ends_told a.origin b.origin a.others b.others h.0 g.0 h.1 g.1 (ap (λ (k : LinkKey). k.ends) e) in
+    piece_known : (a b : Piece) → KnownPiece a → KnownPiece b → piece_key a ≡ piece_key b → SamePiece a b
+    piece_known a b h g e =
+        let ends = ends_answered a.origin b.origin a.others b.others h.0 g.0 h.1 g.1 (ap (λ (k : LinkKey). k.ends) e) in
         record {
           class = ap (λ (k : LinkKey). k.class) e;
           origin = ends.0;
@@ -281,8 +282,8 @@ module _ (p : Drawing) (number : ℕ → ℕ) where
       pieces_known : AllByRecursion KnownPiece (pieces p o)
       pieces_known = passing_known p.list (all_places (λ r. is_piece p o r ≡ true → KnownPiece (piece o r)) p.list blank record_known)
 
-    pub one_key_alike : (m n : ℕ) → IsPlace p m → IsPlace p n → (record_at p m).kind ≡ Fea → (record_at p n).kind ≡ Fea → object_key p number m ≡ object_key p number n → AreAlike p m n
-    one_key_alike m n first second object object' e =
+    pub one_key_equal : (m n : ℕ) → IsPlace p m → IsPlace p n → (record_at p m).kind ≡ Fea → (record_at p n).kind ≡ Fea → object_key p number m ≡ object_key p number n → AreEqualObjects p m n
+    one_key_equal m n first second object object' e =
         let keys : sort_by link_key_cmp (map piece_key (pieces p n)) ≡ sort_by link_key_cmp (map piece_key (pieces p m)) =
         ap (sort_by link_key_cmp) (sym (pieces_keyed n object' p.list)) ∙ (sym (ap (λ (k : ObjectKey). k.pieces) e) ∙ ap (sort_by link_key_cmp) (pieces_keyed m object p.list)) in
         record {
@@ -293,7 +294,7 @@ module _ (p : Drawing) (number : ℕ → ℕ) where
           class = ap (λ (k : ObjectKey). k.class) e;
           attributes = sorted_back attribute_cmp attribute_total (record_at p m).attributes (record_at p n).attributes (ap (λ (k : ObjectKey). k.attributes) e);
           extras = ap (λ (k : ObjectKey). k.extras) e;
-          pieces = told_up_to piece_key KnownPiece SamePiece piece_told (pieces p m) (pieces p n) (pieces_known m object) (pieces_known n object')
+          pieces = known_up_to piece_key KnownPiece SamePiece piece_known (pieces p m) (pieces p n) (pieces_known m object) (pieces_known n object')
               (sorted_back link_key_cmp link_key_total (map piece_key (pieces p n)) (map piece_key (pieces p m)) keys);
         }
 

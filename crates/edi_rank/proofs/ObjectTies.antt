@@ -13,12 +13,12 @@ use Rattle.edi_plan.specs.Whole.{IsWhole}
 use Rattle.edi_plan.proofs.Orders.{first_tied, then_tied, exact_lists, attribute_exact, extra_exact}
 use Rattle.edi_plan.proofs.PlaceLemmas.{place_there, place_of_kind, places_rise, has_place}
 use Rattle.edi_topo.specs.Ranking.{Ties}
-use Rattle.edi_rank.specs.Alike.{AreAlike, BreaksObjectRule}
-use Rattle.edi_rank.specs.Alike.BreaksObjectRule.{repeats_object}
+use Rattle.edi_rank.specs.EqualObjects.{AreEqualObjects, BreaksObjectRule}
+use Rattle.edi_rank.specs.EqualObjects.BreaksObjectRule.{repeats_object}
 use Rattle.edi_rank.specs.Keys.{link_key_cmp, object_key, object_key_cmp}
 use Rattle.edi_rank.specs.Laws.{TellsApart}
 use Rattle.edi_rank.specs.declared.keys.ObjectKey.{ObjectKey}
-use Rattle.edi_rank.proofs.ObjectKeys.{alike_one_key, one_key_alike}
+use Rattle.edi_rank.proofs.ObjectKeys.{equal_one_key, one_key_equal}
 use Rattle.edi_rank.proofs.Orders.{link_key_exact, object_key_total}
 
 pub object_key_exact : CmpEqualImpliesEq object_key_cmp
@@ -41,17 +41,17 @@ module _ (p : Drawing) (whole : IsWhole p) (number : ℕ → ℕ) (apart : Tells
   abbrev pub Tied : ℕ → Type 0
   Tied m = Ties object_key_cmp object_key_of (length (places_of Fea p)) m
 
-  alike_there : (m n : ℕ) → m < length (places_of Fea p) → n < length (places_of Fea p) → object_key_cmp (object_key_of m) (object_key_of n) ≡ Equal → AreAlike p (object_place m) (object_place n)
-  alike_there m n h l tie = one_key_alike p number whole apart (object_place m) (object_place n) (place_there Fea p m h) (place_there Fea p n l) (place_of_kind Fea p m h) (place_of_kind Fea p n l)
+  equal_there : (m n : ℕ) → m < length (places_of Fea p) → n < length (places_of Fea p) → object_key_cmp (object_key_of m) (object_key_of n) ≡ Equal → AreEqualObjects p (object_place m) (object_place n)
+  equal_there m n h l tie = one_key_equal p number whole apart (object_place m) (object_place n) (place_there Fea p m h) (place_there Fea p n l) (place_of_kind Fea p m h) (place_of_kind Fea p n l)
       (object_key_exact (object_key_of m) (object_key_of n) tie)
 
-  -- the member of an object that is alike an earlier one
-  tying_member : (m n : ℕ) → m < n → AreAlike p m n → (i : ℕ) × Tied i × (object_place i ≡ n)
+  -- the member of an object that is equal to an earlier one
+  tying_member : (m n : ℕ) → m < n → AreEqualObjects p m n → (i : ℕ) × Tied i × (object_place i ≡ n)
   tying_member m n less d =
       let a = has_place Fea p m d.first d.first_object in
       let b = has_place Fea p n d.second d.second_object in
       let before : a.0 < b.0 = earlier a.0 b.0 a.1 b.1 (omega (arith, a.2, b.2, less)) (cases_order a.0 b.0) in
-      let keys : object_key_of a.0 ≡ object_key_of b.0 = ap (object_key p number) a.2 ∙ (alike_one_key p number m n d ∙ ap (object_key p number) (sym b.2)) in
+      let keys : object_key_of a.0 ≡ object_key_of b.0 = ap (object_key p number) a.2 ∙ (equal_one_key p number m n d ∙ ap (object_key p number) (sym b.2)) in
       (b.0, ((b.1, (a.0, before, subst (λ k. object_key_cmp (object_key_of a.0) k ≡ Equal) keys (tied_itself object_key_total (object_key_of a.0))))), b.2)
     where
       earlier : (i j : ℕ) → i < length (places_of Fea p) → j < length (places_of Fea p) → object_place i < object_place j → (i ≡ j) ⊎ ((i < j) ⊎ (j < i)) → i < j
@@ -59,12 +59,12 @@ module _ (p : Drawing) (whole : IsWhole p) (number : ℕ → ℕ) (apart : Tells
       earlier i j h l less (inr (inl d)) = d
       earlier i j h l less (inr (inr d)) = absurd (omega (arith, less, places_rise Fea p j i d h))
 
-  pub none_alike : ((m : ℕ) → ¬ (Tied m)) → IsUnbroken (BreaksObjectRule p)
-  none_alike none rule at (repeats_object {m} {n} e f less d) = let t = tying_member m n less d in none t.0 t.1
+  pub none_equal : ((m : ℕ) → ¬ (Tied m)) → IsUnbroken (BreaksObjectRule p)
+  none_equal none rule at (repeats_object {m} {n} e f less d) = let t = tying_member m n less d in none t.0 t.1
 
-  pub least_alike_object : (m : ℕ) → Tied m → ((n : ℕ) → Tied n → m ≤ n) → IsLeastBroken (BreaksObjectRule p) 501 (suc (object_place m))
-  least_alike_object m tie least = record {
-    is = repeats_object {m = object_place tie.1.0} {n = object_place m} refl refl (places_rise Fea p tie.1.0 m tie.1.1 tie.0) (alike_there tie.1.0 m (omega (arith, tie.0, tie.1.1)) tie.0 tie.1.2);
+  pub least_equal_object : (m : ℕ) → Tied m → ((n : ℕ) → Tied n → m ≤ n) → IsLeastBroken (BreaksObjectRule p) 501 (suc (object_place m))
+  least_equal_object m tie least = record {
+    is = repeats_object {m = object_place tie.1.0} {n = object_place m} refl refl (places_rise Fea p tie.1.0 m tie.1.1 tie.0) (equal_there tie.1.0 m (omega (arith, tie.0, tie.1.1)) tie.0 tie.1.2);
     least = later;
   }
     where

@@ -10,7 +10,7 @@ use Rattle.edi_plan.specs.declared.record.PlanRecord.{PlanRecord}
 use Rattle.edi_rank.specs.InOrder.{Both}
 use Rattle.edi_rank.specs.Keys.{object_key, object_key_cmp}
 use Rattle.edi_rank.specs.Labelling.{Labelling, number_of, turned_at, turned_by}
-use Rattle.edi_rank.specs.Pieces.{IsObjectRanking}
+use Rattle.edi_rank.specs.inner.Pieces.{IsObjectRanking}
 use Rattle.edi_rank.proofs.LabelsMade.{KindLabels, member_there}
 use Rattle.edi_rank.proofs.ObjectsTurned.{object_stays}
 use Rattle.edi_rank.proofs.Orders.{object_key_total}

@@ -16,10 +16,10 @@ use Rattle.edi_rank.specs.Keys.{end_cmp, numbered, ends_key, link_key, link_key_
 use Rattle.edi_rank.specs.Labelling.{Labelling, turned_at, turned_by}
 use Rattle.edi_rank.specs.Same.{class_after}
 use Rattle.edi_rank.specs.Turned.{turned_record}
-use Rattle.edi_rank.proofs.FaceKeys.{gathered_same}
-use Rattle.edi_rank.proofs.KeysKept.{all_weaker, two_hold, counted_alike}
+use Rattle.edi_rank.proofs.Gathered.{gathered_same}
+use Rattle.edi_rank.proofs.KeysPreserved.{all_weaker, two_hold, counted_equal}
 use Rattle.edi_rank.proofs.ObjectKeys.{only_own}
-use Rattle.edi_rank.proofs.ObjectsKept.{all_three, link_then, no_object_beside}
+use Rattle.edi_rank.proofs.ObjectsPreserved.{all_three, link_then, no_object_beside}
 use Rattle.edi_rank.proofs.SameLaws.{map_alike}
 use Rattle.edi_rank.proofs.TurnedRecords.{record_turned, turned_long}
 
@@ -41,7 +41,7 @@ module _ (s : Classes) (p : Drawing) (whole : IsWhole p) (joined : IsJoined p) (
   object_end q e = is_object (record_at q e.target).kind
 
   count_stays : (k : ℕ) → IsPlace p k → count_by (object_end made) (record_at p k).ends ≡ count_by (object_end p) (record_at p k).ends
-  count_stays k h = counted_alike (λ (e : PlanEnd). IsPlace p e.target) (object_end made) (object_end p) (λ e t. ap is_object (kind_made e.target t)) (record_at p k).ends (whole.there k h)
+  count_stays k h = counted_equal (λ (e : PlanEnd). IsPlace p e.target) (object_end made) (object_end p) (λ e t. ap is_object (kind_made e.target t)) (record_at p k).ends (whole.there k h)
 
   -- a link of one of the four kinds has no object among its ends
   none_joined : (a x : ℕ) (ends : List PlanEnd) → is_object (record_at p a).kind ≡ false → is_object (record_at p x).kind ≡ false → map (λ (e : PlanEnd). e.target) ends ≡ a ∷ x ∷ [] → count_by (object_end p) ends ≡ 0
@@ -76,25 +76,25 @@ module _ (s : Classes) (p : Drawing) (whole : IsWhole p) (joined : IsJoined p) (
       go false e = absurd (none (joined.joins k (record { there = h; is_link = link; not_plain = e })))
 
   module _ (o : ℕ) (object : (record_at p o).kind ≡ Fea) where
-    abbrev Told : PlanEnd → Type 0
-    Told e = IsPlace p e.target × (is_link (record_at p e.target).kind ≡ false) × (nat_eq e.target o ≡ false → is_object (record_at p e.target).kind ≡ false)
+    abbrev Known : PlanEnd → Type 0
+    Known e = IsPlace p e.target × (is_link (record_at p e.target).kind ≡ false) × (nat_eq e.target o ≡ false → is_object (record_at p e.target).kind ≡ false)
 
-    end_stays : (e : PlanEnd) → Told e → numbered made (marked number o) e ≡ numbered p (marked was o) e
+    end_stays : (e : PlanEnd) → Known e → numbered made (marked number o) e ≡ numbered p (marked was o) e
     end_stays e h = ap₂ (λ kind n. record { kind = kind; number = n; sns = e.sns }) (kind_made e.target h.0) (go (nat_eq e.target o) refl)
       where
         go : (b : Bool) → nat_eq e.target o ≡ b → cond b 0 (number e.target) ≡ cond b 0 (was e.target)
         go true f = refl
         go false f = same e.target h.0 h.1 (h.2 f)
 
-    ends_stay : (ends : List PlanEnd) → AllByRecursion Told ends → ends_key made (marked number o) ends ≡ ends_key p (marked was o) ends
+    ends_stay : (ends : List PlanEnd) → AllByRecursion Known ends → ends_key made (marked number o) ends ≡ ends_key p (marked was o) ends
     ends_stay [] all = refl
-    ends_stay (e ∷ ends) all = ap₂ ◌∷◌ (end_stays e all.0) (ap (sort_by end_cmp) (map_alike Told (numbered made (marked number o)) (numbered p (marked was o)) end_stays ends all.1))
+    ends_stay (e ∷ ends) all = ap₂ ◌∷◌ (end_stays e all.0) (ap (sort_by end_cmp) (map_alike Known (numbered made (marked number o)) (numbered p (marked was o)) end_stays ends all.1))
 
-    ends_told : (k : ℕ) → IsPlace p k → count_by (object_end p) (record_at p k).ends ≡ 1 → list_any (λ e. nat_eq e.target o) (record_at p k).ends ≡ true → AllByRecursion Told (record_at p k).ends
-    ends_told k h one own =
+    ends_answered : (k : ℕ) → IsPlace p k → count_by (object_end p) (record_at p k).ends ≡ 1 → list_any (λ e. nat_eq e.target o) (record_at p k).ends ≡ true → AllByRecursion Known (record_at p k).ends
+    ends_answered k h one own =
         let xs = (record_at p k).ends in
         let others = only_own (object_end p) (λ e. nat_eq e.target o) (λ e f. ap (λ j. is_object (record_at p j).kind) (eqb-true e.target o f) ∙ ap is_object object) xs one own in
-        all_weaker (λ e. IsPlace p e.target × ((is_link (record_at p e.target).kind ≡ false) × (nat_eq e.target o ≡ false → is_object (record_at p e.target).kind ≡ false))) Told (λ e f. (f.0, f.1.0, f.1.1)) xs
+        all_weaker (λ e. IsPlace p e.target × ((is_link (record_at p e.target).kind ≡ false) × (nat_eq e.target o ≡ false → is_object (record_at p e.target).kind ≡ false))) Known (λ e f. (f.0, f.1.0, f.1.1)) xs
         (two_hold _ _ xs (whole.there k h) (two_hold _ _ xs (whole.no_link k h) others))
 
     key_stays : (k : ℕ) → IsPlace p k → is_piece p o (record_at p k) ≡ true → link_key made (marked number o) (turned_record (partner_of s) turned k (record_at p k)) ≡ link_key p (marked was o) (record_at p k)
@@ -104,7 +104,7 @@ module _ (s : Classes) (p : Drawing) (whole : IsWhole p) (joined : IsJoined p) (
         let one : count_by (object_end p) r.ends ≡ 1 = eqb-true _ _ parts.1 in
         let plain = piece_is_plain k h (link_then r.kind parts.0) one in
         let class : class_after (partner_of s) turned r ≡ r.class = ap (λ b. cond b r.class (cond (list_any (λ e. turned e.target) r.ends) (partner_of s r.class) r.class)) plain in
-        let ends = ends_stay r.ends (ends_told k h one parts.2) in
+        let ends = ends_stay r.ends (ends_answered k h one parts.2) in
         let key = link_key p (marked was o) r in
         λ i. record { class = class i; ends = ends i; attributes = key.attributes; extras = key.extras }
 

@@ -17,7 +17,7 @@ use Rattle.edi_schema.proofs.SortedLists.{count_by-cons, counts_from_permutation
 use Rattle.edi_plan.specs.Plans.{Drawing, record_at, kind_rank, is_object, rest_of}
 use Rattle.edi_plan.specs.declared.record.PlanEnd.{PlanEnd}
 use Rattle.edi_plan.proofs.PlaceLemmas.{one_kind}
-use Rattle.edi_topo.specs.Keyed.{keyed}
+use Rattle.edi_topo.specs.inner.Keyed.{keyed}
 use Rattle.edi_topo.proofs.KeyOrder.{AreMembers}
 use Rattle.edi_rank.specs.EndOrder.{GivesEach, PutsInOrder, ends_at, no_end}
 use Rattle.edi_rank.specs.Keys.{end_cmp, ends_key, numbered}
@@ -26,7 +26,7 @@ use Rattle.edi_rank.specs.contracts.keys.NumberedEndOrd.TheImpl.{ghosts as numbe
 use Rattle.edi_rank.specs.declared.keys.NumberedEnd.{NumberedEnd}
 use Rattle.edi_rank.proofs.ArrangedUnder.{all_along, all_mapped}
 use Rattle.edi_rank.proofs.KeyOrders.{end_order}
-use Rattle.edi_rank.proofs.KeysKept.{all_weaker}
+use Rattle.edi_rank.proofs.KeysPreserved.{all_weaker}
 use Rattle.edi_rank.proofs.Orders.{end_total, end_exact}
 use Rattle.edi_rank.proofs.Renumbered.{then_alike}
 use Rattle.edi_rank.proofs.SameLaws.{map_alike, map-map}

@@ -7,8 +7,9 @@ use Rattle.edi_plan.specs.Plans.{Drawing, IsPlace, record_at, is_object}
 use Rattle.edi_plan.specs.declared.record.PlanRecord.{PlanRecord}
 use Rattle.edi_plan.specs.declared.record.PlanEnd.{PlanEnd}
 use Rattle.edi_rank.specs.Keys.{is_piece}
-use Rattle.edi_rank.specs.Pieces.{is_owner, object_count}
-use Rattle.edi_rank.proofs.KeysKept.{all_weaker}
+use Rattle.edi_rank.specs.Pieces.{object_count}
+use Rattle.edi_rank.specs.inner.Pieces.{is_owner}
+use Rattle.edi_rank.proofs.KeysPreserved.{all_weaker}
 use Rattle.edi_rank.proofs.ObjectKeys.{only_own}
 
 nothing_found : {X : Type 0} (v : X → Bool) (xs : List X) → AllByRecursion (λ x. v x ≡ false) xs → list_any v xs ≡ true → ⊥

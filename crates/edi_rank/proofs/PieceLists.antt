@@ -9,9 +9,10 @@ use Rattle.edi_plan.specs.Plans.{Drawing, IsPlace, record_at, blank, is_object, 
 use Rattle.edi_plan.specs.declared.record.PlanRecord.{PlanRecord}
 use Rattle.edi_plan.specs.declared.record.PlanEnd.{PlanEnd}
 use Rattle.edi_rank.specs.Keys.{is_piece, marked, piece_by, link_key}
-use Rattle.edi_rank.specs.Pieces.{is_owner, object_count, pieces_from, piece_places}
+use Rattle.edi_rank.specs.Pieces.{object_count}
+use Rattle.edi_rank.specs.inner.Pieces.{is_owner, pieces_from, piece_places}
 use Rattle.edi_rank.specs.declared.keys.LinkKey.{LinkKey}
-use Rattle.edi_rank.proofs.KeysKept.{all_weaker}
+use Rattle.edi_rank.proofs.KeysPreserved.{all_weaker}
 
 drop_here : {X : Type 0} (xs : List X) (n : ℕ) (d : X) → n < length xs → drop n xs ≡ get_or xs n d ∷ drop (suc n) xs
 drop_here [] n d h = absurd (omega (arith, h))

@@ -22,7 +22,7 @@ use Rattle.edi_rank.specs.declared.keys.LinkKey.{LinkKey}
 use Rattle.edi_rank.specs.declared.keys.ObjectKey.{ObjectKey}
 use Rattle.edi_rank.specs.declared.keys.FaceKey.{FaceKey}
 use Rattle.edi_rank.proofs.ArrangedUnder.{all_mapped}
-use Rattle.edi_rank.proofs.KeysKept.{all_weaker}
+use Rattle.edi_rank.proofs.KeysPreserved.{all_weaker}
 use Rattle.edi_rank.proofs.SameLaws.{map-map}
 
 -- orders

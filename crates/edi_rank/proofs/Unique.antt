@@ -25,13 +25,13 @@ use Rattle.edi_rank.specs.declared.keys.LinkKey.{LinkKey}
 use Rattle.edi_rank.proofs.SameLaws.{none_passes, passes_alike, after_none, role_at}
 use Rattle.edi_rank.proofs.Sums.{sum_below-renamed}
 use Rattle.edi_schema.proofs.SortedLists.{counts_from_permutation, same_order, sort_by-in_order}
-use Rattle.edi_rank.proofs.Gathered.{gathered_alike}
+use Rattle.edi_rank.proofs.Gathered.{gathered_equal}
 use Rattle.edi_plan.proofs.Orders.{points_total, attribute_total, attribute_exact}
 use Rattle.edi_plan.proofs.PlaceLemmas.{one_kind}
 use Rattle.edi_topo.proofs.NodeOrders.{node_key_total}
 use Rattle.edi_rank.proofs.Orders.{end_total, end_exact, link_key_total, link_key_exact, face_options_total, object_key_total, not_both_less}
-use Rattle.edi_rank.proofs.Kept.{node_key_kept}
-use Rattle.edi_rank.proofs.KeysKept.{Kept, kept_from, link_key_kept, others_kept, face_key_kept, object_key_kept, all_weaker, two_hold}
+use Rattle.edi_rank.proofs.Preserved.{node_key_preserved}
+use Rattle.edi_rank.proofs.KeysPreserved.{Kept, kept_from, link_key_preserved, others_kept, face_key_preserved, object_key_preserved, all_weaker, two_hold}
 
 arc_rank : (k : Kind) → is_arc k ≡ true → kind_rank k ≡ 1
 arc_rank Pno h = absurd (true≢false (sym h))
@@ -137,12 +137,12 @@ keys_never_fall : (p : Drawing) (es : List PlanRecord) (d : PlanRecord)
 keys_never_fall p [] d up = tt
 keys_never_fall p (e ∷ es) d up =
     go (is_link e.kind) refl (keys_never_fall p es d (λ i k l h. up (suc i) (suc k) (omega arith) (omega arith)))
-    (λ link. kept_keys es (all_places (λ f. f.kind ≡ Lnk → is_gt (link_key_cmp (link_key p suc e) (link_key p suc f)) ≡ false) es d (λ i l. up 0 (suc i) (omega arith) (omega arith) link)))
+    (λ link. preserved_keys es (all_places (λ f. f.kind ≡ Lnk → is_gt (link_key_cmp (link_key p suc e) (link_key p suc f)) ≡ false) es d (λ i l. up 0 (suc i) (omega arith) (omega arith) link)))
   where
-    kept_keys : (es : List PlanRecord) → AllByRecursion (λ f. f.kind ≡ Lnk → is_gt (link_key_cmp (link_key p suc e) (link_key p suc f)) ≡ false) es
+    preserved_keys : (es : List PlanRecord) → AllByRecursion (λ f. f.kind ≡ Lnk → is_gt (link_key_cmp (link_key p suc e) (link_key p suc f)) ≡ false) es
         → AllByRecursion (λ k. is_gt (link_key_cmp (link_key p suc e) k) ≡ false) (filter_map (key_or_none p) es)
-    kept_keys [] all = tt
-    kept_keys (f ∷ fs) all = one (is_link f.kind) refl (kept_keys fs all.1)
+    preserved_keys [] all = tt
+    preserved_keys (f ∷ fs) all = one (is_link f.kind) refl (preserved_keys fs all.1)
       where
         one : (b : Bool) → is_link f.kind ≡ b → AllByRecursion (λ k. is_gt (link_key_cmp (link_key p suc e) k) ≡ false) (filter_map (key_or_none p) fs)
             → AllByRecursion (λ k. is_gt (link_key_cmp (link_key p suc e) k) ≡ false) (filter_map (key_or_none p) (f ∷ fs))
@@ -251,7 +251,7 @@ module _ (s : Classes) (p q : Drawing) (up : IsInOrder p) (up' : IsInOrder q) (u
           (subst (λ x. points_cmp x (record_at p i).points ≡ Less) (ap (λ j. (record_at q j).points) (sym e) ∙ points_kept k h) (subst (λ x. points_cmp (record_at q i).points x ≡ Less) (points_kept i here) l'))
 
       node_kept : (t : ℕ) → t < length p.list → kind_at t ≡ Pno → node_key (record_at q (to t)) ≡ node_key (record_at p t)
-      node_kept = node_key_kept s p q under.whole to turned c
+      node_kept = node_key_preserved s p q under.whole to turned c
 
       by_place : kind_at i ≡ Pno → node_key_cmp (node_key (record_at p i)) (node_key (record_at p k)) ≡ Less → node_key_cmp (node_key (record_at q i)) (node_key (record_at q (to i))) ≡ Less → ⊥
       by_place is l l' = not_both_less node_key_total (node_key (record_at p i)) (node_key (record_at p k)) l
@@ -262,14 +262,14 @@ module _ (s : Classes) (p q : Drawing) (up : IsInOrder p) (up' : IsInOrder q) (u
       go Par is = by_points (up.rise.arcs i k (both Par is)) (up'.rise.arcs i (to i) (both' Par is))
       go Pfe is =
           let arcs = λ (t : ℕ) (l : t < length p.list) (a : is_arc (kind_at t) ≡ true). lower_kept t l (omega (arith, arc_rank (kind_at t) a, ap kind_rank is)) in
-          let x : least_side q suc (to i) ≡ least_side p suc i = ap first_of (face_key_kept p q under.whole.there to c.places kept suc suc role_kept arcs i here) in
-          let y : least_side q suc i ≡ least_side p suc k = ap (least_side q suc) (sym e) ∙ ap first_of (face_key_kept p q under.whole.there to c.places kept suc suc role_kept arcs k h) in
+          let x : least_side q suc (to i) ≡ least_side p suc i = ap first_of (face_key_preserved p q under.whole.there to c.places kept suc suc role_kept arcs i here) in
+          let y : least_side q suc i ≡ least_side p suc k = ap (least_side q suc) (sym e) ∙ ap first_of (face_key_preserved p q under.whole.there to c.places kept suc suc role_kept arcs k h) in
           not_both_less face_options_total (least_side p suc i) (least_side p suc k) (up.rise.faces i k (both Pfe is))
           (subst (λ v. option_cmp face_key_cmp v (least_side p suc i) ≡ Less) y (subst (λ v. option_cmp face_key_cmp (least_side q suc i) v ≡ Less) x (up'.rise.faces i (to i) (both' Pfe is))))
       go Fea is =
           let below = λ (t : ℕ) (l : t < length p.list) (d : kind_rank (kind_at t) < 3). lower_kept t l (omega (arith, ap kind_rank is)) in
-          let x = object_key_kept p q under.whole to c.places kept suc suc below i here (ap is_object is) (class_kept i here) (λ j l piece. class_kept j l) in
-          let y = ap (object_key q suc) (sym e) ∙ object_key_kept p q under.whole to c.places kept suc suc below k h (ap is_object (alike ∙ is)) (class_kept k h) (λ j l piece. class_kept j l) in
+          let x = object_key_preserved p q under.whole to c.places kept suc suc below i here (ap is_object is) (class_kept i here) (λ j l piece. class_kept j l) in
+          let y = ap (object_key q suc) (sym e) ∙ object_key_preserved p q under.whole to c.places kept suc suc below k h (ap is_object (alike ∙ is)) (class_kept k h) (λ j l piece. class_kept j l) in
           not_both_less object_key_total (object_key p suc i) (object_key p suc k) (up.rise.objects i k (both Fea is))
           (subst (λ v. object_key_cmp v (object_key p suc i) ≡ Less) y (subst (λ v. object_key_cmp (object_key q suc i) v ≡ Less) x (up'.rise.objects i (to i) (both' Fea is))))
       go Lnk is = true≢false (sym (ap is_link is) ∙ plain)
@@ -340,7 +340,7 @@ module _ (s : Classes) (p q : Drawing) (up : IsInOrder p) (up' : IsInOrder q) (u
   link_keys_same = same_order link_key_cmp link_key_total link_key_exact _ _
       (keys_never_fall p p.list blank (λ i k l h is is'. up.rise.links i k (record { first = omega arith; second = h; first_kind = is; second_kind = is'; lesser = omega arith })))
       (keys_never_fall q q.list blank (λ i k l h is is'. up'.rise.links i k (record { first = omega arith; second = h; first_kind = is; second_kind = is'; lesser = omega arith })))
-      (gathered_alike to p.list q.list blank c.places (key_or_none p) (key_or_none q) (λ i h. sym (rw ((kept i h).kind, link_key_kept p q under.whole.there to c.places kept suc suc (record_at p i) (record_at q (to i)) (kept i h) (class_kept i h) (ends_placed i h)))))
+      (gathered_equal to p.list q.list blank c.places (key_or_none p) (key_or_none q) (λ i h. sym (rw ((kept i h).kind, link_key_preserved p q under.whole.there to c.places kept suc suc (record_at p i) (record_at q (to i)) (kept i h) (class_kept i h) (ends_placed i h)))))
 
   links_same : filter_map link_or_none p.list ≡ filter_map link_or_none q.list
   links_same =

@@ -1,19 +1,14 @@
 -- The keys of the members of each layer.
-use Rattle.std.specs.Prelude.{ℕ, Bool, List, [], map, length, slice_index, slice_index_or, unwrap_or}
-use Rattle.std.specs.Ordering.{ordering_then, nat_cmp}
-use Rattle.std.specs.declared.cmp.Ordering.{Ordering}
+use Rattle.std.specs.Prelude.{ℕ, List, [], map, slice_index, unwrap_or}
 use Rattle.edi_record.specs.declared.record.Kind.{Kind}
 use Rattle.edi_record.specs.declared.record.Kind.TheVariants.{Pno, Par, Pfe, Fea, Lnk}
-use Rattle.edi_schema.specs.Classes.{Classes, partner_of}
+use Rattle.edi_schema.specs.Classes.{Classes}
 use Rattle.edi_schema.specs.declared.role.Role.TheVariants.{Plain}
 use Rattle.edi_plan.specs.Places.{places_of, member_of}
 use Rattle.edi_plan.specs.Plans.{Drawing, record_at}
-use Rattle.edi_topo.specs.Ranking.{IsRanking}
-use Rattle.edi_rank.specs.Keys.{least_side, object_key, link_key, face_key_cmp, link_key_cmp}
-use Rattle.edi_rank.specs.Labelling.{turned_at}
-use Rattle.edi_rank.specs.Turned.{is_backward, turned_plan, turned_record}
+use Rattle.edi_rank.specs.Keys.{least_side, object_key}
+use Rattle.edi_rank.specs.Turned.{is_backward, turned_plan}
 use Rattle.edi_rank.specs.declared.keys.FaceKey.{FaceKey}
-use Rattle.edi_rank.specs.declared.keys.LinkKey.{LinkKey}
 use Rattle.edi_rank.specs.declared.keys.ObjectKey.{ObjectKey}
 
 -- the plan with every arc turned forward. Classes stay, since no key of these layers has that of a link of a kind
@@ -34,38 +29,9 @@ ranked p nodes arcs faces place = number_by nodes arcs faces (record_at p place)
 abbrev pub no_side : FaceKey
 no_side = record { arc = 0; side = Plain }
 
-abbrev pub no_object : ObjectKey
-no_object = record { class = 0; attributes = []; extras = []; pieces = [] }
-
 -- the least side of each face, where the arcs have these numbers
 abbrev pub face_keys : Drawing → List ℕ → List FaceKey
 face_keys p arcs = map (λ k. unwrap_or (least_side (forward_plan p) (ranked p [] arcs []) k) no_side) (places_of Pfe p)
 
 abbrev pub object_keys : Drawing → List ℕ → List ℕ → List ℕ → List ObjectKey
 object_keys p nodes arcs faces = map (object_key p (ranked p nodes arcs faces)) (places_of Fea p)
-
--- the numbers of the faces by their keys, where the arcs have these numbers
-abbrev pub IsFaceRanking : Drawing → List ℕ → List ℕ → Type 0
-IsFaceRanking p arcs numbers = IsRanking face_key_cmp (λ m. slice_index_or (face_keys p arcs) m no_side) (length (places_of Pfe p)) numbers
-
--- what the keys of links are made of: the plan, the schema, which records are turned, and the number of each record
-pub record LinkSource : Type 0 where
-  pub plan : Drawing
-  pub classes : Classes
-  pub turned : List Bool
-  pub numbers : List ℕ
-
--- the key of the link at a place after the reversals
-abbrev pub turned_link_key : LinkSource → ℕ → LinkKey
-turned_link_key l place = link_key l.plan (slice_index l.numbers) (turned_record (partner_of l.classes) (turned_at l.turned) place (record_at l.plan place))
-
--- a link by its key, and then by its place
-abbrev pub placed_link_key : LinkSource → ℕ → LinkKey × ℕ
-placed_link_key l place = (turned_link_key l place, place)
-
-abbrev pub placed_link_cmp : LinkKey × ℕ → LinkKey × ℕ → Ordering
-placed_link_cmp a b = ordering_then (link_key_cmp a.0 b.0) (nat_cmp a.1 b.1)
-
--- the numbers of the links, in file order
-abbrev pub IsLinkRanking : LinkSource → List ℕ → Type 0
-IsLinkRanking l numbers = IsRanking placed_link_cmp (λ m. placed_link_key l (slice_index (places_of Lnk l.plan) m)) (length (places_of Lnk l.plan)) numbers

@@ -3,14 +3,12 @@ pub mod Turned
 pub mod Keys
 pub mod EndOrder
 pub mod InOrder
-pub mod Alike
-pub mod RankRefusal
+pub mod EqualObjects
 pub mod Layers
 pub mod inner
-pub mod Beside
 pub mod Pieces
 pub mod Labelling
 pub mod Arranged
 pub mod Laws
-pub mod Kept
+pub mod Preserved
 pub mod KeyLaws

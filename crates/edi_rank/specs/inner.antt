@@ -1,2 +1,5 @@
 -- What private contracts need.
+pub mod ArcSides
 pub mod PlacedLinks
+pub mod Layers
+pub mod Pieces

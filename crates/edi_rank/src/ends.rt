@@ -6,7 +6,7 @@ ghost use Rattle.edi_rank.specs.EndOrder.{GivesEach, ends_at, no_end};
 ghost use Rattle.edi_rank.specs.Keys.{numbered};
 
 use crate::keys::NumberedEnd;
-use edi_line::Lent;
+use edi_line::BorrowedList;
 use edi_plan::{Plan, PlanEnd};
 
 /// An end, with the number of what it names.
@@ -16,7 +16,7 @@ pub fn numbered_end<'a>(plan: &Plan, numbers: &[u32], end: &'a PlanEnd) -> Numbe
     ensures { result ≡ numbered plan.now (slice_index numbers.now) end.now }
 {
     let sns = match &end.sns {
-        Some(text) => Some(Lent::of(text.as_slice())),
+        Some(text) => Some(BorrowedList::of(text.as_slice())),
         None => None,
     };
     NumberedEnd {

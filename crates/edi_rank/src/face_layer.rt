@@ -1,14 +1,12 @@
 //! The faces by their keys.
 
-ghost use Rattle.std.specs.Prelude.{◌≡◌, ◌<◌, ◌≤◌, ℕ, if◌then◌else◌, None, Some, length, map, slice_index, slice_index_or, unwrap_or, IfOk, MatchOption, ⊤};
-ghost use Rattle.std.specs.List.{AllByRecursion};
-ghost use Rattle.std.specs.Ordering.{is_gt};
+ghost use Rattle.std.specs.Prelude.{◌≡◌, ◌≤◌, ℕ, if◌then◌else◌, None, length, map, slice_index, slice_index_or, unwrap_or, IfOk};
 ghost use Rattle.edi_record.specs.declared.record.Kind.TheVariants.{Par, Pfe};
 ghost use Rattle.edi_schema.specs.Roles.{exchanged};
 ghost use Rattle.edi_plan.specs.Places.{places_of};
-ghost use Rattle.edi_plan.specs.Plans.{IsPlace, record_at, is_arc as is_arc_kind};
-ghost use Rattle.edi_rank.specs.Beside.{arc_and_other, side_for};
-ghost use Rattle.edi_rank.specs.Keys.{face_key_cmp, least_side, side_by, side_of};
+ghost use Rattle.edi_plan.specs.Plans.{IsPlace};
+ghost use Rattle.edi_rank.specs.inner.ArcSides.{IsTaken, lesser_of};
+ghost use Rattle.edi_rank.specs.Keys.{least_side};
 ghost use Rattle.edi_rank.specs.Labelling.{turned_at};
 ghost use Rattle.edi_rank.specs.Turned.{is_backward};
 ghost use Rattle.edi_rank.specs.Layers.{face_keys, forward_plan, no_side};
@@ -17,7 +15,7 @@ use crate::forward::{turned_arcs, turned_in};
 use crate::keys::{FaceKey, compare_faces};
 use crate::numbering::number_kind;
 use edi_line::Sequence;
-use edi_plan::{Plan, PlanEnd};
+use edi_plan::Plan;
 use edi_record::Kind;
 use edi_schema::Role;
 use edi_topo::{Layer, Ranks, Sound};
@@ -90,68 +88,16 @@ impl Layer for FaceLayer {
     }
 }
 
-fn is_arc(plan: &Plan, place: u32) -> bool
-    requires { IsPlace plan.now place }
-    ensures { result ≡ is_arc_kind (record_at plan.now place).kind }
+/// The role of a link once its arc is forward, where the arc may be turned.
+fn side_after(role: Role, turned: bool) -> Role
+    ensures { result ≡ (if turned then exchanged role else role) }
 {
-    match plan.kind(place) {
-        Kind::Par => true,
-        Kind::Pno | Kind::Pfe | Kind::Fea | Kind::Lnk => false,
-    }
-}
-
-/// Of two ends the arc, and the other.
-fn arc_with(plan: &Plan, ends: &[PlanEnd]) -> Option<(u32, u32)>
-    requires { AllByRecursion (λ e. IsPlace plan.now e.target) ends.now }
-    ensures { result ≡ arc_and_other plan.now ends.now }
-{
-    match ends {
-        [first, second] => {
-            if is_arc(plan, first.target) {
-                Some((first.target, second.target))
-            } else if is_arc(plan, second.target) {
-                Some((second.target, first.target))
-            } else {
-                None
-            }
-        }
-        _ => None,
-    }
-}
-
-/// The side that a link of a kind puts a face on, where its arc may be turned.
-fn side_after(role: Role, turned: bool) -> Option<Role>
-    ensures { result ≡ side_of (if turned then exchanged role else role) }
-{
-    let role = if turned { role.exchanged() } else { role };
-    match role {
-        Role::Left | Role::Right => Some(role),
-        Role::Initial | Role::Final | Role::Plain => None,
-    }
-}
-
-/// What a link puts beside an arc, and on which side in the forward direction.
-fn side_put(plan: &Plan, numbers: &[u32], turned: &[bool], place: u32) -> Option<(u32, FaceKey)>
-    requires place { IsPlace plan.now place }
-    requires numbers { length numbers.now ≡ length plan.now.list }
-    requires turned_long { length turned.now ≡ length plan.now.list }
-    requires turned { (k : ℕ) → IsPlace plan.now k → turned_at turned.now k ≡ is_backward plan.now k }
-    ensures there { MatchOption result ⊤ (λ put. IsPlace plan.now put.0) }
-    ensures side { (face : ℕ) → side_by (forward_plan plan.now) (slice_index numbers.now) face (record_at (forward_plan plan.now) place) ≡ side_for face result }
-{
-    plan.keeps();
-    let (arc, face) = arc_with(plan, plan.ends(place))?;
-    let side = side_after(plan.role(place), turned_in(plan, turned, arc))?;
-    let key = FaceKey {
-        arc: numbers[arc as usize],
-        side,
-    };
-    Some((face, key))
+    if turned { role.exchanged() } else { role }
 }
 
 /// The lesser of two sides, of which the first may be missing.
 fn lesser_side(least: Option<FaceKey>, side: FaceKey) -> FaceKey
-    ensures { MatchOption least (result ≡ side) (λ other. result ≡ (if is_gt (face_key_cmp side other) then other else side)) }
+    ensures { result ≡ lesser_of least side }
 {
     match least {
         Some(other) => {
@@ -162,6 +108,34 @@ fn lesser_side(least: Option<FaceKey>, side: FaceKey) -> FaceKey
             }
         }
         None => side,
+    }
+}
+
+/// Lowers the least side of what an arc has by a role to that side of the arc, if that is lesser.
+fn take_side(
+    sides: &mut Vec<Option<FaceKey>>,
+    plan: &Plan,
+    numbers: &[u32],
+    turned: &[bool],
+    arc: u32,
+    role: Role,
+)
+    requires place { IsPlace plan.now arc }
+    requires long { length sides.old.items ≡ length plan.now.list }
+    requires numbers { length numbers.now ≡ length plan.now.list }
+    requires turned_long { length turned.now ≡ length plan.now.list }
+    requires turned { (k : ℕ) → IsPlace plan.now k → turned_at turned.now k ≡ is_backward plan.now k }
+    ensures long { length sides.new.items ≡ length plan.now.list }
+    ensures taken { (face : ℕ) → IsTaken plan.now (slice_index numbers.now) arc role face (slice_index_or sides.old.items face None) (slice_index_or sides.new.items face None) }
+{
+    plan.keeps();
+    if let Some(face) = plan.side(arc, role) {
+        let key = FaceKey {
+            arc: numbers[arc as usize],
+            side: side_after(role, turned_in(plan, turned, arc)),
+        };
+        let least = &mut sides[face as usize];
+        *least = Some(lesser_side(*least, key));
     }
 }
 
@@ -179,11 +153,10 @@ fn least_sides(
     ensures least { IfOk result (λ sides. (k : ℕ) → IsPlace plan.now k → slice_index_or sides.items k None ≡ least_side (forward_plan plan.now) (slice_index numbers.now) k) }
 {
     let mut sides = vec![in alloc; None; plan.len() as usize]?;
-    for place in 0..plan.len() {
-        if let Some((face, side)) = side_put(plan, numbers, turned, place) {
-            let least = &mut sides[face as usize];
-            *least = Some(lesser_side(*least, side));
-        }
+    plan.keeps();
+    for arc in plan.places(Kind::Par) {
+        take_side(&mut sides, plan, numbers, turned, *arc, Role::Left);
+        take_side(&mut sides, plan, numbers, turned, *arc, Role::Right);
     }
     Ok(sides)
 }

@@ -2,19 +2,19 @@ ghost use Rattle.std.specs.Prelude.{◌≡◌};
 ghost use Rattle.edi_topo.specs.NodeKeys.{node_key_cmp};
 ghost use Rattle.edi_rank.specs.Keys.{end_cmp, face_key_cmp, link_key_cmp, object_key_cmp};
 
-use edi_line::{Lent, LentEach, Sequence};
+use edi_line::{BorrowedList, ListOfBorrowed, Sequence};
 use edi_plan::PlanAttribute;
 use edi_record::{Extra, Kind};
 use edi_schema::{ClassRef, Role};
 use std::cmp::Ordering;
 
-/// An end by the type and the number of what it names, with its SNS as the plan lends it. Ends go by
+/// An end by the type and the number of what it names, with its SNS borrowed from the plan. Ends go by
 /// type, number and SNS.
 #[derive(Debug, Drop, PartialEq, Eq, PartialOrd, Ord)]
 pub struct NumberedEnd<'a> {
     pub kind: Kind,
     pub number: u32,
-    pub sns: Option<Lent<'a, u8>>,
+    pub sns: Option<BorrowedList<'a, u8>>,
 }
 
 /// A side of an arc that a face is on.
@@ -29,16 +29,16 @@ pub struct FaceKey {
 pub struct LinkKey<'a> {
     pub class: ClassRef,
     pub ends: Sequence<NumberedEnd<'a>>,
-    pub attributes: LentEach<'a, PlanAttribute>,
-    pub extras: Lent<'a, Extra>,
+    pub attributes: ListOfBorrowed<'a, PlanAttribute>,
+    pub extras: BorrowedList<'a, Extra>,
 }
 
 /// What orders objects.
 #[derive(Debug, Drop, PartialEq, Eq, PartialOrd, Ord)]
 pub struct ObjectKey<'a> {
     pub class: ClassRef,
-    pub attributes: LentEach<'a, PlanAttribute>,
-    pub extras: Lent<'a, Extra>,
+    pub attributes: ListOfBorrowed<'a, PlanAttribute>,
+    pub extras: BorrowedList<'a, Extra>,
     pub pieces: Sequence<LinkKey<'a>>,
 }
 

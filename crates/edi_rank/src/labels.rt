@@ -2,15 +2,15 @@ ghost use Rattle.std.specs.Prelude.{◌≡◌, ◌≢◌, ◌<◌, ◌≤◌, �
 ghost use Rattle.edi_plan.specs.Agreeing.{Agrees};
 ghost use Rattle.edi_plan.specs.Places.{places_of, member_of};
 ghost use Rattle.edi_plan.specs.Plans.{IsPlace, record_at, others_of, is_object};
-ghost use Rattle.edi_rank.specs.Alike.{BreaksObjectRule};
+ghost use Rattle.edi_rank.specs.EqualObjects.{BreaksObjectRule};
 ghost use Rattle.edi_rank.specs.Laws.{TellsApart};
 ghost use Rattle.edi_rank.specs.EndOrder.{OthersInOrder};
-ghost use Rattle.edi_rank.specs.Pieces.{IsObjectRanking};
-ghost use Rattle.edi_rank.specs.RankRefusal.{IsRankRefusal};
+ghost use Rattle.edi_rank.specs.inner.Pieces.{IsObjectRanking};
+ghost use Rattle.edi_record.specs.RecordRefusal.{IsRecordRefusal};
 ghost use Rattle.edi_topo.specs.NodeKeys.{IsNodeRanking};
 ghost use Rattle.edi_record.specs.declared.record.Kind.TheVariants.{Fea};
 ghost use Rattle.edi_topo.specs.Arcs.{IsForwardRanking};
-ghost use Rattle.edi_rank.specs.Layers.{IsFaceRanking, IsLinkRanking};
+ghost use Rattle.edi_rank.specs.inner.Layers.{IsFaceRanking, IsLinkRanking};
 ghost use Rattle.edi_rank.specs.Labelling.{NumbersEach, turned_at};
 ghost use Rattle.edi_rank.specs.Turned.{is_backward};
 ghost use Rattle.edi_line.specs.Refusal.{IsUnbroken};
@@ -56,13 +56,13 @@ impl Labels {
     ghost use Rattle.edi_rank.specs.Labelling.{AreLabels, order_of, number_of};
     ghost use Rattle.edi_plan.specs.Agreeing.{Agrees};
 
-    /// The labels of a sound plan under the schema that it was built under, or the first object that is alike an
+    /// The labels of a sound plan under the schema that it was built under, or the first object that is equal to an
     /// earlier one (501), in class, attributes, extra zones and pieces.
     pub fn of(alloc: Global, schema: &Schema, sound: &Sound) -> Result<Labels, RankFault>
         requires agrees { Agrees schema.now sound.now }
         ensures labels { IfOk result (AreLabels schema.now sound.now) }
         ensures distinct { OnOk result (IsUnbroken (BreaksObjectRule sound.now)) }
-        ensures least { IfErr result (IsRankRefusal (BreaksObjectRule sound.now)) }
+        ensures least { IfErr result (IsRecordRefusal (BreaksObjectRule sound.now)) }
     {
         let plan = sound.plan();
         let turned = turned_arcs(alloc, plan)?;
@@ -144,11 +144,11 @@ impl Labels {
     }
 }
 
-/// Nothing, if no object of a sound plan is alike an earlier one in class, attributes, extra zones and pieces; else the
+/// Nothing, if no object of a sound plan is equal to an earlier one in class, attributes, extra zones and pieces; else the
 /// first that is (501). It numbers no links and takes less time than `Labels::of`, which refuses the same plans.
 pub fn tell_objects_apart(alloc: Global, sound: &Sound) -> Result<(), RankFault>
     ensures distinct { OnOk result (IsUnbroken (BreaksObjectRule sound.now)) }
-    ensures least { IfErr result (IsRankRefusal (BreaksObjectRule sound.now)) }
+    ensures least { IfErr result (IsRecordRefusal (BreaksObjectRule sound.now)) }
 {
     let plan = sound.plan();
     let turned = turned_arcs(alloc, plan)?;
@@ -187,7 +187,7 @@ fn object_ranks(alloc: Global, sound: &Sound, layer: &ObjectLayer<'_>) -> Result
     requires apart { TellsApart sound.now (slice_index layer.now.numbers) }
     ensures ranks { IfOk result (IsObjectRanking layer.now) }
     ensures distinct { OnOk result (IsUnbroken (BreaksObjectRule sound.now)) }
-    ensures least { IfErr result (IsRankRefusal (BreaksObjectRule sound.now)) }
+    ensures least { IfErr result (IsRecordRefusal (BreaksObjectRule sound.now)) }
 {
     let _plan = sound.plan();
     match ranks(alloc, layer) {
@@ -221,7 +221,7 @@ fn name_objects(alloc: Global, sound: &Sound, numbers: Vec<u32>) -> Result<Named
     ensures ordered { IfOk result (λ named. length named.others.items ≡ length sound.now.list) }
     ensures others { IfOk result (λ named. (k : ℕ) → IsPlace sound.now k → OthersInOrder sound.now (slice_index named.numbers.items) named.others.items k) }
     ensures distinct { OnOk result (IsUnbroken (BreaksObjectRule sound.now)) }
-    ensures least { IfErr result (IsRankRefusal (BreaksObjectRule sound.now)) }
+    ensures least { IfErr result (IsRecordRefusal (BreaksObjectRule sound.now)) }
 {
     let plan = sound.plan();
     let lower = lower_orders(alloc, plan, &numbers)?;

@@ -15,7 +15,7 @@ ghost use Rattle.edi_rank.specs.inner.PlacedLinks.{end_of, is_empty, pair_key};
 use crate::ends::{end_in_order, numbered_end};
 use crate::keys::{LinkKey, NumberedEnd};
 use crate::placed_link::{PlainEnd, PlainPair};
-use edi_line::{Lent, LentEach, Sequence};
+use edi_line::{BorrowedList, ListOfBorrowed, Sequence};
 use edi_plan::{Plan, PlanEnd, sorted_attributes};
 use edi_schema::{ClassRef, Role, Schema};
 use std::alloc::{AllocError, Global};
@@ -158,7 +158,7 @@ pub(crate) fn link_key_at<'a>(
     Ok(LinkKey {
         class,
         ends: Sequence::from_vec(ends),
-        attributes: LentEach::from_vec(attributes),
-        extras: Lent::of(plan.extras(place)),
+        attributes: ListOfBorrowed::from_vec(attributes),
+        extras: BorrowedList::of(plan.extras(place)),
     })
 }

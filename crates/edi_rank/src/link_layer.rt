@@ -6,7 +6,7 @@ ghost use Rattle.edi_plan.specs.Agreeing.{Agrees};
 ghost use Rattle.edi_plan.specs.Places.{places_of};
 ghost use Rattle.edi_plan.specs.Plans.{IsPlace};
 ghost use Rattle.edi_rank.specs.EndOrder.{OthersInOrder};
-ghost use Rattle.edi_rank.specs.Layers.{placed_link_key};
+ghost use Rattle.edi_rank.specs.inner.Layers.{placed_link_key};
 
 use crate::link_key::{class_turned, is_bare, link_key_at, plain_pair};
 use crate::placed_link::PlacedLink;
@@ -36,7 +36,7 @@ impl<'a> Model for LinkLayer<'a> {
     ghost use Rattle.edi_plan.specs.Places.{places_of};
     ghost use Rattle.edi_plan.specs.Plans.{IsPlace};
     ghost use Rattle.edi_rank.specs.EndOrder.{OthersInOrder};
-    ghost use Rattle.edi_rank.specs.Layers.{LinkSource};
+    ghost use Rattle.edi_rank.specs.inner.Layers.{LinkSource};
 
     ghost Value = { LinkSource };
 

@@ -9,13 +9,14 @@ ghost use Rattle.edi_schema.specs.Sorted.{sort_by};
 ghost use Rattle.edi_rank.specs.EndOrder.{OthersInOrder};
 ghost use Rattle.edi_rank.specs.Keys.{is_piece, link_key, link_key_cmp};
 ghost use Rattle.edi_rank.specs.Layers.{object_keys};
-ghost use Rattle.edi_rank.specs.Pieces.{is_owner, object_count, object_key_at, piece_places};
+ghost use Rattle.edi_rank.specs.Pieces.{object_count, object_key_at};
+ghost use Rattle.edi_rank.specs.inner.Pieces.{is_owner, piece_places};
 
 use crate::end_orders::lower_orders;
 use crate::keys::{LinkKey, ObjectKey};
 use crate::link_key::link_key_at;
 use crate::numbering::lower_numbers;
-use edi_line::{Lent, LentEach, Sequence};
+use edi_line::{BorrowedList, ListOfBorrowed, Sequence};
 use edi_plan::{Plan, PlanEnd, sorted_attributes};
 use edi_record::Kind;
 use edi_topo::{Layer, Ranks, Sound};
@@ -38,7 +39,8 @@ impl<'a> Model for ObjectLayer<'a> {
     ghost use Rattle.edi_plan.specs.Places.{places_of};
     ghost use Rattle.edi_plan.specs.Plans.{IsPlace, record_at, others_of, is_object};
     ghost use Rattle.edi_rank.specs.EndOrder.{OthersInOrder};
-    ghost use Rattle.edi_rank.specs.Pieces.{ObjectSource, object_count, piece_places};
+    ghost use Rattle.edi_rank.specs.Pieces.{ObjectSource, object_count};
+    ghost use Rattle.edi_rank.specs.inner.Pieces.{piece_places};
 
     ghost Value = { ObjectSource };
 
@@ -151,8 +153,8 @@ impl<'a> Layer for ObjectLayer<'a> {
         let pieces = sorted_pieces(alloc, self.plan, &self.numbers, &self.orders, own)?;
         Ok(ObjectKey {
             class: self.plan.scp(place),
-            attributes: LentEach::from_vec(attributes),
-            extras: Lent::of(self.plan.extras(place)),
+            attributes: ListOfBorrowed::from_vec(attributes),
+            extras: BorrowedList::of(self.plan.extras(place)),
             pieces: Sequence::from_vec(pieces),
         })
     }

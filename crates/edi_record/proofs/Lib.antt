@@ -5,11 +5,11 @@ pub mod RowsHold
 pub mod Numbered
 pub mod SheetStated
 pub mod AttributesRead
-pub mod AttributesKept
-pub mod EndsKept
-pub mod PointsKept
+pub mod AttributesStored
+pub mod EndsStored
+pub mod PointsStored
 pub mod Roles
-pub mod RecordKept
+pub mod RecordStored
 pub mod RecordMade
 pub mod Passes
 pub mod GroupCuts

@@ -6,7 +6,8 @@ use Rattle.std.proofs.lemmas.List.{append-nil, append_assoc}
 use Rattle.edi_line.specs.Entry.{Entry, entry, entries}
 use Rattle.edi_line.specs.declared.zone.Zone.{Zone}
 use Rattle.edi_line.specs.Zones.{begins_group, before_end, groups_of}
-use Rattle.edi_line.specs.Refusal.{IsUnbroken, IsLeastBroken, Breaks, first_broken}
+use Rattle.edi_line.specs.Refusal.{IsUnbroken, IsLeastBroken, Breaks}
+use Rattle.edi_line.specs.inner.Refusal.{first_broken}
 use Rattle.edi_line.proofs.FirstBroken.{none_broken, first_is_least}
 use Rattle.edi_line.proofs.Rules.{AreApart, two_cuts}
 use Rattle.edi_record.specs.Shapes.{is_in_shape}

@@ -17,7 +17,7 @@ use Rattle.edi_record.specs.inner.Records.{sns_after, end_of, ends, placed, is_o
 use Rattle.edi_record.specs.Texts.{PointerText}
 use Rattle.edi_record.specs.inner.Texts.{pointer, count}
 use Rattle.edi_record.specs.inner.RecordRules.{kind_in, is_unknown_pointer, has_unknown_pointer, counts_right}
-use Rattle.edi_record.specs.inner.Kept.{is_stray, extras_after, has_stray}
+use Rattle.edi_record.specs.inner.Stored.{is_stray, extras_after, has_stray}
 use Rattle.edi_record.specs.declared.record.Kind.{Kind}
 use Rattle.edi_record.specs.declared.record.Extra.{Extra}
 use Rattle.edi_record.specs.declared.record.End.{End}

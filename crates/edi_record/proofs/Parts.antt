@@ -17,7 +17,7 @@ use Rattle.edi_record.specs.declared.record.Kind.TheVariants.{Pno, Par, Pfe, Fea
 use Rattle.edi_record.specs.declared.record.Attribute.{Attribute}
 use Rattle.edi_record.specs.declared.record.End.{End}
 use Rattle.edi_record.specs.declared.record.Point.{Point}
-use Rattle.edi_record.specs.inner.Kept.{is_stray, has_stray}
+use Rattle.edi_record.specs.inner.Stored.{is_stray, has_stray}
 
 none_missing : {X : Type 0} (ys : List X) → list_any is_none (map Some ys) ≡ false
 none_missing [] = refl

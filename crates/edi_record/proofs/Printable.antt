@@ -18,7 +18,8 @@ use Rattle.edi_line.proofs.Spelled.{signed_text_read, plain_text_read}
 use Rattle.edi_record.specs.Texts.{pointer_text, third_text, point_text}
 use Rattle.edi_record.specs.Shapes.{kind_code}
 use Rattle.edi_record.specs.inner.Records.{value_of}
-use Rattle.edi_record.specs.Layout.{Letters, class_text, value_text, point_zone, set_zone, attribute_zones, extra_zone, end_text, sns_zone, end_zones, count_zones, body_zones, record_zones, end_zone, cse_zone, sheet_zones, IsExtra, IsPoint, IsRecord, IsLineName, IsLineAttribute, IsLineEnd, IsLineValue, IsLineExtra, IsLineRecord, HasPrintableLetters}
+use Rattle.edi_record.specs.CanonicalZones.{class_text, value_text, point_zone, set_zone, extra_zone, end_text, sns_zone, end_zone, cse_zone}
+use Rattle.edi_record.specs.RecordLayout.{Letters, attribute_zones, end_zones, count_zones, body_zones, record_zones, sheet_zones, IsExtra, IsPoint, IsRecord, IsLineName, IsLineAttribute, IsLineEnd, IsLineValue, IsLineExtra, IsLineRecord, HasPrintableLetters}
 use Rattle.edi_record.specs.declared.name.Name.{Name}
 use Rattle.edi_record.specs.declared.record.Kind.{Kind}
 use Rattle.edi_record.specs.declared.record.Kind.TheVariants.{Pno, Par, Pfe, Fea, Lnk}

@@ -10,7 +10,8 @@ use Rattle.std.proofs.lemmas.List.Elements.{filter-append}
 use Rattle.std.proofs.lemmas.Fmt.{decimal_is_IsNumeral}
 use Rattle.std.proofs.lemmas.Str.Parse.{numerals_by_value, tells_all_ascii_digits}
 use Rattle.edi_line.specs.Entry.{Entry, has_code}
-use Rattle.edi_line.specs.Refusal.{first_broken, test}
+use Rattle.edi_line.specs.Refusal.{test}
+use Rattle.edi_line.specs.inner.Refusal.{first_broken}
 use Rattle.edi_line.specs.Printing.{zone_text}
 use Rattle.edi_record.specs.inner.Texts.{count, point}
 use Rattle.edi_record.specs.Shapes.{kind_code, may_have_ends}
@@ -18,7 +19,8 @@ use Rattle.edi_record.specs.Records.{values, has_points, is_link, opens, closes,
 use Rattle.edi_record.specs.inner.Records.{attributes, ends, Placed, placed, is_extra, value_of, ReadsAs}
 use Rattle.edi_record.specs.RecordRules.{has_no_identifier}
 use Rattle.edi_record.specs.inner.RecordRules.{kind_in, in_kind, is_arc, count_until, repeats, counts_right, counts_wrong, has_no_kind, has_no_class, has_bad_attribute, has_wrong_count, has_bad_point, has_bad_end, is_unknown_pointer, has_unknown_pointer, record_tests}
-use Rattle.edi_record.specs.Layout.{Letters, class_text, value_text, point_zone, set_zone, attribute_zones, extra_zone, end_text, sns_zone, end_zones, body_zones, record_zones, IsExtra, IsRecord, settled, settled_end, settled_record, KeepsRules}
+use Rattle.edi_record.specs.CanonicalZones.{class_text, value_text, point_zone, set_zone, extra_zone, end_text, sns_zone}
+use Rattle.edi_record.specs.RecordLayout.{Letters, attribute_zones, end_zones, body_zones, record_zones, IsExtra, IsRecord, settled, settled_end, settled_record, FollowsRules}
 use Rattle.edi_record.specs.declared.record.Kind.{Kind}
 use Rattle.edi_record.specs.declared.record.Kind.TheVariants.{Pno, Par, Pfe, Fea, Lnk}
 use Rattle.edi_record.specs.declared.record.Record.{Record}
@@ -28,7 +30,7 @@ use Rattle.edi_record.specs.declared.record.End.{End}
 use Rattle.edi_record.specs.declared.record.Point.{Point}
 use Rattle.edi_record.proofs.Stated.{record_again, record_is, unknown, known_apart, joined, mapped, mapped_each, flat_mapped, HoldsInBody, HoldsBehind, body_each, behind, behind_is, behind_each, none_found, and_false, picked_extras}
 use Rattle.edi_record.proofs.Passes.{kind_is, has_kind, has_identifier, has_class}
-use Rattle.edi_record.specs.inner.Kept.{is_stray, has_stray}
+use Rattle.edi_record.specs.inner.Stored.{is_stray, has_stray}
 use Rattle.edi_record.proofs.Loops.{stray_skips, stray_end, stray_sns_goes_on}
 use Rattle.edi_record.proofs.Parts.{same_length, good_attributes, right_points, ends_count, good_ends}
 
@@ -202,7 +204,7 @@ attributes_count (z ∷ zs) = go (opens z) refl (attributes_count zs)
     go true e more = rw e (ap suc more)
     go false e more = rw e more
 
-right_attribute_count : (s : Letters) (r : Record) → IsRecord r → KeepsRules r → counts_wrong (codes "ATC") (codes "ATP") (record_zones s r) ≡ false
+right_attribute_count : (s : Letters) (r : Record) → IsRecord r → FollowsRules r → counts_wrong (codes "ATC") (codes "ATP") (record_zones s r) ≡ false
 right_attribute_count s r h k =
     let stated = record_again s r h in
     right_count (codes "ATC") (codes "ATP") (record_zones s r) (length r.attributes) k.few_attributes (atc_value s r h)
@@ -220,7 +222,7 @@ point_count s r h t = sym (length-map (values (codes "COR") (record_zones s r)) 
     places : (s : Letters) (r : Record) → ReadsAs (record_zones s r) (settled_record s r) → has_points r.kind ≡ true → map point (values (codes "COR") (record_zones s r)) ≡ map Some r.points
     places s r h t = sym (ap (λ b. cond b (map point (values (codes "COR") (record_zones s r))) []) t) ∙ h.points
 
-right_point_count : (s : Letters) (r : Record) → IsRecord r → KeepsRules r → (in_kind is_arc (record_zones s r) && counts_wrong (codes "PTC") (codes "COR") (record_zones s r)) ≡ false
+right_point_count : (s : Letters) (r : Record) → IsRecord r → FollowsRules r → (in_kind is_arc (record_zones s r) && counts_wrong (codes "PTC") (codes "COR") (record_zones s r)) ≡ false
 right_point_count s r h k = go r.kind refl (kind_is (record_zones s r) (settled_record s r) (record_again s r h))
   where
     go : (kind : Kind) → r.kind ≡ kind → kind_in (record_zones s r) ≡ Some r.kind → (in_kind is_arc (record_zones s r) && counts_wrong (codes "PTC") (codes "COR") (record_zones s r)) ≡ false
@@ -245,7 +247,7 @@ right_point_count s r h k = go r.kind refl (kind_is (record_zones s r) (settled_
 end_count : (s : Letters) (r : Record) → ReadsAs (record_zones s r) (settled_record s r) → is_link r.kind ≡ true → length (values (codes "FTP") (record_zones s r)) ≡ length r.ends
 end_count s r h t = sym (ends_count (record_zones s r)) ∙ same_length (ends (record_zones s r)) (map settled_end r.ends) (sym (ap (λ b. cond b (ends (record_zones s r)) []) t) ∙ h.ends) ∙ length-map r.ends settled_end
 
-right_end_count : (s : Letters) (r : Record) → IsRecord r → KeepsRules r → (in_kind is_link (record_zones s r) && counts_wrong (codes "FTC") (codes "FTP") (record_zones s r)) ≡ false
+right_end_count : (s : Letters) (r : Record) → IsRecord r → FollowsRules r → (in_kind is_link (record_zones s r) && counts_wrong (codes "FTC") (codes "FTP") (record_zones s r)) ≡ false
 right_end_count s r h k = go r.kind refl (kind_is (record_zones s r) (settled_record s r) (record_again s r h))
   where
     go : (kind : Kind) → r.kind ≡ kind → kind_in (record_zones s r) ≡ Some r.kind → (in_kind is_link (record_zones s r) && counts_wrong (codes "FTC") (codes "FTP") (record_zones s r)) ≡ false
@@ -269,7 +271,7 @@ right_end_count s r h k = go r.kind refl (kind_is (record_zones s r) (settled_re
 
 -- ---- 206
 
-right_places : (s : Letters) (r : Record) → IsRecord r → KeepsRules r → has_bad_point (record_zones s r) ≡ false
+right_places : (s : Letters) (r : Record) → IsRecord r → FollowsRules r → has_bad_point (record_zones s r) ≡ false
 right_places s r h k = go (has_points r.kind) refl
   where
     stated : ReadsAs (record_zones s r) (settled_record s r)
@@ -361,7 +363,7 @@ link_split s r h t =
     let body : body_zones r.kind r.points r.ends ≡ zone_text (codes "FTC") 83 78 (decimal (length r.ends)) ∷ flat_map end_zones r.ends = rw t (link_body r.points r.ends (h.no_points (rw t refl))) in
     record_is s r ∙ ap (λ b. zone_text (codes "RTY") 83 65 (kind_code r.kind) ∷ zone_text (codes "RID") 83 65 r.rid ∷ zone_text (codes "SCP") 67 80 (class_text r.scp) ∷ (b ++ behind s r)) body
 
-right_ends : (s : Letters) (r : Record) → IsRecord r → KeepsRules r → has_bad_end (record_zones s r) ≡ false
+right_ends : (s : Letters) (r : Record) → IsRecord r → FollowsRules r → has_bad_end (record_zones s r) ≡ false
 right_ends s r h k = go r.kind refl (kind_is (record_zones s r) (settled_record s r) (record_again s r h)) (and_parts _ _ k.shape).1
   where
     go : (kind : Kind) → r.kind ≡ kind → kind_in (record_zones s r) ≡ Some r.kind → may_have_ends r.kind (length r.ends) ≡ true → has_bad_end (record_zones s r) ≡ false
@@ -405,7 +407,7 @@ empty_pointers kind (e ∷ xs) h k =
     let u = extra_apart kind e h.0 in
     rw (h.0.unknown, and_false (bytes_eq e.code (codes "TEX")), u.0, u.1) (or_from _ _ (empty_pointer e k.0) (empty_pointers kind xs h.1 k.1))
 
-no_unknown_pointer : (s : Letters) (r : Record) → IsRecord r → KeepsRules r → has_unknown_pointer (record_zones s r) ≡ false
+no_unknown_pointer : (s : Letters) (r : Record) → IsRecord r → FollowsRules r → has_unknown_pointer (record_zones s r) ≡ false
 no_unknown_pointer s r h k =
     rw (kind_is (record_zones s r) (settled_record s r) (record_again s r h))
     (among_extras r.kind (placed false (record_zones s r)) ∙ ap (list_any is_full_pointer) (picked_extras s r h) ∙ empty_pointers r.kind r.extras h.extras k.pointers)
@@ -416,7 +418,7 @@ none_of_eight : (a b c d e f g h : Bool) → a ≡ false → b ≡ false → c �
     → first_broken (test 201 a ∷ test 202 b ∷ test 203 c ∷ test 204 d ∷ test 205 e ∷ test 206 f ∷ test 207 g ∷ test 208 h ∷ []) ≡ None
 none_of_eight a b c d e f g h p q r s t u v w = rw (p, q, r, s, t, u, v, w) refl
 
-pub printed_unbroken : (s : Letters) (r : Record) → IsRecord r → KeepsRules r → first_broken (record_tests (record_zones s r)) ≡ None
+pub printed_unbroken : (s : Letters) (r : Record) → IsRecord r → FollowsRules r → first_broken (record_tests (record_zones s r)) ≡ None
 printed_unbroken s r h k =
     let g = record_zones s r in
     let stated = record_again s r h in

@@ -22,7 +22,8 @@ use Rattle.edi_record.specs.Records.{values, has_points, is_link, opens, closes,
 use Rattle.edi_record.specs.inner.Records.{set_after, value_after, attribute, attributes, sns_after, end_of, ends, Placed, is_open_after, placed, is_extra, value_of, extra, ReadsAs}
 use Rattle.edi_record.specs.RecordRules.{BreaksRecordRule, just_one, is_identifier, has_no_identifier}
 use Rattle.edi_record.specs.inner.RecordRules.{kind_in, has_bad_point, has_bad_end, is_unknown_pointer, has_unknown_pointer, record_tests, repeats, some_no_pointer, FailsTest}
-use Rattle.edi_record.specs.Layout.{value_text, IsOwnValue, IsExtra, IsName, IsPoint, IsRecord, IsLineName, IsLineAttribute, IsLineValue, IsLineExtra, IsLineEnd, IsLineRecord, KeepsRules}
+use Rattle.edi_record.specs.CanonicalZones.{value_text}
+use Rattle.edi_record.specs.RecordLayout.{IsOwnValue, IsExtra, IsName, IsPoint, IsRecord, IsLineName, IsLineAttribute, IsLineValue, IsLineExtra, IsLineEnd, IsLineRecord, FollowsRules}
 use Rattle.edi_record.specs.Readable.{IsPrintableSheet}
 use Rattle.edi_record.specs.declared.name.Name.{Name}
 use Rattle.edi_record.specs.declared.record.Kind.{Kind}
@@ -432,7 +433,7 @@ extra_parts kind (x ∷ xs) h = let more = extra_parts kind xs h.1 in ((h.0.unkn
 record IsReadRecord (r : Record) : Type 0 where
   is : IsRecord r
   line : IsLineRecord r
-  rules : KeepsRules r
+  rules : FollowsRules r
 
 record_read : (group : List Entry) (r : Record) → AreGroupZones group → ReadsAs group r → length group < 2 ^ 64 → IsKept group → IsReadRecord r
 record_read group r h s few kept =
@@ -487,7 +488,7 @@ records_read [] (r ∷ rs) s h few kept = absurd s
 records_read (g ∷ gs) [] s h few kept = tt
 records_read (g ∷ gs) (r ∷ rs) s h few kept = (record_read g r h.0 s.0 few.0 kept.0, records_read gs rs s.1 h.1 few.1 kept.1)
 
-record_parts : (rs : List Record) → AllByRecursion IsReadRecord rs → AllByRecursion IsRecord rs × AllByRecursion IsLineRecord rs × AllByRecursion KeepsRules rs
+record_parts : (rs : List Record) → AllByRecursion IsReadRecord rs → AllByRecursion IsRecord rs × AllByRecursion IsLineRecord rs × AllByRecursion FollowsRules rs
 record_parts [] h = (tt, tt, tt)
 record_parts (r ∷ rs) h = let more = record_parts rs h.1 in ((h.0.is, more.0), (h.0.line, more.1), (h.0.rules, more.2))
 

@@ -21,7 +21,7 @@ use Rattle.edi_line.specs.Refusal.{IsUnbroken}
 use Rattle.edi_line.specs.Printing.{is_code, IsOneLine, IsPrintable}
 use Rattle.edi_line.proofs.Cut.{lines_exist}
 use Rattle.edi_line.proofs.Readings.{unbroken_read}
-use Rattle.edi_record.specs.Layout.{is_free}
+use Rattle.edi_record.specs.RecordLayout.{is_free}
 
 -- ---- contents have no line feed
 

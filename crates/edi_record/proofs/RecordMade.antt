@@ -1,7 +1,7 @@
 -- The rules of a record of which all zones have come.
 use Rattle.std.proofs.Common.{◌≡◌, ℕ, ◌+◌, Bool, true, false, not, ◌&&◌, ◌||◌, List, length, map, Some, None, is_none, codes, refl, sym, ap, ◌∙◌, subst, arith, Result, Ok, Err, IsErrAnd, IfErr}
 use Rattle.edi_line.specs.Entry.{Entry}
-use Rattle.edi_line.specs.Refusal.{first_broken}
+use Rattle.edi_line.specs.inner.Refusal.{first_broken}
 use Rattle.edi_record.specs.Records.{values, has_points, is_link}
 use Rattle.edi_record.specs.inner.Records.{attributes}
 use Rattle.edi_record.specs.RecordRules.{has_no_identifier}

@@ -4,7 +4,7 @@ use Rattle.std.specs.List.{list_any}
 use Rattle.std.proofs.lemmas.Slice.Eq.{bytes_eq-Decides}
 use Rattle.edi_record.specs.Records.{has_points, is_link, known_anywhere, known_in, is_known}
 use Rattle.edi_record.specs.inner.RecordRules.{is_arc}
-use Rattle.edi_record.specs.inner.Kept.{role_in, body_role_in}
+use Rattle.edi_record.specs.inner.Stored.{role_in, body_role_in}
 use Rattle.edi_record.proofs.Stated.{any_apart}
 use Rattle.edi_record.specs.declared.record.Kind.{Kind}
 use Rattle.edi_record.specs.declared.record.Kind.TheVariants.{Pno, Par, Pfe, Fea, Lnk}

@@ -2,7 +2,8 @@
 use Rattle.std.proofs.Common.{◌≡◌, ℕ, Option, Some, None, List, [], ◌∷◌, ◌++◌, map, codes, refl, sym, ap, ◌∙◌, subst, inr, length, arith}
 use Rattle.edi_line.specs.Entry.{Entry}
 use Rattle.edi_line.specs.LineRules.{IsZonesOf}
-use Rattle.edi_line.specs.Refusal.{IsUnbroken, IsLeastBroken, Breaks, first_broken}
+use Rattle.edi_line.specs.Refusal.{IsUnbroken, IsLeastBroken, Breaks}
+use Rattle.edi_line.specs.inner.Refusal.{first_broken}
 use Rattle.edi_line.specs.Zones.{groups_of}
 use Rattle.edi_line.specs.inner.Number.{number, whole_number, fraction_number}
 use Rattle.edi_line.specs.inner.Spelling.{reading_of, has_head}

@@ -10,7 +10,8 @@ use Rattle.edi_line.proofs.Printed.{printed_again}
 use Rattle.edi_record.specs.Shapes.{kind_code}
 use Rattle.edi_record.specs.Records.{values, States}
 use Rattle.edi_record.specs.inner.Records.{ReadsAs}
-use Rattle.edi_record.specs.Layout.{Letters, class_text, cse_zone, begin_zone, end_zone, body_zones, record_zones, sheet_zones, layout, is_free, IsRecord, settled_record, LayoutIsReadAgain}
+use Rattle.edi_record.specs.CanonicalZones.{class_text, cse_zone, begin_zone, end_zone}
+use Rattle.edi_record.specs.RecordLayout.{Letters, body_zones, record_zones, sheet_zones, layout, is_free, IsRecord, settled_record, LayoutIsReadAgain}
 use Rattle.edi_record.specs.declared.record.Record.{Record}
 use Rattle.edi_line.proofs.Readings.{readings_are}
 use Rattle.edi_line.proofs.ZonesSaid.{zones_are}

@@ -4,7 +4,8 @@ use Rattle.std.specs.Prelude.{flat_map, option_map, option_to_list, IfSome}
 use Rattle.std.specs.List.{AllByRecursion}
 use Rattle.std.proofs.lemmas.List.{length-map}
 use Rattle.edi_line.specs.Entry.{Entry}
-use Rattle.edi_line.specs.Refusal.{IsUnbroken, first_broken}
+use Rattle.edi_line.specs.Refusal.{IsUnbroken}
+use Rattle.edi_line.specs.inner.Refusal.{first_broken}
 use Rattle.edi_line.specs.Zones.{IsGroup, IsFileOf, groups_of}
 use Rattle.edi_line.specs.inner.Zones.{zones_of}
 use Rattle.edi_line.specs.LineKinds.{kind_of, is_inner}
@@ -18,7 +19,8 @@ use Rattle.edi_line.proofs.ZonesSaid.{zones_said}
 use Rattle.edi_record.proofs.RulesSaid.{records_unbroken}
 use Rattle.edi_record.specs.Shapes.{kind_code}
 use Rattle.edi_record.specs.inner.RecordRules.{record_tests, FailsTest}
-use Rattle.edi_record.specs.Layout.{Letters, HasPrintableLetters, class_text, extra_zone, begin_zone, end_zone, cse_zone, body_zones, record_zones, sheet_zones, layout, IsExtra, IsRecord, IsLineRecord, KeepsRules}
+use Rattle.edi_record.specs.CanonicalZones.{class_text, extra_zone, begin_zone, end_zone, cse_zone}
+use Rattle.edi_record.specs.RecordLayout.{Letters, HasPrintableLetters, body_zones, record_zones, sheet_zones, layout, IsExtra, IsRecord, IsLineRecord, FollowsRules}
 use Rattle.edi_record.specs.Sound.{IsSoundFile}
 use Rattle.edi_record.specs.declared.record.Record.{Record}
 use Rattle.edi_record.specs.declared.record.Extra.{Extra}
@@ -111,7 +113,7 @@ numbered_kept n zs h =
     let same = subst (AllByRecursion IsKept) (sym (same_groups n zs)) plain in
     each_of (λ g. IsKept (bare g)) IsKept (λ g k. sym (ap first_broken (bare_tests g)) ∙ k) (groups_of (numbered n zs)) (unmapped IsKept bare (groups_of (numbered n zs)) same)
 
-records_kept : (s : Letters) (rs : List Record) → AllByRecursion IsRecord rs → AllByRecursion KeepsRules rs → AllByRecursion IsKept (map (record_zones s) rs)
+records_kept : (s : Letters) (rs : List Record) → AllByRecursion IsRecord rs → AllByRecursion FollowsRules rs → AllByRecursion IsKept (map (record_zones s) rs)
 records_kept s [] h k = tt
 records_kept s (r ∷ rs) h k = (printed_unbroken s r h.0 k.0, records_kept s rs h.1 k.1)
 
@@ -123,7 +125,7 @@ kept_unbroken : (zones : List Entry) → AllByRecursion IsKept (groups_of zones)
 kept_unbroken zones h rule place b = none_broken (record_tests b.group) (one_of b.before b.group b.after (subst (AllByRecursion IsKept) b.cut h)) rule b.breaks
 
 -- What is printed of a sheet breaks no rule.
-pub sheet_sound : (s : Letters) (cse : Option (List ℕ)) (rs : List Record) → HasPrintableLetters s → IfSome cse IsOneLine → AllByRecursion IsRecord rs → AllByRecursion IsLineRecord rs → AllByRecursion KeepsRules rs
+pub sheet_sound : (s : Letters) (cse : Option (List ℕ)) (rs : List Record) → HasPrintableLetters s → IfSome cse IsOneLine → AllByRecursion IsRecord rs → AllByRecursion IsLineRecord rs → AllByRecursion FollowsRules rs
     → length rs ≤ 9999999 → IsSoundFile s cse rs
 sheet_sound s cse rs letters text is lines_of rules few =
     let file = sheet_file s cse rs is in

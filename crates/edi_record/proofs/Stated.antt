@@ -16,7 +16,8 @@ use Rattle.edi_record.specs.inner.Texts.{pointer, class_of, point}
 use Rattle.edi_record.specs.Shapes.{kind_code}
 use Rattle.edi_record.specs.Records.{values, has_points, is_link, opens, closes, points_at, known_anywhere, known_in, is_known, may_be_number}
 use Rattle.edi_record.specs.inner.Records.{set_after, value_after, attributes, sns_after, end_of, ends, Placed, placed, is_extra, value_of, extra, extras, ReadsAs}
-use Rattle.edi_record.specs.Layout.{Letters, class_text, value_text, point_zone, set_zone, attribute_zones, extra_zone, end_text, sns_zone, end_zones, count_zones, body_zones, record_zones, IsOwnValue, IsExtra, IsName, IsPoint, IsRecord, settled, settled_end, settled_record}
+use Rattle.edi_record.specs.CanonicalZones.{class_text, value_text, point_zone, set_zone, extra_zone, end_text, sns_zone}
+use Rattle.edi_record.specs.RecordLayout.{Letters, attribute_zones, end_zones, count_zones, body_zones, record_zones, IsOwnValue, IsExtra, IsName, IsPoint, IsRecord, settled, settled_end, settled_record}
 use Rattle.edi_record.specs.declared.name.Name.{Name}
 use Rattle.edi_record.specs.declared.record.Kind.{Kind}
 use Rattle.edi_record.specs.declared.record.Kind.TheVariants.{Pno, Par, Pfe, Fea, Lnk}

@@ -12,7 +12,7 @@ use Rattle.edi_record.specs.inner.Records.{Placed, is_open_after, placed}
 use Rattle.edi_record.specs.RecordRules.{just_one, is_identifier, has_no_identifier}
 use Rattle.edi_record.specs.inner.RecordRules.{kind_named, kind_in, in_kind, is_node, is_arc, some_no_pointer, count_until, repeats, counts_right, counts_wrong, is_unknown_pointer, has_no_kind, has_no_class, has_bad_attribute, has_wrong_count, has_bad_point, has_bad_end, has_unknown_pointer, record_tests}
 use Rattle.edi_record.specs.declared.record.Kind.{Kind}
-use Rattle.edi_record.specs.inner.Kept.{is_stray, has_stray}
+use Rattle.edi_record.specs.inner.Stored.{is_stray, has_stray}
 use Rattle.edi_record.proofs.Loops.{stray_sns_goes_on}
 
 -- zones that lie on no line

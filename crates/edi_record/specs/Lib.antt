@@ -4,7 +4,8 @@ pub mod Shapes
 pub mod Records
 pub mod RecordRules
 pub mod RecordRefusal
-pub mod Layout
+pub mod CanonicalZones
+pub mod RecordLayout
 pub mod Orders
 pub mod Rows
 pub mod Readable

@@ -7,7 +7,7 @@ use Rattle.edi_line.specs.Refusal.{IsUnbroken}
 use Rattle.edi_line.specs.Printing.{IsOneLine}
 use Rattle.edi_record.specs.Records.{StatesSheet}
 use Rattle.edi_record.specs.RecordRules.{BreaksRecordRule}
-use Rattle.edi_record.specs.Layout.{IsRecord, IsLineRecord, KeepsRules}
+use Rattle.edi_record.specs.RecordLayout.{IsRecord, IsLineRecord, FollowsRules}
 use Rattle.edi_record.specs.declared.sheet.Sheet.{Sheet}
 
 -- what a sheet needs to be printed and read again
@@ -15,7 +15,7 @@ pub record IsPrintableSheet (sheet : Sheet) : Type 0 where
   pub cse : IfSome sheet.cse IsOneLine
   pub records : AllByRecursion IsRecord sheet.list
   pub lines : AllByRecursion IsLineRecord sheet.list
-  pub rules : AllByRecursion KeepsRules sheet.list
+  pub rules : AllByRecursion FollowsRules sheet.list
 
 -- The sheet that a file states can be printed, where the file breaks no rule of lines and of records.
 abbrev pub ReadSheetsArePrintable : Type 0

@@ -1,6 +1,5 @@
--- What each sheet keeps.
-use Rattle.std.specs.Prelude.{ℕ, Bool, ◌&&◌, nat_eq, nat_le, IsTrue, List, length, codes}
-use Rattle.std.specs.List.{list_all}
+-- What holds of each sheet.
+use Rattle.std.specs.Prelude.{ℕ, Bool, ◌&&◌, nat_eq, nat_le, List, length, codes}
 use Rattle.edi_record.specs.declared.record.Record.{Record}
 use Rattle.edi_record.specs.declared.record.Kind.{Kind}
 use Rattle.edi_record.specs.declared.record.Kind.TheVariants.{Pno, Par, Pfe, Fea, Lnk}
@@ -39,7 +38,3 @@ may_have_ends Lnk n = nat_le 2 n
 
 abbrev pub is_in_shape : Record → Bool
 is_in_shape r = may_have_points r.kind (length r.points) && may_have_ends r.kind (length r.ends)
-
--- each record of the list has the points and the ends of its kind
-abbrev pub AreInShape : List Record → Type 0
-AreInShape list = IsTrue (list_all is_in_shape list)

@@ -8,7 +8,8 @@ use Rattle.edi_line.specs.LineRules.{BreaksLineRule, IsZonesOf}
 use Rattle.edi_line.specs.Refusal.{IsUnbroken}
 use Rattle.edi_line.specs.Printing.{IsOneLine}
 use Rattle.edi_record.specs.RecordRules.{BreaksRecordRule}
-use Rattle.edi_record.specs.Layout.{Letters, HasPrintableLetters, cse_zone, record_zones, sheet_zones, layout, IsRecord, IsLineRecord, KeepsRules}
+use Rattle.edi_record.specs.CanonicalZones.{cse_zone}
+use Rattle.edi_record.specs.RecordLayout.{Letters, HasPrintableLetters, record_zones, sheet_zones, layout, IsRecord, IsLineRecord, FollowsRules}
 use Rattle.edi_record.specs.declared.record.Record.{Record}
 
 -- the zones of these records are those of a file, and its bytes break no rule of lines and of records
@@ -22,5 +23,5 @@ pub record IsSoundFile (s : Letters) (cse : Option (List ℕ)) (rs : List Record
 -- Sheets of at most 9,999,999 records that can be printed are printed without a broken rule.
 abbrev pub PrintedSheetsAreSound : Type 0
 PrintedSheetsAreSound =
-    (s : Letters) (cse : Option (List ℕ)) (rs : List Record) → HasPrintableLetters s → IfSome cse IsOneLine → AllByRecursion IsRecord rs → AllByRecursion IsLineRecord rs → AllByRecursion KeepsRules rs
+    (s : Letters) (cse : Option (List ℕ)) (rs : List Record) → HasPrintableLetters s → IfSome cse IsOneLine → AllByRecursion IsRecord rs → AllByRecursion IsLineRecord rs → AllByRecursion FollowsRules rs
     → length rs ≤ most_records → IsSoundFile s cse rs

@@ -2,7 +2,8 @@
 pub mod Texts
 pub mod Records
 pub mod RecordRules
-pub mod Kept
+pub mod Stored
 pub mod RecordRefusal
 pub mod Rows
 pub mod Lists
+pub mod Shapes

@@ -5,7 +5,7 @@ ghost use Rattle.edi_line.specs.Entry.{Entry};
 ghost use Rattle.edi_record.specs.inner.Records.{attributes};
 ghost use Rattle.edi_record.specs.inner.RecordRules.{has_bad_attribute};
 ghost use Rattle.edi_record.specs.inner.RecordRefusal.{IsBreachOf};
-ghost use Rattle.edi_record.specs.inner.Kept.{Takes, KeepsAttributes, LeavesOpen, closed_with};
+ghost use Rattle.edi_record.specs.inner.Stored.{Takes, StoresAttributes, LeavesOpen, closed_with};
 
 use crate::fault::GroupFault;
 use crate::pointer::Pointer;
@@ -23,7 +23,7 @@ pub(crate) fn copied(alloc: Global, text: Option<&[u8]>) -> Result<Option<Text>,
 }
 
 /// An attribute whose value hasn't come: its class, and its character set if that has come. The
-/// zones lend both.
+/// zones own both.
 #[derive(Clone, Copy)]
 pub(crate) struct OpenAttribute<'a> {
     class: Pointer<'a>,
@@ -57,7 +57,7 @@ pub(crate) struct Attributes<'a> {
 
 impl<'a> Attributes<'a> {
     pub(crate) fn new(alloc: Global) -> Attributes<'a>
-        ensures keeps { (group : List Entry) → KeepsAttributes result group group }
+        ensures keeps { (group : List Entry) → StoresAttributes result group group }
         ensures closed { is_some result.opened ≡ false }
     {
         Attributes {
@@ -88,7 +88,7 @@ impl<'a> Attributes<'a> {
 
     /// Takes the class of the next attribute.
     pub(crate) fn take_class(&mut self, alloc: Global, text: &'a [u8]) -> Result<(), AllocError>
-        ensures keeps { OnOk result (Takes KeepsAttributes (codes "ATP") text.entry.now self.old self.new) }
+        ensures keeps { OnOk result (Takes StoresAttributes (codes "ATP") text.entry.now self.old self.new) }
         ensures opens { OnOk result (LeavesOpen true self.old self.new) }
     {
         self.close(alloc, &[])?;
@@ -101,7 +101,7 @@ impl<'a> Attributes<'a> {
 
     /// Takes a character set.
     pub(crate) fn take_set(&mut self, text: &'a [u8])
-        ensures keeps { Takes KeepsAttributes (codes "TEX") text.entry.now self.old self.new }
+        ensures keeps { Takes StoresAttributes (codes "TEX") text.entry.now self.old self.new }
         ensures opens { LeavesOpen (is_some self.old.opened) self.old self.new }
     {
         let Some(opened) = self.opened else {
@@ -119,7 +119,7 @@ impl<'a> Attributes<'a> {
 
     /// Takes a value.
     pub(crate) fn take_value(&mut self, alloc: Global, text: &[u8]) -> Result<(), AllocError>
-        ensures keeps { OnOk result (Takes KeepsAttributes (codes "ATV") text.now self.old self.new) }
+        ensures keeps { OnOk result (Takes StoresAttributes (codes "ATV") text.now self.old self.new) }
         ensures closes { OnOk result (LeavesOpen false self.old self.new) }
     {
         if !self.is_open() {
@@ -133,10 +133,10 @@ impl<'a> Attributes<'a> {
     /// The attributes; or rule 204, where the class of one is no pointer, a value comes where no
     /// attribute is open, or an open attribute has two character sets.
     pub(crate) fn finish(mut self, alloc: Global) -> Result<Vec<Attribute>, GroupFault>
-        ensures states { IfOk result (λ v. (group : List Entry) → KeepsAttributes self.entry [] group → attributes group ≡ map Some v.items) }
+        ensures states { IfOk result (λ v. (group : List Entry) → StoresAttributes self.entry [] group → attributes group ≡ map Some v.items) }
         ensures unbroken { OnOk result (self.entry.is_broken ≡ false) }
-        ensures sound { OnOk result ((group : List Entry) → KeepsAttributes self.entry [] group → has_bad_attribute group ≡ false) }
-        ensures breach { IfErr result (λ fault. (group : List Entry) → KeepsAttributes self.entry [] group → IsBreachOf 204 (has_bad_attribute group) fault) }
+        ensures sound { OnOk result ((group : List Entry) → StoresAttributes self.entry [] group → has_bad_attribute group ≡ false) }
+        ensures breach { IfErr result (λ fault. (group : List Entry) → StoresAttributes self.entry [] group → IsBreachOf 204 (has_bad_attribute group) fault) }
     {
         if self.is_broken {
             return Err(GroupFault::Broken(204));

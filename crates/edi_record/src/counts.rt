@@ -5,7 +5,7 @@ ghost use Rattle.std.specs.Char.{is_ascii_digit, digit_value};
 ghost use Rattle.std.specs.Str.{all_ascii_digits};
 ghost use Rattle.std.specs.Str.Parse.{digits_value};
 ghost use Rattle.edi_record.specs.inner.RecordRules.{counts_right};
-ghost use Rattle.edi_record.specs.inner.Kept.{AreTexts};
+ghost use Rattle.edi_record.specs.inner.Stored.{AreTexts};
 
 use crate::only::Only;
 

@@ -1,8 +1,8 @@
-//! What is kept of a record whose zones are still coming.
+//! What is stored of a record whose zones are still coming.
 
 ghost use Rattle.std.specs.Prelude.{◌≡◌, ℕ, ◌+◌, ◌<◌, ◌≤◌, ◌^◌, ◌&&◌, ◌||◌, not, true, false, List, [], ◌∷◌, map, length, codes, Some, None, is_some, MatchOption, IfOk, IfErr, OnOk};
 ghost use Rattle.edi_line.specs.Entry.{Entry, entry};
-ghost use Rattle.edi_line.specs.Refusal.{first_broken};
+ghost use Rattle.edi_line.specs.inner.Refusal.{first_broken};
 ghost use Rattle.edi_record.specs.inner.Texts.{pointer, class_of};
 ghost use Rattle.edi_record.specs.Shapes.{is_in_shape};
 ghost use Rattle.edi_record.specs.Records.{values, is_link};
@@ -10,7 +10,7 @@ ghost use Rattle.edi_record.specs.inner.Records.{ReadsAs};
 ghost use Rattle.edi_record.specs.RecordRules.{just_one, is_identifier as is_identifier_text};
 ghost use Rattle.edi_record.specs.inner.RecordRules.{kind_in, is_arc, counts_right, record_tests};
 ghost use Rattle.edi_record.specs.inner.RecordRefusal.{IsGroupRefusal};
-ghost use Rattle.edi_record.specs.inner.Kept.{AreTexts, KeepsRecord};
+ghost use Rattle.edi_record.specs.inner.Stored.{AreTexts, StoresRecord};
 
 use crate::attributes::Attributes;
 use crate::counts::is_wrong;
@@ -26,7 +26,7 @@ use crate::role::{Role, role_of};
 use edi_line::{Sequence, Text, Zone};
 use std::alloc::{AllocError, Global};
 
-/// What is kept of the zones of a record that have come, each looked at once. The zones lend what
+/// What is stored of the zones of a record that have come, each looked at once. The zones own what
 /// is copied when the record is made.
 #[derive(Drop)]
 pub(crate) struct Draft<'a> {
@@ -47,7 +47,7 @@ pub(crate) struct Draft<'a> {
 impl<'a> Draft<'a> {
     /// Nothing of a record of this type has come but its type.
     pub(crate) fn new(alloc: Global, kind: Kind) -> Result<Draft<'a>, AllocError>
-        ensures keeps { IfOk result (λ d. (group : List Entry) → KeepsRecord d group group) }
+        ensures keeps { IfOk result (λ d. (group : List Entry) → StoresRecord d group group) }
         ensures kind { IfOk result (λ d. d.kind ≡ kind) }
         ensures counted { IfOk result (λ d. d.counted ≡ 0) }
     {
@@ -72,7 +72,7 @@ impl<'a> Draft<'a> {
         requires { self.old.counted + 1 < 2 ^ 64 }
         ensures kind { OnOk result (self.new.kind ≡ self.old.kind) }
         ensures counted { OnOk result (self.new.counted ≤ self.old.counted + 1) }
-        ensures keeps { OnOk result ((left group : List Entry) → KeepsRecord self.old (entry zone.entry.now ∷ left) group → KeepsRecord self.new left group) }
+        ensures keeps { OnOk result ((left group : List Entry) → StoresRecord self.old (entry zone.entry.now ∷ left) group → StoresRecord self.new left group) }
     {
         let text = zone.value.as_slice();
         match role_of(self.kind, zone.code) {
@@ -101,10 +101,10 @@ impl<'a> Draft<'a> {
 
     /// The record, of which all zones have come, or the least of the rules 202 to 208 that it breaks.
     pub(crate) fn finish(self, alloc: Global) -> Result<Record, GroupFault>
-        ensures states { IfOk result (λ r. (group : List Entry) → length (values (codes "RTY") group) ≡ 1 → kind_in group ≡ Some self.entry.kind → KeepsRecord self.entry [] group → ReadsAs group r) }
+        ensures states { IfOk result (λ r. (group : List Entry) → length (values (codes "RTY") group) ≡ 1 → kind_in group ≡ Some self.entry.kind → StoresRecord self.entry [] group → ReadsAs group r) }
         ensures shape { IfOk result (λ r. is_in_shape r ≡ true) }
-        ensures sound { OnOk result ((group : List Entry) → kind_in group ≡ Some self.entry.kind → KeepsRecord self.entry [] group → first_broken (record_tests group) ≡ None) }
-        ensures least { IfErr result (λ fault. (group : List Entry) → kind_in group ≡ Some self.entry.kind → KeepsRecord self.entry [] group → IsGroupRefusal group fault) }
+        ensures sound { OnOk result ((group : List Entry) → kind_in group ≡ Some self.entry.kind → StoresRecord self.entry [] group → first_broken (record_tests group) ≡ None) }
+        ensures least { IfErr result (λ fault. (group : List Entry) → kind_in group ≡ Some self.entry.kind → StoresRecord self.entry [] group → IsGroupRefusal group fault) }
     {
         let Some(rid) = identifier_of(self.identifier) else {
             return Err(GroupFault::Broken(202));
@@ -134,22 +134,22 @@ impl<'a> Draft<'a> {
 }
 
 /// The identifier of a record, or none where rule 202 is broken.
-fn identifier_of(kept: Only<'_>) -> Option<&[u8]>
-    ensures { MatchOption result ((all : List (List ℕ)) → AreTexts kept.entry [] all → just_one is_identifier_text all ≡ false)
-        (λ text. (all : List (List ℕ)) → AreTexts kept.entry [] all → (just_one is_identifier_text all ≡ true) × (all ≡ text.now ∷ [])) }
+fn identifier_of(stored: Only<'_>) -> Option<&[u8]>
+    ensures { MatchOption result ((all : List (List ℕ)) → AreTexts stored.entry [] all → just_one is_identifier_text all ≡ false)
+        (λ text. (all : List (List ℕ)) → AreTexts stored.entry [] all → (just_one is_identifier_text all ≡ true) × (all ≡ text.now ∷ [])) }
 {
-    match kept {
+    match stored {
         Only::One(text) if is_identifier(text) => Some(text),
         _ => None,
     }
 }
 
 /// The pointer to the class of a record, or none where rule 203 is broken.
-fn class_pointer(kept: Only<'_>) -> Option<Pointer<'_>>
-    ensures { MatchOption result ((all : List (List ℕ)) → AreTexts kept.entry [] all → just_one (λ text. is_some (pointer text)) all ≡ false)
-        (λ p. (all : List (List ℕ)) → AreTexts kept.entry [] all → (just_one (λ text. is_some (pointer text)) all ≡ true) × (map class_of all ≡ Some (record { rty = p.rty.now; rid = p.rid.now }) ∷ [])) }
+fn class_pointer(stored: Only<'_>) -> Option<Pointer<'_>>
+    ensures { MatchOption result ((all : List (List ℕ)) → AreTexts stored.entry [] all → just_one (λ text. is_some (pointer text)) all ≡ false)
+        (λ p. (all : List (List ℕ)) → AreTexts stored.entry [] all → (just_one (λ text. is_some (pointer text)) all ≡ true) × (map class_of all ≡ Some (record { rty = p.rty.now; rid = p.rid.now }) ∷ [])) }
 {
-    match kept {
+    match stored {
         Only::One(text) => Pointer::read(text),
         _ => None,
     }

@@ -7,7 +7,7 @@ ghost use Rattle.edi_record.specs.Records.{is_link};
 ghost use Rattle.edi_record.specs.inner.Records.{ends};
 ghost use Rattle.edi_record.specs.inner.RecordRules.{kind_in, has_bad_end};
 ghost use Rattle.edi_record.specs.inner.RecordRefusal.{IsBreachOf};
-ghost use Rattle.edi_record.specs.inner.Kept.{Takes, KeepsEnds, ended_with};
+ghost use Rattle.edi_record.specs.inner.Stored.{Takes, StoresEnds, ended_with};
 
 use crate::attributes::copied;
 use crate::fault::GroupFault;
@@ -16,7 +16,7 @@ use crate::record::{End, Kind};
 use edi_line::Text;
 use std::alloc::{AllocError, Global};
 
-/// An end whose SNS may still come. The zones lend its pointer and its SNS.
+/// An end whose SNS may still come. Its pointer and its SNS are borrowed from the zones.
 #[derive(Clone, Copy)]
 pub(crate) struct OpenEnd<'a> {
     pointer: Pointer<'a>,
@@ -52,7 +52,7 @@ pub(crate) struct Ends<'a> {
 impl<'a> Ends<'a> {
     /// No ends, with room for two of a link, which mostly has no more.
     pub(crate) fn new(alloc: Global, kind: Kind) -> Result<Ends<'a>, AllocError>
-        ensures { IfOk result (λ e. (group : List Entry) → KeepsEnds e group group) }
+        ensures { IfOk result (λ e. (group : List Entry) → StoresEnds e group group) }
     {
         let room = if kind.is_link() { 2 } else { 0 };
         Ok(Ends {
@@ -76,7 +76,7 @@ impl<'a> Ends<'a> {
 
     /// Takes the pointer of the next end.
     pub(crate) fn take_pointer(&mut self, alloc: Global, text: &'a [u8]) -> Result<(), AllocError>
-        ensures { OnOk result (Takes KeepsEnds (codes "FTP") text.entry.now self.old self.new) }
+        ensures { OnOk result (Takes StoresEnds (codes "FTP") text.entry.now self.old self.new) }
     {
         self.close(alloc)?;
         match Pointer::read(text) {
@@ -93,7 +93,7 @@ impl<'a> Ends<'a> {
 
     /// Takes an SNS.
     pub(crate) fn take_sense(&mut self, text: &'a [u8])
-        ensures { Takes KeepsEnds (codes "SNS") text.entry.now self.old self.new }
+        ensures { Takes StoresEnds (codes "SNS") text.entry.now self.old self.new }
     {
         let Some(opened) = self.opened else {
             self.is_broken = true;
@@ -112,10 +112,10 @@ impl<'a> Ends<'a> {
     /// The ends of a link, and none of other records; or rule 207, where one of them is no pointer,
     /// there are fewer than two, or an SNS comes before any end or twice for one.
     pub(crate) fn finish(mut self, alloc: Global, kind: Kind) -> Result<Vec<End>, GroupFault>
-        ensures states { IfOk result (λ v. (group : List Entry) → (is_link kind ≡ true → KeepsEnds self.entry [] group) → (if is_link kind then ends group else []) ≡ map Some v.items) }
+        ensures states { IfOk result (λ v. (group : List Entry) → (is_link kind ≡ true → StoresEnds self.entry [] group) → (if is_link kind then ends group else []) ≡ map Some v.items) }
         ensures shape { IfOk result (λ v. may_have_ends kind (length v.items) ≡ true) }
-        ensures sound { OnOk result ((group : List Entry) → kind_in group ≡ Some kind → (is_link kind ≡ true → KeepsEnds self.entry [] group) → has_bad_end group ≡ false) }
-        ensures breach { IfErr result (λ fault. (group : List Entry) → kind_in group ≡ Some kind → (is_link kind ≡ true → KeepsEnds self.entry [] group) → IsBreachOf 207 (has_bad_end group) fault) }
+        ensures sound { OnOk result ((group : List Entry) → kind_in group ≡ Some kind → (is_link kind ≡ true → StoresEnds self.entry [] group) → has_bad_end group ≡ false) }
+        ensures breach { IfErr result (λ fault. (group : List Entry) → kind_in group ≡ Some kind → (is_link kind ≡ true → StoresEnds self.entry [] group) → IsBreachOf 207 (has_bad_end group) fault) }
     {
         if !kind.is_link() {
             return Ok(Vec::new(alloc));

@@ -6,7 +6,7 @@ ghost use Rattle.edi_record.specs.Records.{may_be_number as number_format};
 ghost use Rattle.edi_record.specs.inner.Records.{value_of as value_in, extra as extra_in, extras};
 ghost use Rattle.edi_record.specs.inner.RecordRules.{kind_in, has_unknown_pointer};
 ghost use Rattle.edi_record.specs.inner.RecordRefusal.{IsBreachOf};
-ghost use Rattle.edi_record.specs.inner.Kept.{KeepsExtras, TakesExtra};
+ghost use Rattle.edi_record.specs.inner.Stored.{StoresExtras, TakesExtra};
 ghost use Rattle.edi_record.specs.declared.record.Kind.{Kind};
 
 use crate::fault::GroupFault;
@@ -58,7 +58,7 @@ pub(crate) struct Extras {
 
 impl Extras {
     pub(crate) fn new(alloc: Global) -> Extras
-        ensures { (kind : Kind) (group : List Entry) → KeepsExtras kind false result group group }
+        ensures { (kind : Kind) (group : List Entry) → StoresExtras kind false result group group }
     {
         Extras {
             list: Vec::new(alloc),
@@ -81,9 +81,9 @@ impl Extras {
     /// The extras, in the order of their zones; or rule 208, where one of them is a pointer that
     /// isn't empty.
     pub(crate) fn finish(self) -> Result<Vec<Extra>, GroupFault>
-        ensures states { IfOk result (λ v. (kind : Kind) (is_open : Bool) (group : List Entry) → KeepsExtras kind is_open self [] group → extras kind group ≡ v.items) }
-        ensures sound { OnOk result ((kind : Kind) (is_open : Bool) (group : List Entry) → kind_in group ≡ Some kind → KeepsExtras kind is_open self [] group → has_unknown_pointer group ≡ false) }
-        ensures breach { IfErr result (λ fault. (kind : Kind) (is_open : Bool) (group : List Entry) → kind_in group ≡ Some kind → KeepsExtras kind is_open self [] group → IsBreachOf 208 (has_unknown_pointer group) fault) }
+        ensures states { IfOk result (λ v. (kind : Kind) (is_open : Bool) (group : List Entry) → StoresExtras kind is_open self [] group → extras kind group ≡ v.items) }
+        ensures sound { OnOk result ((kind : Kind) (is_open : Bool) (group : List Entry) → kind_in group ≡ Some kind → StoresExtras kind is_open self [] group → has_unknown_pointer group ≡ false) }
+        ensures breach { IfErr result (λ fault. (kind : Kind) (is_open : Bool) (group : List Entry) → kind_in group ≡ Some kind → StoresExtras kind is_open self [] group → IsBreachOf 208 (has_unknown_pointer group) fault) }
     {
         let Extras {
             mut list,

@@ -1,9 +1,9 @@
 //! The texts of zones of which there should be one.
 
 ghost use Rattle.std.specs.Prelude.{◌≡◌, ℕ, List, ◌∷◌};
-ghost use Rattle.edi_record.specs.inner.Kept.{AreTexts};
+ghost use Rattle.edi_record.specs.inner.Stored.{AreTexts};
 
-/// What is kept of the texts of such zones: that there is none, the one, or that there are more.
+/// What is stored of the texts of such zones: that there is none, the one, or that there are more.
 #[derive(Clone, Copy)]
 pub(crate) enum Only<'a> {
     Absent,

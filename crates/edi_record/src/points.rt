@@ -8,7 +8,7 @@ ghost use Rattle.edi_record.specs.Shapes.{may_have_points};
 ghost use Rattle.edi_record.specs.Records.{values, has_points};
 ghost use Rattle.edi_record.specs.inner.RecordRules.{kind_in, has_bad_point};
 ghost use Rattle.edi_record.specs.inner.RecordRefusal.{IsBreachOf};
-ghost use Rattle.edi_record.specs.inner.Kept.{Takes, KeepsPoints};
+ghost use Rattle.edi_record.specs.inner.Stored.{Takes, StoresPoints};
 
 use crate::fault::GroupFault;
 use crate::pointer::cut;
@@ -77,7 +77,7 @@ impl Points {
     /// No points, with room for the one of a node or two of an arc, so that most lists come out
     /// exact.
     pub(crate) fn new(alloc: Global, kind: Kind) -> Result<Points, AllocError>
-        ensures { IfOk result (λ p. (group : List Entry) → KeepsPoints p group group) }
+        ensures { IfOk result (λ p. (group : List Entry) → StoresPoints p group group) }
     {
         let room = match kind {
             Kind::Pno => 1,
@@ -92,7 +92,7 @@ impl Points {
 
     /// Takes a place.
     pub(crate) fn take(&mut self, text: &[u8]) -> Result<(), AllocError>
-        ensures { OnOk result (Takes KeepsPoints (codes "COR") text.now self.old self.new) }
+        ensures { OnOk result (Takes StoresPoints (codes "COR") text.now self.old self.new) }
     {
         let Some(Point { x, y, z }) = Point::read(text) else {
             self.is_broken = true;
@@ -105,10 +105,10 @@ impl Points {
     /// The points of a node or an arc, and none of other records; or rule 206, where one of them is
     /// no place or their number isn't that of the type.
     pub(crate) fn finish(self, alloc: Global, kind: Kind) -> Result<Vec<Point>, GroupFault>
-        ensures states { IfOk result (λ v. (group : List Entry) → (has_points kind ≡ true → KeepsPoints self [] group) → (if has_points kind then map point (values (codes "COR") group) else []) ≡ map Some v.items) }
+        ensures states { IfOk result (λ v. (group : List Entry) → (has_points kind ≡ true → StoresPoints self [] group) → (if has_points kind then map point (values (codes "COR") group) else []) ≡ map Some v.items) }
         ensures shape { IfOk result (λ v. may_have_points kind (length v.items) ≡ true) }
-        ensures sound { OnOk result ((group : List Entry) → kind_in group ≡ Some kind → (has_points kind ≡ true → KeepsPoints self [] group) → has_bad_point group ≡ false) }
-        ensures breach { IfErr result (λ fault. (group : List Entry) → kind_in group ≡ Some kind → (has_points kind ≡ true → KeepsPoints self [] group) → IsBreachOf 206 (has_bad_point group) fault) }
+        ensures sound { OnOk result ((group : List Entry) → kind_in group ≡ Some kind → (has_points kind ≡ true → StoresPoints self [] group) → has_bad_point group ≡ false) }
+        ensures breach { IfErr result (λ fault. (group : List Entry) → kind_in group ≡ Some kind → (has_points kind ≡ true → StoresPoints self [] group) → IsBreachOf 206 (has_bad_point group) fault) }
     {
         if !kind.has_points() {
             return Ok(Vec::new(alloc));

@@ -1,7 +1,7 @@
 //! What zones are to a record.
 
 ghost use Rattle.std.specs.Prelude.{◌≡◌};
-ghost use Rattle.edi_record.specs.inner.Kept.{role_in, body_role_in};
+ghost use Rattle.edi_record.specs.inner.Stored.{role_in, body_role_in};
 
 use crate::record::Kind;
 

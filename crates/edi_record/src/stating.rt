@@ -3,7 +3,7 @@
 ghost use Rattle.std.specs.Prelude.{◌≡◌, ◌≤◌, true, ◌∷◌, None, length, drop, IfOk, IfErr, OnOk};
 ghost use Rattle.edi_line.specs.Entry.{entry, entries};
 ghost use Rattle.edi_line.specs.Zones.{begins_group, ends_group, before_end, groups_of};
-ghost use Rattle.edi_line.specs.Refusal.{first_broken};
+ghost use Rattle.edi_line.specs.inner.Refusal.{first_broken};
 ghost use Rattle.edi_record.specs.Shapes.{is_in_shape};
 ghost use Rattle.edi_record.specs.inner.Records.{ReadsAs};
 ghost use Rattle.edi_record.specs.inner.RecordRules.{kind_named as kind_by, record_tests};
@@ -14,10 +14,6 @@ use crate::fault::GroupFault;
 use crate::record::{Kind, Record};
 use edi_line::Zone;
 use std::alloc::Global;
-
-const TYPE: [u8; 3] = *b"RTY";
-
-const END: [u8; 3] = *b"EOM";
 
 /// The type that a code names.
 fn kind_named(code: &[u8]) -> Option<Kind>
@@ -37,7 +33,7 @@ fn kind_named(code: &[u8]) -> Option<Kind>
 fn ends_record(zone: &Zone<'_>) -> bool
     ensures { result ≡ ends_group (entry zone.now) }
 {
-    zone.code == TYPE || zone.code == END
+    matches!(&zone.code, b"RTY" | b"EOM")
 }
 
 /// The record that begins with this zone, with how many of the zones behind it are its own; or the

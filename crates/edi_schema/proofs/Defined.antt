@@ -5,7 +5,7 @@ use Rattle.edi_line.specs.Entry.{Entry, entry, entries}
 use Rattle.edi_line.specs.Zones.{begins_group, before_end, groups_of}
 use Rattle.edi_line.specs.declared.zone.Zone.{Zone}
 use Rattle.edi_record.specs.Records.{group_at}
-use Rattle.edi_schema.specs.Drafts.{Said, said, said_in}
+use Rattle.edi_schema.specs.inner.Drafts.{Said, said, said_in}
 use Rattle.edi_schema.specs.declared.definition.Definition.{Definition}
 
 abbrev behind : List Zone → List Zone

@@ -5,8 +5,8 @@ use Rattle.edi_record.specs.declared.name.Name.{Name}
 use Rattle.edi_schema.specs.Classes.{is_name}
 use Rattle.std.proofs.lemmas.Option.{slice_get-map, slice_get-get_or}
 use Rattle.std.proofs.lemmas.List.{take_all, take-map}
-use Rattle.edi_schema.specs.Drafts.{named, said}
-use Rattle.edi_schema.specs.Steps.{IsFirstRepeat}
+use Rattle.edi_schema.specs.inner.Drafts.{named, said}
+use Rattle.edi_schema.specs.inner.Steps.{IsFirstRepeat}
 use Rattle.edi_schema.specs.declared.definition.Definition.{Definition}
 use Rattle.edi_schema.specs.declared.title.Title.{Title}
 

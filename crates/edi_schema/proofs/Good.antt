@@ -10,7 +10,7 @@ use Rattle.edi_schema.specs.declared.role.Role.TheVariants.{Plain}
 use Rattle.edi_schema.specs.declared.class.Class.{Class}
 use Rattle.edi_schema.specs.Roles.{KindCodes, is_plain, exchanged}
 use Rattle.edi_schema.specs.Classes.{Classes, IsSchema, has_role, is_pointable}
-use Rattle.edi_schema.specs.Places.{ArePointable}
+use Rattle.edi_schema.specs.inner.Places.{ArePointable}
 use Rattle.edi_schema.specs.SchemaOf.{StatesClass}
 use Rattle.edi_schema.specs.SchemaRules.{HasRole}
 use Rattle.edi_schema.specs.SchemaRefusal.{IsGoodSchema}

@@ -2,8 +2,8 @@
 use Rattle.std.proofs.Common.{◌≡◌, ℕ, ◌+◌, ◌<◌, List, length, take, map, get_or, Option, Some, None, option_map, refl, ap, ◌∙◌}
 use Rattle.std.proofs.lemmas.Option.{slice_get-map, slice_get-get_or}
 use Rattle.std.proofs.lemmas.List.{take-map}
-use Rattle.edi_schema.specs.Drafts.{Said, said}
-use Rattle.edi_schema.specs.Steps.{IsFirstLacking}
+use Rattle.edi_schema.specs.inner.Drafts.{Said, said}
+use Rattle.edi_schema.specs.inner.Steps.{IsFirstLacking}
 use Rattle.edi_schema.specs.declared.definition.Definition.{Definition}
 
 pub lacking_found : {Y : Type 0} (gives : Said → Option Y) (records : List Definition) (i : ℕ) (d : Definition) (found : List Y) → i < length records

@@ -7,7 +7,7 @@ use Rattle.edi_line.specs.Zones.{begins_group, before_end, groups_of}
 use Rattle.edi_record.specs.declared.name.Name.{Name}
 use Rattle.edi_record.specs.Records.{values, first}
 use Rattle.edi_record.specs.RecordRules.{has_no_identifier, just_one, is_identifier}
-use Rattle.edi_schema.specs.Drafts.{text_in, name_in}
+use Rattle.edi_schema.specs.inner.Drafts.{text_in, name_in}
 use Rattle.edi_schema.specs.SchemaOf.{IsNamed}
 
 -- each group leads with its type

@@ -14,10 +14,10 @@ use Rattle.edi_schema.specs.Roles.{KindCodes}
 use Rattle.edi_record.specs.declared.name.Name.{Name}
 use Rattle.edi_schema.specs.declared.class.Class.{Class}
 use Rattle.edi_schema.specs.Classes.{Classes, IsLetter, IsReadName}
-use Rattle.edi_schema.specs.Drafts.{Said, said, said_in, drafted}
+use Rattle.edi_schema.specs.inner.Drafts.{Said, said, said_in, drafted}
 use Rattle.edi_schema.specs.SchemaOf.{IsGroupsOf}
 use Rattle.edi_schema.specs.SchemaRefusal.{IsGoodSchema, IsSchemaRefusal}
-use Rattle.edi_schema.specs.Steps.{IfEntry, IfKinds, AreStated, AreMatched, AreUnmatched, StopsAt}
+use Rattle.edi_schema.specs.inner.Steps.{IfEntry, IfKinds, AreStated, AreMatched, AreUnmatched, StopsAt}
 use Rattle.edi_schema.specs.declared.fault.SchemaFault.{SchemaFault}
 use Rattle.edi_schema.specs.declared.fault.SchemaFault.TheVariants.{Memory, Line, Entry, Kinds}
 use Rattle.edi_schema.proofs.FewGroups.{few_groups}
@@ -34,8 +34,8 @@ pub record IsRead (b : List ℕ) (zones : List Zone) : Type 0 where
   pub shape : HasShape zones
   pub sound : IsUnbroken (BreaksLineRule b)
 
-pub is_read : (b : List ℕ) (lent zones : List ZoneOf) → lent ≡ zones → IsZonesOf b (entries zones) → HasShape (entries zones) → IsUnbroken (BreaksLineRule b) → IsRead b (entries lent)
-is_read b lent zones same is shape sound = subst (λ zs. IsRead b (entries zs)) (sym same) (record { is = is; shape = shape; sound = sound })
+pub is_read : (b : List ℕ) (borrowed zones : List ZoneOf) → borrowed ≡ zones → IsZonesOf b (entries zones) → HasShape (entries zones) → IsUnbroken (BreaksLineRule b) → IsRead b (entries borrowed)
+is_read b borrowed zones same is shape sound = subst (λ zs. IsRead b (entries zs)) (sym same) (record { is = is; shape = shape; sound = sound })
 
 pub all_said : (ds items : List Definition) (ss : List Said) → ds ≡ items → map said items ≡ ss → map said ds ≡ ss
 all_said ds items ss same are = ap (map said) same ∙ are
@@ -43,8 +43,8 @@ all_said ds items ss same are = ap (map said) same ∙ are
 pub few_drafts : (ds items : List Draft) (n : ℕ) → ds ≡ items → length (map drafted items) ≤ n → length ds ≤ n
 few_drafts ds items n same few = omega (arith, ap length same, length-map items drafted, few)
 
-pub stated_lent : (cs ws : List Said) (kinds : KindCodes) (ds items : List Draft) → ds ≡ items → AreStated cs ws kinds (map drafted items) → AreStated cs ws kinds (map drafted ds)
-stated_lent cs ws kinds ds items same are = subst (λ xs. AreStated cs ws kinds (map drafted xs)) (sym same) are
+pub stated_borrowed : (cs ws : List Said) (kinds : KindCodes) (ds items : List Draft) → ds ≡ items → AreStated cs ws kinds (map drafted items) → AreStated cs ws kinds (map drafted ds)
+stated_borrowed cs ws kinds ds items same are = subst (λ xs. AreStated cs ws kinds (map drafted xs)) (sym same) are
 
 pub ok_good : {S E : Type 0} (r : Result S E) (x : S) (M : Type 0) (G : S → Type 0) → IfOk r (λ s. s ≡ x) → OnOk r M → (M → G x) → IfOk r G
 ok_good (Ok s) x M G is m to = subst G (sym is) (to m)

@@ -12,11 +12,11 @@ use Rattle.edi_record.specs.Texts.{is_semicolon}
 use Rattle.edi_record.proofs.StatesSaid.{points_said}
 use Rattle.edi_schema.specs.Roles.{KindCodes, role_by, is_plain, same_role, exchanged}
 use Rattle.edi_schema.specs.Classes.{Classes, is_name, has_role, is_pointable}
-use Rattle.edi_schema.specs.Drafts.{Said, said_in, name_in, word_in, type_by, class_in}
+use Rattle.edi_schema.specs.inner.Drafts.{Said, said_in, name_in, word_in, type_by, class_in}
 use Rattle.edi_schema.specs.SchemaOf.{IsNamed, StatesWord, HasType, StatesClass, IsSchemaOf}
 use Rattle.edi_schema.specs.SchemaOf.HasType.{none, some}
 use Rattle.edi_schema.specs.SchemaRules.{HasRole, BreaksKinds}
-use Rattle.edi_schema.specs.Steps.{AreIdentified, AreStated, AreMatched, AreUnmatched}
+use Rattle.edi_schema.specs.inner.Steps.{AreIdentified, AreStated, AreMatched, AreUnmatched}
 use Rattle.edi_schema.specs.declared.class.Class.{Class}
 use Rattle.edi_schema.specs.declared.role.Role.{Role}
 use Rattle.edi_schema.specs.declared.role.Role.TheVariants.{Plain}

@@ -10,11 +10,11 @@ use Rattle.edi_schema.specs.declared.role.Role.TheVariants.{Initial, Final, Left
 use Rattle.edi_schema.specs.declared.class.Class.{Class}
 use Rattle.edi_schema.specs.declared.by_role.ByRole.{ByRole}
 use Rattle.edi_schema.specs.declared.draft.Draft.{Draft}
-use Rattle.edi_schema.specs.Drafts.{drafted}
+use Rattle.edi_schema.specs.inner.Drafts.{drafted}
 use Rattle.edi_schema.specs.Roles.{is_plain, same_role, exchanged}
 use Rattle.edi_schema.specs.Classes.{Classes, has_role}
 use Rattle.edi_schema.specs.ByRole.{of_role, IsWith}
-use Rattle.edi_schema.specs.Places.{are_alike, are_paired, AreNoted, ArePlaces, AreUnpaired}
+use Rattle.edi_schema.specs.inner.Places.{are_equal, are_paired, AreNoted, ArePlaces, AreUnpaired}
 use Rattle.edi_schema.proofs.Paired.{one_role, itself, count-cons, found_at}
 
 -- ---- first places, a step at a time
@@ -139,19 +139,19 @@ module _ (s : Classes) (p : ByRole (Option ℕ)) (noted : AreNoted s p) where
   none_there : (r : Role) → is_plain r ≡ false → of_role p r ≡ None → count_by (has_role r) s ≡ 0
   none_there r kind e = none_counted (has_role r) s (sym (noted.place r kind) ∙ e)
 
-  same_counts : (r q : Role) → is_plain r ≡ false → is_plain q ≡ false → are_alike (of_role p r) (of_role p q) ≡ true → count_by (has_role r) s ≡ count_by (has_role q) s
+  same_counts : (r q : Role) → is_plain r ≡ false → is_plain q ≡ false → are_equal (of_role p r) (of_role p q) ≡ true → count_by (has_role r) s ≡ count_by (has_role q) s
   same_counts r q kind other alike = go (of_role p r) (of_role p q) refl refl alike
     where
-      go : (a b : Option ℕ) → of_role p r ≡ a → of_role p q ≡ b → are_alike a b ≡ true → count_by (has_role r) s ≡ count_by (has_role q) s
+      go : (a b : Option ℕ) → of_role p r ≡ a → of_role p q ≡ b → are_equal a b ≡ true → count_by (has_role r) s ≡ count_by (has_role q) s
       go (Some m) (Some n) e f h = one_there r m kind e ∙ sym (one_there q n other f)
       go None None e f h = none_there r kind e ∙ sym (none_there q other f)
       go (Some m) None e f h = absurd cc
       go None (Some n) e f h = absurd cc
 
-  one_lacks : (r q : Role) → exchanged r ≡ q → exchanged q ≡ r → is_plain r ≡ false → is_plain q ≡ false → are_alike (of_role p r) (of_role p q) ≡ false → AreUnpaired s
+  one_lacks : (r q : Role) → exchanged r ≡ q → exchanged q ≡ r → is_plain r ≡ false → is_plain q ≡ false → are_equal (of_role p r) (of_role p q) ≡ false → AreUnpaired s
   one_lacks r q to back kind other alike = go (of_role p r) (of_role p q) refl refl alike
     where
-      go : (a b : Option ℕ) → of_role p r ≡ a → of_role p q ≡ b → are_alike a b ≡ false → AreUnpaired s
+      go : (a b : Option ℕ) → of_role p r ≡ a → of_role p q ≡ b → are_equal a b ≡ false → AreUnpaired s
       go (Some m) (Some n) e f h = absurd cc
       go None None e f h = absurd cc
       go (Some m) None e f h = (r, kind, inr (omega (arith, one_there r m kind e), ap (λ x. count_by (has_role x) s) to ∙ none_there q other f))
@@ -170,11 +170,11 @@ module _ (s : Classes) (p : ByRole (Option ℕ)) (noted : AreNoted s p) where
   pub all_paired : are_paired p ≡ true → ArePlaces s p
   all_paired h = record { noted = noted; both = both }
     where
-      ends : are_alike p.initial p.final_node ≡ true
-      ends = (by_and (are_alike p.initial p.final_node) (are_alike p.left p.right) h).0
+      ends : are_equal p.initial p.final_node ≡ true
+      ends = (by_and (are_equal p.initial p.final_node) (are_equal p.left p.right) h).0
 
-      faces : are_alike p.left p.right ≡ true
-      faces = (by_and (are_alike p.initial p.final_node) (are_alike p.left p.right) h).1
+      faces : are_equal p.left p.right ≡ true
+      faces = (by_and (are_equal p.initial p.final_node) (are_equal p.left p.right) h).1
 
       both : (role : Role) → is_plain role ≡ false → count_by (has_role role) s ≡ count_by (has_role (exchanged role)) s
       both Initial kind = same_counts Initial Final refl refl ends
@@ -184,9 +184,9 @@ module _ (s : Classes) (p : ByRole (Option ℕ)) (noted : AreNoted s p) where
       both Plain kind = absurd cc
 
   pub some_unpaired : are_paired p ≡ false → AreUnpaired s
-  some_unpaired h = go (by_nand (are_alike p.initial p.final_node) (are_alike p.left p.right) h)
+  some_unpaired h = go (by_nand (are_equal p.initial p.final_node) (are_equal p.left p.right) h)
     where
-      go : (are_alike p.initial p.final_node ≡ false) ⊎ (are_alike p.left p.right ≡ false) → AreUnpaired s
+      go : (are_equal p.initial p.final_node ≡ false) ⊎ (are_equal p.left p.right ≡ false) → AreUnpaired s
       go (inl e) = one_lacks Initial Final refl refl refl refl e
       go (inr e) = one_lacks Left Right refl refl refl refl e
 

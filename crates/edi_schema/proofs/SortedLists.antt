@@ -7,7 +7,8 @@ use Rattle.std.proofs.lemmas.Cmp.{tied_itself, upto}
 use Rattle.std.proofs.lemmas.Map.Lookups.{CmpEqualImpliesEq}
 use Rattle.std.proofs.lemmas.List.Sums.{sum_by-cons}
 use Rattle.std.proofs.lemmas.List.Sorted.{sum_by-IsPermutation, IsPermutation-refl, IsPermutation-cons, IsPermutation-trans, IsPermutation-middle}
-use Rattle.edi_schema.specs.Sorted.{insert_sorted, sort_by, NeverFalls, SameCounts}
+use Rattle.edi_schema.specs.Sorted.{insert_sorted, sort_by, NeverFalls}
+use Rattle.edi_schema.specs.inner.Sorted.{SameCounts}
 
 pub counts_from_permutation : {X : Type 0} (xs ys : List X) → IsPermutation xs ys → SameCounts xs ys
 counts_from_permutation xs ys h test = sym (sum_by-IsPermutation (λ x. cond (test x) 1 0) xs ys h)

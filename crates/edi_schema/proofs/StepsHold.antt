@@ -14,12 +14,12 @@ use Rattle.edi_record.specs.inner.Texts.{class_of}
 use Rattle.edi_record.proofs.StatesSaid.{points_said, points_read}
 use Rattle.edi_schema.specs.Roles.{KindCodes}
 use Rattle.edi_schema.specs.Classes.{Classes, is_name}
-use Rattle.edi_schema.specs.Drafts.{Said, said_in, name_in, word_in, type_by, class_by, class_in}
+use Rattle.edi_schema.specs.inner.Drafts.{Said, said_in, name_in, word_in, type_by, class_by, class_in}
 use Rattle.edi_schema.specs.SchemaOf.{IsNamed}
 use Rattle.edi_schema.specs.SchemaRules.{BreaksEntry, HasNoWord, IsFirstEntry, EntriesHold, step}
 use Rattle.edi_schema.specs.SchemaRules.BreaksEntry.{lacks_identifier, repeats_name, no_word}
-use Rattle.edi_schema.specs.Steps.{AreIdentified, IsFirstUnidentified, IsFirstRepeat, IsFirstLacking, names_of, AreNamed, StopsAt, AreStated}
-use Rattle.edi_schema.specs.Steps.StopsAt.{class_unidentified, word_unidentified, class_repeats, word_repeats, lacks_word}
+use Rattle.edi_schema.specs.inner.Steps.{AreIdentified, IsFirstUnidentified, IsFirstRepeat, IsFirstLacking, names_of, AreNamed, StopsAt, AreStated}
+use Rattle.edi_schema.specs.inner.Steps.StopsAt.{class_unidentified, word_unidentified, class_repeats, word_repeats, lacks_word}
 use Rattle.edi_schema.specs.declared.fault.Source.{Source}
 use Rattle.edi_schema.specs.declared.fault.Source.TheVariants.{Scd, Dic}
 use Rattle.edi_schema.proofs.Led.{IsLed, is_named, named_so}

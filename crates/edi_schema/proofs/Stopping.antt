@@ -7,8 +7,8 @@ use Rattle.std.proofs.lemmas.List.Sorted.{length_permutation}
 use Rattle.edi_record.specs.declared.name.Name.{Name}
 use Rattle.edi_schema.specs.Roles.{KindCodes}
 use Rattle.edi_schema.specs.Classes.{Classes}
-use Rattle.edi_schema.specs.Drafts.{Said, said, class_in, class_by, type_by}
-use Rattle.edi_schema.specs.Steps.{IfEntry, AreIdentified, IsFirstUnidentified, names_of, AreStated}
+use Rattle.edi_schema.specs.inner.Drafts.{Said, said, class_in, class_by, type_by}
+use Rattle.edi_schema.specs.inner.Steps.{IfEntry, AreIdentified, IsFirstUnidentified, names_of, AreStated}
 use Rattle.edi_schema.specs.declared.class.Class.{Class}
 use Rattle.edi_schema.specs.declared.definition.Definition.{Definition}
 use Rattle.edi_schema.specs.declared.fault.Source.{Source}

@@ -11,7 +11,7 @@ use Rattle.edi_record.specs.inner.Texts.{pointer, class_of}
 use Rattle.edi_record.specs.declared.pointer.Pointer.{Pointer}
 use Rattle.edi_record.proofs.GroupCuts.{place_at_Some, no_position}
 use Rattle.edi_schema.specs.Classes.{is_name}
-use Rattle.edi_schema.specs.Drafts.{Said, named, said, word_in}
+use Rattle.edi_schema.specs.inner.Drafts.{Said, named, said, word_in}
 use Rattle.edi_schema.specs.declared.title.Title.{Title}
 use Rattle.edi_schema.specs.declared.definition.Definition.{Definition}
 

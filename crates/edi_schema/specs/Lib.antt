@@ -5,7 +5,5 @@ pub mod Classes
 pub mod SchemaOf
 pub mod SchemaRules
 pub mod SchemaRefusal
-pub mod Drafts
-pub mod Places
-pub mod Steps
 pub mod Laws
+pub mod inner

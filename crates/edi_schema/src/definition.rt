@@ -3,7 +3,7 @@
 ghost use Rattle.std.specs.Prelude.{◌≡◌, map, IfOk};
 ghost use Rattle.edi_line.specs.Entry.{entries};
 ghost use Rattle.edi_line.specs.Zones.{groups_of};
-ghost use Rattle.edi_schema.specs.Drafts.{said, said_in};
+ghost use Rattle.edi_schema.specs.inner.Drafts.{said, said_in};
 
 use crate::title::Title;
 use edi_line::Zone;

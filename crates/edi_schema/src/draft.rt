@@ -1,10 +1,10 @@
 //! What the records of the file of classes say of their classes: rule 603.
 
 ghost use Rattle.std.specs.Prelude.{◌≡◌, ◌+◌, Some, map, option_map, IfOk, IfErr};
-ghost use Rattle.edi_schema.specs.Drafts.{named, said, word_in, type_by, class_in, drafted};
+ghost use Rattle.edi_schema.specs.inner.Drafts.{named, said, word_in, type_by, class_in, drafted};
 ghost use Rattle.edi_schema.specs.Roles.{role_by};
 ghost use Rattle.edi_schema.specs.SchemaOf.{letter_of, is_number_type};
-ghost use Rattle.edi_schema.specs.Steps.{IfEntry, IsFirstLacking};
+ghost use Rattle.edi_schema.specs.inner.Steps.{IfEntry, IsFirstLacking};
 ghost use Rattle.edi_schema.specs.declared.fault.Source.TheVariants.{Scd};
 
 use crate::class::Class;
@@ -17,7 +17,7 @@ use edi_record::Pointer;
 use indexmap::IndexSet;
 use std::alloc::Global;
 
-/// A class, with its name as its file lends it.
+/// A class, with its name borrowed from its file.
 #[derive(Clone, Copy, Debug)]
 pub(crate) struct Draft<'a> {
     pub(crate) title: Title<'a>,

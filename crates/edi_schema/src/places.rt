@@ -4,8 +4,8 @@ ghost use Rattle.std.specs.Prelude.{◌≡◌, ◌<◌, ◌≤◌, ◌^◌, true
 ghost use Rattle.std.specs.Bool.{MatchBool};
 ghost use Rattle.std.specs.List.{list_any};
 ghost use Rattle.edi_schema.specs.Classes.{is_pointable as pointable};
-ghost use Rattle.edi_schema.specs.Drafts.{drafted};
-ghost use Rattle.edi_schema.specs.Places.{are_alike as alike, are_paired, ArePlaces, ArePointable, AreUnpaired, AreUnpointable};
+ghost use Rattle.edi_schema.specs.inner.Drafts.{drafted};
+ghost use Rattle.edi_schema.specs.inner.Places.{are_equal as alike, are_paired, ArePlaces, ArePointable, AreUnpaired, AreUnpointable};
 ghost use Rattle.edi_schema.specs.declared.role.Role.{Role};
 
 use crate::by_role::ByRole;
@@ -13,7 +13,7 @@ use crate::draft::Draft;
 use crate::role::Role;
 
 /// Whether there are both places or none.
-fn are_alike(one: Option<u32>, other: Option<u32>) -> bool
+fn are_equal(one: Option<u32>, other: Option<u32>) -> bool
     ensures { result ≡ alike one other }
 {
     match (one, other) {
@@ -49,7 +49,7 @@ pub(crate) fn are_pointable(classes: &[Draft<'_>]) -> bool
 fn is_paired(places: &ByRole<Option<u32>>) -> bool
     ensures { result ≡ are_paired places.now }
 {
-    are_alike(places.initial, places.final_node) && are_alike(places.left, places.right)
+    are_equal(places.initial, places.final_node) && are_equal(places.left, places.right)
 }
 
 /// The places of the classes of the four kinds, where no kind has two

@@ -3,8 +3,8 @@ ghost use Rattle.edi_line.specs.Entry.{entries};
 ghost use Rattle.edi_line.specs.LineRules.{IsZonesOf, BreaksLineRule};
 ghost use Rattle.edi_line.specs.Zones.{HasShape};
 ghost use Rattle.edi_line.specs.Refusal.{IsUnbroken, IsLeastBroken};
-ghost use Rattle.edi_schema.specs.Drafts.{said, drafted};
-ghost use Rattle.edi_schema.specs.Steps.{IfLine, IfEntry, IfKinds, AreStated, AreMatched, AreUnmatched, StopsAt};
+ghost use Rattle.edi_schema.specs.inner.Drafts.{said, drafted};
+ghost use Rattle.edi_schema.specs.inner.Steps.{IfLine, IfEntry, IfKinds, AreStated, AreMatched, AreUnmatched, StopsAt};
 
 use crate::by_role::ByRole;
 use crate::class::{Class, ClassRef};
@@ -32,7 +32,7 @@ pub struct Schema {
 
 impl Model for Schema {
     ghost use Rattle.edi_schema.specs.Classes.{Classes, IsSchema};
-    ghost use Rattle.edi_schema.specs.Places.{AreNoted};
+    ghost use Rattle.edi_schema.specs.inner.Places.{AreNoted};
 
     ghost Value = { Classes };
 
@@ -87,7 +87,7 @@ impl Schema {
 
     /// The schema of a file of classes, a dictionary and the codes of the four kinds.
     ///
-    /// The first broken step is told: 101 to 110 of the file of classes, then of the dictionary, by the least line;
+    /// The first broken step is reported: 101 to 110 of the file of classes, then of the dictionary, by the least line;
     /// 601 (not exactly one identifier in form) of the classes, then of the dictionary; 602 (the name of an earlier
     /// record) of the classes, then of the dictionary; 603 (the DIP of a class names no record of the dictionary),
     /// each by the least record from 1; then 604 (two classes of one of the four kinds, or a class of a kind without

@@ -1,10 +1,10 @@
-//! The names of the records of a schema's files, as their zones lend them.
+//! The names of the records of a schema's files, borrowed from their zones.
 
 ghost use Rattle.std.specs.Prelude.{◌≡◌, ◌++◌, List, ℕ};
 ghost use Rattle.edi_line.specs.Entry.{entries};
 ghost use Rattle.edi_hash.specs.Keys.{Holds};
 ghost use Rattle.edi_schema.specs.Classes.{name_parts};
-ghost use Rattle.edi_schema.specs.Drafts.{name_in, named};
+ghost use Rattle.edi_schema.specs.inner.Drafts.{name_in, named};
 
 use edi_hash::KeyNames;
 use edi_line::Zone;
@@ -14,7 +14,7 @@ const TYPE: [u8; 3] = *b"RTY";
 
 const IDENTIFIER: [u8; 3] = *b"RID";
 
-/// The type and the identifier of a record, lent by its zones.
+/// The type and the identifier of a record, borrowed from its zones.
 #[derive(Clone, Copy, Debug, PartialEq, Eq, PartialOrd, Ord, Hash)]
 pub(crate) struct Title<'a> {
     pub(crate) rty: &'a [u8],

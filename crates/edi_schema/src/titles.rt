@@ -4,8 +4,8 @@ ghost use Rattle.std.specs.Prelude.{◌≡◌, ℕ, ◌+◌, Some, None, map, fl
 ghost use Rattle.std.specs.List.{IsDistinct};
 ghost use Rattle.edi_hash.specs.Keys.{keyed_by};
 ghost use Rattle.edi_schema.specs.Classes.{is_name, name_parts};
-ghost use Rattle.edi_schema.specs.Drafts.{named, said};
-ghost use Rattle.edi_schema.specs.Steps.{IfEntry, IsFirstRepeat};
+ghost use Rattle.edi_schema.specs.inner.Drafts.{named, said};
+ghost use Rattle.edi_schema.specs.inner.Steps.{IfEntry, IsFirstRepeat};
 
 use crate::definition::Definition;
 use crate::fault::{SchemaFault, Source};

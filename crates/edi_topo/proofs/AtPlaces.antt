@@ -9,9 +9,9 @@ use Rattle.edi_record.specs.declared.record.Kind.TheVariants.{Pno, Par, Pfe}
 use Rattle.edi_schema.specs.declared.role.Role.TheVariants.{Left, Right}
 use Rattle.edi_plan.specs.Plans.{Drawing, IsPlace, record_at, kind_rank}
 use Rattle.edi_plan.specs.Sides.{Side}
-use Rattle.edi_topo.specs.Arcs.{RepeatsAnEarlierArc}
-use Rattle.edi_topo.specs.AtRecord.{IsUnbrokenAt, IsLeastAt, IsUpTo, AreAhead, AreFindings}
-use Rattle.edi_topo.specs.Nodes.{RepeatsAnEarlier}
+use Rattle.edi_topo.specs.inner.Arcs.{RepeatsAnEarlierArc}
+use Rattle.edi_topo.specs.inner.AtRecord.{IsUnbrokenAt, IsLeastAt, IsUpTo, AreAhead, AreFindings}
+use Rattle.edi_topo.specs.inner.Nodes.{RepeatsAnEarlier}
 use Rattle.edi_topo.specs.declared.at_record.Findings.{Findings}
 use Rattle.edi_topo.specs.TopologyRules.{BreaksTopologyRule, StartsElsewhere, EndsElsewhere}
 use Rattle.edi_topo.specs.TopologyRules.BreaksTopologyRule.{starts_elsewhere, ends_elsewhere, repeats_node, equals_reverse, repeats_arc, bounds_nothing}

@@ -11,7 +11,8 @@ use Rattle.edi_plan.specs.Places.{places_of}
 use Rattle.edi_plan.specs.Plans.{Drawing, record_at}
 use Rattle.edi_plan.proofs.Orders.{exact_lists, point_exact, points_total}
 use Rattle.edi_plan.proofs.PlaceLemmas.{place_there, place_of_kind, places_rise, has_place}
-use Rattle.edi_topo.specs.Arcs.{forward_keys, RepeatsAnEarlierArc}
+use Rattle.edi_topo.specs.Arcs.{forward_keys}
+use Rattle.edi_topo.specs.inner.Arcs.{RepeatsAnEarlierArc}
 use Rattle.edi_topo.specs.Directions.{is_forward, forward}
 use Rattle.edi_topo.specs.Ranking.{Ties}
 

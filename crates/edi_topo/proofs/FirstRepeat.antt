@@ -8,11 +8,11 @@ use Rattle.edi_plan.specs.Plans.{Drawing, record_at}
 use Rattle.edi_plan.specs.Whole.{IsWhole}
 use Rattle.edi_plan.proofs.PlaceLemmas.{place_there, place_of_kind, places_rise, has_place}
 use Rattle.edi_topo.specs.NodeKeys.{node_key, node_keys, node_key_cmp, no_node, IsNodeRanking}
-use Rattle.edi_topo.specs.Nodes.{RepeatsAnEarlier}
+use Rattle.edi_topo.specs.inner.Nodes.{RepeatsAnEarlier}
 use Rattle.edi_topo.specs.Ranking.{Ties, IsRanking}
-use Rattle.edi_topo.specs.TopologyRules.{AreAlikeNodes}
+use Rattle.edi_topo.specs.TopologyRules.{AreEqualNodes}
 use Rattle.edi_topo.specs.declared.node_key.NodeKey.{NodeKey}
-use Rattle.edi_topo.proofs.NodeOrders.{node_order, keys_of_alike, alike_from_keys}
+use Rattle.edi_topo.proofs.NodeOrders.{node_order, keys_of_alike, equal_from_keys}
 use Rattle.edi_topo.specs.contracts.node_key.NodeKeyOrd.TheImpl.{ghosts as nodes}
 
 -- how many nodes there are, and the key of each
@@ -32,11 +32,11 @@ module _ (p : Drawing) (whole : IsWhole p) where
 
   -- members tie exactly where their nodes are alike
 
-  alike_there : (m n : ℕ) → m < count_of p → n < count_of p → nodes.cmp (key_of p m) (key_of p n) ≡ Equal → AreAlikeNodes p (place m) (place n)
-  alike_there m n h l tie = alike_from_keys p (place m) (place n) whole (place_there Pno p m h) (place_there Pno p n l) (place_of_kind Pno p m h) (place_of_kind Pno p n l)
+  equal_there : (m n : ℕ) → m < count_of p → n < count_of p → nodes.cmp (key_of p m) (key_of p n) ≡ Equal → AreEqualNodes p (place m) (place n)
+  equal_there m n h l tie = equal_from_keys p (place m) (place n) whole (place_there Pno p m h) (place_there Pno p n l) (place_of_kind Pno p m h) (place_of_kind Pno p n l)
       (subst (λ k. node_key_cmp k (node_key (record_at p (place n))) ≡ Equal) (key_is m h) (subst (λ k. node_key_cmp (key_of p m) k ≡ Equal) (key_is n l) (sym (node_order (key_of p m) (key_of p n)) ∙ tie)))
 
-  tie_there : (m n : ℕ) → m < count_of p → n < count_of p → AreAlikeNodes p (place m) (place n) → nodes.cmp (key_of p m) (key_of p n) ≡ Equal
+  tie_there : (m n : ℕ) → m < count_of p → n < count_of p → AreEqualNodes p (place m) (place n) → nodes.cmp (key_of p m) (key_of p n) ≡ Equal
   tie_there m n h l d = node_order (key_of p m) (key_of p n) ∙ subst (λ k. node_key_cmp (key_of p m) k ≡ Equal) (sym (key_is n l))
       (subst (λ k. node_key_cmp k (node_key (record_at p (place n))) ≡ Equal) (sym (key_is m h)) (keys_of_alike p (place m) (place n) d))
 
@@ -46,7 +46,7 @@ module _ (p : Drawing) (whole : IsWhole p) where
       let a = has_place Pno p d.0 d.2.first d.2.first_node in
       let b = has_place Pno p n d.2.second d.2.second_node in
       let less : a.0 < b.0 = before a.0 b.0 a.1 b.1 (omega (arith, a.2, b.2, d.1)) (cases_order a.0 b.0) in
-      (b.0, ((b.1, (a.0, less, tie_there a.0 b.0 a.1 b.1 (subst (λ k. AreAlikeNodes p k (place b.0)) (sym a.2) (subst (AreAlikeNodes p d.0) (sym b.2) d.2))))), b.2)
+      (b.0, ((b.1, (a.0, less, tie_there a.0 b.0 a.1 b.1 (subst (λ k. AreEqualNodes p k (place b.0)) (sym a.2) (subst (AreEqualNodes p d.0) (sym b.2) d.2))))), b.2)
     where
       before : (i j : ℕ) → i < count_of p → j < count_of p → place i < place j → (i ≡ j) ⊎ ((i < j) ⊎ (j < i)) → i < j
       before i j h l less (inl e) = absurd (omega (arith, ap place e))
@@ -59,7 +59,7 @@ module _ (p : Drawing) (whole : IsWhole p) where
   pub least_repeats : (m : ℕ) → Ties nodes.cmp (key_of p) (count_of p) m → ((n : ℕ) → Ties nodes.cmp (key_of p) (count_of p) n → m ≤ n) → RepeatsAnEarlier p (place m) × ((k : ℕ) → RepeatsAnEarlier p k → place m ≤ k)
   least_repeats m tie least =
       let i = tie.1.0 in (
-        (place i, places_rise Pno p i m tie.1.1 tie.0, alike_there i m (omega (arith, tie.0, tie.1.1)) tie.0 tie.1.2),
+        (place i, places_rise Pno p i m tie.1.1 tie.0, equal_there i m (omega (arith, tie.0, tie.1.1)) tie.0 tie.1.2),
         λ k d. let t = tying_member k d in behind t.0 t.1.0 k t.2 (least t.0 t.1) (cases_order m t.0),
       )
     where

@@ -12,7 +12,7 @@ use Rattle.std.proofs.lemmas.List.Sorted.{length_permutation, All-permutation, C
 use Rattle.std.proofs.lemmas.Map.Keys.{sorted_from_all_adjacent, Less-from_sorted}
 use Rattle.edi_topo.specs.Ranking.{sum_below, rank}
 use Rattle.edi_topo.proofs.Sums.{sum_by-below}
-use Rattle.edi_topo.specs.Keyed.{keyed, AllApart}
+use Rattle.edi_topo.specs.inner.Keyed.{keyed, AllApart}
 
 module _ {K : Type 0} (key : ℕ → K) where
   pub length-keyed : (n : ℕ) → length (keyed key n) ≡ n

@@ -1,7 +1,7 @@
 -- What a loop over keyed members keeps.
 use Rattle.std.proofs.Common.{◌≡◌, ◌≢◌, ℕ, ◌+◌, ◌<◌, ◌≤◌, ◌⊎◌, inl, inr, min, List, length, get_or, set, Option, Some, None, MatchOption, sym, ap, ◌∙◌, subst, arith, ⊎_elim, ◌-◌, All, AllPairs, Ordering, Equal, get_or-set_same, get_or-set_other}
 use Rattle.std.proofs.lemmas.Bool.{cases_eq, cases_lt}
-use Rattle.edi_topo.specs.Keyed.{IsLeastRepeat, IsLeastRepeatIfAny}
+use Rattle.edi_topo.specs.inner.Keyed.{IsLeastRepeat, IsLeastRepeatIfAny}
 use Rattle.std.proofs.lemmas.List.{get_or_read}
 
 pub places_more : {K : Type 0} (pairs : List (K × ℕ)) (numbers : List ℕ) (index : ℕ) (pair : K × ℕ) → index < length pairs → pair ≡ get_or pairs index pair

@@ -9,7 +9,7 @@ use Rattle.std.proofs.lemmas.List.{get_or_default}
 use Rattle.std.proofs.lemmas.List.Elements.{recursion_from_All}
 use Rattle.std.proofs.lemmas.List.Sorted.{All-permutation, Contains-permutation, ranks_by, sorted_far}
 use Rattle.std.proofs.lemmas.Map.Keys.{IsDistinct-push, IsDistinct-IsPermutation, apart_from_distinct}
-use Rattle.edi_topo.specs.Keyed.{keyed, HasEarlier, IsFirstTie, IsLeastRepeat}
+use Rattle.edi_topo.specs.inner.Keyed.{keyed, HasEarlier, IsFirstTie, IsLeastRepeat}
 use Rattle.edi_topo.proofs.KeyOrder.{has_member, AreMembers}
 
 module _ {K : Type 0} (key : ℕ → K) where
@@ -20,15 +20,15 @@ module _ {K : Type 0} (key : ℕ → K) where
   unfolding same_member
   same_member_equiv = on_equiv (λ (x : K × ℕ). x.1) nat_eq_equiv
 
-  none_alike : (n : ℕ) (xs : List (K × ℕ)) → AllByRecursion (λ (x : K × ℕ). (x.1 < n) × (x.0 ≡ key x.1)) xs → list_any (same_member (key n, n)) xs ≡ false
+  none_equal : (n : ℕ) (xs : List (K × ℕ)) → AllByRecursion (λ (x : K × ℕ). (x.1 < n) × (x.0 ≡ key x.1)) xs → list_any (same_member (key n, n)) xs ≡ false
   unfolding same_member
-  none_alike n [] all = refl
-  none_alike n (x ∷ xs) all = rw (ne_eqb n x.1 (λ e. omega (arith, all.0.0))) (none_alike n xs all.1)
+  none_equal n [] all = refl
+  none_equal n (x ∷ xs) all = rw (ne_eqb n x.1 (λ e. omega (arith, all.0.0))) (none_equal n xs all.1)
 
   keyed_distinct : (n : ℕ) → IsDistinct same_member (keyed key n)
   unfolding IsDistinct
   keyed_distinct zero = tt
-  keyed_distinct (suc n) = IsDistinct-push same_member_equiv (keyed key n) (key n, n) (keyed_distinct n) (none_alike n (keyed key n) (recursion_from_All (λ (x : K × ℕ). (x.1 < n) × (x.0 ≡ key x.1)) (keyed key n) (AreMembers key n)))
+  keyed_distinct (suc n) = IsDistinct-push same_member_equiv (keyed key n) (key n, n) (keyed_distinct n) (none_equal n (keyed key n) (recursion_from_All (λ (x : K × ℕ). (x.1 < n) × (x.0 ≡ key x.1)) (keyed key n) (AreMembers key n)))
 
   flips : (x y : K × ℕ) → same_member x y ≡ same_member y x
   flips x y = same_member_equiv.symm x y

@@ -5,7 +5,7 @@ use Rattle.edi_record.specs.declared.record.Kind.TheVariants.{Par}
 use Rattle.edi_schema.specs.declared.role.Role.TheVariants.{Left, Right}
 use Rattle.edi_plan.specs.Plans.{Drawing, record_at}
 use Rattle.edi_plan.specs.Sides.{Side}
-use Rattle.edi_topo.specs.Faces.{IsFacedBelow, AreFacedBelow}
+use Rattle.edi_topo.specs.inner.Faces.{IsFacedBelow, AreFacedBelow}
 
 pub marked : (xs : List Bool) (i x : ℕ) → i < length xs → (get_or (set xs i true) x false ≡ true) ↔ ((get_or xs x false ≡ true) ⊎ (x ≡ i))
 marked xs i x h = go (cases_eq x i)

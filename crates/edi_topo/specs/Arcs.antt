@@ -1,5 +1,5 @@
 -- Arcs that nothing but their direction tells apart.
-use Rattle.std.specs.Prelude.{◌≡◌, ◌⊎◌, ℕ, ◌<◌, ◌≤◌, List, [], length, reverse, map, slice_index_or, Option, MatchOption}
+use Rattle.std.specs.Prelude.{ℕ, List, [], length, map, slice_index_or}
 use Rattle.edi_record.specs.declared.record.Kind.TheVariants.{Par}
 use Rattle.edi_record.specs.declared.record.Point.{Point}
 use Rattle.edi_record.specs.Orders.{points_cmp}
@@ -7,16 +7,6 @@ use Rattle.edi_plan.specs.Places.{places_of}
 use Rattle.edi_plan.specs.Plans.{Drawing, record_at}
 use Rattle.edi_topo.specs.Directions.{forward}
 use Rattle.edi_topo.specs.Ranking.{IsRanking}
-use Rattle.edi_topo.specs.TopologyRules.{HasPoints}
-
--- an arc with the points of an earlier one, in either direction
-abbrev pub RepeatsAnEarlierArc : Drawing → ℕ → Type 0
-RepeatsAnEarlierArc p b = (a : ℕ) × (earlier points : List Point) × (a < b) × HasPoints p Par a earlier × HasPoints p Par b points
-    × ((points ≡ earlier) ⊎ (points ≡ reverse earlier))
-
--- the least place of such an arc; or there is none
-abbrev pub IsFirstRepeatIfAny : Drawing → Option ℕ → Type 0
-IsFirstRepeatIfAny p found = MatchOption found ((n : ℕ) → ¬ (RepeatsAnEarlierArc p n)) (λ n. RepeatsAnEarlierArc p n × ((k : ℕ) → RepeatsAnEarlierArc p k → n ≤ k))
 
 -- the points of the arcs in the forward direction, in file order
 abbrev pub forward_keys : Drawing → List (List Point)

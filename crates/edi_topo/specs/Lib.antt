@@ -1,10 +1,6 @@
 pub mod TopologyRules
-pub mod TopologyRefusal
 pub mod NodeKeys
 pub mod Ranking
-pub mod Keyed
-pub mod Nodes
 pub mod Directions
 pub mod Arcs
-pub mod Faces
-pub mod AtRecord
+pub mod inner

@@ -8,7 +8,7 @@ use Rattle.edi_plan.specs.Plans.{Drawing, IsPlace, record_at}
 use Rattle.edi_plan.specs.Sides.{Side}
 
 -- two nodes that nothing but their identifiers and their links tells apart
-pub record AreAlikeNodes (p : Drawing) (m n : ℕ) : Type 0 where
+pub record AreEqualNodes (p : Drawing) (m n : ℕ) : Type 0 where
   pub first : IsPlace p m
   pub second : IsPlace p n
   pub first_node : (record_at p m).kind ≡ Pno
@@ -40,7 +40,7 @@ module _ (p : Drawing) where
 
     -- 403: a node with the place, the class, the attributes and the extras of an earlier node
     abbrev pub RepeatsNode : Type 0
-    RepeatsNode = (m n : ℕ) × IsAt n × (m < n) × AreAlikeNodes p m n
+    RepeatsNode = (m n : ℕ) × IsAt n × (m < n) × AreEqualNodes p m n
 
     -- 404: an arc whose points equal their reverse
     abbrev pub EqualsReverse : Type 0

@@ -4,7 +4,8 @@ ghost use Rattle.std.specs.Prelude.{◌≡◌, ◌<◌, ℕ, [], length, slice_i
 ghost use Rattle.std.specs.Result.{result_err};
 ghost use Rattle.edi_record.specs.declared.record.Kind.TheVariants.{Par};
 ghost use Rattle.edi_plan.specs.Places.{places_of};
-ghost use Rattle.edi_topo.specs.Arcs.{forward_keys, IsFirstRepeatIfAny, IsForwardRanking};
+ghost use Rattle.edi_topo.specs.Arcs.{forward_keys, IsForwardRanking};
+ghost use Rattle.edi_topo.specs.inner.Arcs.{IsFirstRepeatIfAny};
 
 use crate::fault::TieFault;
 use crate::forward_points::ForwardPoints;

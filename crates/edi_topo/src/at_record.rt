@@ -6,10 +6,10 @@ ghost use Rattle.edi_line.specs.Refusal.{IsLeastBroken, IsUnbroken};
 ghost use Rattle.edi_record.specs.declared.record.Kind.TheVariants.{Par, Pfe, Pno};
 ghost use Rattle.edi_plan.specs.Joined.{IsJoined};
 ghost use Rattle.edi_plan.specs.Plans.{IsPlace, record_at};
-ghost use Rattle.edi_topo.specs.Arcs as arcs_;
-ghost use Rattle.edi_topo.specs.AtRecord.{AreAhead, AreFindings, IsLeastAtIfAny, IsUpTo};
-ghost use Rattle.edi_topo.specs.Faces.{AreFaced};
-ghost use Rattle.edi_topo.specs.Nodes as nodes_;
+ghost use Rattle.edi_topo.specs.inner.Arcs as arcs_;
+ghost use Rattle.edi_topo.specs.inner.AtRecord.{AreAhead, AreFindings, IsLeastAtIfAny, IsUpTo};
+ghost use Rattle.edi_topo.specs.inner.Faces.{AreFaced};
+ghost use Rattle.edi_topo.specs.inner.Nodes as nodes_;
 ghost use Rattle.edi_topo.specs.TopologyRules.{BreaksTopologyRule};
 
 use crate::directions::equals_reverse;

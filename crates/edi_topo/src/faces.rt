@@ -6,7 +6,7 @@ ghost use Rattle.edi_schema.specs.declared.role.Role.TheVariants.{Left, Right, P
 ghost use Rattle.edi_plan.specs.Joined.{IsJoined};
 ghost use Rattle.edi_plan.specs.Plans.{IsPlace, record_at};
 ghost use Rattle.edi_plan.specs.Sides.{Side};
-ghost use Rattle.edi_topo.specs.Faces.{AreFaced, AreFacedBelow};
+ghost use Rattle.edi_topo.specs.inner.Faces.{AreFaced, AreFacedBelow};
 
 use edi_plan::Plan;
 use edi_record::Kind;

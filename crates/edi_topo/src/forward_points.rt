@@ -13,7 +13,7 @@ use edi_record::Point;
 use std::cmp::Ordering;
 use std::marker::Model;
 
-/// Points in their forward direction, lent. They are compared and ordered as these in their order, and
+/// Points in their forward direction, borrowed. They are compared and ordered as these in their order, and
 /// contracts see the list of these.
 #[derive(Debug, Drop)]
 pub struct ForwardPoints<'a> {

@@ -5,7 +5,7 @@ ghost use Rattle.edi_record.specs.declared.record.Kind.TheVariants.{Pno};
 ghost use Rattle.edi_plan.specs.Plans.{IsPlace, record_at};
 ghost use Rattle.edi_topo.specs.NodeKeys.{node_key, node_key_cmp, no_point};
 
-use edi_line::{Lent, LentEach};
+use edi_line::{BorrowedList, ListOfBorrowed};
 use edi_plan::{Plan, PlanAttribute, sorted_attributes};
 use edi_record::{Extra, Point};
 use edi_schema::ClassRef;
@@ -17,8 +17,8 @@ use std::cmp::Ordering;
 pub struct NodeKey<'a> {
     pub point: Point,
     pub class: ClassRef,
-    pub attributes: LentEach<'a, PlanAttribute>,
-    pub extras: Lent<'a, Extra>,
+    pub attributes: ListOfBorrowed<'a, PlanAttribute>,
+    pub extras: BorrowedList<'a, Extra>,
 }
 
 /// Nodes go by place, then class, then attributes, then extras.
@@ -47,7 +47,7 @@ pub fn node_key_at<'a>(alloc: Global, plan: &'a Plan, place: u32) -> Result<Node
     Ok(NodeKey {
         point,
         class: plan.scp(place),
-        attributes: LentEach::from_vec(attributes),
-        extras: Lent::of(plan.extras(place)),
+        attributes: ListOfBorrowed::from_vec(attributes),
+        extras: BorrowedList::of(plan.extras(place)),
     })
 }

@@ -3,7 +3,7 @@
 ghost use Rattle.std.specs.Prelude.{◌≡◌, ◌≢◌, ◌<◌, ◌≤◌, ◌+◌, ◌-◌, ◌^◌, ℕ, length, slice_index, All, AllPairs, IfOk, IfErr, IsErrOf, IsPermutation, MatchBool, MatchOption, min, IsSorted, OnOk};
 ghost use Rattle.std.specs.List.{slice_index_or};
 ghost use Rattle.std.specs.Ordering.{nat_cmp, ordering_then};
-ghost use Rattle.edi_topo.specs.Keyed.{keyed, AllApart, IsFirstTie, IsLeastRepeatIfAny};
+ghost use Rattle.edi_topo.specs.inner.Keyed.{keyed, AllApart, IsFirstTie, IsLeastRepeatIfAny};
 ghost use Rattle.edi_topo.specs.Ranking.{IsRanking, IsTie, rank};
 
 use crate::fault::TieFault;

@@ -1,7 +1,7 @@
 ghost use Rattle.std.specs.Prelude.{◌≡◌, OnOk, IfOk, IfErr};
 ghost use Rattle.edi_line.specs.Refusal.{IsUnbroken};
 ghost use Rattle.edi_topo.specs.Arcs.{IsForwardRanking};
-ghost use Rattle.edi_topo.specs.AtRecord.{AreFindings};
+ghost use Rattle.edi_topo.specs.inner.AtRecord.{AreFindings};
 ghost use Rattle.edi_topo.specs.NodeKeys.{IsNodeRanking};
 
 use crate::at_record::{Findings, first_broken};
@@ -38,14 +38,14 @@ impl Sound {
     ghost use Rattle.edi_topo.specs.TopologyRules.{BreaksTopologyRule};
     ghost use Rattle.edi_plan.specs.Joined.{IsJoined};
     ghost use Rattle.edi_plan.specs.Whole.{IsWhole};
-    ghost use Rattle.edi_topo.specs.TopologyRefusal.{IsTopologyRefusal};
+    ghost use Rattle.edi_record.specs.RecordRefusal.{IsRecordRefusal};
 
     /// The plan, if it breaks no rule of topology; or the least record that breaks one (401 to 406), and
     /// there the least rule (docs/FORMAT.md, "The rules of a sheet").
     pub fn check(alloc: Global, plan: Plan) -> Result<Sound, TopoFault>
         ensures plan { IfOk result (λ s. s ≡ plan) }
         ensures sound { OnOk result (IsUnbroken (BreaksTopologyRule plan)) }
-        ensures least { IfErr result (IsTopologyRefusal (BreaksTopologyRule plan)) }
+        ensures least { IfErr result (IsRecordRefusal (BreaksTopologyRule plan)) }
     {
         plan.keeps();
         let findings = Findings::of(alloc, &plan)?;

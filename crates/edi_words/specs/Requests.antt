@@ -78,7 +78,7 @@ explain_command = with_rule (with_rule (with_rule (with_rule (new_app (codes "ex
 abbrev pub verify_command : App
 verify_command = with_rule (with_rule (with_rule (schema_command (codes "verify")) (file_rule (codes "A"))) (file_rule (codes "B"))) (file_rule (codes "FILE"))
 
--- the subcommand that tells what differs between two sheets
+-- the subcommand that reports what differs between two sheets
 abbrev pub diff_command : App
 diff_command = with_rule (with_rule (with_rule (with_rule (schema_command (codes "diff")) (file_rule (codes "A"))) (file_rule (codes "B"))) brief_rule) picture_rule
 

@@ -256,7 +256,7 @@ fn verify<'a>(alloc: Global) -> Result<Command<'a>, AllocError>
     )
 }
 
-// The subcommand that tells what differs between two sheets.
+// The subcommand that reports what differs between two sheets.
 fn diff<'a>(alloc: Global) -> Result<Command<'a>, AllocError>
     ensures { IfOk result (λ c. app_of c ≡ diff_command) }
 {

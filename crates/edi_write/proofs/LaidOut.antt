@@ -10,7 +10,7 @@ use Rattle.std.proofs.lemmas.List.Sorted.{All-permutation, IsPermutation-sym, le
 use Rattle.std.proofs.lemmas.Option.{get_or_from_slice_get}
 use Rattle.edi_line.specs.Entry.{Entry}
 use Rattle.edi_line.specs.Printing.{zone_text, printed, printed_zone}
-use Rattle.edi_record.specs.Layout.{point_zone, sns_zone, end_text, begin_zone, cse_zone, end_zone}
+use Rattle.edi_record.specs.CanonicalZones.{point_zone, sns_zone, end_text, begin_zone, cse_zone, end_zone}
 use Rattle.edi_record.specs.declared.record.Kind.{Kind}
 use Rattle.edi_record.specs.declared.record.Kind.TheVariants.{Pno, Par, Pfe, Fea, Lnk}
 use Rattle.edi_schema.specs.Classes.{Classes}
@@ -27,10 +27,10 @@ use Rattle.edi_rank.specs.Same.{directed, moved}
 use Rattle.edi_rank.specs.Turned.{is_forward}
 use Rattle.edi_rank.proofs.Arranging.{new_places, placed, record_placed, same_length, numbered_total}
 use Rattle.edi_rank.proofs.ArrangedUnder.{directed_long}
-use Rattle.edi_rank.proofs.KeysKept.{count_by-map}
+use Rattle.edi_rank.proofs.KeysPreserved.{count_by-map}
 use Rattle.edi_rank.proofs.Renumbered.{sort-map}
 use Rattle.edi_write.specs.Layout.{body_zones, end_zones, head_zones, layout, number_in, record_zones, zones_from}
-use Rattle.edi_write.specs.Numbered.{numbered_body, numbered_end_zones, numbered_name, numbered_zones, ordered_tail}
+use Rattle.edi_write.specs.inner.Numbered.{numbered_body, numbered_end_zones, numbered_name, numbered_zones, ordered_tail}
 
 -- ---- counts in lists one behind the other
 

@@ -1,3 +1,5 @@
+pub mod Counts
+pub mod ThreeBytes
 pub mod Putting
 pub mod Breaking
 pub mod Agreed

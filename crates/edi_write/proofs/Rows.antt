@@ -14,7 +14,7 @@ use Rattle.edi_plan.specs.declared.record.PlanRecord.{PlanRecord}
 use Rattle.edi_line.specs.Number.{fraction_digits, size_text}
 use Rattle.edi_line.specs.inner.Number.{whole_number, fraction_number, number}
 use Rattle.edi_line.specs.Printing.{printed_zone, broken_into, content_text, line_text, next_zone}
-use Rattle.edi_record.specs.Layout.{class_text}
+use Rattle.edi_record.specs.CanonicalZones.{class_text}
 use Rattle.edi_record.specs.Texts.{pointer_text, point_text}
 use Rattle.edi_record.specs.inner.Texts.{pointer}
 use Rattle.edi_rank.specs.Arranged.{arranged}

@@ -17,7 +17,7 @@ use Rattle.edi_line.proofs.Readings.{readings_are}
 use Rattle.edi_line.proofs.ZonesSaid.{zones_are}
 use Rattle.edi_record.proofs.StatesSaid.{states_unique, all_said}
 use Rattle.edi_plan.proofs.Built.{value_found}
-use Rattle.edi_write.specs.Laws.{LayoutHasPlan, LayoutKeepsReferences, LayoutIsSound}
+use Rattle.edi_write.specs.Laws.{LayoutHasPlan, LayoutPreservesReferences, LayoutIsSound}
 use Rattle.edi_line.specs.Entry.{Entry}
 use Rattle.edi_line.specs.inner.Zones.{zones_of, zones_in}
 use Rattle.edi_line.specs.inner.Number.{number}
@@ -26,7 +26,8 @@ use Rattle.edi_line.specs.Refusal.{IsUnbroken}
 use Rattle.edi_line.proofs.NumberRead.{number_is, number_lacks, digits_lack}
 use Rattle.edi_line.proofs.Numbers.{number_in_range}
 use Rattle.edi_line.proofs.Spelled.{plain_text_read}
-use Rattle.edi_record.specs.Layout.{value_text, HasPrintableLetters, settled_record, IsRecord, IsLineRecord, KeepsRules, IsName, IsPoint, IsExtra, IsLineName, IsLineAttribute, IsLineEnd, IsLineExtra}
+use Rattle.edi_record.specs.CanonicalZones.{value_text}
+use Rattle.edi_record.specs.RecordLayout.{HasPrintableLetters, settled_record, IsRecord, IsLineRecord, FollowsRules, IsName, IsPoint, IsExtra, IsLineName, IsLineAttribute, IsLineEnd, IsLineExtra}
 use Rattle.edi_record.specs.Readable.{IsPrintableSheet}
 use Rattle.edi_record.specs.RecordRules.{is_identifier, BreaksRecordRule}
 use Rattle.edi_record.specs.Records.{has_points, is_link, StatesSheet, States}
@@ -219,7 +220,7 @@ lines_written s (a ∷ xs) all = (all.0.1, lines_written s xs all.1)
 -- ---- a record that is written
 
 abbrev CanPrint : Record → Type 0
-CanPrint r = IsRecord r × IsLineRecord r × KeepsRules r
+CanPrint r = IsRecord r × IsLineRecord r × FollowsRules r
 
 -- the class after the turns: that which was read, or its partner
 class_prints : (s : Classes) → HasPrintableKinds s → (turned : ℕ → Bool) (x : PlanRecord) → x.role ≡ role_of s x.class → IsPrintableName (name_of s x.class) → IsPrintableName (name_of s (class_after (partner_of s) turned x))
@@ -250,7 +251,7 @@ no_ends s q Lnk es may none = absurd (true≢false none)
 
 module _ (s : Classes) (kinds : HasPrintableKinds s) (q : Drawing) (whole : IsWhole q) where
   -- the record y is the record x, which r states, carried to the place k
-  carried_printable : (list : List Record) (r : Record) (x : PlanRecord) (to : ℕ → ℕ) (turned : ℕ → Bool) (i k : ℕ) → IsRecord r → IsLineRecord r → KeepsRules r
+  carried_printable : (list : List Record) (r : Record) (x : PlanRecord) (to : ℕ → ℕ) (turned : ℕ → Bool) (i k : ℕ) → IsRecord r → IsLineRecord r → FollowsRules r
       → StatesPlanRecord s list r x → IsPlace q k → CarriesRecord s to turned i x (record_at q k) → CanPrint (written_record s q (number_in s q k) (record_at q k))
   carried_printable list r x to turned i k is line keeps states there c = (
     record {
@@ -333,10 +334,10 @@ module _ (s : Classes) (kinds : HasPrintableKinds s) (q : Drawing) (whole : IsWh
           let f = zip_length (StatesPlanEnd list) r.ends x.ends states.ends in
           omega (arith, a, b, d, f, h)
 
-pub record_printable : (s : Classes) (list : List Record) (r : Record) (p q : Drawing) (to : ℕ → ℕ) (turned : ℕ → Bool) (k : ℕ) → HasPrintableKinds s → IsRecord r → IsLineRecord r → KeepsRules r
+pub record_printable : (s : Classes) (list : List Record) (r : Record) (p q : Drawing) (to : ℕ → ℕ) (turned : ℕ → Bool) (k : ℕ) → HasPrintableKinds s → IsRecord r → IsLineRecord r → FollowsRules r
     → StatesPlanRecord s list r (record_at p k) → Carries s to turned p q → IsWhole q → IsPlace p k
     → IsRecord (written_record s q (number_in s q (to k)) (record_at q (to k))) × IsLineRecord (written_record s q (number_in s q (to k)) (record_at q (to k)))
-    × KeepsRules (written_record s q (number_in s q (to k)) (record_at q (to k)))
+    × FollowsRules (written_record s q (number_in s q (to k)) (record_at q (to k)))
 record_printable s list r p q to turned k kinds is line keeps states c whole there =
     carried_printable s kinds q whole list r (record_at p k) to turned k (to k) is line keeps states (c.places.within k there) (c.each k there)
 
@@ -359,7 +360,7 @@ written_printable s sheet p q kinds printable plan same whole = record {
   set = subst (λ c. IfSome c IsOneLine) (sym (c.cse ∙ plan.set)) printable.cse;
   records = each_of CanPrint IsRecord (λ r h. h.0) (written_records s q) all;
   lines = each_of CanPrint IsLineRecord (λ r h. h.1) (written_records s q) all;
-  rules = each_of CanPrint KeepsRules (λ r h. h.2) (written_records s q) all;
+  rules = each_of CanPrint FollowsRules (λ r h. h.2) (written_records s q) all;
 }
   where
     c : Carries s same.0 same.1 p q
@@ -369,7 +370,7 @@ written_printable s sheet p q kinds printable plan same whole = record {
     at_new i h =
         let d = zip_at (StatesPlanRecord s sheet.list) sheet.list p.list plan.each i blank h in
         record_printable s sheet.list d.0 p q same.0 same.1 i kinds
-        (at_place IsRecord sheet.list i d.0 d.1 printable.records) (at_place IsLineRecord sheet.list i d.0 d.1 printable.lines) (at_place KeepsRules sheet.list i d.0 d.1 printable.rules)
+        (at_place IsRecord sheet.list i d.0 d.1 printable.records) (at_place IsLineRecord sheet.list i d.0 d.1 printable.lines) (at_place FollowsRules sheet.list i d.0 d.1 printable.rules)
         d.2 c whole h
 
     all : AllByRecursion CanPrint (written_records s q)
@@ -439,7 +440,7 @@ layout_plan s q sheet readings zones keeps printable whole agrees can say are st
     let same = read_list s q sheet keeps printable whole agrees can (subst (λ zs. StatesSheet zs sheet) (zones_same s q readings zones say are) states) in
     written_plan s q sheet keeps whole agrees same.0 same.1
 
-pub layout_references : LayoutKeepsReferences
+pub layout_references : LayoutPreservesReferences
 layout_references s q sheet readings zones keeps printable whole agrees can joined types say are states =
     let same = read_list s q sheet keeps printable whole agrees can (subst (λ zs. StatesSheet zs sheet) (zones_same s q readings zones say are) states) in
     subst (λ rs. IsUnbroken (BreaksReferenceRule s rs)) (sym same.1) (written_references s q keeps whole agrees joined types)

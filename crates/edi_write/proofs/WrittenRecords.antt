@@ -14,8 +14,9 @@ use Rattle.edi_line.specs.inner.Number.{number}
 use Rattle.edi_line.specs.Printing.{zone_text, printed}
 use Rattle.edi_line.proofs.NumberRead.{number_is}
 use Rattle.edi_line.proofs.Numbers.{number_in_range}
-use Rattle.edi_record.specs.Layout.{Letters, class_text, value_text, point_zone, set_zone, extra_zone, begin_zone, cse_zone, end_zone, settled, settled_record, settled_end, IsOwnValue}
-use Rattle.edi_record.specs.Layout as records
+use Rattle.edi_record.specs.CanonicalZones.{class_text, value_text, point_zone, set_zone, extra_zone, begin_zone, cse_zone, end_zone}
+use Rattle.edi_record.specs.RecordLayout.{Letters, settled, settled_record, settled_end, IsOwnValue}
+use Rattle.edi_record.specs.RecordLayout as records
 use Rattle.edi_record.specs.inner.Records.{value_of}
 use Rattle.edi_record.specs.Shapes.{may_have_points, may_have_ends, kind_code}
 use Rattle.edi_record.specs.declared.name.Name.{Name}

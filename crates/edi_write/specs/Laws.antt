@@ -6,8 +6,8 @@ use Rattle.edi_line.specs.Entry.{Entry}
 use Rattle.edi_line.specs.Spelling.{Reading, AreReadings}
 use Rattle.edi_line.specs.Zones.{IsZonesIn}
 use Rattle.edi_record.specs.RecordRules.{BreaksRecordRule}
-use Rattle.edi_record.specs.Layout.{settled_record, HasPrintableLetters, IsRecord, IsLineRecord, KeepsRules}
-use Rattle.edi_record.specs.Layout as records
+use Rattle.edi_record.specs.RecordLayout.{settled_record, HasPrintableLetters, IsRecord, IsLineRecord, FollowsRules}
+use Rattle.edi_record.specs.RecordLayout as records
 use Rattle.edi_record.specs.Records.{StatesSheet}
 use Rattle.edi_record.specs.Readable.{IsPrintableSheet}
 use Rattle.edi_record.specs.declared.record.Record.{Record}
@@ -40,18 +40,18 @@ WrittenIsPlanOf =
     → sheet.cse ≡ p.cse → sheet.list ≡ map (settled_record (letters s)) (written_records s p) → IsPlanOf s sheet p
 
 -- The records that are written of a plan, as they are read, break no rule of references, where its links are joins and each attribute's class is of type ATT.
-abbrev pub WrittenKeepsReferences : Type 0
-WrittenKeepsReferences =
+abbrev pub WrittenPreservesReferences : Type 0
+WrittenPreservesReferences =
     (s : Classes) (p : Drawing) → IsSchema s → IsWhole p → Agrees s p → IsJoined p → HasAttributeClasses s p
     → IsUnbroken (BreaksReferenceRule s (map (settled_record (letters s)) (written_records s p)))
 
 -- Where a record that was read can be printed, so can what is written of it on a plan that a renaming carries it onto, if the classes of the four kinds can.
 abbrev pub WrittenRecordIsPrintable : Type 0
 WrittenRecordIsPrintable =
-    (s : Classes) (list : List Record) (r : Record) (p q : Drawing) (to : ℕ → ℕ) (turned : ℕ → Bool) (k : ℕ) → HasPrintableKinds s → IsRecord r → IsLineRecord r → KeepsRules r
+    (s : Classes) (list : List Record) (r : Record) (p q : Drawing) (to : ℕ → ℕ) (turned : ℕ → Bool) (k : ℕ) → HasPrintableKinds s → IsRecord r → IsLineRecord r → FollowsRules r
     → StatesPlanRecord s list r (record_at p k) → Carries s to turned p q → IsWhole q → IsPlace p k
     → IsRecord (written_record s q (number_in s q (to k)) (record_at q (to k))) × IsLineRecord (written_record s q (number_in s q (to k)) (record_at q (to k)))
-    × KeepsRules (written_record s q (number_in s q (to k)) (record_at q (to k)))
+    × FollowsRules (written_record s q (number_in s q (to k)) (record_at q (to k)))
 
 -- What is written of a plan can be printed, where the plan is the same as that of a sheet which can be printed, and the classes of the four kinds can.
 abbrev pub WrittenIsPrintable : Type 0
@@ -71,8 +71,8 @@ LayoutHasPlan =
     → CanBePrinted q.cse (written_records s q) → AreReadings (layout s q) readings → IsZonesIn readings zones → StatesSheet zones sheet → IsPlanOf s sheet q
 
 -- Such a sheet breaks no rule of references, where the plan's links are joins and each attribute's class is of type ATT.
-abbrev pub LayoutKeepsReferences : Type 0
-LayoutKeepsReferences =
+abbrev pub LayoutPreservesReferences : Type 0
+LayoutPreservesReferences =
     (s : Classes) (q : Drawing) (sheet : Sheet) (readings : List Reading) (zones : List Entry) → IsSchema s → HasPrintableLetters (letters s) → IsWhole q → Agrees s q
     → CanBePrinted q.cse (written_records s q) → IsJoined q → HasAttributeClasses s q → AreReadings (layout s q) readings → IsZonesIn readings zones → StatesSheet zones sheet → IsUnbroken (BreaksReferenceRule s sheet.list)
 

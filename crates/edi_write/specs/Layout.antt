@@ -3,7 +3,7 @@ use Rattle.std.specs.Prelude.{ℕ, ◌+◌, List, [], ◌∷◌, ◌++◌, lengt
 use Rattle.edi_line.specs.Bytes.{letter_a}
 use Rattle.edi_line.specs.Entry.{Entry}
 use Rattle.edi_line.specs.Printing.{zone_headed, printed}
-use Rattle.edi_record.specs.Layout.{class_text, end_text, value_text, point_zone, set_zone, sns_zone, extra_zone, begin_zone, cse_zone, end_zone}
+use Rattle.edi_record.specs.CanonicalZones.{class_text, end_text, value_text, point_zone, set_zone, sns_zone, extra_zone, begin_zone, cse_zone, end_zone}
 use Rattle.edi_record.specs.declared.record.Kind.{Kind}
 use Rattle.edi_record.specs.declared.record.Kind.TheVariants.{Pno, Par, Pfe, Fea, Lnk}
 use Rattle.edi_record.specs.declared.name.Name.{Name}

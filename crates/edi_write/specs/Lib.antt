@@ -1,5 +1,4 @@
-pub mod Heads
 pub mod Laws
 pub mod Layout
-pub mod Numbered
 pub mod Written
+pub mod inner

@@ -2,7 +2,8 @@
 use Rattle.std.specs.Prelude.{◌≡◌, ℕ, ◌+◌, false, List, [], ◌∷◌, map, unwrap_or, codes, Option, IfSome}
 use Rattle.std.specs.List.{AllByRecursion}
 use Rattle.edi_line.specs.Printing.{IsOneLine}
-use Rattle.edi_record.specs.Layout.{Letters, value_text, IsName, IsLineName, IsRecord, IsLineRecord, KeepsRules}
+use Rattle.edi_record.specs.CanonicalZones.{value_text}
+use Rattle.edi_record.specs.RecordLayout.{Letters, IsName, IsLineName, IsRecord, IsLineRecord, FollowsRules}
 use Rattle.edi_record.specs.declared.record.Record.{Record}
 use Rattle.edi_record.specs.declared.record.Attribute.{Attribute}
 use Rattle.edi_record.specs.declared.record.End.{End}
@@ -65,4 +66,4 @@ pub record CanBePrinted (cse : Option (List ℕ)) (rs : List Record) : Type 0 wh
   pub set : IfSome cse IsOneLine
   pub records : AllByRecursion IsRecord rs
   pub lines : AllByRecursion IsLineRecord rs
-  pub rules : AllByRecursion KeepsRules rs
+  pub rules : AllByRecursion FollowsRules rs

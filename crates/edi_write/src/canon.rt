@@ -2,7 +2,7 @@
 
 ghost use Rattle.std.specs.Prelude.{◌≡◌, ◌++◌, ◌∷◌, map, option_copied, option_to_list, IfOk, OnOk};
 ghost use Rattle.edi_line.specs.Printing.{printed};
-ghost use Rattle.edi_record.specs.Layout.{begin_zone, cse_zone};
+ghost use Rattle.edi_record.specs.CanonicalZones.{begin_zone, cse_zone};
 ghost use Rattle.edi_plan.specs.Agreeing.{Agrees};
 ghost use Rattle.edi_rank.specs.Arranged.{arranged};
 ghost use Rattle.edi_rank.specs.Labelling.{AreLabels};

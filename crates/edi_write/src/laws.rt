@@ -3,13 +3,13 @@ ghost use Rattle.edi_write.specs.Laws.{
   WrittenLayout,
   WrittenIsNamed,
   WrittenIsPlanOf,
-  WrittenKeepsReferences,
+  WrittenPreservesReferences,
   WrittenRecordIsPrintable,
   WrittenIsPrintable,
   WrittenHasAttributeClasses,
   ArrangedIsPlan,
   LayoutHasPlan,
-  LayoutKeepsReferences,
+  LayoutPreservesReferences,
   LayoutIsSound,
   SchemasHavePrintableKinds,
   SchemasHavePrintableLetters,
@@ -20,7 +20,7 @@ pub fn written_is_read_again()
     ensures layout { WrittenLayout }
     ensures named { WrittenIsNamed }
     ensures plan { WrittenIsPlanOf }
-    ensures references { WrittenKeepsReferences }
+    ensures references { WrittenPreservesReferences }
 {}
 
 /// What is written of a plan that is the same as one that was read can be printed, record by record and as a sheet.
@@ -38,7 +38,7 @@ pub fn written_is_from_what_was_read()
 /// The bytes of a plan break no rule of lines, records and references, and each sheet that is read of them has that plan.
 pub fn layout_is_read_again()
     ensures sound { LayoutIsSound }
-    ensures references { LayoutKeepsReferences }
+    ensures references { LayoutPreservesReferences }
     ensures plan { LayoutHasPlan }
 {}
 

@@ -2,6 +2,7 @@
 #![tactic(auto)]
 
 pub mod canon;
+mod class_line;
 pub mod laws;
 mod links;
 mod names;

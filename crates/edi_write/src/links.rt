@@ -7,7 +7,7 @@ ghost use Rattle.edi_plan.specs.Plans.{IsPlace, record_at};
 ghost use Rattle.edi_rank.specs.EndOrder.{GivesEach, OthersInOrder, ends_at};
 ghost use Rattle.edi_rank.specs.Keys.{ends_key, numbered};
 ghost use Rattle.edi_rank.specs.Labelling.{number_of};
-ghost use Rattle.edi_write.specs.Numbered.{numbered_end_zones};
+ghost use Rattle.edi_write.specs.inner.Numbered.{numbered_end_zones};
 
 use crate::names::put_end_pointer;
 use crate::page::Page;

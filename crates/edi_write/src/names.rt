@@ -1,25 +1,40 @@
 //! The names of records: types and identifiers.
 
-ghost use Rattle.std.specs.Prelude.{◌≡◌, ◌∷◌, ◌++◌, [], OnOk};
-ghost use Rattle.edi_record.specs.Layout.{end_text};
+ghost use Rattle.std.specs.Prelude.{◌≡◌, ◌∷◌, ◌++◌, [], OnOk, codes, decimal};
+ghost use Rattle.edi_line.specs.Printing.{printed_zone, zone_headed};
+ghost use Rattle.edi_record.specs.CanonicalZones.{end_text};
 ghost use Rattle.edi_record.specs.Shapes.{kind_code as code_of_kind};
 ghost use Rattle.edi_write.specs.Layout.{identifier, kind_letter as letter_of_kind};
-ghost use Rattle.edi_write.specs.Numbered.{numbered_name};
+ghost use Rattle.edi_write.specs.inner.Numbered.{numbered_name};
 
 use edi_record::Kind;
 use itoa::Buffer;
 use std::alloc::AllocError;
 
-/// The type of a record, as its zone spells it.
-pub(crate) fn kind_code(kind: Kind) -> [u8; 3]
-    ensures { result ≡ code_of_kind kind }
+/// The zone of a record's type.
+#[tactic(auto, unfolding(edi_line::specs::Printing::printed_zone, edi_line::specs::Printing::broken_into, edi_line::specs::Printing::line_text, edi_line::specs::Printing::content_text))]
+pub(crate) fn type_zone(kind: Kind) -> &'static [u8]
+    ensures { result.now ≡ printed_zone (zone_headed (codes "RTYSA") (code_of_kind kind)) }
 {
     match kind {
-        Kind::Pno => *b"PNO",
-        Kind::Par => *b"PAR",
-        Kind::Pfe => *b"PFE",
-        Kind::Fea => *b"FEA",
-        Kind::Lnk => *b"LNK",
+        Kind::Pno => b"RTYSA03:PNO\r\n",
+        Kind::Par => b"RTYSA03:PAR\r\n",
+        Kind::Pfe => b"RTYSA03:PFE\r\n",
+        Kind::Fea => b"RTYSA03:FEA\r\n",
+        Kind::Lnk => b"RTYSA03:LNK\r\n",
+    }
+}
+
+/// The pointer to a record of a type, but for its number.
+fn pointer_front(kind: Kind) -> &'static [u8]
+    ensures { result.now ≡ codes "CANON;S;" ++ (code_of_kind kind ++ (codes ";" ++ letter_of_kind kind)) }
+{
+    match kind {
+        Kind::Pno => b"CANON;S;PNO;N",
+        Kind::Par => b"CANON;S;PAR;A",
+        Kind::Pfe => b"CANON;S;PFE;F",
+        Kind::Fea => b"CANON;S;FEA;O",
+        Kind::Lnk => b"CANON;S;LNK;L",
     }
 }
 
@@ -36,21 +51,21 @@ fn kind_letter(kind: Kind) -> u8
     }
 }
 
-/// Appends the identifier of a record: the letter of its type, and its number.
-fn push_identifier(text: &mut Vec<u8>, kind: Kind, number: u32) -> Result<(), AllocError>
-    ensures { OnOk result (text.new.items ≡ text.old.items ++ identifier kind number) }
+/// Appends a number.
+fn push_number(text: &mut Vec<u8>, number: u32) -> Result<(), AllocError>
+    ensures { OnOk result (text.new.items ≡ text.old.items ++ decimal number) }
 {
-    text.push(kind_letter(kind))?;
     let mut digits = Buffer::new();
     text.extend_from_slice(digits.format(number).as_bytes())
 }
 
-/// Makes the text the identifier of a record.
+/// Makes the text the identifier of a record: the letter of its type, and its number.
 pub(crate) fn put_identifier(text: &mut Vec<u8>, kind: Kind, number: u32) -> Result<(), AllocError>
     ensures { OnOk result (text.new.items ≡ identifier kind number) }
 {
     text.clear();
-    push_identifier(text, kind, number)
+    text.push(kind_letter(kind))?;
+    push_number(text, number)
 }
 
 /// Makes the text the pointer of an end to a record.
@@ -59,8 +74,6 @@ pub(crate) fn put_end_pointer(text: &mut Vec<u8>, kind: Kind, number: u32) -> Re
     ensures { OnOk result (text.new.items ≡ end_text (numbered_name kind number)) }
 {
     text.clear();
-    text.extend_from_slice(b"CANON;S;")?;
-    text.extend_from_slice(&kind_code(kind))?;
-    text.push(b';')?;
-    push_identifier(text, kind, number)
+    text.extend_from_slice(pointer_front(kind))?;
+    push_number(text, number)
 }

@@ -2,7 +2,7 @@
 
 ghost use Rattle.std.specs.Prelude.{◌≡◌, [], ◌++◌, OnOk};
 ghost use Rattle.edi_line.specs.Printing.{printed_zone};
-ghost use Rattle.edi_write.specs.Heads.{headed};
+ghost use Rattle.edi_write.specs.inner.Heads.{headed};
 
 use crate::zones::{Head, write_zone};
 use std::alloc::{AllocError, Global};

@@ -3,10 +3,10 @@
 ghost use Rattle.std.specs.Prelude.{◌≡◌, ℕ, Some, ◌++◌, OnOk, codes, decimal, flat_map, map};
 ghost use Rattle.edi_line.specs.Number.{signed_text, plain_text};
 ghost use Rattle.edi_line.specs.Printing.{printed, printed_zone};
-ghost use Rattle.edi_record.specs.Layout.{class_text, value_text, point_zone, extra_zone};
+ghost use Rattle.edi_record.specs.CanonicalZones.{class_text, value_text, point_zone, extra_zone};
 ghost use Rattle.edi_record.specs.Texts.{point_text};
 ghost use Rattle.edi_plan.specs.Agreeing.{AttributeAgrees};
-ghost use Rattle.edi_write.specs.Heads.{headed};
+ghost use Rattle.edi_write.specs.inner.Heads.{headed};
 ghost use Rattle.edi_write.specs.Layout.{attribute_zones, name_of};
 
 use crate::page::Page;

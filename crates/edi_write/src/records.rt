@@ -3,20 +3,22 @@
 ghost use Rattle.std.specs.Prelude.{◌≡◌, length, ◌++◌, OnOk, decimal, flat_map, map, reverse};
 ghost use Rattle.std.specs.List.{AllByRecursion};
 ghost use Rattle.edi_line.specs.Printing.{printed, printed_zone};
-ghost use Rattle.edi_record.specs.Layout.{extra_zone, point_zone};
+ghost use Rattle.edi_record.specs.CanonicalZones.{extra_zone, point_zone};
 ghost use Rattle.edi_plan.specs.Agreeing.{Agrees, AttributeAgrees};
 ghost use Rattle.edi_plan.specs.Plans.{IsPlace, record_at};
 ghost use Rattle.edi_rank.specs.Arranged.{arranged_record, old_places};
 ghost use Rattle.edi_rank.specs.EndOrder.{OthersInOrder};
 ghost use Rattle.edi_rank.specs.Labelling.{AreLabels, number_of, order_of};
-ghost use Rattle.edi_write.specs.Heads.{headed};
+ghost use Rattle.edi_write.specs.inner.ClassLines.{IsLineOf};
+ghost use Rattle.edi_write.specs.inner.Heads.{headed};
 ghost use Rattle.edi_write.specs.Layout.{attribute_zones, head_zones};
-ghost use Rattle.edi_write.specs.Numbered.{arc_body, link_body, numbered_body, numbered_zones, ordered_tail};
+ghost use Rattle.edi_write.specs.inner.Numbered.{arc_body, link_body, numbered_body, numbered_zones, ordered_tail};
 
+use crate::class_line::ClassLine;
 use crate::links::write_ends;
-use crate::names::{kind_code, put_identifier};
+use crate::names::{put_identifier, type_zone};
 use crate::page::Page;
-use crate::parts::{write_attribute, write_class, write_extra, write_point};
+use crate::parts::{write_attribute, write_extra, write_point};
 use crate::zones::Head;
 use edi_plan::{Plan, PlanAttribute, sorted_attributes};
 use edi_rank::{Labels, class_turned};
@@ -25,22 +27,10 @@ use edi_schema::Schema;
 use itoa::Buffer;
 use std::alloc::{AllocError, Global};
 
-const TYPE: Head = Head {
-    code: *b"RTY",
-    nature: b'S',
-    format: b'A',
-};
-
 const IDENTIFIER: Head = Head {
     code: *b"RID",
     nature: b'S',
     format: b'A',
-};
-
-const CLASS: Head = Head {
-    code: *b"SCP",
-    nature: b'C',
-    format: b'P',
 };
 
 const ATTRIBUTES: Head = Head {
@@ -66,6 +56,42 @@ fn write_number(page: &mut Page, head: Head, number: usize) -> Result<(), AllocE
 {
     let mut digits = Buffer::new();
     page.write(head, digits.format(number).as_bytes())
+}
+
+/// The zone of the count where there are no attributes.
+#[tactic(auto, using(crate::proofs::Counts::no_attributes))]
+fn zone_of_none() -> &'static [u8]
+    ensures { result.now ≡ printed_zone (headed ATTRIBUTES (decimal 0)) }
+{
+    b"ATCSN01:0\r\n"
+}
+
+/// The zone of the count where there are two ends.
+#[tactic(auto, using(crate::proofs::Counts::two_ends))]
+fn zone_of_two() -> &'static [u8]
+    ensures { result.now ≡ printed_zone (headed ENDS (decimal 2)) }
+{
+    b"FTCSN01:2\r\n"
+}
+
+/// Writes the count of a record's attributes. Most records have none.
+fn write_attribute_count(page: &mut Page, count: usize) -> Result<(), AllocError>
+    ensures { OnOk result (page.new.file.items ≡ page.old.file.items ++ printed_zone (headed ATTRIBUTES (decimal count))) }
+{
+    if count == 0 {
+        return page.file.extend_from_slice(zone_of_none());
+    }
+    write_number(page, ATTRIBUTES, count)
+}
+
+/// Writes the count of a link's ends. Nearly each link has two.
+fn write_end_count(page: &mut Page, count: usize) -> Result<(), AllocError>
+    ensures { OnOk result (page.new.file.items ≡ page.old.file.items ++ printed_zone (headed ENDS (decimal count))) }
+{
+    if count == 2 {
+        return page.file.extend_from_slice(zone_of_two());
+    }
+    write_number(page, ENDS, count)
 }
 
 fn write_forward(page: &mut Page, points: &[Point]) -> Result<(), AllocError>
@@ -112,6 +138,7 @@ fn write_extras(page: &mut Page, extras: &[Extra]) -> Result<(), AllocError>
 /// Writes the type, the identifier and the class of a record.
 fn write_head(
     page: &mut Page,
+    line: &mut ClassLine,
     schema: &Schema,
     plan: &Plan,
     labels: &Labels,
@@ -120,14 +147,16 @@ fn write_head(
     requires agrees { Agrees schema.now plan.now }
     requires labels { AreLabels schema.now plan.now labels.now }
     requires place { IsPlace plan.now place }
-    ensures { OnOk result (page.new.file.items ≡ page.old.file.items ++ printed (head_zones schema.now (number_of labels.now place) (arranged_record schema.now labels.now plan.now place))) }
+    requires line { IsLineOf schema.now line.old }
+    ensures line { OnOk result (IsLineOf schema.now line.new) }
+    ensures written { OnOk result (page.new.file.items ≡ page.old.file.items ++ printed (head_zones schema.now (number_of labels.now place) (arranged_record schema.now labels.now plan.now place))) }
 {
     let kind = plan.kind(place);
-    page.write(TYPE, &kind_code(kind))?;
+    page.file.extend_from_slice(type_zone(kind))?;
     put_identifier(&mut page.text, kind, labels.number(place))?;
     page.write_text(IDENTIFIER)?;
     let class = class_turned(schema, plan, labels.turned_arcs(), place);
-    write_class(page, CLASS, schema.name(class))
+    line.write(page, schema, class)
 }
 
 /// Writes the count of an arc's points, and these in its direction.
@@ -150,7 +179,7 @@ fn write_link(page: &mut Page, plan: &Plan, labels: &Labels, place: u32) -> Resu
     requires order { OthersInOrder plan.now (number_of labels.now) labels.now.others place }
     ensures { OnOk result (page.new.file.items ≡ page.old.file.items ++ printed (link_body labels.now plan.now (record_at plan.now place).ends)) }
 {
-    write_number(page, ENDS, plan.ends(place).len())?;
+    write_end_count(page, plan.ends(place).len())?;
     write_ends(page, plan, labels, place)
 }
 
@@ -184,7 +213,7 @@ fn write_tail(
     ensures { OnOk result (page.new.file.items ≡ page.old.file.items ++ printed (ordered_tail schema.now (record_at plan.now place))) }
 {
     let attributes = sorted_attributes(alloc, plan.attributes(place))?;
-    write_number(page, ATTRIBUTES, attributes.len())?;
+    write_attribute_count(page, attributes.len())?;
     write_attributes(page, schema, &attributes)?;
     write_extras(page, plan.extras(place))
 }
@@ -193,6 +222,7 @@ fn write_tail(
 fn write_record(
     alloc: Global,
     page: &mut Page,
+    line: &mut ClassLine,
     schema: &Schema,
     plan: &Plan,
     labels: &Labels,
@@ -201,9 +231,11 @@ fn write_record(
     requires agrees { Agrees schema.now plan.now }
     requires labels { AreLabels schema.now plan.now labels.now }
     requires place { IsPlace plan.now place }
-    ensures { OnOk result (page.new.file.items ≡ page.old.file.items ++ printed (numbered_zones schema.now labels.now plan.now place)) }
+    requires line { IsLineOf schema.now line.old }
+    ensures line { OnOk result (IsLineOf schema.now line.new) }
+    ensures written { OnOk result (page.new.file.items ≡ page.old.file.items ++ printed (numbered_zones schema.now labels.now plan.now place)) }
 {
-    write_head(page, schema, plan, labels, place)?;
+    write_head(page, line, schema, plan, labels, place)?;
     write_body(page, plan, labels, place)?;
     write_tail(alloc, page, schema, plan, place)
 }
@@ -222,8 +254,9 @@ fn write_kind(
     ensures { OnOk result (page.new.file.items ≡ page.old.file.items ++ printed (flat_map (numbered_zones schema.now labels.now plan.now) (order_of labels.now kind))) }
 {
     let places = labels.order(kind);
+    let mut line = ClassLine::new(alloc);
     for place in places {
-        write_record(alloc, page, schema, plan, labels, *place)?;
+        write_record(alloc, page, &mut line, schema, plan, labels, *place)?;
     }
     Ok(())
 }

@@ -2,7 +2,7 @@
 
 ghost use Rattle.std.specs.Prelude.{◌≡◌, ℕ, List, ◌+◌, ◌<◌, ◌++◌, length, OnOk, IfOk};
 ghost use Rattle.edi_line.specs.Printing.{line_text, printed_zone, zone_text};
-ghost use Rattle.edi_write.specs.Heads.{headed};
+ghost use Rattle.edi_write.specs.inner.Heads.{headed};
 
 use std::alloc::AllocError;
 
@@ -28,16 +28,19 @@ fn write_line(out: &mut Vec<u8>, head: Head, value: &[u8]) -> Result<(), AllocEr
     requires { length value.now < 100 }
     ensures { OnOk result (out.new.items ≡ out.old.items ++ line_text (headed head value.now)) }
 {
+    let [a, b, c] = head.code;
     let len = value.len() as u8;
-    let middle = [
+    let front = [
+        a,
+        b,
+        c,
         head.nature,
         head.format,
         b'0' + len / 10,
         b'0' + len % 10,
         b':',
     ];
-    out.extend_from_slice(&head.code)?;
-    out.extend_from_slice(&middle)?;
+    out.extend_from_slice(&front)?;
     out.extend_from_slice(value)?;
     out.extend_from_slice(b"\r\n")
 }

@@ -9,7 +9,7 @@ use Rattle.std.proofs.lemmas.List.Sums.{fold-append}
 use Rattle.edi_schema.specs.Classes.{Classes}
 use Rattle.edi_schema.specs.Roles.{KindCodes}
 use Rattle.edi_schema.specs.declared.fault.SchemaFault.{SchemaFault as SchemaRefusal}
-use Rattle.edi_compare.specs.Runs.{RefusesSchema, Seen, TellBoth, seen}
+use Rattle.edi_compare.specs.Runs.{RefusesSchema, Seen, IfBothKnown, seen}
 use Rattle.edi_compare.specs.declared.fault.RunFault.{RunFault}
 use Rattle.edi_compare.specs.declared.fault.RunFault.TheVariants.{Memory, Read, TooLong, Schema, First, Second, Write}
 use Rattle.edicad.specs.Hashes.{AreAnswered, IsCutOff, IsStep, RefusesFiles, SchemaFault, Step, StepsOn, StopsAt, TriesSchema, worst_of}
@@ -120,7 +120,7 @@ module _ (inputs : Inputs) (why : Why) (s : Classes) (o p q : Option (List ℕ))
   )
 
 both_refused : (a b : Option (List ℕ)) (P Q : List ℕ → List ℕ → SchemaRefusal → Type 0) (f : SchemaRefusal) → ((x y : List ℕ) (h : SchemaRefusal) → P x y h → h ≡ f → Q x y h)
-    → TellBoth a b (λ x y. (h : SchemaRefusal) × P x y h × (h ≡ f)) → TellBoth a b (λ x y. (h : SchemaRefusal) × P x y h × Q x y h)
+    → IfBothKnown a b (λ x y. (h : SchemaRefusal) × P x y h × (h ≡ f)) → IfBothKnown a b (λ x y. (h : SchemaRefusal) × P x y h × Q x y h)
 both_refused None b P Q f to h = tt
 both_refused (Some x) None P Q f to h = tt
 both_refused (Some x) (Some y) P Q f to h = (h.0, h.1, to x y h.0 h.1 h.2)

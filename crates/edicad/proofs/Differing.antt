@@ -1,4 +1,4 @@
--- The status of a run that tells what differs between two sheets.
+-- The status of a run that reports what differs between two sheets.
 use Rattle.std.proofs.Common.{◌≡◌, ◌≢◌, ◌⊎◌, ◌<◌, ◌≤◌, ℕ, Bool, true, false, List, IsTrue, codes, refl, inl, inr, arith}
 use Rattle.std.specs.Bool.{MatchBool}
 use Rattle.edi_schema.specs.Roles.{KindCodes}
@@ -12,9 +12,9 @@ use Rattle.edi_words.specs.declared.words.PairFiles.{PairFiles}
 use Rattle.edicad.specs.Outcome.{ended, status_of_fault, words_of_fault}
 use Rattle.edicad.specs.SheetRuns.{Inputs, IsPictureOfPair, OfMadePair, OfPair, PairFileFault, PutPairFault, ShowsDifference}
 use Rattle.edicad.specs.Reasons.{Why}
-use Rattle.edicad.specs.Statuses.{IsDiffStatus, IsPictureStatus, IsToldAs, Says, Warns, WarnsWhy, pair_paths_of}
+use Rattle.edicad.specs.Statuses.{IsDiffStatus, IsPictureStatus, IsAnsweredAs, Says, Warns, WarnsWhy, pair_paths_of}
 use Rattle.edicad.specs.declared.outcome.Outcome.TheVariants as outcome
-use Rattle.edicad.proofs.Refusals.{fault_status, means_fault, not_one, pair_refused, pair_tried, told_fault}
+use Rattle.edicad.proofs.Refusals.{fault_status, means_fault, not_one, pair_refused, pair_tried, known_fault}
 use Rattle.edicad.proofs.Made.{pair_map, were_four}
 use Rattle.edicad.proofs.Pairings.{put_pair_refused, put_pair_tried}
 
@@ -56,15 +56,15 @@ module _ (inputs : Inputs) (why : Why) (out err : Seen) (kinds : KindCodes) (fil
     };
   }
 
-  pub untold_status : (e : RunFault) → PairFileFault inputs kinds files (λ _. ⊥) e
-      → IsToldAs (status_of_fault e) s → (s < 3 → Says out (ended (words_of_fault e (pair_paths_of files (codes "-"))))) → (status_of_fault e < 3 → s ≡ 4 → IsTrue out.failed)
+  pub unanswered_status : (e : RunFault) → PairFileFault inputs kinds files (λ _. ⊥) e
+      → IsAnsweredAs (status_of_fault e) s → (s < 3 → Says out (ended (words_of_fault e (pair_paths_of files (codes "-"))))) → (status_of_fault e < 3 → s ≡ 4 → IsTrue out.failed)
       → (3 ≤ status_of_fault e → s ≡ 4 → WarnsWhy why err (outcome.Fault e) (pair_paths_of files (codes "-"))) → (s ≡ 5 → Warns err (ended (codes "out of memory")))
       → IsDiffStatus inputs why out err kinds files brief s
-  untold_status e h told line stopped warned memory = record {
+  unanswered_status e h contents line stopped warned memory = record {
     tried = pair_tried inputs kinds files (λ _. ⊥) e h;
-    different = λ one. absurd (not_one s (told_fault (status_of_fault e) s (fault_status e) told) one);
+    different = λ one. absurd (not_one s (known_fault (status_of_fault e) s (fault_status e) contents) one);
     means = means_fault _ _ _ why (pair_paths_of files (codes "-")) out err s e (λ big four. h)
-        (λ is two. pair_refused out kinds (pair_paths_of files (codes "-")) refl inputs files (λ _. ⊥) e h is (line (omega (arith, two)))) told
+        (λ is two. pair_refused out kinds (pair_paths_of files (codes "-")) refl inputs files (λ _. ⊥) e h is (line (omega (arith, two)))) contents
         stopped warned memory;
   }
 
@@ -96,13 +96,13 @@ module _ (inputs : Inputs) (is_one : List ℕ → List ℕ → Bool → Type 0) 
   }
 
   pub undrawn_status : (e : RunFault) → PutPairFault inputs is_one kinds files path (λ count. OfMadePair inputs (IsPictureOfPair kinds brief) files (Stops count)) e
-      → IsToldAs (status_of_fault e) s → (s < 3 → Says out (ended (words_of_fault e (pair_paths_of files path)))) → (status_of_fault e < 3 → s ≡ 4 → IsTrue out.failed)
+      → IsAnsweredAs (status_of_fault e) s → (s < 3 → Says out (ended (words_of_fault e (pair_paths_of files path)))) → (status_of_fault e < 3 → s ≡ 4 → IsTrue out.failed)
       → (3 ≤ status_of_fault e → s ≡ 4 → WarnsWhy why err (outcome.Fault e) (pair_paths_of files path)) → (s ≡ 5 → Warns err (ended (codes "out of memory")))
       → IsPictureStatus inputs is_one why out err kinds files brief path Puts Stops s
-  undrawn_status e h told line stopped warned memory = record {
+  undrawn_status e h contents line stopped warned memory = record {
     tried = put_pair_tried inputs is_one kinds files path _ e h;
-    different = λ one. absurd (not_one s (told_fault (status_of_fault e) s (fault_status e) told) one);
+    different = λ one. absurd (not_one s (known_fault (status_of_fault e) s (fault_status e) contents) one);
     means = means_fault _ _ _ why (pair_paths_of files path) out err s e (λ big four. h)
-        (λ is two. put_pair_refused inputs is_one kinds files path _ out e h is (line (omega (arith, two)))) told
+        (λ is two. put_pair_refused inputs is_one kinds files path _ out e h is (line (omega (arith, two)))) contents
         stopped warned memory;
   }

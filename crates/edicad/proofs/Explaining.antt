@@ -12,7 +12,7 @@ use Rattle.edi_compare.specs.Rules.{IsAccepted}
 use Rattle.edi_compare.specs.Rules.Breaks.{of_lines}
 use Rattle.edi_line.specs.LineRules.{BreaksLineRule}
 use Rattle.edi_line.specs.Refusal.{IsUnbroken}
-use Rattle.edi_compare.specs.Runs.{IsProperSchemaFault, Told}
+use Rattle.edi_compare.specs.Runs.{IsProperSchemaFault, IfThreeKnown}
 use Rattle.edi_compare.specs.declared.fault.Fault.{Fault}
 use Rattle.edi_explain.specs.Explained.{DescribesPlan, ExplainsSchema, ExplainsSheet}
 use Rattle.edi_explain.specs.Hints.{AreHintsOfSheet}
@@ -67,16 +67,16 @@ hints_named files scd dic b x y z p q r lines e f g h i j are =
     (subst (λ (v : List ℕ). AreHintsOfSheet v p y q z r lines) e are)))))
 
 -- what is said, with the lines behind it
-pub all_told : (kinds : KindCodes) (files : SheetFiles) (scd dic b : List ℕ) (said : Bool) (text lines all : List ℕ)
+pub all_reported : (kinds : KindCodes) (files : SheetFiles) (scd dic b : List ℕ) (said : Bool) (text lines all : List ℕ)
     → MatchBool said (TellsPlan kinds scd dic b text) (TellsCause kinds files scd dic b text) → MatchBool said (DescribesSkipped b lines) (GiveHints files scd dic b lines) → all ≡ text ++ lines
     → MatchBool said (TellsAccepted kinds scd dic b all) (TellsRefusal kinds files scd dic b all)
-all_told kinds files scd dic b true text lines all h k e = (text, lines, h, k, e)
-all_told kinds files scd dic b false text lines all h k e = (text, lines, h, k, e)
+all_reported kinds files scd dic b true text lines all h k e = (text, lines, h, k, e)
+all_reported kinds files scd dic b false text lines all h k e = (text, lines, h, k, e)
 
 -- a fact of the bytes that were read holds of what the inputs tell
-pub told_bytes : (a c e : Option (List ℕ)) (x y z : List ℕ) (P : List ℕ → List ℕ → List ℕ → Type 0) → IfSome a (λ t. x ≡ t) → IfSome c (λ t. y ≡ t) → IfSome e (λ t. z ≡ t)
-    → P x y z → Told a c e P
-told_bytes None c e x y z P f g h p = tt
-told_bytes (Some a) None e x y z P f g h p = tt
-told_bytes (Some a) (Some c) None x y z P f g h p = tt
-told_bytes (Some a) (Some c) (Some e) x y z P f g h p = subst (P a c) h (subst (λ (t : List ℕ). P a t z) g (subst (λ (t : List ℕ). P t y z) f p))
+pub known_bytes : (a c e : Option (List ℕ)) (x y z : List ℕ) (P : List ℕ → List ℕ → List ℕ → Type 0) → IfSome a (λ t. x ≡ t) → IfSome c (λ t. y ≡ t) → IfSome e (λ t. z ≡ t)
+    → P x y z → IfThreeKnown a c e P
+known_bytes None c e x y z P f g h p = tt
+known_bytes (Some a) None e x y z P f g h p = tt
+known_bytes (Some a) (Some c) None x y z P f g h p = tt
+known_bytes (Some a) (Some c) (Some e) x y z P f g h p = subst (P a c) h (subst (λ (t : List ℕ). P a t z) g (subst (λ (t : List ℕ). P t y z) f p))

@@ -3,7 +3,7 @@ use Rattle.std.proofs.Common.{ℕ, zero, suc, List, Option, Some, None, IsTrue, 
 use Rattle.edi_schema.specs.Roles.{KindCodes}
 use Rattle.edi_compare.specs.declared.fault.RunFault.{RunFault}
 use Rattle.edi_compare.specs.declared.fault.RunFault.TheVariants.{Memory, Read, TooLong, Schema, First, Second, Write}
-use Rattle.edi_compare.specs.Runs.{ComparingFault, FilesFault, IsTooLong, Kept, OfInput, OfInputOfFour, OfThree, Seen, TellBoth, TellFour, Told}
+use Rattle.edi_compare.specs.Runs.{ComparingFault, FilesFault, IsTooLong, Untouched, OfInput, OfInputOfFour, OfThree, Seen, IfBothKnown, IfFourKnown, IfThreeKnown}
 use Rattle.edi_words.specs.declared.words.PairFiles.{PairFiles}
 use Rattle.edi_words.specs.declared.words.SheetFiles.{SheetFiles}
 use Rattle.edicad.specs.SheetRuns.{FileFault, Gives, HoldsTooMuch, Inputs, PairFileFault, pair_path_at, path_at}
@@ -21,11 +21,11 @@ of_three (suc (suc zero)) A B P Q R C p q r h = q (h.3 refl).1
 of_three (suc (suc (suc zero))) A B P Q R C p q r h = r (h.4 refl).2
 of_three (suc (suc (suc (suc n)))) A B P Q R C p q r h = absurd (omega (arith, h.1))
 
-tell_both_told : (a b c : Option (List ℕ)) (P : List ℕ → List ℕ → Type 0) → TellBoth a b P → Told a b c (λ s d v. P s d)
-tell_both_told None b c P h = tt
-tell_both_told (Some x) None c P h = tt
-tell_both_told (Some x) (Some y) None P h = tt
-tell_both_told (Some x) (Some y) (Some z) P h = h
+both_of_three : (a b c : Option (List ℕ)) (P : List ℕ → List ℕ → Type 0) → IfBothKnown a b P → IfThreeKnown a b c (λ s d v. P s d)
+both_of_three None b c P h = tt
+both_of_three (Some x) None c P h = tt
+both_of_three (Some x) (Some y) None P h = tt
+both_of_three (Some x) (Some y) (Some z) P h = h
 
 module _ (inputs : Inputs) (kinds : KindCodes) (files : SheetFiles) (scd dic vec : Seen) (gives_scd : Gives inputs files.scd.now scd.before)
     (gives_dic : Gives inputs files.dic.now dic.before) (gives_vec : Gives inputs files.vec.now vec.before) (scd_failed : IsTrue scd.failed → inputs.failed)
@@ -45,7 +45,7 @@ module _ (inputs : Inputs) (kinds : KindCodes) (files : SheetFiles) (scd dic vec
   matched W (Schema f) h =
       inr (
         ((scd.before, gives_scd), (dic.before, gives_dic), (vec.before, gives_vec)),
-        (scd.before, dic.before, vec.before, gives_scd, gives_dic, gives_vec, tell_both_told scd.before dic.before vec.before _ h),
+        (scd.before, dic.before, vec.before, gives_scd, gives_dic, gives_vec, both_of_three scd.before dic.before vec.before _ h),
       )
   matched W (First f) h =
       inr (((scd.before, gives_scd), (dic.before, gives_dic), (vec.before, gives_vec)), (scd.before, dic.before, vec.before, gives_scd, gives_dic, gives_vec, h))
@@ -68,19 +68,19 @@ fault_unwritten inputs kinds files W (First f) (inr h) = inr h
 fault_unwritten inputs kinds files W (Second f) (inr h) = inr h
 fault_unwritten inputs kinds files W (Write w) (inr h) = absurd h.1
 
-pub tell_both_told_four : (a b c d : Option (List ℕ)) (P : List ℕ → List ℕ → Type 0) → TellBoth a b P → TellFour a b c d (λ s t u v. P s t)
-tell_both_told_four a b c None P h = tt
-tell_both_told_four a b c (Some w) P h = tell_both_told a b c P h
+pub both_of_four : (a b c d : Option (List ℕ)) (P : List ℕ → List ℕ → Type 0) → IfBothKnown a b P → IfFourKnown a b c d (λ s t u v. P s t)
+both_of_four a b c None P h = tt
+both_of_four a b c (Some w) P h = both_of_three a b c P h
 
-pub told_four : (a b c d : Option (List ℕ)) (P : List ℕ → List ℕ → List ℕ → Type 0) → Told a b c P → TellFour a b c d (λ s t u v. P s t u)
-told_four a b c None P h = tt
-told_four a b c (Some w) P h = h
+pub three_of_four : (a b c d : Option (List ℕ)) (P : List ℕ → List ℕ → List ℕ → Type 0) → IfThreeKnown a b c P → IfFourKnown a b c d (λ s t u v. P s t u)
+three_of_four a b c None P h = tt
+three_of_four a b c (Some w) P h = h
 
 module _ (inputs : Inputs) (kinds : KindCodes) (files : PairFiles) (scd dic first second : Seen) (gives_scd : Gives inputs files.scd.now scd.before)
     (gives_dic : Gives inputs files.dic.now dic.before) (gives_first : Gives inputs files.first.now first.before) (gives_second : Gives inputs files.second.now second.before)
     (scd_failed : IsTrue scd.failed → inputs.failed) (dic_failed : IsTrue dic.failed → inputs.failed) (first_failed : IsTrue first.failed → inputs.failed)
-    (second_failed : IsTrue second.failed → inputs.failed) (kept : Kept) where
-  failed_of_four : (n : ℕ) → OfInputOfFour scd dic first second kept (λ input. IsTrue input.failed) n → inputs.failed
+    (second_failed : IsTrue second.failed → inputs.failed) (untouched : Untouched) where
+  failed_of_four : (n : ℕ) → OfInputOfFour scd dic first second untouched (λ input. IsTrue input.failed) n → inputs.failed
   failed_of_four zero h = absurd (omega (arith, h.0))
   failed_of_four (suc zero) h = scd_failed (h.2 refl).0
   failed_of_four (suc (suc zero)) h = dic_failed (h.3 refl).1.0
@@ -88,7 +88,7 @@ module _ (inputs : Inputs) (kinds : KindCodes) (files : PairFiles) (scd dic firs
   failed_of_four (suc (suc (suc (suc zero)))) h = second_failed (h.5 refl).3
   failed_of_four (suc (suc (suc (suc (suc n))))) h = absurd (omega (arith, h.1))
 
-  pair_too_long : (n : ℕ) → OfInputOfFour scd dic first second kept (λ input. IsTooLong input.before) n → HoldsTooMuch inputs (pair_path_at files n)
+  pair_too_long : (n : ℕ) → OfInputOfFour scd dic first second untouched (λ input. IsTooLong input.before) n → HoldsTooMuch inputs (pair_path_at files n)
   pair_too_long zero h = absurd (omega (arith, h.0))
   pair_too_long (suc zero) h = (scd.before, gives_scd, (h.2 refl).0)
   pair_too_long (suc (suc zero)) h = (dic.before, gives_dic, (h.3 refl).1.0)
@@ -96,7 +96,7 @@ module _ (inputs : Inputs) (kinds : KindCodes) (files : PairFiles) (scd dic firs
   pair_too_long (suc (suc (suc (suc zero)))) h = (second.before, gives_second, (h.5 refl).3)
   pair_too_long (suc (suc (suc (suc (suc n))))) h = absurd (omega (arith, h.1))
 
-  pair_matched : (e : RunFault) → ComparingFault kinds scd dic first second kept e → PairFileFault inputs kinds files (λ _. ⊥) e
+  pair_matched : (e : RunFault) → ComparingFault kinds scd dic first second untouched e → PairFileFault inputs kinds files (λ _. ⊥) e
   pair_matched (Memory e) h = inr (((scd.before, gives_scd), (dic.before, gives_dic), (first.before, gives_first), (second.before, gives_second)), tt)
   pair_matched (Read n) h =
       inr (((scd.before, gives_scd), (dic.before, gives_dic), (first.before, gives_first), (second.before, gives_second)), (h.0, h.1, failed_of_four n h))
@@ -114,7 +114,7 @@ module _ (inputs : Inputs) (kinds : KindCodes) (files : PairFiles) (scd dic firs
           gives_dic,
           gives_first,
           gives_second,
-          tell_both_told_four scd.before dic.before first.before second.before _ h,
+          both_of_four scd.before dic.before first.before second.before _ h,
         ),
       )
   pair_matched (First f) h =
@@ -129,7 +129,7 @@ module _ (inputs : Inputs) (kinds : KindCodes) (files : PairFiles) (scd dic firs
           gives_dic,
           gives_first,
           gives_second,
-          told_four scd.before dic.before first.before second.before _ h,
+          three_of_four scd.before dic.before first.before second.before _ h,
         ),
       )
   pair_matched (Second f) h =
@@ -140,5 +140,5 @@ module _ (inputs : Inputs) (kinds : KindCodes) (files : PairFiles) (scd dic firs
   pair_matched (Write w) h = absurd h
 
   -- of a run over four readers
-  pub pair_fault : {T : Type 0} (r : Result T RunFault) → IfErr r (ComparingFault kinds scd dic first second kept) → IfErr r (PairFileFault inputs kinds files (λ _. ⊥))
-  pair_fault r h = if_err_map r (ComparingFault kinds scd dic first second kept) (PairFileFault inputs kinds files (λ _. ⊥)) pair_matched h
+  pub pair_fault : {T : Type 0} (r : Result T RunFault) → IfErr r (ComparingFault kinds scd dic first second untouched) → IfErr r (PairFileFault inputs kinds files (λ _. ⊥))
+  pair_fault r h = if_err_map r (ComparingFault kinds scd dic first second untouched) (PairFileFault inputs kinds files (λ _. ⊥)) pair_matched h

@@ -4,7 +4,7 @@ use Rattle.edi_schema.specs.Roles.{KindCodes}
 use Rattle.edi_compare.specs.Bundle.{OfParts}
 use Rattle.edi_compare.specs.declared.fault.RunFault.{RunFault}
 use Rattle.edi_compare.specs.declared.fault.RunFault.TheVariants.{Memory, Read, TooLong, Schema, First, Second, Write}
-use Rattle.edi_compare.specs.Runs.{MatchFault, TellFour, Told}
+use Rattle.edi_compare.specs.Runs.{MatchFault, IfFourKnown, IfThreeKnown}
 use Rattle.edi_words.specs.declared.words.PairFiles.{PairFiles}
 use Rattle.edi_words.specs.declared.words.SheetFiles.{SheetFiles}
 use Rattle.edicad.specs.Folders.{Leavings}
@@ -16,31 +16,31 @@ pub on_ok_map : {T E : Type 0} (r : Result T E) (P Q : Type 0) → (P → Q) →
 on_ok_map (Ok v) P Q f h = f h
 on_ok_map (Err e) P Q f h = tt
 
-told_map : (a b c : Option (List ℕ)) (P Q : List ℕ → List ℕ → List ℕ → Type 0) → ((s d v : List ℕ) → P s d v → Q s d v) → Told a b c P → Told a b c Q
-told_map None b c P Q f h = tt
-told_map (Some x) None c P Q f h = tt
-told_map (Some x) (Some y) None P Q f h = tt
-told_map (Some x) (Some y) (Some z) P Q f h = f x y z h
+known_map : (a b c : Option (List ℕ)) (P Q : List ℕ → List ℕ → List ℕ → Type 0) → ((s d v : List ℕ) → P s d v → Q s d v) → IfThreeKnown a b c P → IfThreeKnown a b c Q
+known_map None b c P Q f h = tt
+known_map (Some x) None c P Q f h = tt
+known_map (Some x) (Some y) None P Q f h = tt
+known_map (Some x) (Some y) (Some z) P Q f h = f x y z h
 
 -- what follows from a fact of three files holds of them
 pub files_map : (inputs : Inputs) (files : SheetFiles) (P Q : List ℕ → List ℕ → List ℕ → Type 0) → ((s d v : List ℕ) → P s d v → Q s d v)
     → OfFiles inputs files P → OfFiles inputs files Q
-files_map inputs files P Q f h = (h.0, h.1, h.2, h.3, h.4, h.5, told_map h.0 h.1 h.2 P Q f h.6)
+files_map inputs files P Q f h = (h.0, h.1, h.2, h.3, h.4, h.5, known_map h.0 h.1 h.2 P Q f h.6)
 
-pub parts_map : (told : Option (List ℕ)) (P Q : List ℕ → List ℕ → List ℕ → Type 0) → ((s d v : List ℕ) → P s d v → Q s d v)
-    → IfSome told (λ b. OfParts b P) → IfSome told (λ b. OfParts b Q)
+pub parts_map : (contents : Option (List ℕ)) (P Q : List ℕ → List ℕ → List ℕ → Type 0) → ((s d v : List ℕ) → P s d v → Q s d v)
+    → IfSome contents (λ b. OfParts b P) → IfSome contents (λ b. OfParts b Q)
 parts_map None P Q f h = tt
 parts_map (Some b) P Q f h = (h.0, h.1, h.2, h.3, f h.0 h.1 h.2 h.4)
 
-tell_four_map : (a b c d : Option (List ℕ)) (P Q : List ℕ → List ℕ → List ℕ → List ℕ → Type 0) → ((s t u v : List ℕ) → P s t u v → Q s t u v)
-    → TellFour a b c d P → TellFour a b c d Q
-tell_four_map a b c None P Q f h = tt
-tell_four_map a b c (Some w) P Q f h = told_map a b c _ _ (λ s t u. f s t u w) h
+four_known_map : (a b c d : Option (List ℕ)) (P Q : List ℕ → List ℕ → List ℕ → List ℕ → Type 0) → ((s t u v : List ℕ) → P s t u v → Q s t u v)
+    → IfFourKnown a b c d P → IfFourKnown a b c d Q
+four_known_map a b c None P Q f h = tt
+four_known_map a b c (Some w) P Q f h = known_map a b c _ _ (λ s t u. f s t u w) h
 
 -- what follows from a fact of four files holds of them
 pub pair_map : (inputs : Inputs) (files : PairFiles) (P Q : List ℕ → List ℕ → List ℕ → List ℕ → Type 0) → ((s d a b : List ℕ) → P s d a b → Q s d a b)
     → OfPair inputs files P → OfPair inputs files Q
-pair_map inputs files P Q f h = (h.0, h.1, h.2, h.3, h.4, h.5, h.6, h.7, tell_four_map h.0 h.1 h.2 h.3 P Q f h.8)
+pair_map inputs files P Q f h = (h.0, h.1, h.2, h.3, h.4, h.5, h.6, h.7, four_known_map h.0 h.1 h.2 h.3 P Q f h.8)
 
 -- the files were there
 pub were_there : (inputs : Inputs) (files : SheetFiles) (P : List ℕ → List ℕ → List ℕ → Type 0) → OfFiles inputs files P → AreThere inputs files

@@ -7,7 +7,7 @@ use Rattle.edi_compare.specs.declared.fault.RunFault.TheVariants.{Memory, Read, 
 use Rattle.edi_compare.specs.declared.pairing.Verdict.TheVariants.{Different}
 use Rattle.edi_compare.specs.Runs.{IsTooLong, IsVerdictOf, MatchFault, Seen}
 use Rattle.edi_pairing.specs.CompareRuns.{IsPairingFileOf}
-use Rattle.edi_pairing.specs.VerifyRuns.{Inputs as Five, IsVerifiedUnder, Kept, MatchRun, OfInput, RefusesFile, VerifyingFault}
+use Rattle.edi_pairing.specs.VerifyRuns.{Inputs as Five, IsVerifiedUnder, Untouched, MatchRun, OfInput, RefusesFile, VerifyingFault}
 use Rattle.edi_pairing.specs.declared.fault.VerifyRunFault.{VerifyRunFault}
 use Rattle.edi_pairing.specs.declared.fault.VerifyRunFault.TheVariants.{Run, Pairing as OfPairingFile}
 use Rattle.edi_words.specs.declared.words.PairFiles.{PairFiles}
@@ -16,10 +16,10 @@ use Rattle.edicad.specs.Outcome.{FaultHasNames, HasNames, ended, paired_outcome,
 use Rattle.edicad.specs.Outputs.{IsWholeOrNew}
 use Rattle.edicad.specs.Reasons.{Why}
 use Rattle.edicad.specs.SheetRuns.{AreFiveThere, AreFourThere, FirstOfFiveMissing, FirstOfFourMissing, Gives, HoldsTooMuch, Inputs, IsNoPairInput, IsPairInput, OfFive, OfPair, OfPairing, PairFileFault, PutPairFault, VerifyFileFault, verify_path_at}
-use Rattle.edicad.specs.Statuses.{IsPairingStatus, IsToldAs, IsVerifyStatus, Says, SaysPairRefusal, SaysVerifyRefusal, Warns, WarnsWhy, pair_paths_of, verify_paths_of}
+use Rattle.edicad.specs.Statuses.{IsPairingStatus, IsAnsweredAs, IsVerifyStatus, Says, SaysPairRefusal, SaysVerifyRefusal, Warns, WarnsWhy, pair_paths_of, verify_paths_of}
 use Rattle.edicad.proofs.Made.{pair_map, were_four}
-use Rattle.edicad.proofs.Faults.{if_err_map, tell_both_told_four, told_four}
-use Rattle.edicad.proofs.Refusals.{fault_status, match_refused, means_answer, means_fault, not_one, not_one_of_zero, not_zero_of_one, pair_refused, pair_tried, told_fault}
+use Rattle.edicad.proofs.Faults.{if_err_map, both_of_four, three_of_four}
+use Rattle.edicad.proofs.Refusals.{fault_status, match_refused, means_answer, means_fault, not_one, not_one_of_zero, not_zero_of_one, pair_refused, pair_tried, known_fault}
 
 -- ---- a pairing, put at a path
 
@@ -53,30 +53,30 @@ put_pair_refused inputs is_one kinds files path W out e (inr h) two line = pair_
 
 -- the status of a comparison to a pairing's file
 module _ (inputs : Inputs) (is_one : List ℕ → List ℕ → Bool → Type 0) (why : Why) (out err : Seen) (kinds : KindCodes) (files : PairFiles) (path : List ℕ)
-    (Puts : List ℕ → Type 0) (Stops : ℕ → List ℕ → Type 0) (Kept : Type 0) (s : ℕ) where
+    (Puts : List ℕ → Type 0) (Stops : ℕ → List ℕ → Type 0) (Untouched : Type 0) (s : ℕ) where
   pub pairing_status : (r : Result (Option ℕ) RunFault)
       → IfOk r (λ line. IsNoPairInput is_one files path × MatchOption line (OfPairing inputs kinds files Puts)
-      (λ at. OfPair inputs files (λ scd dic a b. IsVerdictOf kinds scd dic a b (Different at)) × Kept))
+      (λ at. OfPair inputs files (λ scd dic a b. IsVerdictOf kinds scd dic a b (Different at)) × Untouched))
       → IfErr r (PutPairFault inputs is_one kinds files path (λ count. OfPairing inputs kinds files (Stops count)))
-      → IsToldAs (status_for (paired_outcome r)) s
+      → IsAnsweredAs (status_for (paired_outcome r)) s
       → (s < 3 → Says out (ended (words_for (paired_outcome r) (pair_paths_of files path)))) → (status_for (paired_outcome r) < 3 → s ≡ 4 → IsTrue out.failed)
       → (3 ≤ status_for (paired_outcome r) → s ≡ 4 → WarnsWhy why err (paired_outcome r) (pair_paths_of files path)) → (s ≡ 5 → Warns err (ended (codes "out of memory")))
       → IsPairingStatus inputs is_one why out err kinds files path Puts Stops s
-  pairing_status (Ok None) h fault told line stopped warned memory = record {
+  pairing_status (Ok None) h fault contents line stopped warned memory = record {
     tried = inr (inl (were_four inputs files _ h.1));
-    different = λ one. absurd (not_one_of_zero s one told);
-    means = means_answer _ _ _ why (pair_paths_of files path) out err s 0 (omega arith) (λ zero. (h.1, line (omega (arith, zero)))) told stopped memory;
+    different = λ one. absurd (not_one_of_zero s one contents);
+    means = means_answer _ _ _ why (pair_paths_of files path) out err s 0 (omega arith) (λ zero. (h.1, line (omega (arith, zero)))) contents stopped memory;
   }
-  pairing_status (Ok (Some at)) h fault told line stopped warned memory = record {
+  pairing_status (Ok (Some at)) h fault contents line stopped warned memory = record {
     tried = inr (inl (were_four inputs files _ h.1.0));
     different = λ one. (at, h.1.0, line (omega (arith, one)));
-    means = means_answer _ _ _ why (pair_paths_of files path) out err s 1 (omega arith) (λ zero. absurd (not_zero_of_one s zero told)) told stopped memory;
+    means = means_answer _ _ _ why (pair_paths_of files path) out err s 1 (omega arith) (λ zero. absurd (not_zero_of_one s zero contents)) contents stopped memory;
   }
-  pairing_status (Err e) ok h told line stopped warned memory = record {
+  pairing_status (Err e) ok h contents line stopped warned memory = record {
     tried = put_pair_tried inputs is_one kinds files path _ e h;
-    different = λ one. absurd (not_one s (told_fault (status_of_fault e) s (fault_status e) told) one);
+    different = λ one. absurd (not_one s (known_fault (status_of_fault e) s (fault_status e) contents) one);
     means = means_fault _ _ _ why (pair_paths_of files path) out err s e (λ big four. h)
-        (λ is two. put_pair_refused inputs is_one kinds files path _ out e h is (line (omega (arith, two)))) told
+        (λ is two. put_pair_refused inputs is_one kinds files path _ out e h is (line (omega (arith, two)))) contents
         stopped warned memory;
   }
 
@@ -86,11 +86,11 @@ module _ (inputs : Inputs) (kinds : KindCodes) (files : PairFiles) (pairing : Li
     (gives_dic : Gives inputs files.dic.now i.dic.before) (gives_first : Gives inputs files.first.now i.first.before) (gives_second : Gives inputs files.second.now i.second.before)
     (gives_file : Gives inputs pairing i.file.before)
     (scd_failed : IsTrue i.scd.failed → inputs.failed) (dic_failed : IsTrue i.dic.failed → inputs.failed) (first_failed : IsTrue i.first.failed → inputs.failed)
-    (second_failed : IsTrue i.second.failed → inputs.failed) (file_failed : IsTrue i.file.failed → inputs.failed) (kept : Kept) where
+    (second_failed : IsTrue i.second.failed → inputs.failed) (file_failed : IsTrue i.file.failed → inputs.failed) (untouched : Untouched) where
   five_there : AreFiveThere inputs files pairing
   five_there = (((i.scd.before, gives_scd), (i.dic.before, gives_dic), (i.first.before, gives_first), (i.second.before, gives_second)), (i.file.before, gives_file))
 
-  failed_of_five : (n : ℕ) → OfInput i kept (λ input. IsTrue input.failed) n → inputs.failed
+  failed_of_five : (n : ℕ) → OfInput i untouched (λ input. IsTrue input.failed) n → inputs.failed
   failed_of_five zero h = absurd (omega (arith, h.0))
   failed_of_five (suc zero) h = scd_failed (h.2 refl).0
   failed_of_five (suc (suc zero)) h = dic_failed (h.3 refl).1
@@ -99,7 +99,7 @@ module _ (inputs : Inputs) (kinds : KindCodes) (files : PairFiles) (pairing : Li
   failed_of_five (suc (suc (suc (suc (suc zero))))) h = file_failed (h.6 refl).4
   failed_of_five (suc (suc (suc (suc (suc (suc n)))))) h = absurd (omega (arith, h.1))
 
-  five_too_long : (n : ℕ) → OfInput i kept (λ input. IsTooLong input.before) n → HoldsTooMuch inputs (verify_path_at files pairing n)
+  five_too_long : (n : ℕ) → OfInput i untouched (λ input. IsTooLong input.before) n → HoldsTooMuch inputs (verify_path_at files pairing n)
   five_too_long zero h = absurd (omega (arith, h.0))
   five_too_long (suc zero) h = (i.scd.before, gives_scd, (h.2 refl).0)
   five_too_long (suc (suc zero)) h = (i.dic.before, gives_dic, (h.3 refl).1)
@@ -108,7 +108,7 @@ module _ (inputs : Inputs) (kinds : KindCodes) (files : PairFiles) (pairing : Li
   five_too_long (suc (suc (suc (suc (suc zero))))) h = (i.file.before, gives_file, (h.6 refl).4)
   five_too_long (suc (suc (suc (suc (suc (suc n)))))) h = absurd (omega (arith, h.1))
 
-  verify_matched : (e : VerifyRunFault) → VerifyingFault kinds i kept e
+  verify_matched : (e : VerifyRunFault) → VerifyingFault kinds i untouched e
       → MatchRun e (VerifyFileFault inputs kinds files pairing) (λ at. OfFive inputs files pairing (λ s d a b f. RefusesFile kinds s d a b f at))
   verify_matched (Run (Memory e)) h = inr (five_there, tt)
   verify_matched (Run (Read n)) h = inr (five_there, (h.0, h.1, failed_of_five n h))
@@ -125,7 +125,7 @@ module _ (inputs : Inputs) (kinds : KindCodes) (files : PairFiles) (pairing : Li
           gives_dic,
           gives_first,
           gives_second,
-          tell_both_told_four i.scd.before i.dic.before i.first.before i.second.before _ h,
+          both_of_four i.scd.before i.dic.before i.first.before i.second.before _ h,
         ),
       )
   verify_matched (Run (First f)) h =
@@ -140,7 +140,7 @@ module _ (inputs : Inputs) (kinds : KindCodes) (files : PairFiles) (pairing : Li
           gives_dic,
           gives_first,
           gives_second,
-          told_four i.scd.before i.dic.before i.first.before i.second.before _ h,
+          three_of_four i.scd.before i.dic.before i.first.before i.second.before _ h,
         ),
       )
   verify_matched (Run (Second f)) h =
@@ -161,9 +161,9 @@ module _ (inputs : Inputs) (kinds : KindCodes) (files : PairFiles) (pairing : Li
   )
 
   -- of a run over five readers
-  pub verify_fault : {T : Type 0} (r : Result T VerifyRunFault) → IfErr r (VerifyingFault kinds i kept)
+  pub verify_fault : {T : Type 0} (r : Result T VerifyRunFault) → IfErr r (VerifyingFault kinds i untouched)
       → IfErr r (λ e. MatchRun e (VerifyFileFault inputs kinds files pairing) (λ at. OfFive inputs files pairing (λ s d a b f. RefusesFile kinds s d a b f at)))
-  verify_fault r h = if_err_map r (VerifyingFault kinds i kept) _ verify_matched h
+  verify_fault r h = if_err_map r (VerifyingFault kinds i untouched) _ verify_matched h
 
 pub verified_names : (r : Result Bool VerifyRunFault) (names : List (Bor (List ℕ))) → length names ≡ 6 → IfErr r (λ e. MatchRun e (λ f. FaultHasNames f 6) (λ _. ⊤))
     → HasNames (verified_outcome r) names
@@ -187,39 +187,39 @@ module _ (inputs : Inputs) (why : Why) (out err : Seen) (kinds : KindCodes) (fil
   were_five : (P : List ℕ → List ℕ → List ℕ → List ℕ → List ℕ → Type 0) → OfFive inputs files pairing P → AreFiveThere inputs files pairing
   were_five P h = (((h.0, h.5), (h.1, h.6), (h.2, h.7), (h.3, h.8)), (h.4, h.9))
 
-  not_small_of_two : s < 2 → IsToldAs 2 s → ⊥
+  not_small_of_two : s < 2 → IsAnsweredAs 2 s → ⊥
   not_small_of_two small (inl e) = absurd (omega (arith, e, small))
   not_small_of_two small (inr (inl e)) = absurd (omega (arith, e, small))
   not_small_of_two small (inr (inr e)) = absurd (omega (arith, e.1, small))
 
   pub verify_status : (r : Result Bool VerifyRunFault) → IfOk r (λ answer. OfFive inputs files pairing (λ scd dic a b f. IsVerifiedUnder kinds scd dic a b f answer))
       → IfErr r (λ e. MatchRun e (VerifyFileFault inputs kinds files pairing) (λ at. OfFive inputs files pairing (λ s d a b f. RefusesFile kinds s d a b f at)))
-      → IsToldAs (status_for (verified_outcome r)) s
+      → IsAnsweredAs (status_for (verified_outcome r)) s
       → (s < 3 → Says out (ended (words_for (verified_outcome r) (verify_paths_of files pairing)))) → (status_for (verified_outcome r) < 3 → s ≡ 4 → IsTrue out.failed)
       → (3 ≤ status_for (verified_outcome r) → s ≡ 4 → WarnsWhy why err (verified_outcome r) (verify_paths_of files pairing)) → (s ≡ 5 → Warns err (ended (codes "out of memory")))
       → IsVerifyStatus inputs why out err kinds files pairing s
-  verify_status (Ok true) h fault told line stopped warned memory = record {
+  verify_status (Ok true) h fault contents line stopped warned memory = record {
     tried = inl (were_five _ h);
-    unpaired = λ one. absurd (not_one_of_zero s one told);
-    means = means_answer _ _ _ why (verify_paths_of files pairing) out err s 0 (omega arith) (λ zero. (h, line (omega (arith, zero)))) told stopped memory;
+    unpaired = λ one. absurd (not_one_of_zero s one contents);
+    means = means_answer _ _ _ why (verify_paths_of files pairing) out err s 0 (omega arith) (λ zero. (h, line (omega (arith, zero)))) contents stopped memory;
   }
-  verify_status (Ok false) h fault told line stopped warned memory = record {
+  verify_status (Ok false) h fault contents line stopped warned memory = record {
     tried = inl (were_five _ h);
     unpaired = λ one. (h, line (omega (arith, one)));
-    means = means_answer _ _ _ why (verify_paths_of files pairing) out err s 1 (omega arith) (λ zero. absurd (not_zero_of_one s zero told)) told stopped memory;
+    means = means_answer _ _ _ why (verify_paths_of files pairing) out err s 1 (omega arith) (λ zero. absurd (not_zero_of_one s zero contents)) contents stopped memory;
   }
-  verify_status (Err (Run e)) ok h told line stopped warned memory = record {
+  verify_status (Err (Run e)) ok h contents line stopped warned memory = record {
     tried = verify_tried inputs kinds files pairing e h;
-    unpaired = λ one. absurd (not_one s (told_fault (status_of_fault e) s (fault_status e) told) one);
+    unpaired = λ one. absurd (not_one s (known_fault (status_of_fault e) s (fault_status e) contents) one);
     means = means_fault _ _ _ why (verify_paths_of files pairing) out err s e (λ big four. h)
-        (λ is two. verify_refused inputs kinds files pairing out e h is (line (omega (arith, two)))) told
+        (λ is two. verify_refused inputs kinds files pairing out e h is (line (omega (arith, two)))) contents
         stopped warned memory;
   }
-  verify_status (Err (OfPairingFile at)) ok h told line stopped warned memory = record {
+  verify_status (Err (OfPairingFile at)) ok h contents line stopped warned memory = record {
     tried = inl (were_five _ h);
-    unpaired = λ one. absurd (not_small_of_two (omega (arith, one)) told);
+    unpaired = λ one. absurd (not_small_of_two (omega (arith, one)) contents);
     means = record {
-      done = λ zero. absurd (not_small_of_two (omega (arith, zero)) told);
+      done = λ zero. absurd (not_small_of_two (omega (arith, zero)) contents);
       refused = λ two. inr (at, h, line (omega (arith, two)));
       failed = λ four. inl (stopped (omega arith) four);
       memory = memory;

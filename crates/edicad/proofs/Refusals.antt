@@ -17,14 +17,14 @@ use Rattle.edicad.specs.Outcome.{FaultHasNames, HasNames, ended, first_text, out
 use Rattle.edicad.specs.Reasons.{Why}
 use Rattle.edicad.specs.declared.outcome.Outcome.TheVariants as outcome
 use Rattle.edicad.specs.SheetRuns.{AreFourThere, PutFault, FileFault, FirstOfFourMissing, Inputs, IsInput, MatchPairFault, OfFiles, OfPair, PairFileFault}
-use Rattle.edicad.specs.Statuses.{AreTried, IsCompareStatus, IsToldAs, MeansStatus, Says, SaysPairRefusal, SaysRefusal, Warns, WarnsWhy, pair_paths_of}
+use Rattle.edicad.specs.Statuses.{AreTried, IsCompareStatus, IsAnsweredAs, MeansStatus, Says, SaysPairRefusal, SaysRefusal, Warns, WarnsWhy, pair_paths_of}
 use Rattle.edicad.proofs.Made.{files_map, pair_map, parts_map, were_four}
 
 -- a run that ends with 2 has an outcome of status 2
-pub told_two : (status s : ℕ) → IsToldAs status s → s ≡ 2 → status ≡ 2
-told_two status s (inl e) two = sym e ∙ two
-told_two status s (inr (inl e)) two = absurd (omega (arith, e, two))
-told_two status s (inr (inr e)) two = absurd (omega (arith, e.1, two))
+pub answered_two : (status s : ℕ) → IsAnsweredAs status s → s ≡ 2 → status ≡ 2
+answered_two status s (inl e) two = sym e ∙ two
+answered_two status s (inr (inl e)) two = absurd (omega (arith, e, two))
+answered_two status s (inr (inr e)) two = absurd (omega (arith, e.1, two))
 
 -- a refusal is said as its line
 module _ (out : Seen) (kinds : KindCodes) (names : List (List ℕ)) (alone : first_text (length names) ≡ []) where
@@ -47,15 +47,15 @@ module _ (out : Seen) (kinds : KindCodes) (names : List (List ℕ)) (alone : fir
   put_refused inputs is_one files path W e (inl input) two line = absurd (omega (arith, ap status_of_fault input.1, two))
   put_refused inputs is_one files path W e (inr h) two line = file_refused inputs files W e h.1 two line
 
-  pub input_refused : (told : Option (List ℕ)) (failed : Bool) (W : ℕ → Type 0) (e : RunFault) → InputFault kinds told failed W e → status_of_fault e ≡ 2
-      → Says out (ended (words_of_fault e names)) → IfSome told (λ b. OfParts b (SaysRefusal out kinds))
-  input_refused told failed W (Memory e) h two line = absurd (omega (arith, two))
-  input_refused told failed W (Read n) h two line = absurd (omega (arith, two))
-  input_refused told failed W (TooLong n) h two line = absurd (omega (arith, two))
-  input_refused told failed W (Schema f) h two line = parts_map told _ _ (λ s d v r. inl (f, r, line)) h
-  input_refused told failed W (First f) h two line = parts_map told _ _ (λ s d v r. inr (f, r, says_sheet f line)) h
-  input_refused told failed W (Second f) h two line = absurd h
-  input_refused told failed W (Write w) h two line = absurd (omega (arith, two))
+  pub input_refused : (contents : Option (List ℕ)) (failed : Bool) (W : ℕ → Type 0) (e : RunFault) → InputFault kinds contents failed W e → status_of_fault e ≡ 2
+      → Says out (ended (words_of_fault e names)) → IfSome contents (λ b. OfParts b (SaysRefusal out kinds))
+  input_refused contents failed W (Memory e) h two line = absurd (omega (arith, two))
+  input_refused contents failed W (Read n) h two line = absurd (omega (arith, two))
+  input_refused contents failed W (TooLong n) h two line = absurd (omega (arith, two))
+  input_refused contents failed W (Schema f) h two line = parts_map contents _ _ (λ s d v r. inl (f, r, line)) h
+  input_refused contents failed W (First f) h two line = parts_map contents _ _ (λ s d v r. inr (f, r, says_sheet f line)) h
+  input_refused contents failed W (Second f) h two line = absurd h
+  input_refused contents failed W (Write w) h two line = absurd (omega (arith, two))
 
 -- the files were tried
 pub file_tried : (inputs : Inputs) (kinds : KindCodes) (files : SheetFiles) (W : ℕ → Type 0) (e : RunFault) → FileFault inputs kinds files W e → AreTried inputs files
@@ -114,10 +114,10 @@ fault_status (First f) = sheet_status f
 fault_status (Second f) = sheet_status f
 fault_status (Write w) = inr (inl refl)
 
-pub told_fault : (status s : ℕ) → IsFaultStatus status → IsToldAs status s → IsFaultStatus s
-told_fault status s h (inl e) = subst IsFaultStatus (sym e) h
-told_fault status s h (inr (inl e)) = inr (inr e)
-told_fault status s h (inr (inr e)) = inr (inl e.1)
+pub known_fault : (status s : ℕ) → IsFaultStatus status → IsAnsweredAs status s → IsFaultStatus s
+known_fault status s h (inl e) = subst IsFaultStatus (sym e) h
+known_fault status s h (inr (inl e)) = inr (inr e)
+known_fault status s h (inr (inr e)) = inr (inl e.1)
 
 not_zero : (s : ℕ) → IsFaultStatus s → s ≢ 0
 not_zero s (inl e) zero = absurd (omega (arith, e, zero))
@@ -131,76 +131,76 @@ not_one s (inr (inr e)) one = absurd (omega (arith, e, one))
 
 -- what a status says of a run that has no answer
 module _ (Done Refused : Type 0) (IsFault : RunFault → Type 0) (why : Why) (paths : List (List ℕ)) (out err : Seen) (s : ℕ) where
-  failure : (e : RunFault) → (3 ≤ status_of_fault e → s ≡ 4 → IsFault e) → IsToldAs (status_of_fault e) s → (status_of_fault e < 3 → s ≡ 4 → IsTrue out.failed)
+  failure : (e : RunFault) → (3 ≤ status_of_fault e → s ≡ 4 → IsFault e) → IsAnsweredAs (status_of_fault e) s → (status_of_fault e < 3 → s ≡ 4 → IsTrue out.failed)
       → (3 ≤ status_of_fault e → s ≡ 4 → WarnsWhy why err (outcome.Fault e) paths) → s ≡ 4 → IsFaultStatus (status_of_fault e)
       → IsTrue out.failed ⊎ ((f : RunFault) × IsFault f × (status_of_fault f ≡ 4) × WarnsWhy why err (outcome.Fault f) paths)
-  failure e h told stopped warned four (inl two) = inl (stopped (omega (arith, two)) four)
-  failure e h told stopped warned four (inr (inl is)) = inr (e, h (omega (arith, is)) four, is, warned (omega (arith, is)) four)
+  failure e h contents stopped warned four (inl two) = inl (stopped (omega (arith, two)) four)
+  failure e h contents stopped warned four (inr (inl is)) = inr (e, h (omega (arith, is)) four, is, warned (omega (arith, is)) four)
   failure e h (inl is) stopped warned four (inr (inr five)) = absurd (omega (arith, is, four, five))
   failure e h (inr (inl is)) stopped warned four (inr (inr five)) = absurd (omega (arith, is, four))
   failure e h (inr (inr is)) stopped warned four (inr (inr five)) = absurd (omega (arith, is.0, five))
 
-  pub means_fault : (e : RunFault) → (3 ≤ status_of_fault e → s ≡ 4 → IsFault e) → (status_of_fault e ≡ 2 → s ≡ 2 → Refused) → IsToldAs (status_of_fault e) s
+  pub means_fault : (e : RunFault) → (3 ≤ status_of_fault e → s ≡ 4 → IsFault e) → (status_of_fault e ≡ 2 → s ≡ 2 → Refused) → IsAnsweredAs (status_of_fault e) s
       → (status_of_fault e < 3 → s ≡ 4 → IsTrue out.failed) → (3 ≤ status_of_fault e → s ≡ 4 → WarnsWhy why err (outcome.Fault e) paths)
       → (s ≡ 5 → Warns err (ended (codes "out of memory"))) → MeansStatus Done Refused IsFault why paths out err s
-  means_fault e h refuses told stopped warned memory = record {
-    done = λ zero. absurd (not_zero s (told_fault (status_of_fault e) s (fault_status e) told) zero);
-    refused = λ two. refuses (told_two (status_of_fault e) s told two) two;
-    failed = λ four. failure e h told stopped warned four (fault_status e);
+  means_fault e h refuses contents stopped warned memory = record {
+    done = λ zero. absurd (not_zero s (known_fault (status_of_fault e) s (fault_status e) contents) zero);
+    refused = λ two. refuses (answered_two (status_of_fault e) s contents two) two;
+    failed = λ four. failure e h contents stopped warned four (fault_status e);
     memory = memory;
   }
 
   -- and of one that has an answer, which is said
-  pub means_answer : (status : ℕ) → status < 2 → (s ≡ 0 → Done) → IsToldAs status s → (status < 3 → s ≡ 4 → IsTrue out.failed)
+  pub means_answer : (status : ℕ) → status < 2 → (s ≡ 0 → Done) → IsAnsweredAs status s → (status < 3 → s ≡ 4 → IsTrue out.failed)
       → (s ≡ 5 → Warns err (ended (codes "out of memory"))) → MeansStatus Done Refused IsFault why paths out err s
-  means_answer status small done told stopped memory = record {
+  means_answer status small done contents stopped memory = record {
     done = done;
-    refused = λ two. absurd (omega (arith, small, told_two status s told two));
+    refused = λ two. absurd (omega (arith, small, answered_two status s contents two));
     failed = λ four. inl (stopped (omega (arith, small)) four);
     memory = memory;
   }
 
 -- a run that ends with one of two statuses has no outcome of the other
-pub not_zero_of_one : (s : ℕ) → s ≡ 0 → IsToldAs 1 s → ⊥
+pub not_zero_of_one : (s : ℕ) → s ≡ 0 → IsAnsweredAs 1 s → ⊥
 not_zero_of_one s zero (inl e) = absurd (omega (arith, e, zero))
 not_zero_of_one s zero (inr (inl e)) = absurd (omega (arith, e, zero))
 not_zero_of_one s zero (inr (inr e)) = absurd (omega (arith, e.1, zero))
 
-pub not_one_of_zero : (s : ℕ) → s ≡ 1 → IsToldAs 0 s → ⊥
+pub not_one_of_zero : (s : ℕ) → s ≡ 1 → IsAnsweredAs 0 s → ⊥
 not_one_of_zero s one (inl e) = absurd (omega (arith, e, one))
 not_one_of_zero s one (inr (inl e)) = absurd (omega (arith, e, one))
 not_one_of_zero s one (inr (inr e)) = absurd (omega (arith, e.1, one))
 
 -- the status of a comparison
 module _ (inputs : Inputs) (why : Why) (out err : Seen) (kinds : KindCodes) (files : PairFiles) (s : ℕ) where
-  of_fault : (e : RunFault) → PairFileFault inputs kinds files (λ _. ⊥) e → IsToldAs (status_of_fault e) s
+  of_fault : (e : RunFault) → PairFileFault inputs kinds files (λ _. ⊥) e → IsAnsweredAs (status_of_fault e) s
       → (s < 3 → Says out (ended (words_of_fault e (pair_paths_of files (codes "-"))))) → (status_of_fault e < 3 → s ≡ 4 → IsTrue out.failed)
       → (3 ≤ status_of_fault e → s ≡ 4 → WarnsWhy why err (outcome.Fault e) (pair_paths_of files (codes "-"))) → (s ≡ 5 → Warns err (ended (codes "out of memory")))
       → IsCompareStatus inputs why out err kinds files s
-  of_fault e h told line stopped warned memory = record {
+  of_fault e h contents line stopped warned memory = record {
     tried = pair_tried inputs kinds files (λ _. ⊥) e h;
-    different = λ one. absurd (not_one s (told_fault (status_of_fault e) s (fault_status e) told) one);
+    different = λ one. absurd (not_one s (known_fault (status_of_fault e) s (fault_status e) contents) one);
     means = means_fault _ _ _ why (pair_paths_of files (codes "-")) out err s e (λ big four. h)
-        (λ is two. pair_refused out kinds (pair_paths_of files (codes "-")) refl inputs files (λ _. ⊥) e h is (line (omega (arith, two)))) told
+        (λ is two. pair_refused out kinds (pair_paths_of files (codes "-")) refl inputs files (λ _. ⊥) e h is (line (omega (arith, two)))) contents
         stopped warned memory;
   }
 
   pub compare_status : (r : Result Verdict RunFault) → IfOk r (λ v. OfPair inputs files (λ scd dic a b. IsVerdictOf kinds scd dic a b v))
-      → IfErr r (PairFileFault inputs kinds files (λ _. ⊥)) → IsToldAs (status_for (outcome_for r)) s
+      → IfErr r (PairFileFault inputs kinds files (λ _. ⊥)) → IsAnsweredAs (status_for (outcome_for r)) s
       → (s < 3 → Says out (ended (words_for (outcome_for r) (pair_paths_of files (codes "-"))))) → (status_for (outcome_for r) < 3 → s ≡ 4 → IsTrue out.failed)
       → (3 ≤ status_for (outcome_for r) → s ≡ 4 → WarnsWhy why err (outcome_for r) (pair_paths_of files (codes "-"))) → (s ≡ 5 → Warns err (ended (codes "out of memory")))
       → IsCompareStatus inputs why out err kinds files s
-  compare_status (Ok (verdict.Same pairing)) h fault told line stopped warned memory = record {
+  compare_status (Ok (verdict.Same pairing)) h fault contents line stopped warned memory = record {
     tried = inl (were_four inputs files _ h);
-    different = λ one. absurd (not_one_of_zero s one told);
-    means = means_answer _ _ _ why (pair_paths_of files (codes "-")) out err s 0 (omega arith) (λ zero. ((pairing, h), line (omega (arith, zero)))) told stopped memory;
+    different = λ one. absurd (not_one_of_zero s one contents);
+    means = means_answer _ _ _ why (pair_paths_of files (codes "-")) out err s 0 (omega arith) (λ zero. ((pairing, h), line (omega (arith, zero)))) contents stopped memory;
   }
-  compare_status (Ok (verdict.Different at)) h fault told line stopped warned memory = record {
+  compare_status (Ok (verdict.Different at)) h fault contents line stopped warned memory = record {
     tried = inl (were_four inputs files _ h);
     different = λ one. (at, h, line (omega (arith, one)));
-    means = means_answer _ _ _ why (pair_paths_of files (codes "-")) out err s 1 (omega arith) (λ zero. absurd (not_zero_of_one s zero told)) told stopped memory;
+    means = means_answer _ _ _ why (pair_paths_of files (codes "-")) out err s 1 (omega arith) (λ zero. absurd (not_zero_of_one s zero contents)) contents stopped memory;
   }
-  compare_status (Err e) ok h told line stopped warned memory = of_fault e h told line stopped warned memory
+  compare_status (Err e) ok h contents line stopped warned memory = of_fault e h contents line stopped warned memory
 
 -- the names that the line of a comparison needs
 pub compare_names : (r : Result Verdict RunFault) (names : List (Bor (List ℕ))) → length names ≡ 5 → IfErr r (λ e. FaultHasNames e 5) → HasNames (outcome_for r) names

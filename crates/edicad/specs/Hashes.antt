@@ -11,7 +11,7 @@ use Rattle.edi_schema.specs.declared.fault.SchemaFault.{SchemaFault as SchemaRef
 use Rattle.edi_compare.specs.Headline.{IsFormOf}
 use Rattle.edi_compare.specs.PlanOfFile.{StateSame}
 use Rattle.edi_compare.specs.Refused.{IsProper, IsRefusal}
-use Rattle.edi_compare.specs.Runs.{MatchFault, RefusesSchema, Seen, TellBoth}
+use Rattle.edi_compare.specs.Runs.{MatchFault, RefusesSchema, Seen, IfBothKnown}
 use Rattle.edi_compare.specs.Under.{OfTwo}
 use Rattle.edi_compare.specs.declared.fault.RunFault.{RunFault}
 use Rattle.edi_compare.specs.declared.fault.RunFault.TheVariants.{Read}
@@ -43,12 +43,12 @@ HashFault inputs s path e =
     (λ n. (n ≡ 3) × inputs.failed)
     (λ n. (n ≡ 3) × HoldsTooMuch inputs path)
     (λ _. ⊥)
-    (λ f. (told : Option (List ℕ)) × Gives inputs path told × IfSome told (λ b. IsProper f × IsRefusal s b f))
+    (λ f. (contents : Option (List ℕ)) × Gives inputs path contents × IfSome contents (λ b. IsProper f × IsRefusal s b f))
     (λ _. ⊥) (λ _. ⊥))
 
 -- what came of the sheet of a path: the digest of its canonical file, or why it has none
 abbrev pub IsAnswerOf : Inputs → Classes → List ℕ → Result (List ℕ) RunFault → Type 0
-IsAnswerOf inputs s path (Ok digest) = (told : Option (List ℕ)) × Gives inputs path told × IfSome told (λ b. IsDigestOf s b digest)
+IsAnswerOf inputs s path (Ok digest) = (contents : Option (List ℕ)) × Gives inputs path contents × IfSome contents (λ b. IsDigestOf s b digest)
 IsAnswerOf inputs s path (Err e) = HashFault inputs s path e
 
 -- a backslash (92), a line feed (10) or a carriage return (13), which a line shows by an escape
@@ -126,19 +126,19 @@ IsCutOff inputs why s out err paths status =
 abbrev pub AnswersAll : Inputs → Why → Classes → Seen → Seen → List (List ℕ) → ℕ → Type 0
 AnswersAll inputs why s out err paths status = AreAnswered inputs why s out err paths status ⊎ IsCutOff inputs why s out err paths status
 
--- the schema of the two files, where they tell what they hold
+-- the schema of the two files, where their contents are known
 abbrev pub GivesSchema : Inputs → KindCodes → ManyFiles → Classes → Type 0
 GivesSchema inputs kinds files s = (scd dic : Option (List ℕ)) × Gives inputs files.scd.now scd × Gives inputs files.dic.now dic
-    × TellBoth scd dic (λ a b. IsGoodSchema a b kinds s)
+    × IfBothKnown scd dic (λ a b. IsGoodSchema a b kinds s)
 
 -- the path of an input of two
 abbrev pub schema_path_at : ManyFiles → ℕ → List ℕ
 schema_path_at files n = if n == 1 then files.scd.now else files.dic.now
 
--- the two files of the schema, where they tell what they hold, are refused
+-- the two files of the schema, where their contents are known, are refused
 abbrev pub RefusesFiles : Inputs → KindCodes → ManyFiles → (SchemaRefusal → Type 0) → Type 0
 RefusesFiles inputs kinds files P = (scd dic : Option (List ℕ)) × Gives inputs files.scd.now scd × Gives inputs files.dic.now dic
-    × TellBoth scd dic (λ a b. (f : SchemaRefusal) × RefusesSchema kinds a b f × P f)
+    × IfBothKnown scd dic (λ a b. (f : SchemaRefusal) × RefusesSchema kinds a b f × P f)
 
 -- Why there is no schema. One of the two files is missing; or both were opened, and one failed or is too long, or the
 -- schema is refused.

@@ -4,12 +4,12 @@ use Rattle.std.specs.Bool.{MatchBool}
 use Rattle.edi_schema.specs.Roles.{KindCodes}
 use Rattle.edi_compare.specs.declared.fault.RunFault.{RunFault}
 use Rattle.edi_compare.specs.declared.fault.RunFault.TheVariants.{Read, Write}
-use Rattle.edi_compare.specs.Runs.{IsCanonOf, IsTooLong, MatchFault, OfFour, OfThree, RefusesSchema, RefusesSecond, RefusesSheet, TellFour, Told}
+use Rattle.edi_compare.specs.Runs.{IsCanonOf, IsTooLong, MatchFault, OfFour, OfThree, RefusesSchema, RefusesSecond, RefusesSheet, IfFourKnown, IfThreeKnown}
 use Rattle.edi_diff.specs.declared.differing.Difference.{Difference}
 use Rattle.edi_drawing.specs.Runs.{IsDrawnDifferenceUnder, IsPictureUnder}
 use Rattle.edi_drawing.specs.declared.drawn.DrawnDifference.{DrawnDifference}
 use Rattle.edi_pairing.specs.CompareRuns.{IsPairingFileOf}
-use Rattle.edi_pairing.specs.VerifyRuns.{TellFive}
+use Rattle.edi_pairing.specs.VerifyRuns.{IfFiveKnown}
 use Rattle.edi_words.specs.Requests.{is_standard_path}
 use Rattle.edi_words.specs.declared.words.PairFiles.{PairFiles}
 use Rattle.edi_words.specs.declared.words.SheetFiles.{SheetFiles}
@@ -18,11 +18,11 @@ use Rattle.edicad.specs.declared.product.Product.TheVariants.{Canonical, Picture
 
 -- what is known of the inputs
 pub record Inputs : Type 1 where
-  -- the file of a path can be opened, and may tell that it holds this
+  -- the file of a path can be opened, and this may be known to be its contents
   pub holds : List ℕ → Option (List ℕ) → Type 0
   -- the file of a path can't be opened
   pub closed : List ℕ → Type 0
-  -- standard input may tell that it holds this
+  -- this may be known to be the contents of standard input
   pub standard : Option (List ℕ) → Type 0
   -- an input that was opened has failed
   pub failed : Type 0
@@ -32,21 +32,21 @@ abbrev pub inputs_of : (R : Type 0) → (List ℕ → Option (List ℕ) → Type
 inputs_of R holds closed standard failed =
     record { holds = holds; closed = closed; standard = standard; failed = (input : R) × IsTrue (failed input) }
 
--- the input of a path is there, and may tell that it holds this
+-- the input of a path is there, and this may be known to be its contents
 abbrev pub Gives : Inputs → List ℕ → Option (List ℕ) → Type 0
-Gives inputs path told = MatchBool (is_standard_path path) (inputs.standard told) (inputs.holds path told)
+Gives inputs path contents = MatchBool (is_standard_path path) (inputs.standard contents) (inputs.holds path contents)
 
 -- the input of a path is there
 abbrev pub IsThere : Inputs → List ℕ → Type 0
-IsThere inputs path = (told : Option (List ℕ)) × Gives inputs path told
+IsThere inputs path = (contents : Option (List ℕ)) × Gives inputs path contents
 
 -- the input of a path is a file that can't be opened
 abbrev pub IsMissing : Inputs → List ℕ → Type 0
 IsMissing inputs path = (is_standard_path path ≡ false) × inputs.closed path
 
--- a fact of what the three files hold, where they tell it
+-- a fact of what the three files hold, where it is known
 abbrev pub OfFiles : Inputs → SheetFiles → (List ℕ → List ℕ → List ℕ → Type 0) → Type 0
-OfFiles inputs files P = (s d v : Option (List ℕ)) × Gives inputs files.scd.now s × Gives inputs files.dic.now d × Gives inputs files.vec.now v × Told s d v P
+OfFiles inputs files P = (s d v : Option (List ℕ)) × Gives inputs files.scd.now s × Gives inputs files.dic.now d × Gives inputs files.vec.now v × IfThreeKnown s d v P
 
 -- all three were opened
 abbrev pub AreThere : Inputs → SheetFiles → Type 0
@@ -63,7 +63,7 @@ path_at files n = if n == 1 then files.scd.now else if n == 2 then files.dic.now
 
 -- an input holds more bytes than a run reads
 abbrev pub HoldsTooMuch : Inputs → List ℕ → Type 0
-HoldsTooMuch inputs path = (told : Option (List ℕ)) × Gives inputs path told × IsTooLong told
+HoldsTooMuch inputs path = (contents : Option (List ℕ)) × Gives inputs path contents × IsTooLong contents
 
 -- Why a run over the files has no answer. One of the three is missing; or all were opened, and one failed or is too
 -- long, the schema or the sheet is refused, or so many bytes went out before the writer failed.
@@ -105,10 +105,10 @@ abbrev pub PutFault : Inputs → (List ℕ → List ℕ → Bool → Type 0) →
 PutFault inputs is_one kinds files out W e =
     (IsInput is_one files out × (e ≡ Write (record { count = 0 }))) ⊎ (IsNoInput is_one files out × FileFault inputs kinds files W e)
 
--- a fact of what the four files of two sheets hold, where they tell it
+-- a fact of what the four files of two sheets hold, where it is known
 abbrev pub OfPair : Inputs → PairFiles → (List ℕ → List ℕ → List ℕ → List ℕ → Type 0) → Type 0
 OfPair inputs files P = (s d a b : Option (List ℕ)) × Gives inputs files.scd.now s × Gives inputs files.dic.now d × Gives inputs files.first.now a
-    × Gives inputs files.second.now b × TellFour s d a b P
+    × Gives inputs files.second.now b × IfFourKnown s d a b P
 
 -- all four were opened
 abbrev pub AreFourThere : Inputs → PairFiles → Type 0
@@ -178,10 +178,10 @@ PutPairFault inputs is_one kinds files out W e =
 
 -- ---- the file of a pairing, checked
 
--- a fact of what the four files of two sheets and that of a pairing hold, where they tell it
+-- a fact of what the four files of two sheets and that of a pairing hold, where it is known
 abbrev pub OfFive : Inputs → PairFiles → List ℕ → (List ℕ → List ℕ → List ℕ → List ℕ → List ℕ → Type 0) → Type 0
 OfFive inputs files pairing P = (s d a b f : Option (List ℕ)) × Gives inputs files.scd.now s × Gives inputs files.dic.now d × Gives inputs files.first.now a
-    × Gives inputs files.second.now b × Gives inputs pairing f × TellFive s d a b f P
+    × Gives inputs files.second.now b × Gives inputs pairing f × IfFiveKnown s d a b f P
 
 -- all five were opened
 abbrev pub AreFiveThere : Inputs → PairFiles → List ℕ → Type 0

@@ -133,10 +133,10 @@ pub record IsSendStatus (inputs : Inputs) (why : Why) (out err : Seen) (product 
 
 -- The status of a run over a bundle: 0 only where its canonical file went out, 2 only of a refused sheet.
 abbrev pub IsBundleStatus : Inputs → Why → Seen → Seen → ℕ → Type 0
-IsBundleStatus inputs why out err s = (told : Option (List ℕ)) × (failed : Bool) × inputs.standard told × (IsTrue failed → inputs.failed)
-    × MeansStatus (IfSome told (λ b. OfParts b (λ scd dic vec. WritesAll usual_kinds scd dic vec out.before out.after)))
-    (IfSome told (λ b. OfParts b (SaysRefusal out usual_kinds)))
-    (InputFault usual_kinds told failed (λ count. IsTrue out.failed × IfSome told (λ b. OfParts b (λ scd dic vec.
+IsBundleStatus inputs why out err s = (contents : Option (List ℕ)) × (failed : Bool) × inputs.standard contents × (IsTrue failed → inputs.failed)
+    × MeansStatus (IfSome contents (λ b. OfParts b (λ scd dic vec. WritesAll usual_kinds scd dic vec out.before out.after)))
+    (IfSome contents (λ b. OfParts b (SaysRefusal out usual_kinds)))
+    (InputFault usual_kinds contents failed (λ count. IsTrue out.failed × IfSome contents (λ b. OfParts b (λ scd dic vec.
     WritesFirst usual_kinds scd dic vec count out.before out.after))))
     why (codes "-" ∷ codes "-" ∷ []) out err s
 
@@ -187,7 +187,7 @@ TellsDifference inputs out kinds files brief same =
     (difference : Difference) × OfPair inputs files (λ scd dic a b. IsDifferenceUnder kinds scd dic a b brief difference) × (difference.same ≡ same)
     × Says out difference.text.items
 
--- The status of a run that tells what differs between two sheets: 0 only where the plans are the same, 1 only where they are
+-- The status of a run that reports what differs between two sheets: 0 only where the plans are the same, 1 only where they are
 -- not, and the output gets the text of the difference; 2 only where a sheet is refused, which is said.
 pub record IsDiffStatus (inputs : Inputs) (why : Why) (out err : Seen) (kinds : KindCodes) (files : PairFiles) (brief : Bool) (s : ℕ) : Type 0 where
   pub tried : AreFourThere inputs files ⊎ ((n : ℕ) × FirstOfFourMissing inputs files n)
@@ -211,5 +211,5 @@ pub record IsPictureStatus (inputs : Inputs) (is_one : List ℕ → List ℕ →
       (PutPairFault inputs is_one kinds files path (λ count. OfMadePair inputs (IsPictureOfPair kinds brief) files (Stops count))) why (pair_paths_of files path) out err s
 
 -- the status once the line was printed: that of the outcome, 5 without memory for the line, 4 where it can't be printed
-abbrev pub IsToldAs : ℕ → ℕ → Type 0
-IsToldAs status s = (s ≡ status) ⊎ ((s ≡ 5) ⊎ ((status < 3) × (s ≡ 4)))
+abbrev pub IsAnsweredAs : ℕ → ℕ → Type 0
+IsAnsweredAs status s = (s ≡ status) ⊎ ((s ≡ 5) ⊎ ((status < 3) × (s ≡ 4)))

@@ -53,9 +53,9 @@ pub fn run_line<R: Eprint + AllocGlobal, W: Words, F: Folder, O: ByteOut, E: Byt
 ) -> u8
     ensures { ((words : List (List ℕ)) × W.gives line.now words × HasStatus words result
         × ((request : Request) × IsAsked words request × IsAnswered (inputs_of F.Reader (F.holds folder.old) (F.closed folder.old) (F.standard folder.old) F.Reader.has_failed) (F.is_one folder.old) (F.why folder.new)
-        (λ path. Reaches F.Sink (F.holds folder.new path) (F.sinks folder.old path) F.Sink.told) (λ path. Stops F.Sink (IsUnmade F.NewFile (F.unwritable folder.new path) F.NewFile.has_failed) (F.sinks folder.old path) F.Sink.told F.Sink.has_failed) (seen (O.told out.old) (O.told out.new) (O.has_failed out.new)) (seen (E.told err.old) (E.told err.new) (E.has_failed err.new)) request result))
-        ⊎ (((result ≡ 3) × Warns (seen (E.told err.old) (E.told err.new) (E.has_failed err.new)) (ended (codes "error: the words are not all UTF-8")))
-        ⊎ ((result ≡ 5) × Warns (seen (E.told err.old) (E.told err.new) (E.has_failed err.new)) (ended (codes "out of memory")))) }
+        (λ path. Reaches F.Sink (F.holds folder.new path) (F.sinks folder.old path) F.Sink.contents) (λ path. Stops F.Sink (IsUnmade F.NewFile (F.unwritable folder.new path) F.NewFile.has_failed) (F.sinks folder.old path) F.Sink.contents F.Sink.has_failed) (seen (O.contents out.old) (O.contents out.new) (O.has_failed out.new)) (seen (E.contents err.old) (E.contents err.new) (E.has_failed err.new)) request result))
+        ⊎ (((result ≡ 3) × Warns (seen (E.contents err.old) (E.contents err.new) (E.has_failed err.new)) (ended (codes "error: the words are not all UTF-8")))
+        ⊎ ((result ≡ 5) × Warns (seen (E.contents err.old) (E.contents err.new) (E.has_failed err.new)) (ended (codes "out of memory")))) }
 {
     match line.words() {
         Ok(words) => run_over(rt, folder, out, err, &words),
@@ -85,7 +85,7 @@ pub fn run_over<R: Eprint + AllocGlobal, F: Folder, O: ByteOut, E: ByteOut>(
 ) -> u8
     ensures status { HasStatus (map string_bytes words.now) result }
     ensures answer { (request : Request) × IsAsked (map string_bytes words.now) request × IsAnswered (inputs_of F.Reader (F.holds folder.old) (F.closed folder.old) (F.standard folder.old) F.Reader.has_failed) (F.is_one folder.old) (F.why folder.new)
-        (λ path. Reaches F.Sink (F.holds folder.new path) (F.sinks folder.old path) F.Sink.told) (λ path. Stops F.Sink (IsUnmade F.NewFile (F.unwritable folder.new path) F.NewFile.has_failed) (F.sinks folder.old path) F.Sink.told F.Sink.has_failed) (seen (O.told out.old) (O.told out.new) (O.has_failed out.new)) (seen (E.told err.old) (E.told err.new) (E.has_failed err.new)) request result }
+        (λ path. Reaches F.Sink (F.holds folder.new path) (F.sinks folder.old path) F.Sink.contents) (λ path. Stops F.Sink (IsUnmade F.NewFile (F.unwritable folder.new path) F.NewFile.has_failed) (F.sinks folder.old path) F.Sink.contents F.Sink.has_failed) (seen (O.contents out.old) (O.contents out.new) (O.has_failed out.new)) (seen (E.contents err.old) (E.contents err.new) (E.has_failed err.new)) request result }
 {
     let request = asked(rt, words);
     answered(rt.alloc(), folder, out, err, request)
@@ -101,7 +101,7 @@ pub fn answered<F: Folder, O: ByteOut, E: ByteOut>(
 ) -> u8
     ensures status { IsStatusOf request.entry result }
     ensures answer { IsAnswered (inputs_of F.Reader (F.holds folder.old) (F.closed folder.old) (F.standard folder.old) F.Reader.has_failed) (F.is_one folder.old) (F.why folder.new)
-        (λ path. Reaches F.Sink (F.holds folder.new path) (F.sinks folder.old path) F.Sink.told) (λ path. Stops F.Sink (IsUnmade F.NewFile (F.unwritable folder.new path) F.NewFile.has_failed) (F.sinks folder.old path) F.Sink.told F.Sink.has_failed) (seen (O.told out.old) (O.told out.new) (O.has_failed out.new)) (seen (E.told err.old) (E.told err.new) (E.has_failed err.new)) request.entry result }
+        (λ path. Reaches F.Sink (F.holds folder.new path) (F.sinks folder.old path) F.Sink.contents) (λ path. Stops F.Sink (IsUnmade F.NewFile (F.unwritable folder.new path) F.NewFile.has_failed) (F.sinks folder.old path) F.Sink.contents F.Sink.has_failed) (seen (O.contents out.old) (O.contents out.new) (O.has_failed out.new)) (seen (E.contents err.old) (E.contents err.new) (E.has_failed err.new)) request.entry result }
 {
     match request {
         Request::Bundle => bundle(alloc, folder, out, err),
@@ -172,11 +172,11 @@ fn bundle<F: Folder, O: ByteOut, E: ByteOut>(
     err: &mut E,
 ) -> u8
     ensures status { IsSheetStatus result }
-    ensures answer { IsBundleStatus (inputs_of F.Reader (F.holds folder.now) (F.closed folder.now) (F.standard folder.now) F.Reader.has_failed) (F.why folder.now) (seen (O.told out.old) (O.told out.new) (O.has_failed out.new)) (seen (E.told err.old) (E.told err.new) (E.has_failed err.new)) result }
+    ensures answer { IsBundleStatus (inputs_of F.Reader (F.holds folder.now) (F.closed folder.now) (F.standard folder.now) F.Reader.has_failed) (F.why folder.now) (seen (O.contents out.old) (O.contents out.new) (O.has_failed out.new)) (seen (E.contents err.old) (E.contents err.new) (E.has_failed err.new)) result }
 {
     match sheets::bundle(alloc, folder, out) {
         Ok(()) => 0,
-        Err(fault) => report::told(alloc, folder, out, err, &Outcome::Fault(fault), &["-", "-"]),
+        Err(fault) => report::answer(alloc, folder, out, err, &Outcome::Fault(fault), &["-", "-"]),
     }
 }
 
@@ -190,12 +190,12 @@ fn check<F: Folder, O: ByteOut, E: ByteOut>(
     err: &mut E,
 ) -> u8
     ensures status { IsSheetStatus result }
-    ensures answer { IsFileStatus (inputs_of F.Reader (F.holds folder.now) (F.closed folder.now) (F.standard folder.now) F.Reader.has_failed) (F.why folder.now) (seen (O.told out.old) (O.told out.new) (O.has_failed out.new)) (seen (E.told err.old) (E.told err.new) (E.has_failed err.new)) kinds.now files.now result }
+    ensures answer { IsFileStatus (inputs_of F.Reader (F.holds folder.now) (F.closed folder.now) (F.standard folder.now) F.Reader.has_failed) (F.why folder.now) (seen (O.contents out.old) (O.contents out.new) (O.has_failed out.new)) (seen (E.contents err.old) (E.contents err.new) (E.has_failed err.new)) kinds.now files.now result }
 {
     let paths = [files.scd, files.dic, files.vec, "-"];
     match sheets::check(alloc, folder, kinds, files) {
-        Ok(()) => report::told(alloc, folder, out, err, &Outcome::Accepted, &paths),
-        Err(fault) => report::told(alloc, folder, out, err, &Outcome::Fault(fault), &paths),
+        Ok(()) => report::answer(alloc, folder, out, err, &Outcome::Accepted, &paths),
+        Err(fault) => report::answer(alloc, folder, out, err, &Outcome::Fault(fault), &paths),
     }
 }
 
@@ -212,7 +212,7 @@ fn make<F: Folder, O: ByteOut, E: ByteOut>(
 ) -> u8
     ensures status { IsSheetStatus result }
     ensures answer { IsMadeStatus (inputs_of F.Reader (F.holds folder.old) (F.closed folder.old) (F.standard folder.old) F.Reader.has_failed) (F.is_one folder.old) (F.why folder.new)
-        (λ path. Reaches F.Sink (F.holds folder.new path) (F.sinks folder.old path) F.Sink.told) (λ path. Stops F.Sink (IsUnmade F.NewFile (F.unwritable folder.new path) F.NewFile.has_failed) (F.sinks folder.old path) F.Sink.told F.Sink.has_failed) (seen (O.told out.old) (O.told out.new) (O.has_failed out.new)) (seen (E.told err.old) (E.told err.new) (E.has_failed err.new)) product kinds.now files.now path.now result }
+        (λ path. Reaches F.Sink (F.holds folder.new path) (F.sinks folder.old path) F.Sink.contents) (λ path. Stops F.Sink (IsUnmade F.NewFile (F.unwritable folder.new path) F.NewFile.has_failed) (F.sinks folder.old path) F.Sink.contents F.Sink.has_failed) (seen (O.contents out.old) (O.contents out.new) (O.has_failed out.new)) (seen (E.contents err.old) (E.contents err.new) (E.has_failed err.new)) product kinds.now files.now path.now result }
 {
     if is_standard(path) {
         send(alloc, folder, product, kinds, files, out, err)
@@ -233,14 +233,14 @@ fn put<F: Folder, O: ByteOut, E: ByteOut>(
     err: &mut E,
 ) -> u8
     ensures status { IsSheetStatus result }
-    ensures answer { IsPutStatus (inputs_of F.Reader (F.holds folder.old) (F.closed folder.old) (F.standard folder.old) F.Reader.has_failed) (F.is_one folder.old) (F.why folder.new) (seen (O.told out.old) (O.told out.new) (O.has_failed out.new)) (seen (E.told err.old) (E.told err.new) (E.has_failed err.new)) product kinds.now files.now path.now
-        (Reaches F.Sink (F.holds folder.new path.now) (F.sinks folder.old path.now) F.Sink.told) (Stops F.Sink (IsUnmade F.NewFile (F.unwritable folder.new path.now) F.NewFile.has_failed) (F.sinks folder.old path.now) F.Sink.told F.Sink.has_failed) result }
+    ensures answer { IsPutStatus (inputs_of F.Reader (F.holds folder.old) (F.closed folder.old) (F.standard folder.old) F.Reader.has_failed) (F.is_one folder.old) (F.why folder.new) (seen (O.contents out.old) (O.contents out.new) (O.has_failed out.new)) (seen (E.contents err.old) (E.contents err.new) (E.has_failed err.new)) product kinds.now files.now path.now
+        (Reaches F.Sink (F.holds folder.new path.now) (F.sinks folder.old path.now) F.Sink.contents) (Stops F.Sink (IsUnmade F.NewFile (F.unwritable folder.new path.now) F.NewFile.has_failed) (F.sinks folder.old path.now) F.Sink.contents F.Sink.has_failed) result }
     ensures unmade { result ≡ 2 → folder.new ≡ folder.old }
 {
     let paths = [files.scd, files.dic, files.vec, path];
     match sheets::put(alloc, folder, product, kinds, files, path) {
-        Ok(()) => report::told(alloc, folder, out, err, &Outcome::Accepted, &paths),
-        Err(fault) => report::told(alloc, folder, out, err, &Outcome::Fault(fault), &paths),
+        Ok(()) => report::answer(alloc, folder, out, err, &Outcome::Accepted, &paths),
+        Err(fault) => report::answer(alloc, folder, out, err, &Outcome::Fault(fault), &paths),
     }
 }
 
@@ -255,12 +255,12 @@ fn send<F: Folder, O: ByteOut, E: ByteOut>(
     err: &mut E,
 ) -> u8
     ensures status { IsSheetStatus result }
-    ensures answer { IsSendStatus (inputs_of F.Reader (F.holds folder.now) (F.closed folder.now) (F.standard folder.now) F.Reader.has_failed) (F.why folder.now) (seen (O.told out.old) (O.told out.new) (O.has_failed out.new)) (seen (E.told err.old) (E.told err.new) (E.has_failed err.new)) product kinds.now files.now result }
+    ensures answer { IsSendStatus (inputs_of F.Reader (F.holds folder.now) (F.closed folder.now) (F.standard folder.now) F.Reader.has_failed) (F.why folder.now) (seen (O.contents out.old) (O.contents out.new) (O.has_failed out.new)) (seen (E.contents err.old) (E.contents err.new) (E.has_failed err.new)) product kinds.now files.now result }
 {
     let paths = [files.scd, files.dic, files.vec, "-"];
     match sheets::send(alloc, folder, product, kinds, files, out) {
         Ok(()) => 0,
-        Err(fault) => report::told(alloc, folder, out, err, &Outcome::Fault(fault), &paths),
+        Err(fault) => report::answer(alloc, folder, out, err, &Outcome::Fault(fault), &paths),
     }
 }
 
@@ -274,11 +274,11 @@ fn compare<F: Folder, O: ByteOut, E: ByteOut>(
     err: &mut E,
 ) -> u8
     ensures status { IsPairStatus result }
-    ensures answer { IsCompareStatus (inputs_of F.Reader (F.holds folder.now) (F.closed folder.now) (F.standard folder.now) F.Reader.has_failed) (F.why folder.now) (seen (O.told out.old) (O.told out.new) (O.has_failed out.new)) (seen (E.told err.old) (E.told err.new) (E.has_failed err.new)) kinds.now files.now result }
+    ensures answer { IsCompareStatus (inputs_of F.Reader (F.holds folder.now) (F.closed folder.now) (F.standard folder.now) F.Reader.has_failed) (F.why folder.now) (seen (O.contents out.old) (O.contents out.new) (O.has_failed out.new)) (seen (E.contents err.old) (E.contents err.new) (E.has_failed err.new)) kinds.now files.now result }
 {
     let paths = [files.scd, files.dic, files.first, files.second, "-"];
     let outcome = outcome_of(sheets::compare(alloc, folder, kinds, files));
-    report::told(alloc, folder, out, err, &outcome, &paths)
+    report::answer(alloc, folder, out, err, &outcome, &paths)
 }
 
 // Whether two sheets state the same plan, and a pairing of them to a path.
@@ -292,13 +292,13 @@ fn pair<F: Folder, O: ByteOut, E: ByteOut>(
     err: &mut E,
 ) -> u8
     ensures status { IsPairStatus result }
-    ensures answer { IsPairingStatus (inputs_of F.Reader (F.holds folder.old) (F.closed folder.old) (F.standard folder.old) F.Reader.has_failed) (F.is_one folder.old) (F.why folder.new) (seen (O.told out.old) (O.told out.new) (O.has_failed out.new)) (seen (E.told err.old) (E.told err.new) (E.has_failed err.new)) kinds.now files.now path.now
-        (Reaches F.Sink (F.holds folder.new path.now) (F.sinks folder.old path.now) F.Sink.told) (Stops F.Sink (IsUnmade F.NewFile (F.unwritable folder.new path.now) F.NewFile.has_failed) (F.sinks folder.old path.now) F.Sink.told F.Sink.has_failed) result }
+    ensures answer { IsPairingStatus (inputs_of F.Reader (F.holds folder.old) (F.closed folder.old) (F.standard folder.old) F.Reader.has_failed) (F.is_one folder.old) (F.why folder.new) (seen (O.contents out.old) (O.contents out.new) (O.has_failed out.new)) (seen (E.contents err.old) (E.contents err.new) (E.has_failed err.new)) kinds.now files.now path.now
+        (Reaches F.Sink (F.holds folder.new path.now) (F.sinks folder.old path.now) F.Sink.contents) (Stops F.Sink (IsUnmade F.NewFile (F.unwritable folder.new path.now) F.NewFile.has_failed) (F.sinks folder.old path.now) F.Sink.contents F.Sink.has_failed) result }
     ensures unmade { (result ≡ 1) ⊎ (result ≡ 2) → folder.new ≡ folder.old }
 {
     let paths = [files.scd, files.dic, files.first, files.second, path];
     let outcome = outcome_of_paired(sheets::pair(alloc, folder, kinds, files, path));
-    report::told(alloc, folder, out, err, &outcome, &paths)
+    report::answer(alloc, folder, out, err, &outcome, &paths)
 }
 
 // Whether a file states a pairing that carries the one plan onto the other.
@@ -312,7 +312,7 @@ fn verify<F: Folder, O: ByteOut, E: ByteOut>(
     err: &mut E,
 ) -> u8
     ensures status { IsPairStatus result }
-    ensures answer { IsVerifyStatus (inputs_of F.Reader (F.holds folder.now) (F.closed folder.now) (F.standard folder.now) F.Reader.has_failed) (F.why folder.now) (seen (O.told out.old) (O.told out.new) (O.has_failed out.new)) (seen (E.told err.old) (E.told err.new) (E.has_failed err.new)) kinds.now files.now pairing.now result }
+    ensures answer { IsVerifyStatus (inputs_of F.Reader (F.holds folder.now) (F.closed folder.now) (F.standard folder.now) F.Reader.has_failed) (F.why folder.now) (seen (O.contents out.old) (O.contents out.new) (O.has_failed out.new)) (seen (E.contents err.old) (E.contents err.new) (E.has_failed err.new)) kinds.now files.now pairing.now result }
 {
     let paths = [
         files.scd,
@@ -323,7 +323,7 @@ fn verify<F: Folder, O: ByteOut, E: ByteOut>(
         "-",
     ];
     let outcome = outcome_of_verified(sheets::verify(alloc, folder, kinds, files, pairing));
-    report::told(alloc, folder, out, err, &outcome, &paths)
+    report::answer(alloc, folder, out, err, &outcome, &paths)
 }
 
 // What differs between two sheets, or the last line of that alone.
@@ -337,12 +337,12 @@ fn diff<F: Folder, O: ByteOut, E: ByteOut>(
     err: &mut E,
 ) -> u8
     ensures status { IsPairStatus result }
-    ensures answer { IsDiffStatus (inputs_of F.Reader (F.holds folder.now) (F.closed folder.now) (F.standard folder.now) F.Reader.has_failed) (F.why folder.now) (seen (O.told out.old) (O.told out.new) (O.has_failed out.new)) (seen (E.told err.old) (E.told err.new) (E.has_failed err.new)) kinds.now files.now brief result }
+    ensures answer { IsDiffStatus (inputs_of F.Reader (F.holds folder.now) (F.closed folder.now) (F.standard folder.now) F.Reader.has_failed) (F.why folder.now) (seen (O.contents out.old) (O.contents out.new) (O.has_failed out.new)) (seen (E.contents err.old) (E.contents err.new) (E.has_failed err.new)) kinds.now files.now brief result }
 {
     let paths = [files.scd, files.dic, files.first, files.second, "-"];
     match sheets::diff(alloc, folder, kinds, files, brief) {
         Ok(difference) => put_difference(&difference, out, err),
-        Err(fault) => report::told(alloc, folder, out, err, &Outcome::Fault(fault), &paths),
+        Err(fault) => report::answer(alloc, folder, out, err, &Outcome::Fault(fault), &paths),
     }
 }
 
@@ -358,21 +358,21 @@ fn draw_difference<F: Folder, O: ByteOut, E: ByteOut>(
     err: &mut E,
 ) -> u8
     ensures status { IsPairStatus result }
-    ensures answer { IsPictureStatus (inputs_of F.Reader (F.holds folder.old) (F.closed folder.old) (F.standard folder.old) F.Reader.has_failed) (F.is_one folder.old) (F.why folder.new) (seen (O.told out.old) (O.told out.new) (O.has_failed out.new)) (seen (E.told err.old) (E.told err.new) (E.has_failed err.new)) kinds.now files.now brief path.now
-        (Reaches F.Sink (F.holds folder.new path.now) (F.sinks folder.old path.now) F.Sink.told) (Stops F.Sink (IsUnmade F.NewFile (F.unwritable folder.new path.now) F.NewFile.has_failed) (F.sinks folder.old path.now) F.Sink.told F.Sink.has_failed) result }
+    ensures answer { IsPictureStatus (inputs_of F.Reader (F.holds folder.old) (F.closed folder.old) (F.standard folder.old) F.Reader.has_failed) (F.is_one folder.old) (F.why folder.new) (seen (O.contents out.old) (O.contents out.new) (O.has_failed out.new)) (seen (E.contents err.old) (E.contents err.new) (E.has_failed err.new)) kinds.now files.now brief path.now
+        (Reaches F.Sink (F.holds folder.new path.now) (F.sinks folder.old path.now) F.Sink.contents) (Stops F.Sink (IsUnmade F.NewFile (F.unwritable folder.new path.now) F.NewFile.has_failed) (F.sinks folder.old path.now) F.Sink.contents F.Sink.has_failed) result }
     ensures unmade { result ≡ 2 → folder.new ≡ folder.old }
 {
     let paths = [files.scd, files.dic, files.first, files.second, path];
     match sheets::draw_difference(alloc, folder, kinds, files, brief, path) {
         Ok(difference) => put_difference(&difference, out, err),
-        Err(fault) => report::told(alloc, folder, out, err, &Outcome::Fault(fault), &paths),
+        Err(fault) => report::answer(alloc, folder, out, err, &Outcome::Fault(fault), &paths),
     }
 }
 
 // Writes what differs, and gives the status.
 fn put_difference<O: ByteOut, E: ByteOut>(difference: &Difference, out: &mut O, err: &mut E) -> u8
     ensures status { (result ≡ 4) ⊎ MatchBool difference.now.same (result ≡ 0) (result ≡ 1) }
-    ensures written { result < 3 → Appends (O.told out.old) (O.told out.new) difference.now.text.items }
+    ensures written { result < 3 → Appends (O.contents out.old) (O.contents out.new) difference.now.text.items }
     ensures unwritten { result ≡ 4 → IsTrue (O.has_failed out.new) }
 {
     if put_all(out, &difference.text).is_err() {

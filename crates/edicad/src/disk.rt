@@ -90,7 +90,7 @@ pub struct NewName {
 }
 
 impl<F: Write> ByteOut for OutFile<F> {
-    ghost told = { λ _. None };
+    ghost contents = { λ _. None };
 
     ghost has_failed = { λ s. s.failed };
 

@@ -65,19 +65,19 @@ pub fn explain<F: Folder, O: ByteOut, E: ByteOut>(
     err: &mut E,
 ) -> u8
     ensures status { IsSheetStatus result }
-    ensures answer { IsExplainStatus (inputs_of F.Reader (F.holds folder.now) (F.closed folder.now) (F.standard folder.now) F.Reader.has_failed) (F.why folder.now) (seen (O.told out.old) (O.told out.new) (O.has_failed out.new)) (seen (E.told err.old) (E.told err.new) (E.has_failed err.new)) kinds.now files.now result }
+    ensures answer { IsExplainStatus (inputs_of F.Reader (F.holds folder.now) (F.closed folder.now) (F.standard folder.now) F.Reader.has_failed) (F.why folder.now) (seen (O.contents out.old) (O.contents out.new) (O.has_failed out.new)) (seen (E.contents err.old) (E.contents err.new) (E.has_failed err.new)) kinds.now files.now result }
 {
     let paths = [files.scd, files.dic, files.vec, "-"];
     match said(alloc, folder, kinds, files) {
         Ok(said) => put_said(&said, out),
-        Err(fault) => report::told(alloc, folder, out, err, &Outcome::Fault(fault), &paths),
+        Err(fault) => report::answer(alloc, folder, out, err, &Outcome::Fault(fault), &paths),
     }
 }
 
 // Writes what is said, and gives the status.
 fn put_said<O: ByteOut>(said: &Account, out: &mut O) -> u8
     ensures status { (result ≡ 4) ⊎ MatchBool said.now.is_accepted (result ≡ 0) (result ≡ 2) }
-    ensures written { result < 3 → Appends (O.told out.old) (O.told out.new) said.now.text.items }
+    ensures written { result < 3 → Appends (O.contents out.old) (O.contents out.new) said.now.text.items }
     ensures unwritten { result ≡ 4 → IsTrue (O.has_failed out.new) }
 {
     if put_all(out, &said.text).is_err() {
@@ -113,9 +113,9 @@ fn said<F: Folder>(
 
 // All bytes of the input of this number.
 fn whole<R: ByteIn>(alloc: Global, reader: &mut R, input: u8) -> Result<Vec<u8>, RunFault>
-    ensures all { IfOk result (λ bytes. IfSome (R.told reader.old) (λ told. bytes.items ≡ told)) }
+    ensures all { IfOk result (λ bytes. IfSome (R.contents reader.old) (λ contents. bytes.items ≡ contents)) }
     ensures err { IfErr result (λ e. MatchFault e (λ n. (n ≡ input) × IsTrue (R.has_failed reader.new))
-        (λ n. (n ≡ input) × IsTooLong (R.told reader.old)) (λ _. ⊥) (λ _. ⊥) (λ _. ⊥) (λ _. ⊥)) }
+        (λ n. (n ≡ input) × IsTooLong (R.contents reader.old)) (λ _. ⊥) (λ _. ⊥) (λ _. ⊥) (λ _. ⊥)) }
 {
     match read_all(alloc, reader, MOST_BYTES) {
         Ok(bytes) => Ok(bytes),
@@ -263,7 +263,7 @@ pub fn explain_rule<O: ByteOut, E: ByteOut>(
     err: &mut E,
 ) -> u8
     ensures status { IsPageStatus result }
-    ensures answer { IsRuleStatus (seen (O.told out.old) (O.told out.new) (O.has_failed out.new)) (seen (E.told err.old) (E.told err.new) (E.has_failed err.new)) word.now result }
+    ensures answer { IsRuleStatus (seen (O.contents out.old) (O.contents out.new) (O.has_failed out.new)) (seen (E.contents err.old) (E.contents err.new) (E.has_failed err.new)) word.now result }
 {
     let Some(text) = rule_of_word(word) else {
         return report::unknown_rule(err);

@@ -48,13 +48,13 @@ pub trait Folder {
 
     type NewName: Drop;
 
-    /// The file of a path can be opened, and may tell that it holds this.
+    /// The file of a path can be opened, and this may be known to be its contents.
     ghost holds: { Self → List ℕ → Option (List ℕ) → Type 0 };
 
     /// The file of a path can't be opened to be read.
     ghost closed: { Self → List ℕ → Type 0 };
 
-    /// Standard input may tell that it holds this.
+    /// This may be known to be the contents of standard input.
     ghost standard: { Self → Option (List ℕ) → Type 0 };
 
     /// Whether two paths lead to one file.
@@ -86,11 +86,11 @@ pub trait Folder {
 
     /// The file of a path, from its first byte on, if it can be opened.
     fn open(&self, path: &str) -> Option<Self::Reader>
-        ensures { MatchOption result (closed self.now path.now) (λ file. holds self.now path.now (Self.Reader.told file)) };
+        ensures { MatchOption result (closed self.now path.now) (λ file. holds self.now path.now (Self.Reader.contents file)) };
 
     /// Standard input.
     fn input(&self) -> Self::Reader
-        ensures { standard self.now (Self.Reader.told result) };
+        ensures { standard self.now (Self.Reader.contents result) };
 
     /// Whether two paths lead to one file, as links do.
     fn is_one_file(&self, path: &str, other: &str) -> bool
@@ -108,8 +108,8 @@ pub trait Folder {
     /// A draft of the file of a path, which is still empty.
     fn draft(&mut self, path: &str) -> Result<Draft<Self::NewFile, Self::NewName>, OutFault>
         requires { leads self.old path.now Target.File }
-        ensures empty { IfOk result (λ draft. IsAtEnd (Self.NewFile.told draft.file)) }
-        ensures told { tells self.old → IfOk result (λ draft. Self.NewFile.told draft.file ≡ Some []) }
+        ensures empty { IfOk result (λ draft. IsAtEnd (Self.NewFile.contents draft.file)) }
+        ensures contents { tells self.old → IfOk result (λ draft. Self.NewFile.contents draft.file ≡ Some []) }
         ensures apart { tells self.old → IfOk result (λ draft. (place draft.name ≢ path.now)
             × IsFree (moment self.old) (left_since self.old) (place draft.name)) }
         ensures err { IfErr result (λ e. MatchOut e (self.new ≡ self.old) (unwritable self.new path.now)) }
@@ -118,10 +118,10 @@ pub trait Folder {
 
     /// Puts a new file in the place of the file of a path: its bytes are stored, and then it takes the path.
     fn publish(&mut self, file: Self::NewFile, name: Self::NewName, path: &str) -> bool
-        ensures done { OnTrue result (holds self.new path.now (Self.NewFile.told file)) }
+        ensures done { OnTrue result (holds self.new path.now (Self.NewFile.contents file)) }
         ensures undone { OnFalse result (unwritable self.new path.now) }
         ensures step { Goes (moment self.old) (moment self.new) (left_since self.old) (left_since self.new)
-            (λ p c. ((p ≡ path.now) × IfSome (Self.NewFile.told file) (λ bytes. c ≡ Some bytes)) ⊎ (p ≡ place name)) };
+            (λ p c. ((p ≡ path.now) × IfSome (Self.NewFile.contents file) (λ bytes. c ≡ Some bytes)) ⊎ (p ≡ place name)) };
 
     /// Removes a new file, which failed.
     fn discard(&mut self, file: Self::NewFile, name: Self::NewName)

@@ -24,7 +24,7 @@ use std::alloc::{AllocError, Global};
 
 /// Writes a line for each sheet, in order: the digest of its canonical file and its name to `out`, or its name and why
 /// it has none to `err`. Gives the greatest of their statuses, or 4 as soon as `out` fails. The schema is loaded once,
-/// and a refused one is told as by `check`, before any sheet is opened.
+/// and a refused one is reported as by `check`, before any sheet is opened.
 pub fn hash<F: Folder, O: ByteOut, E: ByteOut>(
     alloc: Global,
     folder: &F,
@@ -34,11 +34,11 @@ pub fn hash<F: Folder, O: ByteOut, E: ByteOut>(
     err: &mut E,
 ) -> u8
     ensures status { IsSheetStatus result }
-    ensures answer { IsHashStatus (inputs_of F.Reader (F.holds folder.now) (F.closed folder.now) (F.standard folder.now) F.Reader.has_failed) (F.why folder.now) (seen (O.told out.old) (O.told out.new) (O.has_failed out.new)) (seen (E.told err.old) (E.told err.new) (E.has_failed err.new)) kinds.now files.now result }
+    ensures answer { IsHashStatus (inputs_of F.Reader (F.holds folder.now) (F.closed folder.now) (F.standard folder.now) F.Reader.has_failed) (F.why folder.now) (seen (O.contents out.old) (O.contents out.new) (O.has_failed out.new)) (seen (E.contents err.old) (E.contents err.new) (E.has_failed err.new)) kinds.now files.now result }
 {
     match loaded(alloc, folder, kinds, files) {
         Ok(schema) => answer_all(alloc, folder, &schema, &files.sheets, out, err),
-        Err(fault) => report::told(
+        Err(fault) => report::answer(
             alloc,
             folder,
             out,
@@ -75,7 +75,7 @@ fn answer_all<F: Folder, O: ByteOut, E: ByteOut>(
     err: &mut E,
 ) -> u8
     ensures status { IsSheetStatus result }
-    ensures answer { AnswersAll (inputs_of F.Reader (F.holds folder.now) (F.closed folder.now) (F.standard folder.now) F.Reader.has_failed) (F.why folder.now) schema.now (seen (O.told out.old) (O.told out.new) (O.has_failed out.new)) (seen (E.told err.old) (E.told err.new) (E.has_failed err.new)) (map (λ p. p.now) sheets.now) result }
+    ensures answer { AnswersAll (inputs_of F.Reader (F.holds folder.now) (F.closed folder.now) (F.standard folder.now) F.Reader.has_failed) (F.why folder.now) schema.now (seen (O.contents out.old) (O.contents out.new) (O.has_failed out.new)) (seen (E.contents err.old) (E.contents err.new) (E.has_failed err.new)) (map (λ p. p.now) sheets.now) result }
 {
     let mut worst = 0;
     for path in sheets {
@@ -97,8 +97,8 @@ fn answer<F: Folder, O: ByteOut, E: ByteOut>(
     err: &mut E,
 ) -> Result<u8, Written>
     ensures status { IfOk result IsSheetStatus }
-    ensures ok { IfOk result (StepsOn (inputs_of F.Reader (F.holds folder.now) (F.closed folder.now) (F.standard folder.now) F.Reader.has_failed) (F.why folder.now) schema.now path.now (seen (O.told out.old) (O.told out.new) (O.has_failed out.new)) (seen (E.told err.old) (E.told err.new) (E.has_failed err.new))) }
-    ensures err { IfErr result (λ w. StopsAt (inputs_of F.Reader (F.holds folder.now) (F.closed folder.now) (F.standard folder.now) F.Reader.has_failed) schema.now path.now (seen (O.told out.old) (O.told out.new) (O.has_failed out.new)) × (err.new ≡ err.old)) }
+    ensures ok { IfOk result (StepsOn (inputs_of F.Reader (F.holds folder.now) (F.closed folder.now) (F.standard folder.now) F.Reader.has_failed) (F.why folder.now) schema.now path.now (seen (O.contents out.old) (O.contents out.new) (O.has_failed out.new)) (seen (E.contents err.old) (E.contents err.new) (E.has_failed err.new))) }
+    ensures err { IfErr result (λ w. StopsAt (inputs_of F.Reader (F.holds folder.now) (F.closed folder.now) (F.standard folder.now) F.Reader.has_failed) schema.now path.now (seen (O.contents out.old) (O.contents out.new) (O.has_failed out.new)) × (err.new ≡ err.old)) }
     ensures stays { IsTrue (E.has_failed err.old) → IsTrue (E.has_failed err.new) }
 {
     match digest_of(alloc, folder, schema, path) {
@@ -109,21 +109,21 @@ fn answer<F: Folder, O: ByteOut, E: ByteOut>(
             },
             Err(_) => Ok(report::out_of_memory(err)),
         },
-        Err(fault) => Ok(tell_fault(alloc, folder, &fault, path, err)),
+        Err(fault) => Ok(known_fault_of(alloc, folder, &fault, path, err)),
     }
 }
 
 // Says why a sheet has no digest, and gives its status.
-fn tell_fault<F: Folder, E: ByteOut>(
+fn known_fault_of<F: Folder, E: ByteOut>(
     alloc: Global,
     folder: &F,
     fault: &RunFault,
     path: &str,
     err: &mut E,
 ) -> u8
-    ensures told { ((result ≡ status_of_fault fault.now) × ((reason : Option Reason) × IsReasonOf (F.why folder.now) fault.now path.now reason
-        × GoesOut (E.told err.old) (E.told err.new) (E.has_failed err.new) (fault_line fault.now path.now ++ reason_line (shown path.now) reason)))
-        ⊎ ((result ≡ 5) × GoesOut (E.told err.old) (E.told err.new) (E.has_failed err.new) (ended (codes "out of memory"))) }
+    ensures contents { ((result ≡ status_of_fault fault.now) × ((reason : Option Reason) × IsReasonOf (F.why folder.now) fault.now path.now reason
+        × GoesOut (E.contents err.old) (E.contents err.new) (E.has_failed err.new) (fault_line fault.now path.now ++ reason_line (shown path.now) reason)))
+        ⊎ ((result ≡ 5) × GoesOut (E.contents err.old) (E.contents err.new) (E.has_failed err.new) (ended (codes "out of memory"))) }
     ensures stays { IsTrue (E.has_failed err.old) → IsTrue (E.has_failed err.new) }
 {
     match lines_of_fault(alloc, folder, fault, path) {

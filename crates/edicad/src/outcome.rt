@@ -70,7 +70,7 @@ fn sheet_status(fault: &Fault) -> u8
     }
 }
 
-/// The line that tells the outcome, ended by a line feed.
+/// The line that states the outcome, ended by a line feed.
 ///
 /// The paths are those of the inputs in their order, and of the output last; five paths are those of a comparison, six those
 /// of a pairing's check.

@@ -9,7 +9,7 @@ use edi_compare::RunFault;
 use edi_words::is_standard;
 use std::alloc::AllocError;
 
-/// Why a path can't be read or written, where the system tells.
+/// Why a path can't be read or written, where the system says.
 #[derive(Clone, Copy, Debug)]
 pub enum Reason {
     NoFile,

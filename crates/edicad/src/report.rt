@@ -5,7 +5,7 @@ ghost use Rattle.edi_compare.specs.Runs.{seen};
 ghost use Rattle.edicad.specs.Outcome.{HasNames, ended, line_for, path_of_fault, status_for, texts};
 ghost use Rattle.edicad.specs.Reasons.{IsReasonOf, reason_line};
 ghost use Rattle.edi_words.specs.Requests.{misuse_text};
-ghost use Rattle.edicad.specs.Statuses.{GoesOut, IsToldAs, WarnsWhy};
+ghost use Rattle.edicad.specs.Statuses.{GoesOut, IsAnsweredAs, WarnsWhy};
 ghost use Rattle.edicad.specs.declared.outcome.Outcome.{Outcome};
 ghost use Rattle.edicad.specs.declared.reason.Reason.{Reason};
 
@@ -27,7 +27,7 @@ const USAGE_STATUS: u8 = 3;
 /// Writes the outcome's line where it belongs: answers and refusals to `out`, all else to `err`, with a line that says why
 /// a path can't be read or written where the folder gives a reason. Gives the exit status: that of the outcome, 4 if `out`
 /// fails, 5 if there is no memory for the lines.
-pub fn told<F: Folder, O: ByteOut, E: ByteOut>(
+pub fn answer<F: Folder, O: ByteOut, E: ByteOut>(
     alloc: Global,
     folder: &F,
     out: &mut O,
@@ -36,12 +36,12 @@ pub fn told<F: Folder, O: ByteOut, E: ByteOut>(
     paths: &[&str],
 ) -> u8
     requires { HasNames outcome.now paths.now }
-    ensures status { IsToldAs (status_for outcome.now) result }
-    ensures answer { result < 3 → Appends (O.told out.old) (O.told out.new) (line_for outcome.now paths.now) × (err.new ≡ err.old) }
+    ensures status { IsAnsweredAs (status_for outcome.now) result }
+    ensures answer { result < 3 → Appends (O.contents out.old) (O.contents out.new) (line_for outcome.now paths.now) × (err.new ≡ err.old) }
     ensures unwritten { status_for outcome.now < 3 → result ≡ 4 → IsTrue (O.has_failed out.new) × (err.new ≡ err.old) }
     ensures fault { 3 ≤ status_for outcome.now → result ≡ 4
-        → WarnsWhy (F.why folder.now) (seen (E.told err.old) (E.told err.new) (E.has_failed err.new)) outcome.now (texts paths.now) × (out.new ≡ out.old) }
-    ensures memory { result ≡ 5 → GoesOut (E.told err.old) (E.told err.new) (E.has_failed err.new) (ended (codes "out of memory")) × (out.new ≡ out.old) }
+        → WarnsWhy (F.why folder.now) (seen (E.contents err.old) (E.contents err.new) (E.has_failed err.new)) outcome.now (texts paths.now) × (out.new ≡ out.old) }
+    ensures memory { result ≡ 5 → GoesOut (E.contents err.old) (E.contents err.new) (E.has_failed err.new) (ended (codes "out of memory")) × (out.new ≡ out.old) }
 {
     let Ok(line) = line_of(alloc, outcome, paths) else {
         return out_of_memory(err);
@@ -55,7 +55,7 @@ pub fn told<F: Folder, O: ByteOut, E: ByteOut>(
     }
     match outcome {
         Outcome::Fault(fault) if status == WRITE_STATUS => {
-            told_why(folder, err, line, fault, path_of_fault(fault, paths))
+            explained_fault(folder, err, line, fault, path_of_fault(fault, paths))
         }
         _ => {
             warn(err, &line);
@@ -65,7 +65,7 @@ pub fn told<F: Folder, O: ByteOut, E: ByteOut>(
 }
 
 // Writes the line of a fault, and then that of its reason, if the folder gives one.
-fn told_why<F: Folder, E: ByteOut>(
+fn explained_fault<F: Folder, E: ByteOut>(
     folder: &F,
     err: &mut E,
     line: Vec<u8>,
@@ -74,8 +74,8 @@ fn told_why<F: Folder, E: ByteOut>(
 ) -> u8
     ensures status { (result ≡ 4) ⊎ (result ≡ 5) }
     ensures why { result ≡ 4 → (reason : Option Reason) × IsReasonOf (F.why folder.now) fault.now path.now reason
-        × GoesOut (E.told err.old) (E.told err.new) (E.has_failed err.new) (line.items ++ reason_line path.now reason) }
-    ensures memory { result ≡ 5 → GoesOut (E.told err.old) (E.told err.new) (E.has_failed err.new) (ended (codes "out of memory")) }
+        × GoesOut (E.contents err.old) (E.contents err.new) (E.has_failed err.new) (line.items ++ reason_line path.now reason) }
+    ensures memory { result ≡ 5 → GoesOut (E.contents err.old) (E.contents err.new) (E.has_failed err.new) (ended (codes "out of memory")) }
 {
     let mut lines = line;
     match add_reason(&mut lines, folder, fault, path, path.as_bytes()) {
@@ -90,7 +90,7 @@ fn told_why<F: Folder, E: ByteOut>(
 /// Says that there is no memory.
 pub fn out_of_memory<E: ByteOut>(err: &mut E) -> u8
     ensures status { result ≡ 5 }
-    ensures text { GoesOut (E.told err.old) (E.told err.new) (E.has_failed err.new) (ended (codes "out of memory")) }
+    ensures text { GoesOut (E.contents err.old) (E.contents err.new) (E.has_failed err.new) (ended (codes "out of memory")) }
     ensures stays { IsTrue (E.has_failed err.old) → IsTrue (E.has_failed err.new) }
 {
     warn(err, b"out of memory\n");
@@ -100,7 +100,7 @@ pub fn out_of_memory<E: ByteOut>(err: &mut E) -> u8
 /// Says that standard output has failed.
 pub fn unwritten<E: ByteOut>(err: &mut E) -> u8
     ensures status { result ≡ 4 }
-    ensures text { GoesOut (E.told err.old) (E.told err.new) (E.has_failed err.new) (ended (codes "cannot write standard output")) }
+    ensures text { GoesOut (E.contents err.old) (E.contents err.new) (E.has_failed err.new) (ended (codes "cannot write standard output")) }
     ensures stays { IsTrue (E.has_failed err.old) → IsTrue (E.has_failed err.new) }
 {
     warn(err, b"cannot write standard output\n");
@@ -110,7 +110,7 @@ pub fn unwritten<E: ByteOut>(err: &mut E) -> u8
 /// Says why words can't be meant.
 pub fn misused<E: ByteOut>(err: &mut E, misuse: Misuse) -> u8
     ensures status { result ≡ 3 }
-    ensures text { GoesOut (E.told err.old) (E.told err.new) (E.has_failed err.new) (ended (misuse_text misuse)) }
+    ensures text { GoesOut (E.contents err.old) (E.contents err.new) (E.has_failed err.new) (ended (misuse_text misuse)) }
 {
     match misuse {
         Misuse::BadKinds => warn(err, b"bad kinds\n"),
@@ -125,7 +125,7 @@ pub fn misused<E: ByteOut>(err: &mut E, misuse: Misuse) -> u8
 /// Says that no rule has a number.
 pub fn unknown_rule<E: ByteOut>(err: &mut E) -> u8
     ensures status { result ≡ 3 }
-    ensures text { GoesOut (E.told err.old) (E.told err.new) (E.has_failed err.new) (ended (codes "no rule has this number")) }
+    ensures text { GoesOut (E.contents err.old) (E.contents err.new) (E.has_failed err.new) (ended (codes "no rule has this number")) }
 {
     warn(err, b"no rule has this number\n");
     USAGE_STATUS
@@ -134,7 +134,7 @@ pub fn unknown_rule<E: ByteOut>(err: &mut E) -> u8
 /// Says that the words are no text.
 pub fn not_text<E: ByteOut>(err: &mut E) -> u8
     ensures status { result ≡ 3 }
-    ensures text { GoesOut (E.told err.old) (E.told err.new) (E.has_failed err.new) (ended (codes "error: the words are not all UTF-8")) }
+    ensures text { GoesOut (E.contents err.old) (E.contents err.new) (E.has_failed err.new) (ended (codes "error: the words are not all UTF-8")) }
 {
     warn(err, b"error: the words are not all UTF-8\n");
     USAGE_STATUS
@@ -142,7 +142,7 @@ pub fn not_text<E: ByteOut>(err: &mut E) -> u8
 
 /// Writes a line of which it doesn't matter whether it comes through.
 pub fn warn<E: ByteOut>(err: &mut E, line: &[u8])
-    ensures text { GoesOut (E.told err.old) (E.told err.new) (E.has_failed err.new) line.now }
+    ensures text { GoesOut (E.contents err.old) (E.contents err.new) (E.has_failed err.new) line.now }
     ensures stays { IsTrue (E.has_failed err.old) → IsTrue (E.has_failed err.new) }
 {
     let _ = put_all(err, line);

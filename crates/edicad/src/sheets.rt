@@ -3,7 +3,7 @@ ghost use Rattle.std.specs.Prelude.{◌≡◌, ◌≤◌, ℕ, List, MatchOption
 ghost use Rattle.std.specs.Bool.{MatchBool};
 ghost use Rattle.std.specs.Io.KnownBytes.{Appends};
 ghost use Rattle.edi_compare.specs.Bundle.{OfParts};
-ghost use Rattle.edi_compare.specs.Runs.{BeforeWriting, FilesFault, InputFault, IsSheetUnder, IsVerdictOf, MatchFault, Told, WritesAll, WritesFirst, seen};
+ghost use Rattle.edi_compare.specs.Runs.{BeforeWriting, FilesFault, InputFault, IsSheetUnder, IsVerdictOf, MatchFault, IfThreeKnown, WritesAll, WritesFirst, seen};
 ghost use Rattle.edi_compare.specs.declared.pairing.Verdict.TheVariants.{Different};
 ghost use Rattle.edi_diff.specs.Runs.{IsDifferenceUnder};
 ghost use Rattle.edi_drawing.specs.Runs.{IsDrawnDifferenceUnder};
@@ -30,11 +30,11 @@ use std::alloc::Global;
 
 /// The bundle on standard input, to its canonical file.
 pub fn bundle<F: Folder, O: ByteOut>(alloc: Global, folder: &F, out: &mut O) -> Result<(), RunFault>
-    ensures ok { OnOk result ((told : Option (List ℕ)) × F.standard folder.now told × IfSome told (λ b. OfParts b (λ s d v. WritesAll usual_kinds s d v (O.told out.old) (O.told out.new)))) }
-    ensures err { IfErr result (λ e. (told : Option (List ℕ)) × (input : F.Reader) × F.standard folder.now told
-        × InputFault usual_kinds told (F.Reader.has_failed input)
-        (λ count. IsTrue (O.has_failed out.new) × IfSome told (λ b. OfParts b (λ s d v.
-        WritesFirst usual_kinds s d v count (O.told out.old) (O.told out.new)))) e) }
+    ensures ok { OnOk result ((contents : Option (List ℕ)) × F.standard folder.now contents × IfSome contents (λ b. OfParts b (λ s d v. WritesAll usual_kinds s d v (O.contents out.old) (O.contents out.new)))) }
+    ensures err { IfErr result (λ e. (contents : Option (List ℕ)) × (input : F.Reader) × F.standard folder.now contents
+        × InputFault usual_kinds contents (F.Reader.has_failed input)
+        (λ count. IsTrue (O.has_failed out.new) × IfSome contents (λ b. OfParts b (λ s d v.
+        WritesFirst usual_kinds s d v count (O.contents out.old) (O.contents out.new)))) e) }
     ensures unwritten { IfErr result (λ e. BeforeWriting e (out.new ≡ out.old)) }
     ensures names { IfErr result (λ e. FaultHasNames e 2) }
 {
@@ -70,10 +70,10 @@ pub fn put<F: Folder>(
     out: &str,
 ) -> Result<(), RunFault>
     ensures ok { OnOk result (IsNoInput (F.is_one folder.old) files.now out.now × OfMade (inputs_of F.Reader (F.holds folder.old) (F.closed folder.old) (F.standard folder.old) F.Reader.has_failed) product kinds.now files.now
-        (Reaches F.Sink (F.holds folder.new out.now) (F.sinks folder.old out.now) F.Sink.told)) }
+        (Reaches F.Sink (F.holds folder.new out.now) (F.sinks folder.old out.now) F.Sink.contents)) }
     ensures err { IfErr result (PutFault (inputs_of F.Reader (F.holds folder.old) (F.closed folder.old) (F.standard folder.old) F.Reader.has_failed) (F.is_one folder.old) kinds.now files.now out.now
         (λ count. OfMade (inputs_of F.Reader (F.holds folder.old) (F.closed folder.old) (F.standard folder.old) F.Reader.has_failed) product kinds.now files.now (Stops F.Sink (IsUnmade F.NewFile (F.unwritable folder.new out.now) F.NewFile.has_failed)
-        (F.sinks folder.old out.now) F.Sink.told F.Sink.has_failed count))) }
+        (F.sinks folder.old out.now) F.Sink.contents F.Sink.has_failed count))) }
     ensures unmade { IfErr result (λ e. BeforeWriting e (folder.new ≡ folder.old)) }
     ensures replaced { F.tells folder.old → Goes (F.moment folder.old) (F.moment folder.new) (F.left_since folder.old) (F.left_since folder.new)
         (IsWholeOrNew out.now (F.moment folder.old) (F.left_since folder.old) (λ bytes. OfFiles (inputs_of F.Reader (F.holds folder.old) (F.closed folder.old) (F.standard folder.old) F.Reader.has_failed) files.now (λ s d v. IsMadeOf product kinds.now s d v bytes))) }
@@ -97,9 +97,9 @@ pub fn send<F: Folder, O: ByteOut>(
     files: &SheetFiles<'_>,
     out: &mut O,
 ) -> Result<(), RunFault>
-    ensures ok { OnOk result (OfMade (inputs_of F.Reader (F.holds folder.now) (F.closed folder.now) (F.standard folder.now) F.Reader.has_failed) product kinds.now files.now (Appends (O.told out.old) (O.told out.new))) }
+    ensures ok { OnOk result (OfMade (inputs_of F.Reader (F.holds folder.now) (F.closed folder.now) (F.standard folder.now) F.Reader.has_failed) product kinds.now files.now (Appends (O.contents out.old) (O.contents out.new))) }
     ensures err { IfErr result (FileFault (inputs_of F.Reader (F.holds folder.now) (F.closed folder.now) (F.standard folder.now) F.Reader.has_failed) kinds.now files.now (λ count. IsTrue (O.has_failed out.new)
-        × OfMade (inputs_of F.Reader (F.holds folder.now) (F.closed folder.now) (F.standard folder.now) F.Reader.has_failed) product kinds.now files.now (λ bytes. (count ≤ length bytes) × Appends (O.told out.old) (O.told out.new) (take count bytes)))) }
+        × OfMade (inputs_of F.Reader (F.holds folder.now) (F.closed folder.now) (F.standard folder.now) F.Reader.has_failed) product kinds.now files.now (λ bytes. (count ≤ length bytes) × Appends (O.contents out.old) (O.contents out.new) (take count bytes)))) }
     ensures unwritten { IfErr result (λ e. BeforeWriting e (out.new ≡ out.old)) }
     ensures names { IfErr result (λ e. FaultHasNames e 4) }
 {
@@ -166,11 +166,11 @@ pub fn pair<F: Folder>(
     out: &str,
 ) -> Result<Option<u64>, RunFault>
     ensures ok { IfOk result (λ line. IsNoPairInput (F.is_one folder.old) files.now out.now × MatchOption line
-        (OfPairing (inputs_of F.Reader (F.holds folder.old) (F.closed folder.old) (F.standard folder.old) F.Reader.has_failed) kinds.now files.now (Reaches F.Sink (F.holds folder.new out.now) (F.sinks folder.old out.now) F.Sink.told))
+        (OfPairing (inputs_of F.Reader (F.holds folder.old) (F.closed folder.old) (F.standard folder.old) F.Reader.has_failed) kinds.now files.now (Reaches F.Sink (F.holds folder.new out.now) (F.sinks folder.old out.now) F.Sink.contents))
         (λ at. OfPair (inputs_of F.Reader (F.holds folder.old) (F.closed folder.old) (F.standard folder.old) F.Reader.has_failed) files.now (λ s d a b. IsVerdictOf kinds.now s d a b (Different at)) × (folder.new ≡ folder.old))) }
     ensures err { IfErr result (PutPairFault (inputs_of F.Reader (F.holds folder.old) (F.closed folder.old) (F.standard folder.old) F.Reader.has_failed) (F.is_one folder.old) kinds.now files.now out.now
         (λ count. OfPairing (inputs_of F.Reader (F.holds folder.old) (F.closed folder.old) (F.standard folder.old) F.Reader.has_failed) kinds.now files.now (Stops F.Sink (IsUnmade F.NewFile (F.unwritable folder.new out.now) F.NewFile.has_failed)
-        (F.sinks folder.old out.now) F.Sink.told F.Sink.has_failed count))) }
+        (F.sinks folder.old out.now) F.Sink.contents F.Sink.has_failed count))) }
     ensures unmade { IfErr result (λ e. BeforeWriting e (folder.new ≡ folder.old)) }
     ensures replaced { F.tells folder.old → Goes (F.moment folder.old) (F.moment folder.new) (F.left_since folder.old) (F.left_since folder.new)
         (IsWholeOrNew out.now (F.moment folder.old) (F.left_since folder.old) (λ f. OfPair (inputs_of F.Reader (F.holds folder.old) (F.closed folder.old) (F.standard folder.old) F.Reader.has_failed) files.now (λ s d a b. IsPairingFileOf kinds.now s d a b f))) }
@@ -200,10 +200,10 @@ pub fn draw_difference<F: Folder>(
     out: &str,
 ) -> Result<Difference, RunFault>
     ensures ok { IfOk result (λ difference. IsNoPairInput (F.is_one folder.old) files.now out.now × OfMadePair (inputs_of F.Reader (F.holds folder.old) (F.closed folder.old) (F.standard folder.old) F.Reader.has_failed) (ShowsDifference kinds.now brief difference) files.now
-        (Reaches F.Sink (F.holds folder.new out.now) (F.sinks folder.old out.now) F.Sink.told)) }
+        (Reaches F.Sink (F.holds folder.new out.now) (F.sinks folder.old out.now) F.Sink.contents)) }
     ensures err { IfErr result (PutPairFault (inputs_of F.Reader (F.holds folder.old) (F.closed folder.old) (F.standard folder.old) F.Reader.has_failed) (F.is_one folder.old) kinds.now files.now out.now
         (λ count. OfMadePair (inputs_of F.Reader (F.holds folder.old) (F.closed folder.old) (F.standard folder.old) F.Reader.has_failed) (IsPictureOfPair kinds.now brief) files.now (Stops F.Sink (IsUnmade F.NewFile (F.unwritable folder.new out.now) F.NewFile.has_failed)
-        (F.sinks folder.old out.now) F.Sink.told F.Sink.has_failed count))) }
+        (F.sinks folder.old out.now) F.Sink.contents F.Sink.has_failed count))) }
     ensures unmade { IfErr result (λ e. BeforeWriting e (folder.new ≡ folder.old)) }
     ensures replaced { F.tells folder.old → Goes (F.moment folder.old) (F.moment folder.new) (F.left_since folder.old) (F.left_since folder.new)
         (IsWholeOrNew out.now (F.moment folder.old) (F.left_since folder.old) (λ bytes. OfPair (inputs_of F.Reader (F.holds folder.old) (F.closed folder.old) (F.standard folder.old) F.Reader.has_failed) files.now (λ s d a b. IsPictureOfPair kinds.now brief s d a b bytes))) }
@@ -302,9 +302,9 @@ fn drawn_difference<F: Folder>(
 
 // Writes all bytes.
 fn sent<O: ByteOut>(out: &mut O, bytes: &[u8]) -> Result<(), RunFault>
-    ensures ok { OnOk result (Appends (O.told out.old) (O.told out.new) bytes.now) }
+    ensures ok { OnOk result (Appends (O.contents out.old) (O.contents out.new) bytes.now) }
     ensures err { IfErr result (λ e. MatchFault e (λ _. ⊥) (λ _. ⊥) (λ _. ⊥) (λ _. ⊥) (λ _. ⊥)
-        (λ count. IsTrue (O.has_failed out.new) × (count ≤ length bytes.now) × Appends (O.told out.old) (O.told out.new) (take count bytes.now))) }
+        (λ count. IsTrue (O.has_failed out.new) × (count ≤ length bytes.now) × Appends (O.contents out.old) (O.contents out.new) (take count bytes.now))) }
     ensures unwritten { IfErr result (λ e. BeforeWriting e (out.new ≡ out.old)) }
     ensures names { IfErr result (λ e. FaultHasNames e 4) }
 {
@@ -341,9 +341,9 @@ fn made_of<R: ByteIn>(
     dic: &mut R,
     vec: &mut R,
 ) -> Result<Vec<u8>, RunFault>
-    ensures ok { IfOk result (λ bytes. Told (R.told scd.old) (R.told dic.old) (R.told vec.old) (λ s d v. IsMadeOf product kinds.now s d v bytes.items)) }
-    ensures err { IfErr result (FilesFault kinds.now (seen (R.told scd.old) (R.told scd.new) (R.has_failed scd.new))
-        (seen (R.told dic.old) (R.told dic.new) (R.has_failed dic.new)) (seen (R.told vec.old) (R.told vec.new) (R.has_failed vec.new))
+    ensures ok { IfOk result (λ bytes. IfThreeKnown (R.contents scd.old) (R.contents dic.old) (R.contents vec.old) (λ s d v. IsMadeOf product kinds.now s d v bytes.items)) }
+    ensures err { IfErr result (FilesFault kinds.now (seen (R.contents scd.old) (R.contents scd.new) (R.has_failed scd.new))
+        (seen (R.contents dic.old) (R.contents dic.new) (R.has_failed dic.new)) (seen (R.contents vec.old) (R.contents vec.new) (R.has_failed vec.new))
         (dic.new ≡ dic.old) (vec.new ≡ vec.old) (λ _. ⊥)) }
 {
     match product {
@@ -354,7 +354,7 @@ fn made_of<R: ByteIn>(
 
 /// An input that is there to read.
 pub fn opened<F: Folder>(folder: &F, path: &str, input: u8) -> Result<F::Reader, RunFault>
-    ensures ok { IfOk result (λ file. Gives (inputs_of F.Reader (F.holds folder.now) (F.closed folder.now) (F.standard folder.now) F.Reader.has_failed) path.now (F.Reader.told file)) }
+    ensures ok { IfOk result (λ file. Gives (inputs_of F.Reader (F.holds folder.now) (F.closed folder.now) (F.standard folder.now) F.Reader.has_failed) path.now (F.Reader.contents file)) }
     ensures err { IfErr result (λ e. IsMissing (inputs_of F.Reader (F.holds folder.now) (F.closed folder.now) (F.standard folder.now) F.Reader.has_failed) path.now × (e ≡ RunFault.Read input)) }
 {
     if is_standard(path) {

@@ -48,7 +48,7 @@ impl<'a, R: Eprint> Errors<'a, R> {
 }
 
 impl<R: Eprint> ByteOut for Errors<'_, R> {
-    ghost told = { λ _. None };
+    ghost contents = { λ _. None };
 
     ghost has_failed = { λ s. s.failed };
 

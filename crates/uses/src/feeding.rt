@@ -16,12 +16,12 @@ pub enum StreamFault {
     Read,
 }
 
-/// The zones of what a stream holds, read in pieces of 4096 bytes and not kept whole.
+/// The zones of what a stream holds, read in pieces of 4096 bytes and never whole in memory.
 pub fn zones_of_stream<R: ByteIn>(
     alloc: Global,
     stream: &mut R,
 ) -> Result<Vec<Zone<'static>>, StreamFault>
-    ensures { IfOk result (λ zones. IfSome (R.told stream.old) (λ bytes. IsZonesOf bytes (entries zones.items))) }
+    ensures { IfOk result (λ zones. IfSome (R.contents stream.old) (λ bytes. IsZonesOf bytes (entries zones.items))) }
 {
     let mut feed = Feed::new(alloc);
     let mut buffer = [0u8; 4096];

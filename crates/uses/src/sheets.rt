@@ -42,7 +42,7 @@ pub fn write_canonical<W: ByteOut>(
     sheet: &[u8],
     writer: &mut W,
 ) -> Result<(), Unwritten>
-    ensures written { IfOk result (λ _. (c : List ℕ) × IsFormOf schema.now sheet.now c × Appends (W.told writer.old) (W.told writer.new) c) }
+    ensures written { IfOk result (λ _. (c : List ℕ) × IsFormOf schema.now sheet.now c × Appends (W.contents writer.old) (W.contents writer.new) c) }
     ensures refusal { IfErr result (IfRefused (λ fault. (writer.new ≡ writer.old) × IsRefusal schema.now sheet.now fault)) }
 {
     let file = match canon(alloc, schema, sheet) {

@@ -11,7 +11,7 @@ pub record Comparison : Type 0 where
   pub classes : Classes
   pub plan : Drawing
   pub other : Drawing
-  pub kept : List (Option ℕ)
+  pub unchanged : List (Option ℕ)
   pub to : List (Option ℕ)
   pub targets : List ℕ
   pub turned : List Bool
@@ -23,7 +23,7 @@ became m = record { to = m.to; turned = m.turned }
 -- there is an entry for each record, and each target is a record
 pub record IsComparable (m : Comparison) : Type 0 where
   pub classed : HasClasses m.classes m.plan
-  pub all_kept : length m.kept ≡ length m.plan.list
+  pub all_kept : length m.unchanged ≡ length m.plan.list
   pub all_entered : length m.to ≡ length m.plan.list
   pub all_directed : length m.turned ≡ length m.plan.list
   pub all_targeted : length m.targets ≡ length m.plan.list

@@ -9,7 +9,7 @@ use Rattle.edi_line.specs.declared.feed.Refusal.{Refusal}
 use Rattle.edi_line.specs.declared.feed.Refusal.TheVariants as kept
 use Rattle.edi_line.specs.declared.reading.Reader.{Reader}
 
--- what a feed keeps of its fault, as clauses see it
+-- what a feed stores of its fault, as clauses see it
 abbrev pub refusal_seen : Refusal → Refused
 refusal_seen kept.Memory = ByMemory
 refusal_seen (kept.Broken rule at) = ByRule rule at

@@ -1,4 +1,4 @@
--- How the zones of a record are told from the next while lines come.
+-- How the zones of a record are separated from the next record's while lines come.
 use Rattle.std.specs.Prelude.{ℕ, Bool, false, not, ◌&&◌, ◌==◌, List, [], ◌∷◌, length, Option, Some, None, option_map, if◌then◌else◌}
 use Rattle.edi_line.specs.Entry.{Entry}
 use Rattle.edi_line.specs.Feeding.{Zoned}

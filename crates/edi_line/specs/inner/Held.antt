@@ -1,17 +1,19 @@
 -- What a reader holds that has gone through some lines.
 use Rattle.std.specs.Prelude.{◌≡◌, ℕ, ◌+◌, ◌==◌, ◌&&◌, ◌||◌, not, List, [], ◌∷◌, ◌++◌, length, Option, Some, None, option_map, option_to_list, Ok, Err, if◌then◌else◌}
 use Rattle.edi_line.specs.Bytes.{most_records}
-use Rattle.edi_line.specs.Entry.{Entry, entry, entries}
+use Rattle.edi_line.specs.Entry.{Entry}
 use Rattle.edi_line.specs.Spelling.{Spelling, Reading}
 use Rattle.edi_line.specs.inner.Zones.{Part, part_of, parts_after, with_more, entry_of}
 use Rattle.edi_line.specs.LineKinds.{kind_of, is_bom, is_cse, is_rty, is_eom, is_other, is_next, is_zone, starts}
 use Rattle.edi_line.specs.inner.Zones.Part.{Blank, Continues, IsRemark, Begins}
 use Rattle.edi_line.specs.LineRules.{BreaksAt}
-use Rattle.edi_line.specs.Refusal.{Test, test, first_broken}
+use Rattle.edi_line.specs.Refusal.{Test, test}
+use Rattle.edi_line.specs.inner.Refusal.{first_broken}
 use Rattle.edi_line.specs.declared.order.ZoneKind.{ZoneKind}
 use Rattle.edi_line.specs.declared.order.Order.{Order}
 use Rattle.edi_line.specs.declared.reading.Reader.{Reader}
 use Rattle.edi_line.specs.Feeding.{seen_in, Zoned}
+use Rattle.edi_line.specs.inner.ZoneLists.{zoned_list}
 
 -- ---- the rule that a line breaks
 
@@ -75,7 +77,7 @@ opened line None z = z
 opened line (Some s) z = record { done = z.done; open_zone = Some (entry_of line s) }
 
 abbrev pub zoned : Reader → Zoned
-zoned r = record { done = entries r.zones.items; open_zone = option_map entry r.open_zone }
+zoned r = zoned_list r.zones
 
 -- ---- the reader
 

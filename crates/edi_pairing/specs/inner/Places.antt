@@ -2,10 +2,10 @@
 use Rattle.std.specs.Prelude.{◌≡◌, ℕ, ◌<◌, List, length, Option, MatchOption}
 use Rattle.edi_pairing.specs.Names.{name_at}
 use Rattle.edi_pairing.specs.declared.names.RecordName.{RecordName}
-use Rattle.edi_pairing.specs.declared.places.LentName.{LentName}
+use Rattle.edi_pairing.specs.declared.places.BorrowedName.{BorrowedName}
 
 -- a name without where it lies in memory
-abbrev pub name_of : LentName → RecordName
+abbrev pub name_of : BorrowedName → RecordName
 name_of n = record { kind = n.kind; rid = n.rid.now }
 
 -- the place of a name, or there is none

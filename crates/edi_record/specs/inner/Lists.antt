@@ -2,7 +2,7 @@
 use Rattle.std.specs.Prelude.{◌≡◌, ℕ, ◌+◌, true, List, ◌∷◌, ◌++◌, length, Option, Some, None, ⊤}
 use Rattle.std.specs.List.{AllByRecursion, AllZip, list_all}
 use Rattle.edi_line.specs.Entry.{Entry}
-use Rattle.edi_line.specs.Refusal.{first_broken}
+use Rattle.edi_line.specs.inner.Refusal.{first_broken}
 use Rattle.edi_record.specs.Shapes.{is_in_shape}
 use Rattle.edi_record.specs.inner.Records.{ReadsAs}
 use Rattle.edi_record.specs.inner.RecordRules.{record_tests}

@@ -1,7 +1,7 @@
 -- Which of the broken rules of one record a private call names.
 use Rattle.std.specs.Prelude.{◌≡◌, ℕ, ⊤, Bool, true, List, Some}
 use Rattle.edi_line.specs.Entry.{Entry}
-use Rattle.edi_line.specs.Refusal.{first_broken}
+use Rattle.edi_line.specs.inner.Refusal.{first_broken}
 use Rattle.edi_record.specs.inner.RecordRules.{record_tests}
 use Rattle.edi_record.specs.declared.fault.GroupFault.{GroupFault}
 use Rattle.edi_record.specs.declared.fault.GroupFault.TheVariants.{Memory as GroupMemory, Broken as GroupBroken}

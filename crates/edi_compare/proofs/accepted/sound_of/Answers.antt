@@ -1,6 +1,6 @@
 use Rattle.std.proofs.Common.{sym, subst}
 use Rattle.std.specs.Cow.{cow_slice_items}
-use Rattle.edi_compare.specs.Faults.{of_reference, of_topology}
+use Rattle.edi_compare.specs.Faults.{of_record}
 use Rattle.edi_compare.specs.PlanOfFile.{IsPlanOfFile}
 use Rattle.edi_compare.specs.Refused.{IsRefusal}
 use Rattle.edi_compare.proofs.Phases.{references_held, topology_held}
@@ -14,14 +14,14 @@ returns-in_err-sheet-clause-refusal c =
 pub returns-in_err-plan-clause-refusal : goal.returns-in_err-plan-clause-refusal
 returns-in_err-plan-clause-refusal c =
     let s = c.args.schema.now in let b = (cow_slice_items c.args.bytes) in let f = c.in_err-plan.field-0.0 in
-    err_kept _ (of_reference f) (IsRefusal s b) c.from_residual-in_err-plan.ensures.1
+    err_kept _ (of_record f) (IsRefusal s b) c.from_residual-in_err-plan.ensures.1
     (reference_fault s b (c.in_ok-sheet.ensures.held s) c.in_ok-sheet.sheet c.in_ok-sheet.ensures.sheet f c.in_err-plan.ensures.least)
 
 pub returns-in_err-sound-clause-refusal : goal.returns-in_err-sound-clause-refusal
 returns-in_err-sound-clause-refusal c =
     let s = c.args.schema.now in let b = (cow_slice_items c.args.bytes) in let f = c.in_err-sound.field-0.0 in
     let sheet = c.in_ok-sheet.sheet in
-    err_kept _ (of_topology f) (IsRefusal s b) c.from_residual-in_err-sound.ensures.1
+    err_kept _ (of_record f) (IsRefusal s b) c.from_residual-in_err-sound.ensures.1
     (topology_fault s b (references_held s b (c.in_ok-sheet.ensures.held s) sheet c.in_ok-sheet.ensures.sheet c.in_ok-plan.ensures.sound)
     c.in_ok-plan.plan (sheet, c.in_ok-sheet.ensures.sheet, c.in_ok-plan.ensures.plan) f c.in_err-sound.ensures.least)
 

@@ -12,9 +12,9 @@ returns-then-starts_with-clause-file c =
     let within = rw rest at c.line_len.ensures.within in
     let len = length-take-le n (drop at bytes) within in
     let lines = rw rest at c.line_len.ensures.line in
-    let kept = c.loop-at.invariant in
+    let untouched = c.loop-at.invariant in
     let last = rw rest at (sym c.starts_with.ensures.value ∙ c.if-starts_with.true) in
-    rw (rest, len) (first_file_ends bytes at n lines last kept.1 kept.2).0
+    rw (rest, len) (first_file_ends bytes at n lines last untouched.1 untouched.2).0
 
 pub loop-at-preserved : goal.loop-at-preserved
 loop-at-preserved c =
@@ -25,8 +25,8 @@ loop-at-preserved c =
     let within = rw rest at c.line_len.ensures.within in
     let len = length-take-le n (drop at bytes) within in
     let lines = rw rest at c.line_len.ensures.line in
-    let kept = c.loop-at.invariant in
+    let untouched = c.loop-at.invariant in
     let last = rw rest at (sym c.starts_with.ensures.value ∙ c.if-starts_with.false) in
-    let goes = first_file_goes bytes at n lines last kept.1 kept.2 in
+    let goes = first_file_goes bytes at n lines last untouched.1 untouched.2 in
     let fits : at + n ≤ length bytes = omega (arith, within, length-drop at bytes, c.loop-at-test.true) in
     rw (rest, len) (fits, goes.0, goes.1)

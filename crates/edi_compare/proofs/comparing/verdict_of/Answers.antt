@@ -5,16 +5,15 @@ use Rattle.edi_compare.proofs.comparing.verdict_of.Goals as goal
 
 pub paired-requires : goal.paired-requires
 paired-requires c =
-    counts c.args.schema.now c.keeps.ensures c.requires.first.0 c.requires.second.0 c.args.first.now c.args.second.now c.requires.first.1 c.requires.second.1
-    (sym c.deref.ensures.value ∙ (c.in-None.ensures ∙ c.deref-2.ensures.value))
+    counts c.args.schema.now c.keeps.ensures c.requires.first.0 c.requires.second.0 c.args.first.now c.args.labels.now c.args.file.now c.requires.first.1 c.requires.second.1
+    (sym c.deref.ensures.value ∙ c.in-None.ensures)
 
 pub returns-in-Some : goal.returns-in-Some
-returns-in-Some c a b has has' =
-    different c.args.schema.now c.keeps.ensures a b c.args.first.now c.args.second.now has has' c.in-Some.line
-    (subst (λ x. IsFirstDifference x c.args.second.now.file.items c.in-Some.line) c.deref.ensures.value
-    (subst (λ x. IsFirstDifference c.deref.result.now x c.in-Some.line) c.deref-2.ensures.value c.in-Some.ensures))
+returns-in-Some c p q untouched other =
+    different c.args.schema.now c.keeps.ensures p q c.args.first.now c.args.labels.now c.args.file.now untouched other c.in-Some.line
+    (subst (λ x. IsFirstDifference x c.args.file.now c.in-Some.line) c.deref.ensures.value c.in-Some.ensures)
 
 pub returns-in_ok-paired-in-None : goal.returns-in_ok-paired-in-None
-returns-in_ok-paired-in-None c a b has has' =
-    paired_same c.args.schema.now c.keeps.ensures a b c.args.first.now c.args.second.now has has'
-    (sym c.deref.ensures.value ∙ (c.in-None.ensures ∙ c.deref-2.ensures.value)) c.in_ok-paired-in-None.field-0 c.in_ok-paired-in-None.ensures
+returns-in_ok-paired-in-None c p q untouched other =
+    paired_same c.args.schema.now c.keeps.ensures p q c.args.first.now c.args.labels.now c.args.file.now untouched other
+    (sym c.deref.ensures.value ∙ c.in-None.ensures) c.in_ok-paired-in-None.field-0 c.in_ok-paired-in-None.ensures

@@ -1,7 +1,7 @@
 use Rattle.std.proofs.Common.{◌≡◌, ◌-◌, ◌∙◌, sym, arith, length, reverse}
 use Rattle.std.proofs.lemmas.List.{get_or-reverse, get_or_default, length-reverse}
 use borrow.Author.Count.{below_more}
-use Rattle.edi_compare.proofs.Alike.{same_point, same_elements}
+use Rattle.edi_compare.proofs.Equal.{same_point, same_elements}
 use Rattle.edi_compare.proofs.contents.are_reverse.Goals as goal
 
 pub loop-i-preserved : goal.loop-i-preserved

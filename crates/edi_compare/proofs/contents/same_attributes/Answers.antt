@@ -4,7 +4,7 @@ use Rattle.std.proofs.lemmas.Slice.Eq.{slice_eq-Decides}
 use Rattle.edi_schema.specs.Sorted.{sort_by}
 use Rattle.edi_plan.specs.Orders.{attribute_cmp}
 use Rattle.edi_plan.proofs.Orders.{attribute_total, attribute_exact}
-use Rattle.edi_compare.proofs.Alike.{attribute_decided, permuted, one_order}
+use Rattle.edi_compare.proofs.Equal.{attribute_decided, permuted, one_order}
 use Rattle.edi_compare.proofs.contents.same_attributes.Goals as goal
 
 pub returns-then-eq : goal.returns-then-eq

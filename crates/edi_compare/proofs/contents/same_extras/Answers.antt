@@ -1,5 +1,5 @@
 use Rattle.std.proofs.lemmas.Slice.Eq.{slice_eq-Decides}
-use Rattle.edi_compare.proofs.Alike.{extra_decided}
+use Rattle.edi_compare.proofs.Equal.{extra_decided}
 use Rattle.edi_compare.proofs.contents.same_extras.Goals as goal
 
 pub returns : goal.returns

@@ -1,6 +1,6 @@
 use Rattle.std.proofs.Common.{cond, ◌∙◌, sym, ap, reverse}
 use Rattle.std.proofs.lemmas.Slice.Eq.{slice_eq-Decides}
-use Rattle.edi_compare.proofs.Alike.{point_decided}
+use Rattle.edi_compare.proofs.Equal.{point_decided}
 use Rattle.edi_compare.proofs.contents.same_points.Goals as goal
 
 pub returns-else-turned : goal.returns-else-turned

@@ -1,6 +1,6 @@
 use Rattle.std.proofs.Common.{◌≡◌, ◌++◌, drop, map, slice_index}
 use Rattle.edi_rank.specs.Same.{moved}
-use Rattle.edi_compare.specs.Checking.{placed_end}
+use Rattle.edi_compare.specs.inner.Checking.{placed_end}
 use Rattle.edi_compare.proofs.moved_ends.moved_ends.Given as goal
 
 abbrev pub invariant-loop-end : goal.invariant-loop-end

@@ -1,5 +1,5 @@
 use Rattle.std.proofs.Common.{◌≡◌, ◌++◌, drop, map}
-use Rattle.edi_compare.specs.Checking.{placed_end}
+use Rattle.edi_compare.specs.inner.Checking.{placed_end}
 use Rattle.edi_compare.proofs.moved_ends.placed_ends.Given as goal
 
 abbrev pub invariant-loop-end : goal.invariant-loop-end

@@ -3,7 +3,7 @@ use Rattle.std.proofs.lemmas.List.{length_push}
 use mathlib.Core.Bool.{beq}
 use Rattle.edi_rank.specs.Labelling.{turned_at}
 use Rattle.edi_compare.specs.Namesakes.{namesake}
-use Rattle.edi_compare.proofs.Pairs.{one_more_told}
+use Rattle.edi_compare.proofs.Pairs.{one_more_known}
 use Rattle.edi_compare.proofs.numbered.paired.Goals as goal
 
 pub loop-place-preserved : goal.loop-place-preserved
@@ -20,7 +20,7 @@ loop-place-preserved c =
     record {
       to_long = omega (arith, ap length to, length-append c.loop-place.to.items (c.namesake-target.result ∷ []), c.loop-place.invariant.to_long);
       turned_long = omega (arith, ap length turned, length_push c.loop-place.turned.items (not (beq own c.turned.result)), c.loop-place.invariant.turned_long);
-      to = one_more_told (namesake f m) 0 c.loop-place.to.items c.push.new.self.items c.namesake-target.result at to c.loop-place.invariant.to_long c.loop-place.invariant.to is;
-      turned = one_more_told (λ k. not (beq (turned_at f.turned k) (turned_at m.turned (namesake f m k)))) false c.loop-place.turned.items c.push-in-loop-place.new.self.items (not (beq own c.turned.result)) at turned
+      to = one_more_known (namesake f m) 0 c.loop-place.to.items c.push.new.self.items c.namesake-target.result at to c.loop-place.invariant.to_long c.loop-place.invariant.to is;
+      turned = one_more_known (λ k. not (beq (turned_at f.turned k) (turned_at m.turned (namesake f m k)))) false c.loop-place.turned.items c.push-in-loop-place.new.self.items (not (beq own c.turned.result)) at turned
           c.loop-place.invariant.turned_long c.loop-place.invariant.turned flag;
     }

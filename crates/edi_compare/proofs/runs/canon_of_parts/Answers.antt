@@ -1,5 +1,5 @@
 use Rattle.edi_compare.specs.Runs.{IsCanonOf}
-use Rattle.edi_compare.proofs.Telling.{parts_ok, parts_err}
+use Rattle.edi_compare.proofs.ThreeKnown.{parts_ok, parts_err}
 use Rattle.edi_compare.proofs.runs.canon_of_parts.Goals as goal
 
 pub returns-clause-ok : goal.returns-clause-ok

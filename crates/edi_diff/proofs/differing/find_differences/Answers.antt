@@ -11,6 +11,9 @@ differences-requires-clause-first c = ((cow_slice_items c.args.a), c.in-Ok.ensur
 pub differences-requires-clause-second : goal.differences-requires-clause-second
 differences-requires-clause-second c = ((cow_slice_items c.args.b), c.in-Ok-locate_from.ensures.accepted, c.in-Ok-locate_from.ensures.plan)
 
+pub returns-in_err-unchanged-clause-refusal : goal.returns-in_err-unchanged-clause-refusal
+returns-in_err-unchanged-clause-refusal c = err_kept _ (Memory alloc_error) (IsPairRefusal c.args.schema.now (cow_slice_items c.args.a) (cow_slice_items c.args.b)) c.from_residual.ensures.1 tt
+
 pub returns-in_err-same-clause-refusal : goal.returns-in_err-same-clause-refusal
 returns-in_err-same-clause-refusal c = err_kept _ (Memory alloc_error) (IsPairRefusal c.args.schema.now (cow_slice_items c.args.a) (cow_slice_items c.args.b)) c.from_residual-in_err-same.ensures.1 tt
 
@@ -19,17 +22,17 @@ returns-in_err-became-clause-refusal c = err_kept _ (Memory alloc_error) (IsPair
 
 pub returns-clause-findings : goal.returns-clause-findings
 returns-clause-findings c = record {
-  told = record {
+  differs = record {
     first = c.in-Ok.sheet;
     second = c.in-Ok-locate_from.sheet;
     is_first = record { plan = c.in-Ok.ensures.plan; sites = c.in-Ok.ensures.sites };
     is_second = record { plan = c.in-Ok-locate_from.ensures.plan; sites = c.in-Ok-locate_from.ensures.sites };
-    kept = c.in_ok-kept.kept;
-    holds = c.in_ok-kept.ensures.holds;
-    total = c.in_ok-kept.ensures.total;
-    partners = c.in_ok-kept.ensures.partners;
+    unchanged = c.in_ok-unchanged.unchanged;
+    holds = c.in_ok-unchanged.ensures.holds;
+    total = c.in_ok-unchanged.ensures.total;
+    partners = c.in_ok-unchanged.ensures.partners;
     is_text = c.in_ok-became.ensures.0;
-    same = (λ t. c.in_ok-kept.ensures.total.0 (c.in_ok-same.ensures.0 t), λ same. c.in_ok-same.ensures.1 (c.in_ok-kept.ensures.total.1 same));
+    same = (λ t. c.in_ok-unchanged.ensures.total.0 (c.in_ok-same.ensures.0 t), λ same. c.in_ok-same.ensures.1 (c.in_ok-unchanged.ensures.total.1 same));
   };
   by_first = refl;
   by_second = refl;

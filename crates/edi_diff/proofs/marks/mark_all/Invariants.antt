@@ -1,5 +1,5 @@
 use Rattle.std.proofs.Common.{length}
-use Rattle.edi_diff.proofs.Told.{MarkedSoFar}
+use Rattle.edi_diff.proofs.Reported.{MarkedSoFar}
 use Rattle.edi_diff.proofs.marks.mark_all.Given as goal
 
 abbrev pub invariant-loop-went : goal.invariant-loop-went

@@ -1,11 +1,8 @@
-use Rattle.std.proofs.Common.{subst}
-use Rattle.edi_line.specs.LineRules.{BreaksLineRule}
-use Rattle.edi_line.specs.Refusal.{IsLineRefusal}
-use Rattle.edi_compare.specs.Rules.Breaks.{of_lines}
+use Rattle.std.proofs.Common.{sym, subst}
+use Rattle.edi_compare.specs.Refused.{IsRefusal}
+use Rattle.edi_compare.proofs.Refusals.{line_fault}
 use Rattle.edi_diff.proofs.sheet.sites_of.Goals as goal
 
-pub unreachable-requires : goal.unreachable-requires
-unreachable-requires c =
-    let e = c.in-Err-Broken in
-    let refused = subst (IsLineRefusal (BreaksLineRule c.args.bytes.now)) e.field-0-is e.ensures.least in
-    c.requires.1 e.field-0-0 e.field-0-1 (of_lines refused.is)
+pub returns-in-Err-clause-refusal : goal.returns-in-Err-clause-refusal
+returns-in-Err-clause-refusal c = λ s.
+    subst (IsRefusal s c.args.bytes.now) (sym c.line_refused.ensures) (line_fault s c.args.bytes.now c.in-Err.fault c.in-Err.ensures.least)

@@ -1,7 +1,7 @@
 use Rattle.std.proofs.Common.{◌≡◌, ◌∙◌, ℕ, Bool, List, Option, length, ap, sym, subst, true≢false}
 use Rattle.edi_diff.specs.inner.Tables.{AreMarks}
 use Rattle.edi_plan.specs.Plans.{Drawing}
-use Rattle.edi_diff.proofs.Outcomes.{all_matched, not_true, total_told, total_went, total_marked}
+use Rattle.edi_diff.proofs.Outcomes.{all_matched, not_true, total_reported, total_went, total_marked}
 use Rattle.edi_diff.proofs.totals.is_total.Goals as goal
 
 pub returns-else-all_went : goal.returns-else-all_went
@@ -25,4 +25,4 @@ returns-in_ok-marks c =
     (subst (λ (to : List (Option ℕ)). AreMarks to c.len.result marks) c.as_slice-to.ensures
     (subst (λ (ms : List Bool). AreMarks c.as_slice-to.result.now c.len.result ms) (sym c.deref.ensures.value) c.in_ok-marks.ensures)) in
     let went = all_matched c.as_slice-to.result.now m.to (sym c.as_slice-to.ensures) (c.all_went.ensures.0 c.if-all_went.true) in
-    (λ t. total_told p q m marks c.requires are went (c.all_marked.ensures.0 t), λ total. c.all_marked.ensures.1 (total_marked p q m marks are total))
+    (λ t. total_reported p q m marks c.requires are went (c.all_marked.ensures.0 t), λ total. c.all_marked.ensures.1 (total_marked p q m marks are total))

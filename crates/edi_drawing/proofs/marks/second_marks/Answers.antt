@@ -6,7 +6,7 @@ use Rattle.edi_drawing.proofs.marks.second_marks.Goals as goal
 
 pub returns : goal.returns
 returns c =
-    second_marked c.args.kept.now c.args.became.now c.args.count c.in_ok-marks.marks.items c.stamp_all.new.marks.items c.stamp_all-2.new.marks.items c.in_ok-marks.ensures
+    second_marked c.args.unchanged.now c.args.became.now c.args.count c.in_ok-marks.marks.items c.stamp_all.new.marks.items c.stamp_all-2.new.marks.items c.in_ok-marks.ensures
     c.stamp_all.ensures.length c.stamp_all-2.ensures.length
     (subst (λ (to : List (Option ℕ)). (j : ℕ) → j < length c.in_ok-marks.marks.items → get_or c.stamp_all.new.marks.items j Hidden
     ≡ (if is_reached to j then Changed else get_or c.in_ok-marks.marks.items j Hidden)) c.as_slice.ensures c.stamp_all.ensures.each)

@@ -1,17 +1,17 @@
-use Rattle.edi_compare.proofs.Telling.{told_ok, told_err, through}
+use Rattle.edi_compare.proofs.ThreeKnown.{known_ok, known_err, through}
 use Rattle.edi_drawing.specs.Runs.{IsPictureUnder}
 use Rattle.edi_drawing.proofs.runs.run_draw.Goals as goal
 
 pub returns-clause-ok : goal.returns-clause-ok
 returns-clause-ok g c =
-    told_ok c.draw_or_fault.result (g.S.ByteIn.told c.args.scd.now) (g.D.ByteIn.told c.args.dic.now) (g.V.ByteIn.told c.args.vec.now)
+    known_ok c.draw_or_fault.result (g.S.ByteIn.contents c.args.scd.now) (g.D.ByteIn.contents c.args.dic.now) (g.V.ByteIn.contents c.args.vec.now)
     c.deref.result.now c.deref-2.result.now c.in_ok-vec.vec.items (λ picture s d v. IsPictureUnder c.args.kinds.now s d v picture.items)
     (through _ _ _ c.deref.ensures.value c.in_ok-scd.ensures.all) (through _ _ _ c.deref-2.ensures.value c.in_ok-dic.ensures.all)
     c.in_ok-vec.ensures.all c.draw_or_fault.ensures.ok
 
 pub returns-clause-err : goal.returns-clause-err
 returns-clause-err g c =
-    told_err c.args.kinds.now c.draw_or_fault.result (g.S.ByteIn.told c.args.scd.now) (g.D.ByteIn.told c.args.dic.now) (g.V.ByteIn.told c.args.vec.now)
+    known_err c.args.kinds.now c.draw_or_fault.result (g.S.ByteIn.contents c.args.scd.now) (g.D.ByteIn.contents c.args.dic.now) (g.V.ByteIn.contents c.args.vec.now)
     c.deref.result.now c.deref-2.result.now c.in_ok-vec.vec.items _ _ _
     (through _ _ _ c.deref.ensures.value c.in_ok-scd.ensures.all) (through _ _ _ c.deref-2.ensures.value c.in_ok-dic.ensures.all)
     c.in_ok-vec.ensures.all c.draw_or_fault.ensures.err

@@ -1,4 +1,4 @@
-use Rattle.edi_compare.specs.Faults.{of_reference, of_sheet}
+use Rattle.edi_compare.specs.Faults.{of_record, of_sheet}
 use Rattle.edi_compare.specs.Refused.{IsRefusal}
 use Rattle.edi_compare.proofs.Phases.{references_held}
 use Rattle.edi_compare.proofs.Refusals.{err_kept, reference_fault, sheet_fault}
@@ -12,7 +12,7 @@ returns-in_err-sheet-clause-refusal c =
 pub returns-in_err-plan-clause-refusal : goal.returns-in_err-plan-clause-refusal
 returns-in_err-plan-clause-refusal c =
     let s = c.args.schema.now in let b = c.args.bytes.now in let f = c.in_err-plan.field-0.0 in
-    err_kept _ (of_reference f) (IsRefusal s b) c.from_residual-in_err-plan.ensures.1
+    err_kept _ (of_record f) (IsRefusal s b) c.from_residual-in_err-plan.ensures.1
     (reference_fault s b (c.in_ok-sheet.ensures.lines, c.in_ok-sheet.ensures.records) c.in_ok-sheet.sheet c.in_ok-sheet.ensures.sheet f c.in_err-plan.ensures.least)
 
 pub returns-clause-held : goal.returns-clause-held

@@ -1,6 +1,6 @@
 use Rattle.std.proofs.Common.{subst, sym, ◌-◌}
 use Rattle.edi_line.specs.Refusal.{IsLeastBroken}
-use Rattle.edi_topo.specs.TopologyRefusal.{IsTopologyRefusal}
+use Rattle.edi_record.specs.RecordRefusal.{IsRecordRefusal}
 use Rattle.edi_topo.specs.TopologyRules.{BreaksTopologyRule}
 use Rattle.edi_compare.specs.PlanOfFile.{IsPlanOfFile}
 use Rattle.edi_compare.proofs.Phases.{topology_held, topology_refusal}
@@ -23,7 +23,7 @@ returns-in-Err-Broken-clause-found c =
     let p = c.args.plan in
     let rule = c.in-Err-Broken.rule in
     let at = c.in-Err-Broken.at in
-    let least = subst (IsTopologyRefusal (BreaksTopologyRule p)) c.in-Err-Broken.field-0-is c.in-Err-Broken.ensures.least in
+    let least = subst (IsRecordRefusal (BreaksTopologyRule p)) c.in-Err-Broken.field-0-is c.in-Err-Broken.ensures.least in
     let from_first = subst (IsLeastBroken (BreaksTopologyRule p) rule) (placed p rule at least.is) least in
     let refusal = topology_refusal s b rule at c.requires.held p c.requires.plan least in
     let earlier = c.earlier_of-earlier.ensures s b p (at - 1) c.requires.plan (rw c.in-Err-Broken.rule-is from_first) c.requires.node c.requires.arc in

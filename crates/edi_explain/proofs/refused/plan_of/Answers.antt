@@ -1,10 +1,10 @@
 use Rattle.std.proofs.Common.{subst}
-use Rattle.edi_plan.specs.ReferenceRefusal.{IsReferenceRefusal}
+use Rattle.edi_record.specs.RecordRefusal.{IsRecordRefusal}
 use Rattle.edi_plan.specs.ReferenceRules.{BreaksReferenceRule}
 use Rattle.edi_explain.proofs.refused.plan_of.Goals as goal
 
 pub unreachable-requires : goal.unreachable-requires
 unreachable-requires c =
     let sheet = c.in_ok-sheet.sheet in
-    let least = subst (IsReferenceRefusal (BreaksReferenceRule c.args.schema.now sheet.list)) c.in-Err-Broken.field-0-is c.in-Err-Broken.ensures.least in
+    let least = subst (IsRecordRefusal (BreaksReferenceRule c.args.schema.now sheet.list)) c.in-Err-Broken.field-0-is c.in-Err-Broken.ensures.least in
     c.requires.1 sheet c.in_ok-sheet.ensures _ _ least.is

@@ -1,5 +1,5 @@
 use Rattle.std.proofs.Common.{◌≡◌, subst, arith}
-use Rattle.edi_topo.specs.Arcs.{IsFirstRepeatIfAny}
+use Rattle.edi_topo.specs.inner.Arcs.{IsFirstRepeatIfAny}
 use Rattle.edi_explain.specs.Partners.{SharesPoints, IsLeastIfAny}
 use Rattle.edi_explain.proofs.repeats.arc_repeated.Goals as goal
 

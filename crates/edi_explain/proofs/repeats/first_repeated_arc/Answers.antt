@@ -1,5 +1,5 @@
 use Rattle.std.proofs.Common.{◌≤◌, ℕ, List, IfOk, get_or, subst, sym}
-use Rattle.edi_topo.specs.Arcs.{RepeatsAnEarlierArc, IsFirstRepeatIfAny}
+use Rattle.edi_topo.specs.inner.Arcs.{RepeatsAnEarlierArc, IsFirstRepeatIfAny}
 use Rattle.edi_topo.specs.Ranking.{IsTie}
 use Rattle.edi_record.specs.Orders.{points_cmp}
 use Rattle.edi_topo.proofs.FirstArcRepeat.{key_of, count_of, none_repeats, least_repeats}

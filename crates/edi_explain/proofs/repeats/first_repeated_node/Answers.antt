@@ -1,5 +1,5 @@
 use Rattle.std.proofs.Common.{◌≤◌, ℕ, List, IfOk, get_or, subst, sym}
-use Rattle.edi_topo.specs.Nodes.{RepeatsAnEarlier, IsFirstRepeatIfAny}
+use Rattle.edi_topo.specs.inner.Nodes.{RepeatsAnEarlier, IsFirstRepeatIfAny}
 use Rattle.edi_topo.specs.Ranking.{IsTie}
 use Rattle.edi_topo.specs.contracts.node_key.NodeKeyOrd.TheImpl.{ghosts as nodes}
 use Rattle.edi_topo.proofs.FirstRepeat.{key_of, count_of, none_repeats, least_repeats}

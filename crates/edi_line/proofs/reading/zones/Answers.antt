@@ -4,7 +4,7 @@ use Rattle.std.proofs.lemmas.List.{nil_from_length}
 use Rattle.std.proofs.lemmas.Result.{err_from_is_err_and}
 use Rattle.edi_line.specs.inner.Zones.{readings_of}
 use Rattle.edi_line.specs.inner.Spelling.{reading_of}
-use Rattle.edi_line.proofs.LentZones.{ready, lends_next, lent_read}
+use Rattle.edi_line.proofs.BorrowedZones.{ready, borrows_next, borrowed_read}
 use Rattle.edi_line.proofs.Passes.{next_of, taken_all, taken, all_taken, readings_step, fault_refused, end_refused, end_sound, end_zones}
 use Rattle.edi_line.proofs.Shape.{end_shape, end_few}
 use Rattle.edi_line.proofs.reading.zones.Goals as goal
@@ -23,7 +23,7 @@ loop-rest-init c =
     let first = ready (readings_of c.args.bytes.now) c.new-reader.result c.new-reader.ensures in
     record {
       stands = first.stands;
-      lends = first.lends;
+      borrows = first.borrows;
       left = first.left;
       room = omega (arith, c.new-reader.ensures.counted);
     }
@@ -38,8 +38,8 @@ loop-rest-preserved c =
     let ahead = next_of (readings_of c.args.bytes.now) c.loop-rest.reader.line line (readings_of c.first_line.result.1.now) (c.loop-rest.invariant.left ∙ next) in
     record {
       stands = at.stands;
-      lends = lends_next (readings_of c.args.bytes.now) c.loop-rest.reader.line c.take_line.new.self.line line (readings_of c.first_line.result.1.now) c.take_line.new.self ahead c.in_ok-take_line.ensures.ok.counted
-          (c.in_ok-take_line.ensures.lends (take c.loop-rest.reader.line (readings_of c.args.bytes.now)) ahead.long c.loop-rest.invariant.lends);
+      borrows = borrows_next (readings_of c.args.bytes.now) c.loop-rest.reader.line c.take_line.new.self.line line (readings_of c.first_line.result.1.now) c.take_line.new.self ahead c.in_ok-take_line.ensures.ok.counted
+          (c.in_ok-take_line.ensures.borrows (take c.loop-rest.reader.line (readings_of c.args.bytes.now)) ahead.long c.loop-rest.invariant.borrows);
       left = at.left_is;
       room = omega (arith, c.in_ok-take_line.ensures.ok.counted, c.loop-rest.invariant.room, c.first_line.ensures.shorter);
     }
@@ -74,7 +74,7 @@ returns-clause-least c =
     let s = all_taken (readings_of c.args.bytes.now) c.loop-rest.reader (record { stands = c.loop-rest.invariant.stands; left_is = c.loop-rest.invariant.left ∙ ap readings_of none }) in
     end_refused c.args.bytes.now c.loop-rest.reader c.finish.result s c.finish.ensures.broken
 
-pub returns-clause-lent : goal.returns-clause-lent
-returns-clause-lent c =
+pub returns-clause-borrowed : goal.returns-clause-borrowed
+returns-clause-borrowed c =
     let none : c.loop-rest.rest.now ≡ [] = nil_from_length c.loop-rest.rest.now (eqb-true _ _ (sym c.is_empty.ensures ∙ c.loop-rest-test.false)) in
-    lent_read c.args.bytes.now c.loop-rest.reader c.finish.result (taken_all (readings_of c.args.bytes.now) c.loop-rest.reader.line (c.loop-rest.invariant.left ∙ ap readings_of none)) c.loop-rest.invariant.lends c.finish.ensures.zones
+    borrowed_read c.args.bytes.now c.loop-rest.reader c.finish.result (taken_all (readings_of c.args.bytes.now) c.loop-rest.reader.line (c.loop-rest.invariant.left ∙ ap readings_of none)) c.loop-rest.invariant.borrows c.finish.ensures.zones

@@ -1,11 +1,11 @@
-use Rattle.edi_compare.proofs.Telling.{through}
-use Rattle.edi_compare.proofs.TellingFour.{four_ok, four_err}
+use Rattle.edi_compare.proofs.ThreeKnown.{through}
+use Rattle.edi_compare.proofs.FourKnown.{four_ok, four_err}
 use Rattle.edi_pairing.specs.CompareRuns.{IsComparedUnder}
 use Rattle.edi_pairing.proofs.runs.run_compare_to_file.Goals as goal
 
 pub returns-clause-ok : goal.returns-clause-ok
 returns-clause-ok g c =
-    four_ok c.compare_or_fault.result (g.S.ByteIn.told c.args.scd.now) (g.D.ByteIn.told c.args.dic.now) (g.A.ByteIn.told c.args.first.now) (g.B.ByteIn.told c.args.second.now)
+    four_ok c.compare_or_fault.result (g.S.ByteIn.contents c.args.scd.now) (g.D.ByteIn.contents c.args.dic.now) (g.A.ByteIn.contents c.args.first.now) (g.B.ByteIn.contents c.args.second.now)
     c.deref.result.now c.deref-2.result.now c.deref-3.result.now c.deref-4.result.now (λ compared s d a b. IsComparedUnder c.args.kinds.now s d a b compared)
     (through _ _ _ c.deref.ensures.value c.in_ok-scd.ensures.all) (through _ _ _ c.deref-2.ensures.value c.in_ok-dic.ensures.all)
     (through _ _ _ c.deref-3.ensures.value c.in_ok-first.ensures.all) (through _ _ _ c.deref-4.ensures.value c.in_ok-second.ensures.all)
@@ -13,7 +13,7 @@ returns-clause-ok g c =
 
 pub returns-clause-err : goal.returns-clause-err
 returns-clause-err g c =
-    four_err c.args.kinds.now c.compare_or_fault.result (g.S.ByteIn.told c.args.scd.now) (g.D.ByteIn.told c.args.dic.now) (g.A.ByteIn.told c.args.first.now) (g.B.ByteIn.told c.args.second.now)
+    four_err c.args.kinds.now c.compare_or_fault.result (g.S.ByteIn.contents c.args.scd.now) (g.D.ByteIn.contents c.args.dic.now) (g.A.ByteIn.contents c.args.first.now) (g.B.ByteIn.contents c.args.second.now)
     c.deref.result.now c.deref-2.result.now c.deref-3.result.now c.deref-4.result.now _ _
     (through _ _ _ c.deref.ensures.value c.in_ok-scd.ensures.all) (through _ _ _ c.deref-2.ensures.value c.in_ok-dic.ensures.all)
     (through _ _ _ c.deref-3.ensures.value c.in_ok-first.ensures.all) (through _ _ _ c.deref-4.ensures.value c.in_ok-second.ensures.all)

@@ -1,5 +1,5 @@
 use Rattle.std.proofs.Common.{◌∙◌, sym}
-use Rattle.edi_plan.specs.Resolving.{is_elsewhere}
+use Rattle.edi_plan.specs.inner.Resolving.{is_elsewhere}
 use Rattle.edi_plan.proofs.StepLemmas.{any_first, any_next, any_end}
 use Rattle.edi_plan.proofs.records.has_other.Goals as goal
 

@@ -1,6 +1,6 @@
 use Rattle.std.proofs.Common.{◌≡◌, drop}
 use Rattle.std.specs.List.{list_any}
-use Rattle.edi_plan.specs.Resolving.{is_elsewhere}
+use Rattle.edi_plan.specs.inner.Resolving.{is_elsewhere}
 use Rattle.edi_plan.proofs.records.has_other.Given as goal
 
 abbrev pub invariant-loop-end : goal.invariant-loop-end

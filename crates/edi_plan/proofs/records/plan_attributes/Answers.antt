@@ -1,7 +1,7 @@
 use Rattle.std.proofs.Common.{sym, subst, ◌++◌, ◌∷◌, []}
 use Rattle.std.specs.List.{AllZip}
 use Rattle.indexmap.proofs.SetLemmas.{AllZip-push}
-use Rattle.edi_plan.specs.Resolving.{Resolves}
+use Rattle.edi_plan.specs.inner.Resolving.{Resolves}
 use Rattle.edi_plan.proofs.records.plan_attributes.Goals as goal
 
 pub loop-attribute-preserved : goal.loop-attribute-preserved

@@ -1,5 +1,5 @@
 use Rattle.std.specs.List.{AllZip}
-use Rattle.edi_plan.specs.Resolving.{Resolves}
+use Rattle.edi_plan.specs.inner.Resolving.{Resolves}
 use Rattle.edi_plan.proofs.records.plan_attributes.Given as goal
 
 abbrev pub invariant-loop-attribute : goal.invariant-loop-attribute

@@ -1,6 +1,6 @@
 use Rattle.std.proofs.Common.{◌∙◌, ◌++◌, ◌<◌, ◌∷◌, [], List, length, refl, sym, ap, subst, append_assoc, arith}
 use Rattle.std.specs.Vec.Iter.{into_iter_items, into_iter_steps}
-use Rattle.edi_plan.specs.Resolving.{AreGiven}
+use Rattle.edi_plan.specs.inner.Resolving.{AreGiven}
 use Rattle.edi_plan.specs.declared.record.PlanEnd.{PlanEnd}
 use Rattle.std.proofs.lemmas.List.{nil_from_length}
 use Rattle.edi_plan.proofs.RuleLemmas.{given_step, given_end, none_there}

@@ -1,6 +1,6 @@
 use Rattle.std.proofs.Common.{◌≡◌, ◌++◌, ◌+◌, List, length, drop}
 use Rattle.std.specs.Vec.Iter.{into_iter_items}
-use Rattle.edi_plan.specs.Resolving.{AreGiven}
+use Rattle.edi_plan.specs.inner.Resolving.{AreGiven}
 use Rattle.edi_plan.specs.declared.record.PlanEnd.{PlanEnd}
 use Rattle.edi_plan.proofs.records.plan_ends.Given as goal
 

@@ -1,9 +1,9 @@
 use Rattle.std.proofs.Common.{◌≡◌, ◌∙◌, true, Some, is_none, refl, sym, ap, subst, Any}
 use Rattle.std.specs.List.{AllZip, list_any}
-use Rattle.edi_line.specs.Refusal.{first_broken}
+use Rattle.edi_line.specs.inner.Refusal.{first_broken}
 use Rattle.edi_schema.specs.declared.role.Role.{Role}
-use Rattle.edi_plan.specs.Resolving.{AreGiven, IsUnresolved, LacksClass, Resolves, lacks_class, leaves, reference_tests, role_of_link}
-use Rattle.edi_plan.specs.SideTable.{IsNoted, link_join, link_tests}
+use Rattle.edi_plan.specs.inner.Resolving.{AreGiven, IsUnresolved, LacksClass, Resolves, lacks_class, leaves, reference_tests, role_of_link}
+use Rattle.edi_plan.specs.inner.SideTable.{IsNoted, link_join, link_tests}
 use Rattle.edi_plan.proofs.Resolved.{role_there, zip_states}
 use Rattle.edi_plan.proofs.RuleLemmas.{any_true, lacks_true}
 use Rattle.edi_plan.proofs.StepLemmas.{err_kept, unresolved_map, stop_303, stop_304, stop_305, pass, none_lacks, none_missing, link_same, role_of_true, role_of_false}
@@ -12,7 +12,7 @@ use Rattle.edi_plan.proofs.records.plan_record.Goals.{then-is_link+in_ok-note_li
 
 pub returns-in_err-attributes-clause-least : goal.returns-in_err-attributes-clause-least
 returns-in_err-attributes-clause-least c =
-    let class = sym c.class.ensures.class ∙ c.in-Some.is in
+    let class = sym c.requires.class ∙ c.in-Some.is in
     let tests = reference_tests c.args.schema.now c.args.subset.now c.args.targets.now c.args.sides.now c.args.record in
     err_kept _ c.in_err-attributes.field-0.0 (IsUnresolved (λ rule. first_broken tests ≡ Some rule)) c.from_residual.ensures.1
     (unresolved_map (λ rule. (rule ≡ 303) × Any (LacksClass c.args.schema.now) c.args.record.attributes) (λ rule. first_broken tests ≡ Some rule)
@@ -21,13 +21,13 @@ returns-in_err-attributes-clause-least c =
 
 pub returns-then-leaves_subset-clause-least : goal.returns-then-leaves_subset-clause-least
 returns-then-leaves_subset-clause-least c =
-    let class = sym c.class.ensures.class ∙ c.in-Some.is in
+    let class = sym c.requires.class ∙ c.in-Some.is in
     let found = none_lacks c.args.schema.now c.args.record.attributes c.in_ok-attributes.attributes.items c.in_ok-attributes.ensures.ok in
     stop_304 c.args.schema.now c.args.subset.now c.args.targets.now c.args.sides.now c.args.record (ap is_none class) found (ap (leaves c.args.subset.now) (sym c.as_slice.ensures) ∙ (sym c.leaves_subset.ensures ∙ c.if-leaves_subset.true))
 
 pub returns-in_err-ends-clause-least : goal.returns-in_err-ends-clause-least
 returns-in_err-ends-clause-least c =
-    let class = sym c.class.ensures.class ∙ c.in-Some.is in
+    let class = sym c.requires.class ∙ c.in-Some.is in
     let found = none_lacks c.args.schema.now c.args.record.attributes c.in_ok-attributes.attributes.items c.in_ok-attributes.ensures.ok in
     let stays = ap (leaves c.args.subset.now) (sym c.as_slice.ensures) ∙ (sym c.leaves_subset.ensures ∙ c.if-leaves_subset.false) in
     let tests = reference_tests c.args.schema.now c.args.subset.now c.args.targets.now c.args.sides.now c.args.record in
@@ -40,7 +40,7 @@ pub returns-in_err-note_link-clause-least : goal.returns-in_err-note_link-clause
 returns-in_err-note_link-clause-least c =
     let s = c.args.schema.now in
     let r = c.args.record in
-    let class = sym c.class.ensures.class ∙ c.in-Some.is in
+    let class = sym c.requires.class ∙ c.in-Some.is in
     let found = none_lacks s r.attributes c.in_ok-attributes.attributes.items c.in_ok-attributes.ensures.ok in
     let stays = ap (leaves c.args.subset.now) (sym c.as_slice.ensures) ∙ (sym c.leaves_subset.ensures ∙ c.if-leaves_subset.false) in
     let there = none_missing c.args.targets.now r.ends c.in_ok-ends.ends.items c.in_ok-ends.ensures.ok in
@@ -55,7 +55,7 @@ pub returns-clause-planned : goal.returns-clause-planned
 returns-clause-planned c =
     let s = c.args.schema.now in
     let r = c.args.record in
-    let class = sym c.class.ensures.class ∙ c.in-Some.is in
+    let class = sym c.requires.class ∙ c.in-Some.is in
     record {
       kind = refl;
       class = class;
@@ -70,7 +70,7 @@ pub returns-clause-noted : goal.returns-clause-noted
 returns-clause-noted c =
     let s = c.args.schema.now in
     let r = c.args.record in
-    let class = sym c.class.ensures.class ∙ c.in-Some.is in
+    let class = sym c.requires.class ∙ c.in-Some.is in
     let named = role_there s r.scp c.in-Some.class class ∙ ap Some (sym c.role-role.ensures) in
     elim c.if-is_link.branch [
       | then-is_link+in_ok-note_link w ↦
@@ -87,7 +87,7 @@ pub returns-clause-sound : goal.returns-clause-sound
 returns-clause-sound c =
     let s = c.args.schema.now in
     let r = c.args.record in
-    let class = sym c.class.ensures.class ∙ c.in-Some.is in
+    let class = sym c.requires.class ∙ c.in-Some.is in
     let found = none_lacks s r.attributes c.in_ok-attributes.attributes.items c.in_ok-attributes.ensures.ok in
     let stays = ap (leaves c.args.subset.now) (sym c.as_slice.ensures) ∙ (sym c.leaves_subset.ensures ∙ c.if-leaves_subset.false) in
     let there = none_missing c.args.targets.now r.ends c.in_ok-ends.ends.items c.in_ok-ends.ensures.ok in

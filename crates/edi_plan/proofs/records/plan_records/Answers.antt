@@ -1,14 +1,22 @@
-use Rattle.std.proofs.Common.{◌≡◌, ◌∙◌, ◌++◌, ◌∷◌, ◌+◌, ◌<◌, ◌≤◌, ℕ, [], None, Some, true≢false, List, Option, refl, sym, ap, subst, arith, length, length-append, append_assoc, take}
+use Rattle.std.proofs.Common.{rules, zero, suc, slice_index_or, replicate, ◌≡◌, ◌∙◌, ◌++◌, ◌∷◌, ◌+◌, ◌<◌, ◌≤◌, ℕ, [], None, Some, true≢false, List, Option, refl, sym, ap, subst, arith, length, length-append, append_assoc, take}
+use Rattle.std.proofs.lemmas.List.{length-replicate}
 use Rattle.std.specs.List.{AllZip}
 use Rattle.std.specs.Vec.Iter.{into_iter_items, into_iter_steps}
 use Rattle.indexmap.proofs.SetLemmas.{AllZip-push}
-use Rattle.edi_line.specs.Refusal.{first_broken}
-use Rattle.edi_plan.specs.Done.{IsDone}
+use Rattle.edi_line.specs.inner.Refusal.{first_broken}
+use Rattle.edi_plan.specs.inner.Done.{IsDone, IsJoinIfAny}
+use Rattle.edi_plan.specs.inner.SideTable.{side_at}
+use Rattle.edi_schema.specs.ByRole.{no_values, of_role}
+use Rattle.edi_schema.specs.declared.by_role.ByRole.{ByRole}
+use Rattle.edi_schema.specs.declared.role.Role.{Role}
+use Rattle.edi_schema.specs.declared.role.Role.TheVariants.{Initial, Final, Left, Right, Plain}
 use Rattle.edi_plan.specs.PlanOf.{StatesPlanRecord}
-use Rattle.edi_plan.specs.ReferenceRefusal.{IsReferenceRefusal}
+use Rattle.edi_record.specs.RecordRefusal.{IsRecordRefusal}
 use Rattle.edi_plan.specs.ReferenceRules.{BreaksReferenceRule}
-use Rattle.edi_plan.specs.Resolving.{reference_tests, IsUnresolved}
-use Rattle.edi_plan.specs.Targets.{IsTargetIfAny, AreTargets}
+use Rattle.edi_plan.specs.inner.Resolving.{reference_tests, IsClassOfName, IsUnresolved}
+use Rattle.edi_plan.proofs.ClassNames.{named_class}
+use Rattle.edi_plan.specs.inner.Targets.{IsTargetIfAny, AreTargets}
+use Rattle.edi_plan.specs.inner.RecordLists.{records_of}
 use Rattle.edi_plan.specs.declared.references.Subset.{Subset}
 use Rattle.edi_plan.proofs.DoneLemmas.{least_here, refused_at, repeats_301, step_done}
 use Rattle.edi_plan.proofs.RecordLemmas.{own_targets, later_targets, enough_targets, entries_there, record_stated, stands_at, fresh_at, repeats_here, ahead_more, written}
@@ -19,7 +27,7 @@ returns-then-is_place-clause-least c =
     let s = c.args.schema.now in
     let list = c.args.records in
     let i = c.loop-record.invariant in
-    subst (IsReferenceRefusal (BreaksReferenceRule s list)) (sym c.broken.ensures)
+    subst (IsRecordRefusal (BreaksReferenceRule s list)) (sym c.broken.ensures)
     (refused_at s list c.loop-record.place c.loop-record.sides.items i.done 301
     (repeats_301 s list c.loop-record.place (repeats_here list c.loop-record.place c.args.references.now.repeat c.requires.references.repeat (c.is_place.ensures.0 c.if-is_place.true))))
 
@@ -54,7 +62,7 @@ returns-in-Err-Broken-clause-least c =
     let breaks = subst (IsUnresolved (λ rule. first_broken (reference_tests s c.args.references.now.subset c.split_at.result.0.now c.deref_mut.result.now r) ≡ Some rule)) c.in-Err-Broken.field-0-is c.in-Err-Broken.ensures.least in
     let named = subst (λ (x : Option Subset). first_broken (reference_tests s x c.split_at.result.0.now c.deref_mut.result.now r) ≡ Some c.in-Err-Broken.rule) c.requires.references.subset breaks in
     let refused = refused_at s list place c.deref_mut.result.now before c.in-Err-Broken.rule (least_here s list place r here c.split_at.result.0.now own c.deref_mut.result.now before c.in-Err-Broken.rule named fresh) in
-    subst (IsReferenceRefusal (BreaksReferenceRule s list)) (sym c.broken-in-Err-Broken.ensures) (rw c.in-Err-Broken.field-0-is refused)
+    subst (IsRecordRefusal (BreaksReferenceRule s list)) (sym c.broken-in-Err-Broken.ensures) (rw c.in-Err-Broken.field-0-is refused)
 
 pub loop-record-preserved : goal.loop-record-preserved
 loop-record-preserved c =
@@ -74,8 +82,10 @@ loop-record-preserved c =
     let done = step_done s list place r here c.split_at.result.0.now own c.deref_mut.result.now before c.plan_record.new.sides sound fresh c.in-Ok.ensures.noted in
     let states = record_stated s list r c.split_at.result.0.now c.in-Ok.planned own c.in-Ok.ensures.planned in
     record {
-      zipped = subst (AllZip (StatesPlanRecord s list) (c.loop-record.yielded ++ r ∷ [])) (sym c.in_ok-push-in-Ok.ensures.items)
-          (AllZip-push (StatesPlanRecord s list) c.loop-record.yielded c.loop-record.list.items r c.in-Ok.planned i.zipped states);
+      known = subst (IsClassOfName s) (sym c.class_of-class.ensures.class) (named_class s r.scp);
+      within = c.in_ok-push-in-Ok.ensures.within;
+      zipped = subst (AllZip (StatesPlanRecord s list) (c.loop-record.yielded ++ r ∷ [])) (sym c.in_ok-push-in-Ok.ensures.records)
+          (AllZip-push (StatesPlanRecord s list) c.loop-record.yielded (records_of c.loop-record.list) r c.in-Ok.planned i.zipped states);
       counted = omega (arith, i.counted, length-append c.loop-record.yielded (r ∷ []));
       whole = append_assoc c.loop-record.yielded (r ∷ []) (into_iter_items c.next.new.self) ∙ (ap (λ xs. c.loop-record.yielded ++ xs) (sym next.0) ∙ i.whole);
       ahead = ahead_more place c.args.references.now.repeat i.ahead elsewhere;
@@ -83,3 +93,37 @@ loop-record-preserved c =
           (later_targets list (into_iter_items c.loop-record.record-iterator) (into_iter_items c.next.new.self) r next.0 c.loop-record.targets.now i.left);
       done = subst (IsDone s list (place + 1)) (sym (written c.plan_record.new.sides c.loop-record.sides.items c.loop-record.sides.len c.loop-record.sides.ok.0 (c.in-Ok.ensures.noted.long ∙ ap length c.deref_mut.ensures.value))) done;
     }
+
+-- no record has anything in a new table
+new_entries : (n a : ℕ) → slice_index_or (replicate n no_values) a no_values ≡ no_values {X = ℕ}
+new_entries zero a = refl
+new_entries (suc n) zero = refl
+new_entries (suc n) (suc a) = new_entries n a
+
+nothing_of : (role : Role) → of_role (no_values {X = ℕ}) role ≡ None
+nothing_of Initial = refl
+nothing_of Final = refl
+nothing_of Left = refl
+nothing_of Right = refl
+nothing_of Plain = refl
+
+pub loop-record-init : goal.loop-record-init
+loop-record-init c = record {
+  known = tt;
+  within = c.in_ok-list.ensures.within;
+  zipped = subst (AllZip (StatesPlanRecord c.args.schema.now c.args.records) []) (sym c.in_ok-list.ensures.none) tt;
+  counted = search rules;
+  whole = search rules;
+  ahead = search rules;
+  left = search rules;
+  done = record {
+    long = ap length c.in_ok-sides.ensures ∙ (length-replicate _ _ ∙ c.len-2.ensures);
+    unbroken = λ k rule less. absurd (omega (arith, less));
+    joined = λ k r role less. absurd (omega (arith, less));
+    noted = λ a role plain.
+        subst (λ (table : List (ByRole (Option ℕ))). IsJoinIfAny c.args.schema.now c.args.records 0 a role (side_at table a role)) (sym c.in_ok-sides.ensures)
+        (subst (IsJoinIfAny c.args.schema.now c.args.records 0 a role)
+        (sym (ap (λ (v : ByRole (Option ℕ)). of_role v role) (new_entries _ a) ∙ nothing_of role))
+        (λ x before. absurd (omega (arith, before.before))));
+  };
+}

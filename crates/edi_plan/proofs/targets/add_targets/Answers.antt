@@ -1,4 +1,4 @@
-use Rattle.edi_plan.specs.Targets.{IsTargetIfAny}
+use Rattle.edi_plan.specs.inner.Targets.{IsTargetIfAny}
 use Rattle.edi_plan.proofs.TargetLemmas.{zip_taken}
 use Rattle.edi_plan.proofs.targets.add_targets.Goals as goal
 

@@ -1,7 +1,7 @@
 use Rattle.std.proofs.Common.{◌++◌, List, take}
 use Rattle.std.specs.List.{AllZip}
 use Rattle.edi_record.specs.declared.record.End.{End}
-use Rattle.edi_plan.specs.Targets.{IsTargetIfAny}
+use Rattle.edi_plan.specs.inner.Targets.{IsTargetIfAny}
 use Rattle.edi_plan.proofs.targets.add_targets.Given as goal
 
 abbrev pub invariant-loop-end : goal.invariant-loop-end

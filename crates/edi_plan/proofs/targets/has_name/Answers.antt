@@ -1,6 +1,6 @@
 use Rattle.std.proofs.Common.{◌∙◌, length, refl, sym}
 use Rattle.std.proofs.lemmas.Option.{slice_get_read}
-use Rattle.edi_plan.specs.Names.{named}
+use Rattle.edi_plan.specs.inner.Names.{named}
 use Rattle.edi_schema.proofs.Names.{same_name}
 use Rattle.edi_plan.proofs.NameLemmas.{name_apart}
 use Rattle.edi_plan.proofs.targets.has_name.Goals as goal

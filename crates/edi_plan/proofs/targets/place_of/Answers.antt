@@ -1,5 +1,5 @@
 use Rattle.std.proofs.Common.{sym}
-use Rattle.edi_plan.specs.Names.{named}
+use Rattle.edi_plan.specs.inner.Names.{named}
 use Rattle.edi_plan.proofs.TargetLemmas.{only_named}
 use Rattle.edi_plan.proofs.targets.place_of.Goals as goal
 

@@ -1,5 +1,5 @@
 use Rattle.std.proofs.Common.{◌∙◌, sym, ap, subst}
-use Rattle.edi_plan.specs.Targets.{target_kind, IsTargetIfAny}
+use Rattle.edi_plan.specs.inner.Targets.{target_kind, IsTargetIfAny}
 use Rattle.edi_plan.specs.PlanOf.{place_named}
 use Rattle.edi_plan.specs.declared.names.RecordName.{RecordName}
 use Rattle.edi_plan.proofs.TargetLemmas.{coded, leads_nowhere, leads_to, named_target}

@@ -1,5 +1,5 @@
 use Rattle.std.proofs.Common.{take}
-use Rattle.edi_plan.specs.Targets.{AreTargets}
+use Rattle.edi_plan.specs.inner.Targets.{AreTargets}
 use Rattle.edi_plan.proofs.targets.targets.Given as goal
 
 abbrev pub invariant-loop-record : goal.invariant-loop-record

@@ -1,40 +1,33 @@
-use Rattle.std.proofs.Common.{◌≡◌, ◌∙◌, ◌+◌, ◌<◌, ℕ, cond, true, false, ap, sym, arith, length-set, length, subst, get_or, Some, None, is_gt}
-use Rattle.std.specs.Option.{MatchOption}
-use Rattle.std.proofs.lemmas.List.{get_or_default, take_all}
-use Rattle.edi_schema.specs.Sorted.{sort_by}
-use Rattle.edi_plan.specs.Plans.{blank, first_of}
-use Rattle.edi_rank.specs.Keys.{side_by, face_key_cmp}
-use Rattle.edi_rank.specs.Layers.{forward_plan}
-use Rattle.edi_rank.specs.Turned.{is_backward}
-use Rattle.edi_rank.proofs.TurnedRecords.{turned_long}
-use Rattle.edi_rank.proofs.LeastSides.{sides_kept, sides_more, lesser_is}
+use Rattle.std.proofs.Common.{◌≡◌, ◌<◌, ◌≤◌, ℕ, List, ap, sym, length, subst, get_or}
+use Rattle.edi_record.specs.declared.record.Kind.TheVariants.{Par}
+use Rattle.edi_plan.specs.Places.{places_of}
+use Rattle.edi_plan.specs.Plans.{Drawing, IsPlace}
+use Rattle.edi_plan.proofs.PlaceLemmas.{place_there}
+use Rattle.edi_rank.proofs.SidesTaken.{arc_taken, all_taken}
 use Rattle.edi_rank.proofs.face_layer.least_sides.Goals as goal
-use Rattle.edi_rank.proofs.face_layer.least_sides.Goals.{in-Some, in_default}
 
-pub loop-place-preserved : goal.loop-place-preserved
-loop-place-preserved c =
-    let p = c.args.plan.now in
-    let loop = c.loop-place in
-    let by : ℕ → Rattle.edi_plan.specs.declared.record.PlanRecord.PlanRecord → Rattle.std.proofs.Common.Option Rattle.edi_rank.specs.declared.keys.FaceKey.FaceKey = side_by (forward_plan p) (λ k. get_or c.args.numbers.now k 0) in
-    let there : loop.place < length (forward_plan p).list = omega (arith, c.loop-place-test.true, c.len-place-end.ensures, turned_long (λ k. k) (is_backward p) 0 p.list) in
-    elim c.match-side_put.branch [
-      | in-Some w ↦ rw w.sides-is (record {
-        long = length-set loop.sides.items w.in-Some.face (Some w.lesser_side.result) ∙ loop.invariant.long;
-        least = sides_more by (forward_plan p).list blank loop.place there loop.sides.items (length p.list) loop.invariant.long loop.invariant.least
-            w.in-Some.face w.in-Some.side w.lesser_side.result w.in-Some.ensures.there w.in-Some.ensures.side
-            (lesser_is (get_or loop.sides.items w.in-Some.face None) w.in-Some.side w.lesser_side.result
-            (subst (λ o. MatchOption o (w.lesser_side.result ≡ w.in-Some.side) (λ other. w.lesser_side.result ≡ cond (is_gt (face_key_cmp w.in-Some.side other)) other w.in-Some.side))
-            (w.index_mut-least.ensures.value ∙ get_or_default loop.sides.items w.in-Some.face w.index_mut-least.result.now None (omega (arith, w.in-Some.ensures.there, loop.invariant.long))) w.lesser_side.ensures));
-      })
-      | in_default w ↦ rw w.sides-is (record {
-        long = loop.invariant.long;
-        least = sides_kept by (forward_plan p).list blank loop.place there loop.sides.items (length p.list) loop.invariant.long loop.invariant.least (λ x. w.in_default.ensures.side x);
-      })
-    ]
+arc_place : (p : Drawing) (arcs : List ℕ) (i : ℕ) → arcs ≡ places_of Par p → i < length arcs → IsPlace p (get_or arcs i 0)
+arc_place p arcs i e h = subst (λ ks. IsPlace p (get_or ks i 0)) (sym e) (place_there Par p i (subst (λ ks. i < length ks) e h))
+
+pub take_side-requires-clause-place : goal.take_side-requires-clause-place
+take_side-requires-clause-place c = arc_place c.args.plan.now c.places-arc-items.result.now c.loop-arc.arc-index c.loop-arc.invariant.arcs c.loop-arc-test.true
+
+pub take_side-requires-in-loop-arc-clause-place : goal.take_side-requires-in-loop-arc-clause-place
+take_side-requires-in-loop-arc-clause-place c = arc_place c.args.plan.now c.places-arc-items.result.now c.loop-arc.arc-index c.loop-arc.invariant.arcs c.loop-arc-test.true
+
+pub loop-arc-preserved : goal.loop-arc-preserved
+loop-arc-preserved c =
+    let i = c.loop-arc.invariant in
+    let arc = ap (λ ks. get_or ks c.loop-arc.arc-index 0) i.arcs in
+    record {
+      arcs = i.arcs;
+      long = c.take_side-in-loop-arc.ensures.long;
+      least = arc_taken c.args.plan.now (λ k. get_or c.args.numbers.now k 0) c.loop-arc.arc-index c.loop-arc.sides.items c.take_side.new.sides.items c.take_side-in-loop-arc.new.sides.items
+          (rw (sym arc) c.take_side.ensures.taken) (rw (sym arc) c.take_side-in-loop-arc.ensures.taken) i.least;
+    }
 
 pub returns-clause-least : goal.returns-clause-least
-returns-clause-least c k h =
-    let p = c.args.plan.now in
-    c.loop-place.invariant.least k h
-    ∙ ap (λ rs. first_of (sort_by face_key_cmp (Rattle.std.proofs.Common.filter_map (side_by (forward_plan p) (λ k. get_or c.args.numbers.now k 0) k) rs)))
-    (take_all c.loop-place.place (forward_plan p).list (omega (arith, turned_long (λ k. k) (is_backward p) 0 p.list, c.loop-place-test.false, c.len-place-end.ensures)))
+returns-clause-least c =
+    let i = c.loop-arc.invariant in
+    let all : length (places_of Par c.args.plan.now) ≤ c.loop-arc.arc-index = subst (λ ks. length ks ≤ c.loop-arc.arc-index) i.arcs c.loop-arc-test.false in
+    all_taken c.args.plan.now (λ k. get_or c.args.numbers.now k 0) c.keeps.ensures.whole c.keeps.ensures.joined c.loop-arc.arc-index c.loop-arc.sides.items all i.least

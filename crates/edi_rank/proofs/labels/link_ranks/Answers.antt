@@ -2,7 +2,7 @@ use Rattle.std.proofs.Common.{subst, length, get_or}
 use Rattle.edi_record.specs.declared.record.Kind.TheVariants.{Lnk}
 use Rattle.edi_plan.specs.Places.{places_of}
 use Rattle.edi_topo.specs.Ranking.{IsTie, IsRanking}
-use Rattle.edi_rank.specs.Layers.{LinkSource, placed_link_key, placed_link_cmp}
+use Rattle.edi_rank.specs.inner.Layers.{LinkSource, placed_link_key, placed_link_cmp}
 use Rattle.edi_rank.specs.inner.PlacedLinks.{placed_cmp}
 use Rattle.edi_rank.proofs.LinksApart.{placed_order, no_link_ties}
 use Rattle.edi_rank.proofs.Rankings.{ranking_by, tie_by}

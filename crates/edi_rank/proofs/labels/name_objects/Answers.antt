@@ -5,8 +5,9 @@ use Rattle.edi_plan.specs.Plans.{Drawing, IsPlace, record_at, others_of, is_obje
 use Rattle.edi_plan.specs.Whole.{IsWhole}
 use Rattle.edi_plan.specs.declared.record.PlanEnd.{PlanEnd}
 use Rattle.edi_rank.specs.EndOrder.{OthersInOrder, positions_at}
-use Rattle.edi_rank.specs.Pieces.{ObjectSource, IsObjectRanking, object_count}
-use Rattle.edi_rank.proofs.KeysKept.{all_weaker}
+use Rattle.edi_rank.specs.Pieces.{ObjectSource, object_count}
+use Rattle.edi_rank.specs.inner.Pieces.{IsObjectRanking}
+use Rattle.edi_rank.proofs.KeysPreserved.{all_weaker}
 use Rattle.edi_rank.proofs.OthersSorted.{Renumbered, in_order_still, no_object, rest_hold}
 use Rattle.edi_rank.proofs.labels.name_objects.Goals as goal
 

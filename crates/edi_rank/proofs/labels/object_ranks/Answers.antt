@@ -5,12 +5,13 @@ use Rattle.edi_plan.specs.Places.{places_of}
 use Rattle.edi_plan.specs.Plans.{Drawing}
 use Rattle.edi_topo.specs.Ranking.{IsTie, IsRanking}
 use Rattle.edi_topo.specs.declared.fault.TieFault.TheVariants.{Tie}
-use Rattle.edi_rank.specs.Alike.{BreaksObjectRule}
+use Rattle.edi_rank.specs.EqualObjects.{BreaksObjectRule}
 use Rattle.edi_rank.specs.Keys.{object_key_cmp}
-use Rattle.edi_rank.specs.Pieces.{ObjectSource, object_key_at, IsObjectRanking}
+use Rattle.edi_rank.specs.Pieces.{ObjectSource, object_key_at}
+use Rattle.edi_rank.specs.inner.Pieces.{IsObjectRanking}
 use Rattle.edi_rank.specs.contracts.keys.ObjectKeyOrd.TheImpl.{ghosts as objects}
 use Rattle.edi_rank.proofs.KeyOrders.{object_order}
-use Rattle.edi_rank.proofs.ObjectTies.{none_alike, least_alike_object}
+use Rattle.edi_rank.proofs.ObjectTies.{none_equal, least_equal_object}
 use Rattle.edi_rank.proofs.Rankings.{ranking_by, tie_by}
 use Rattle.edi_rank.proofs.labels.object_ranks.Goals as goal
 
@@ -30,7 +31,7 @@ returns-in-Ok-clause-distinct c =
     let p = c.args.sound.now in
     let numbers = c.args.layer.now.numbers in
     let is = ranking (record { plan = p; numbers = numbers }) c.args.layer.now c.in-Ok.ranks (of_plan c.args.layer.now p c.requires.plan) c.in-Ok.ensures.numbers in
-    none_alike p c.plan-plan.ensures.whole (λ k. get_or numbers k 0) c.requires.apart is.distinct
+    none_equal p c.plan-plan.ensures.whole (λ k. get_or numbers k 0) c.requires.apart is.distinct
 
 pub returns-in-Err-Tie-clause-least : goal.returns-in-Err-Tie-clause-least
 returns-in-Err-Tie-clause-least c =
@@ -44,4 +45,4 @@ returns-in-Err-Tie-clause-least c =
     (subst (λ f. IsTie objects.cmp (λ m. object_key_at q (get_or (places_of Fea q.plan) m 0)) (length (places_of Fea q.plan)) f) c.in-Err-Tie.field-0-is c.in-Err-Tie.ensures.tie)) in
     let place : c.place.result ≡ get_or (places_of Fea p) m 0 = subst (λ (r : ObjectSource). c.place.result ≡ get_or (places_of Fea r.plan) m 0) e c.place.ensures in
     subst (IsLeastBroken (BreaksObjectRule p) 501) (sym (ap (λ n. n + 1) (c.from.ensures ∙ place) ∙ add-one (get_or (places_of Fea p) m 0)))
-    (least_alike_object p c.plan-plan.ensures.whole (λ k. get_or q.numbers k 0) c.requires.apart m tie.0 tie.1)
+    (least_equal_object p c.plan-plan.ensures.whole (λ k. get_or q.numbers k 0) c.requires.apart m tie.0 tie.1)

@@ -2,7 +2,7 @@ use Rattle.std.proofs.Common.{◌≤◌, ℕ, List, sym, subst, get_or}
 use Rattle.edi_plan.specs.Plans.{Drawing, IsPlace, record_at, others_of}
 use Rattle.edi_rank.specs.EndOrder.{OthersInOrder}
 use Rattle.edi_rank.specs.Laws.{TellsApart}
-use Rattle.edi_rank.specs.Layers.{IsFaceRanking}
+use Rattle.edi_rank.specs.inner.Layers.{IsFaceRanking}
 use Rattle.edi_rank.specs.Pieces.{ObjectSource, object_count}
 use Rattle.edi_topo.specs.Arcs.{IsForwardRanking}
 use Rattle.edi_topo.specs.NodeKeys.{IsNodeRanking}

@@ -2,7 +2,7 @@ use Rattle.std.proofs.Common.{◌≡◌, ◌∙◌, ◌++◌, ◌∷◌, ◌+◌
 use Rattle.std.proofs.lemmas.List.{append-nil, map-set, length-map, get_or-map}
 use Rattle.std.proofs.lemmas.List.Elements.{recursion_from_All}
 use Rattle.edi_plan.specs.Plans.{IsPlace}
-use Rattle.edi_rank.specs.Pieces.{pieces_from, piece_places}
+use Rattle.edi_rank.specs.inner.Pieces.{pieces_from, piece_places}
 use Rattle.edi_rank.proofs.PieceLists.{drop_past, empties, passed_on, put_on}
 use Rattle.edi_rank.proofs.object_layer.links_by_object.Goals as goal
 use Rattle.edi_rank.proofs.object_layer.links_by_object.Goals.{in-Some+in_ok-push, in_default}

@@ -1,4 +1,4 @@
-use Rattle.edi_record.specs.Layout.{record_zones}
+use Rattle.edi_record.specs.RecordLayout.{record_zones}
 use Rattle.edi_record.specs.inner.RecordRules.{record_tests}
 use Rattle.edi_line.proofs.FirstBroken.{none_broken}
 use Rattle.edi_record.proofs.PrintedRecords.{printed_unbroken}

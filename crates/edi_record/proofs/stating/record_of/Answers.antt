@@ -4,10 +4,10 @@ use Rattle.edi_line.specs.Entry.{entry, entries}
 use Rattle.edi_line.specs.Zones.{before_end, groups_of}
 use Rattle.edi_record.specs.inner.RecordRules.{kind_in}
 use Rattle.edi_record.specs.inner.RecordRefusal.{IsGroupRefusal}
-use Rattle.edi_record.specs.inner.Kept.{KeepsRecord}
+use Rattle.edi_record.specs.inner.Stored.{StoresRecord}
 use Rattle.edi_record.proofs.GroupCuts.{head_kind, one_type, goes_on, stops, no_group}
 use Rattle.edi_record.proofs.Loops.{next_zone, no_zone}
-use Rattle.edi_record.proofs.RecordKept.{skipped}
+use Rattle.edi_record.proofs.RecordStored.{skipped}
 use Rattle.edi_record.proofs.RecordMade.{err_kept}
 use Rattle.edi_record.proofs.stating.record_of.Goals as goal
 use Rattle.edi_record.proofs.stating.record_of.Goals.{else-loop-zone-test, then-loop-zone-test+then-ends_record}
@@ -36,7 +36,7 @@ loop-zone-preserved c =
       own = ap (λ n. n + 1) kept.own;
       kind = c.in_ok-take.ensures.kind ∙ kept.kind;
       counted = omega (arith, c.in_ok-take.ensures.counted, kept.counted);
-      keeps = c.in_ok-take.ensures.keeps (before_end after) group (subst (λ zs. KeepsRecord c.loop-zone.draft zs group) (ap before_end next ∙ goes_on zone after inner) kept.keeps);
+      keeps = c.in_ok-take.ensures.keeps (before_end after) group (subst (λ zs. StoresRecord c.loop-zone.draft zs group) (ap before_end next ∙ goes_on zone after inner) kept.keeps);
       left = sym (ap groups_of next ∙ no_group zone after inner) ∙ kept.left;
     }
 
@@ -50,7 +50,7 @@ returns-in_err-finish-clause-least c =
     ] in
     let kind : kind_in group ≡ Some c.loop-zone.draft.kind = head_kind head (before_end (entries c.args.behind.now)) c.as_slice.result.now c.in-Some.kind c.requires c.as_slice.ensures.value c.in-Some.ensures ∙ ap (λ k. Some k) (sym c.in_ok-draft.ensures.kind ∙ sym c.loop-zone.invariant.kind) in
     err_kept _ c.in_err-finish.field-0.0 (IsGroupRefusal group) c.from_residual-in_err-finish.ensures.1
-    (c.in_err-finish.ensures.least group kind (subst (λ zs. KeepsRecord c.loop-zone.draft zs group) over c.loop-zone.invariant.keeps))
+    (c.in_err-finish.ensures.least group kind (subst (λ zs. StoresRecord c.loop-zone.draft zs group) over c.loop-zone.invariant.keeps))
 
 pub returns-clause-states : goal.returns-clause-states
 returns-clause-states c =
@@ -61,7 +61,7 @@ returns-clause-states c =
       | then-loop-zone-test+then-ends_record w ↦ ap before_end (next_zone c.args.behind.now c.loop-zone.zone-index w.zone-item.result w.loop-zone-test.true w.zone-item.is) ∙ stops (entry w.zone-item.result) (entries (drop (c.loop-zone.zone-index + 1) c.args.behind.now)) (sym w.ends_record.ensures ∙ w.if-ends_record.true)
     ] in
     let kind : kind_in group ≡ Some c.loop-zone.draft.kind = head_kind head (before_end (entries c.args.behind.now)) c.as_slice.result.now c.in-Some.kind c.requires c.as_slice.ensures.value c.in-Some.ensures ∙ ap (λ k. Some k) (sym c.in_ok-draft.ensures.kind ∙ sym c.loop-zone.invariant.kind) in
-    c.in_ok-finish.ensures.states group (one_type head (entries c.args.behind.now) c.requires) kind (subst (λ zs. KeepsRecord c.loop-zone.draft zs group) over c.loop-zone.invariant.keeps)
+    c.in_ok-finish.ensures.states group (one_type head (entries c.args.behind.now) c.requires) kind (subst (λ zs. StoresRecord c.loop-zone.draft zs group) over c.loop-zone.invariant.keeps)
 
 pub returns-clause-sound : goal.returns-clause-sound
 returns-clause-sound c =
@@ -72,4 +72,4 @@ returns-clause-sound c =
       | then-loop-zone-test+then-ends_record w ↦ ap before_end (next_zone c.args.behind.now c.loop-zone.zone-index w.zone-item.result w.loop-zone-test.true w.zone-item.is) ∙ stops (entry w.zone-item.result) (entries (drop (c.loop-zone.zone-index + 1) c.args.behind.now)) (sym w.ends_record.ensures ∙ w.if-ends_record.true)
     ] in
     let kind : kind_in group ≡ Some c.loop-zone.draft.kind = head_kind head (before_end (entries c.args.behind.now)) c.as_slice.result.now c.in-Some.kind c.requires c.as_slice.ensures.value c.in-Some.ensures ∙ ap (λ k. Some k) (sym c.in_ok-draft.ensures.kind ∙ sym c.loop-zone.invariant.kind) in
-    c.in_ok-finish.ensures.sound group kind (subst (λ zs. KeepsRecord c.loop-zone.draft zs group) over c.loop-zone.invariant.keeps)
+    c.in_ok-finish.ensures.sound group kind (subst (λ zs. StoresRecord c.loop-zone.draft zs group) over c.loop-zone.invariant.keeps)

@@ -1,7 +1,7 @@
 use Rattle.std.proofs.Common.{◌≡◌, ◌++◌, map, length}
 use Rattle.edi_line.specs.Entry.{entries}
 use Rattle.edi_line.specs.Zones.{groups_of}
-use Rattle.edi_schema.specs.Drafts.{said, said_in}
+use Rattle.edi_schema.specs.inner.Drafts.{said, said_in}
 use Rattle.edi_schema.proofs.definition.definitions.Given as goal
 
 abbrev pub invariant-loop-rest : goal.invariant-loop-rest

@@ -1,5 +1,5 @@
 use Rattle.std.proofs.Common.{◌≡◌, map, take, Some}
-use Rattle.edi_schema.specs.Drafts.{said, class_in, drafted}
+use Rattle.edi_schema.specs.inner.Drafts.{said, class_in, drafted}
 use Rattle.edi_schema.proofs.draft.drafts.Given as goal
 
 abbrev pub invariant-loop-place : goal.invariant-loop-place

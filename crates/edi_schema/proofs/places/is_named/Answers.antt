@@ -2,7 +2,7 @@ use Rattle.std.proofs.Common.{rules, ◌∙◌, sym}
 use Rattle.std.proofs.lemmas.Iterator.{YieldsList-from_slice}
 use Rattle.std.proofs.lemmas.Iterator.Search.{any_from_yields_List}
 use Rattle.edi_schema.specs.Classes.{is_pointable}
-use Rattle.edi_schema.specs.Drafts.{drafted}
+use Rattle.edi_schema.specs.inner.Drafts.{drafted}
 use Rattle.edi_schema.proofs.Pointable.{any_of_map}
 use Rattle.edi_schema.proofs.places.is_named.Goals as goal
 

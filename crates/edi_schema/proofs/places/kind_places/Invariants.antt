@@ -1,6 +1,6 @@
 use Rattle.std.proofs.Common.{map, take}
-use Rattle.edi_schema.specs.Drafts.{drafted}
-use Rattle.edi_schema.specs.Places.{AreNoted}
+use Rattle.edi_schema.specs.inner.Drafts.{drafted}
+use Rattle.edi_schema.specs.inner.Places.{AreNoted}
 use Rattle.edi_schema.proofs.places.kind_places.Given as goal
 
 abbrev pub invariant-loop-place : goal.invariant-loop-place

@@ -2,9 +2,9 @@ use Rattle.std.proofs.Common.{sym, ◌∙◌, subst, map}
 use Rattle.std.specs.List.{IsDistinct}
 use Rattle.std.proofs.lemmas.Result.{err_from_is_err_and}
 use Rattle.edi_schema.specs.Classes.{is_name}
-use Rattle.edi_schema.specs.Drafts.{said}
-use Rattle.edi_schema.specs.Steps.{IsFirstRepeat}
-use Rattle.edi_schema.specs.Steps.StopsAt.{class_unidentified, word_unidentified, class_repeats, word_repeats, lacks_word}
+use Rattle.edi_schema.specs.inner.Drafts.{said}
+use Rattle.edi_schema.specs.inner.Steps.{IsFirstRepeat}
+use Rattle.edi_schema.specs.inner.Steps.StopsAt.{class_unidentified, word_unidentified, class_repeats, word_repeats, lacks_word}
 use Rattle.edi_schema.proofs.Stopping.{if_stops, all_identified, one_unidentified, names_again, same_keys}
 use Rattle.edi_schema.proofs.schema.stated.Goals as goal
 

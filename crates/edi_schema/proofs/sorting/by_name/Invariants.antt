@@ -1,5 +1,5 @@
 use Rattle.std.proofs.Common.{◌≡◌, map, take}
-use Rattle.edi_schema.specs.Drafts.{drafted}
+use Rattle.edi_schema.specs.inner.Drafts.{drafted}
 use Rattle.edi_schema.proofs.sorting.by_name.Given as goal
 
 abbrev pub invariant-loop-draft : goal.invariant-loop-draft

@@ -1,7 +1,7 @@
 use Rattle.std.proofs.Common.{rules}
 use Rattle.std.proofs.lemmas.Fn.{always_returns_same}
 use Rattle.std.proofs.lemmas.List.Sorted.{IsPermutation-map}
-use Rattle.edi_schema.specs.Drafts.{drafted}
+use Rattle.edi_schema.specs.inner.Drafts.{drafted}
 use Rattle.edi_schema.proofs.InOrder.{sorted_rises, still_distinct}
 use Rattle.edi_schema.proofs.sorting.sorted_by_name.Goals as goal
 

@@ -2,7 +2,7 @@ use Rattle.std.proofs.Common.{◌≡◌, ◌∙◌, ◌+◌, map, take, refl, sy
 use Rattle.std.specs.List.{IsDistinct}
 use Rattle.std.proofs.lemmas.Grind.{common_steps}
 use Rattle.edi_schema.specs.Classes.{is_name}
-use Rattle.edi_schema.specs.Drafts.{named, said}
+use Rattle.edi_schema.specs.inner.Drafts.{named, said}
 use Rattle.edi_schema.proofs.Distinct.{names_distinct, none_distinct, repeat_found, all_distinct}
 use Rattle.edi_schema.proofs.titles.titles.Goals as goal
 

@@ -1,7 +1,7 @@
 use Rattle.std.proofs.Common.{◌≡◌, map, take}
 use Rattle.std.specs.List.{IsDistinct}
 use Rattle.edi_schema.specs.Classes.{is_name}
-use Rattle.edi_schema.specs.Drafts.{named, said}
+use Rattle.edi_schema.specs.inner.Drafts.{named, said}
 use Rattle.edi_schema.proofs.titles.titles.Given as goal
 
 abbrev pub invariant-loop-place : goal.invariant-loop-place

@@ -2,7 +2,7 @@ use Rattle.std.proofs.Common.{◌≡◌, ◌≤◌, ℕ, sym, subst, get_or}
 use Rattle.edi_record.specs.Orders.{points_cmp}
 use Rattle.edi_record.specs.declared.record.Kind.TheVariants.{Par}
 use Rattle.edi_plan.specs.Places.{places_of}
-use Rattle.edi_topo.specs.Arcs.{RepeatsAnEarlierArc}
+use Rattle.edi_topo.specs.inner.Arcs.{RepeatsAnEarlierArc}
 use Rattle.edi_topo.specs.Ranking.{Ties, IsTie}
 use Rattle.edi_topo.specs.declared.fault.TieFault.TheVariants.{Tie}
 use Rattle.edi_topo.proofs.FirstArcRepeat.{key_of, count_of, none_repeats, least_repeats}

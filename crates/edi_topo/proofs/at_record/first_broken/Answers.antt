@@ -1,7 +1,7 @@
 use Rattle.std.proofs.Common.{◌≡◌, ℕ, ◌+◌, ◌<◌, ◌⊎◌, inl, inr, arith, sym, subst, add-one}
 use Rattle.std.proofs.lemmas.Bool.{cases_order}
 use Rattle.edi_line.specs.Refusal.{IsLeastBroken}
-use Rattle.edi_topo.specs.AtRecord.{IsUnbrokenAt}
+use Rattle.edi_topo.specs.inner.AtRecord.{IsUnbrokenAt}
 use Rattle.edi_topo.specs.TopologyRules.{BreaksTopologyRule}
 use Rattle.edi_topo.proofs.AtPlaces.{ahead_more, first_is_least, none_is_broken}
 use Rattle.edi_topo.proofs.at_record.first_broken.Goals as goal

@@ -1,5 +1,5 @@
 use Rattle.std.proofs.Common.{ℕ, ◌<◌}
-use Rattle.edi_topo.specs.AtRecord.{AreAhead, IsUnbrokenAt}
+use Rattle.edi_topo.specs.inner.AtRecord.{AreAhead, IsUnbrokenAt}
 use Rattle.edi_topo.proofs.at_record.first_broken.Given as goal
 
 abbrev pub invariant-loop-place : goal.invariant-loop-place

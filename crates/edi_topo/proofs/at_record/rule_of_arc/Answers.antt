@@ -1,5 +1,5 @@
 use Rattle.std.proofs.Common.{ℕ, ◌≤◌, sym, ap, ◌∙◌, reverse, arith, true≢false}
-use Rattle.edi_topo.specs.Arcs.{RepeatsAnEarlierArc}
+use Rattle.edi_topo.specs.inner.Arcs.{RepeatsAnEarlierArc}
 use Rattle.edi_topo.proofs.AtPlaces.{at_first, has_it, arc_breaks, BreaksOfArc, breaks_of_arc}
 use Rattle.edi_topo.proofs.AtPlaces.BreaksOfArc.{starts, ends, reverses, repeats}
 use Rattle.edi_topo.proofs.at_record.rule_of_arc.Goals as goal

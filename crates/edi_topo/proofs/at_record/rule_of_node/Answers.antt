@@ -1,5 +1,5 @@
 use Rattle.std.proofs.Common.{sym, ◌∙◌, true≢false}
-use Rattle.edi_topo.specs.Nodes.{RepeatsAnEarlier}
+use Rattle.edi_topo.specs.inner.Nodes.{RepeatsAnEarlier}
 use Rattle.edi_topo.proofs.AtPlaces.{at_first, breaks_of_node}
 use Rattle.edi_topo.proofs.at_record.rule_of_node.Goals as goal
 

@@ -1,4 +1,4 @@
-use Rattle.edi_topo.specs.Faces.{AreFacedBelow}
+use Rattle.edi_topo.specs.inner.Faces.{AreFacedBelow}
 use Rattle.edi_topo.proofs.faces.faced.Given as goal
 
 abbrev pub invariant-loop-place : goal.invariant-loop-place

@@ -1,5 +1,5 @@
 use Rattle.std.proofs.Common.{◌≡◌, ◌≤◌, ℕ, sym, subst}
-use Rattle.edi_topo.specs.Nodes.{RepeatsAnEarlier}
+use Rattle.edi_topo.specs.inner.Nodes.{RepeatsAnEarlier}
 use Rattle.edi_topo.specs.Ranking.{Ties, IsTie}
 use Rattle.edi_topo.specs.declared.fault.TieFault.TheVariants.{Tie}
 use Rattle.edi_topo.specs.contracts.node_key.NodeKeyOrd.TheImpl.{ghosts as nodes}

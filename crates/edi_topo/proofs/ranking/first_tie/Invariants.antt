@@ -1,4 +1,4 @@
-use Rattle.edi_topo.specs.Keyed.{IsLeastRepeatIfAny}
+use Rattle.edi_topo.specs.inner.Keyed.{IsLeastRepeatIfAny}
 use Rattle.edi_topo.proofs.ranking.first_tie.Given as goal
 
 abbrev pub invariant-loop-i : goal.invariant-loop-i

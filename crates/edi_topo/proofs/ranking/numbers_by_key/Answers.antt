@@ -1,6 +1,6 @@
 use Rattle.std.proofs.Common.{◌≡◌, ◌<◌, ◌∙◌, sym, subst, arith, get_or}
 use Rattle.edi_topo.proofs.KeyOrder.{long, each_member, members_apart, numbers_are, numbers_onto, keys_apart, along_permutation, along_sorted}
-use Rattle.edi_topo.specs.Keyed.{IsFirstTie}
+use Rattle.edi_topo.specs.inner.Keyed.{IsFirstTie}
 use Rattle.edi_topo.proofs.KeyTies.{first_tie_is}
 use Rattle.edi_topo.proofs.ranking.numbers_by_key.Goals as goal
 

@@ -1,6 +1,6 @@
 use Rattle.std.proofs.Common.{◌≡◌, ℕ, ◌<◌, ◌≤◌, ◌⊎◌, inl, inr, refl, sym, ◌∙◌, ap, subst, Ordering, Err}
 use Rattle.std.proofs.lemmas.Bool.{cases_lt}
-use Rattle.edi_topo.specs.Keyed.{IsFirstTie}
+use Rattle.edi_topo.specs.inner.Keyed.{IsFirstTie}
 use Rattle.edi_topo.specs.Ranking.{IsTie, Ties, IsRanking}
 use Rattle.edi_topo.specs.declared.fault.TieFault.{TieFault}
 use Rattle.edi_topo.specs.declared.fault.TieFault.TheVariants.{Memory, Tie}

@@ -1,10 +1,10 @@
 use Rattle.std.proofs.Common.{◌∙◌, ◌++◌, ◌∷◌, [], map, sym, ap}
 use Rattle.std.specs.Prelude.{flat_map, option_to_list, option_copied}
 use Rattle.edi_line.specs.Printing.{printed}
-use Rattle.edi_record.specs.Layout.{begin_zone, cse_zone, end_zone}
+use Rattle.edi_record.specs.CanonicalZones.{begin_zone, cse_zone, end_zone}
 use Rattle.edi_plan.specs.Plans.{Drawing}
 use Rattle.edi_rank.specs.Arranged.{old_places}
-use Rattle.edi_write.specs.Numbered.{numbered_zones}
+use Rattle.edi_write.specs.inner.Numbered.{numbered_zones}
 use Rattle.edi_write.proofs.LaidOut.{laid_out, joined_parts}
 use Rattle.edi_write.proofs.canon.write_canon.Goals as goal
 

@@ -3,7 +3,7 @@ use Rattle.edi_rank.specs.Labelling.{turned_at}
 use Rattle.edi_rank.specs.Laws.{IsPlanUnder}
 use Rattle.edi_rank.proofs.Arranging.{carries_arranged}
 use Rattle.edi_rank.proofs.ArrangedUnder.{under_arranged}
-use Rattle.edi_rank.proofs.Kept.{joins_kept}
+use Rattle.edi_rank.proofs.Preserved.{joins_kept}
 use Rattle.edi_write.specs.Laws.{ArrangedIsPlan}
 use Rattle.edi_write.proofs.WrittenPrinted.{attribute_classes}
 use Rattle.edi_write.proofs.laws.written_is_from_what_was_read.Goals as goal

@@ -7,7 +7,7 @@ use Rattle.edi_rank.specs.EndOrder.{PutsInOrder, ends_at, positions_at}
 use Rattle.edi_rank.specs.Keys.{ends_key, numbered}
 use Rattle.edi_rank.specs.Labelling.{number_of}
 use Rattle.edi_rank.proofs.OthersSorted.{ends_keyed}
-use Rattle.edi_write.specs.Numbered.{numbered_end_zones}
+use Rattle.edi_write.specs.inner.Numbered.{numbered_end_zones}
 use Rattle.edi_write.proofs.EndsWritten.{origin_first}
 use Rattle.edi_write.proofs.links.write_ends.Goals as goal
 

@@ -8,7 +8,7 @@ use Rattle.edi_rank.specs.EndOrder.{ends_at, no_end}
 use Rattle.edi_rank.specs.Keys.{numbered}
 use Rattle.edi_rank.specs.Labelling.{number_of}
 use Rattle.edi_rank.proofs.OthersSorted.{end_there, length-ends_at, take_whole}
-use Rattle.edi_write.specs.Numbered.{numbered_end_zones}
+use Rattle.edi_write.specs.inner.Numbered.{numbered_end_zones}
 use Rattle.edi_write.proofs.EndsWritten.{ends_more}
 use Rattle.edi_write.proofs.links.write_others.Goals as goal
 

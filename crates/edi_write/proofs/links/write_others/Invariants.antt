@@ -4,7 +4,7 @@ use Rattle.edi_line.specs.Printing.{printed}
 use Rattle.edi_rank.specs.EndOrder.{ends_at}
 use Rattle.edi_rank.specs.Keys.{numbered}
 use Rattle.edi_rank.specs.Labelling.{number_of}
-use Rattle.edi_write.specs.Numbered.{numbered_end_zones}
+use Rattle.edi_write.specs.inner.Numbered.{numbered_end_zones}
 use Rattle.edi_write.proofs.links.write_others.Given as goal
 
 abbrev pub invariant-loop-index : goal.invariant-loop-index

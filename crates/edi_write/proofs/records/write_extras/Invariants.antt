@@ -1,6 +1,6 @@
 use Rattle.std.proofs.Common.{◌≡◌, ◌++◌, map, take}
 use Rattle.edi_line.specs.Printing.{printed}
-use Rattle.edi_record.specs.Layout.{extra_zone}
+use Rattle.edi_record.specs.CanonicalZones.{extra_zone}
 use Rattle.edi_write.proofs.records.write_extras.Given as goal
 
 abbrev pub invariant-loop-extra : goal.invariant-loop-extra

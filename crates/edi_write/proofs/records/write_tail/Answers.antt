@@ -6,13 +6,13 @@ use Rattle.edi_plan.specs.Orders.{attribute_cmp}
 use Rattle.edi_plan.specs.Plans.{record_at}
 use Rattle.edi_rank.proofs.SameLaws.{record_agrees}
 use Rattle.edi_write.proofs.Agreed.{sorted_agree}
-use Rattle.edi_plan.proofs.Lent.{all_lent}
+use Rattle.edi_plan.proofs.Borrowed.{all_borrowed}
 use Rattle.edi_write.proofs.records.write_tail.Goals as goal
 
 pub write_attributes-requires : goal.write_attributes-requires
 write_attributes-requires c =
     let s = c.args.schema.now in
     let agrees = record_agrees s c.args.plan.now.list c.requires.agrees c.args.place c.requires.place in
-    all_lent (λ a. a.now) (AttributeAgrees s) c.deref.result.now
+    all_borrowed (λ a. a.now) (AttributeAgrees s) c.deref.result.now
     (subst (AllByRecursion (AttributeAgrees s)) (sym (ap (map (λ a. a.now)) c.deref.ensures.value ∙ (c.in_ok-attributes.ensures ∙ ap (sort_by attribute_cmp) c.attributes.ensures)))
     (sorted_agree s (record_at c.args.plan.now c.args.place).attributes agrees.attributes))

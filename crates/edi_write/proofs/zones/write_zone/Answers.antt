@@ -1,6 +1,6 @@
 use Rattle.std.proofs.Common.{arith}
 use Rattle.std.proofs.lemmas.Result.{IfOk-equal}
-use Rattle.edi_write.specs.Heads.{headed}
+use Rattle.edi_write.specs.inner.Heads.{headed}
 use Rattle.edi_line.specs.Printing.{next_zone}
 use Rattle.edi_write.proofs.Breaking.{wrote_front, wrote_last}
 use Rattle.edi_write.proofs.zones.write_zone.Goals as goal

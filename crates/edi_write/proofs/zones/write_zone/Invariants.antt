@@ -1,5 +1,5 @@
 use Rattle.std.proofs.Common.{◌≡◌, ◌++◌, length}
-use Rattle.edi_write.specs.Heads.{headed}
+use Rattle.edi_write.specs.inner.Heads.{headed}
 use Rattle.edi_line.specs.Printing.{printed_zone}
 use Rattle.edi_write.proofs.zones.write_zone.Given as goal
 

@@ -10,24 +10,24 @@ use Rattle.edicad.proofs.command.bundle.Goals as goal
 
 pub returns-in-Err-clause-answer : goal.returns-in-Err-clause-answer
 returns-in-Err-clause-answer g c =
-    let told = c.told in
-    let before = g.O.ByteOut.told c.args.out.now in
-    let out = seen before (g.O.ByteOut.told told.new.out) (g.O.ByteOut.has_failed told.new.out) in
-    let err = seen (g.E.ByteOut.told c.args.err.now) (g.E.ByteOut.told told.new.err) (g.E.ByteOut.has_failed told.new.err) in
-    let s = told.result in
+    let answer = c.answer in
+    let before = g.O.ByteOut.contents c.args.out.now in
+    let out = seen before (g.O.ByteOut.contents answer.new.out) (g.O.ByteOut.has_failed answer.new.out) in
+    let err = seen (g.E.ByteOut.contents c.args.err.now) (g.E.ByteOut.contents answer.new.err) (g.E.ByteOut.has_failed answer.new.err) in
+    let s = answer.result in
     let e = c.in-Err.fault in
     let h = c.in-Err.ensures.err in
     let held : Option (List ℕ) = h.0 in
     let failed = g.F.Reader.ByteIn.has_failed h.1 in
     let paths : List (List ℕ) = codes "-" ∷ codes "-" ∷ [] in
-    let W : g.row.O.Denot → ℕ → Type 0 = λ o n. IsTrue (g.O.ByteOut.has_failed o) × IfSome held (λ b. OfParts b (λ scd dic vec. WritesFirst usual_kinds scd dic vec n before (g.O.ByteOut.told o))) in
-    let means = means_fault _ (IfSome held (λ b. OfParts b (SaysRefusal out usual_kinds))) (InputFault usual_kinds held failed (W told.new.out)) (g.F.Folder.why c.args.folder.now) paths out err s e
-    (λ big four. subst (λ o. InputFault usual_kinds held failed (W o) e) (sym (told.ensures.fault big four).1) h.3)
+    let W : g.row.O.Denot → ℕ → Type 0 = λ o n. IsTrue (g.O.ByteOut.has_failed o) × IfSome held (λ b. OfParts b (λ scd dic vec. WritesFirst usual_kinds scd dic vec n before (g.O.ByteOut.contents o))) in
+    let means = means_fault _ (IfSome held (λ b. OfParts b (SaysRefusal out usual_kinds))) (InputFault usual_kinds held failed (W answer.new.out)) (g.F.Folder.why c.args.folder.now) paths out err s e
+    (λ big four. subst (λ o. InputFault usual_kinds held failed (W o) e) (sym (answer.ensures.fault big four).1) h.3)
     (λ is two. input_refused out usual_kinds paths refl held failed (W c.bundle.new.out) e h.3 is
-    (let kept : c.bundle.new.out ≡ c.args.out.now = unwritten e _ c.in-Err.ensures.unwritten is in
-    subst (λ o. Appends (g.O.ByteOut.told o) out.after (ended (words_of_fault e paths))) kept (told.ensures.answer (omega (arith, two))).0))
-    told.ensures.status
-    (λ small four. (told.ensures.unwritten small four).0)
-    (λ big four. (told.ensures.fault big four).0)
-    (λ five. (told.ensures.memory five).0) in
+    (let untouched : c.bundle.new.out ≡ c.args.out.now = unwritten e _ c.in-Err.ensures.unwritten is in
+    subst (λ o. Appends (g.O.ByteOut.contents o) out.after (ended (words_of_fault e paths))) untouched (answer.ensures.answer (omega (arith, two))).0))
+    answer.ensures.status
+    (λ small four. (answer.ensures.unwritten small four).0)
+    (λ big four. (answer.ensures.fault big four).0)
+    (λ five. (answer.ensures.memory five).0) in
     (held, failed, h.2, (λ f. (h.1, f)), means)

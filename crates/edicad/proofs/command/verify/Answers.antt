@@ -2,25 +2,25 @@ use Rattle.std.proofs.Common.{◌<◌, ◌≤◌, ◌≡◌, IsTrue, refl, subst
 use Rattle.edi_compare.specs.Runs.{seen}
 use Rattle.edicad.specs.Outcome.{ended, status_for, words_for}
 use Rattle.edicad.specs.SheetRuns.{inputs_of}
-use Rattle.edicad.specs.Statuses.{IsToldAs, Says, WarnsWhy, verify_paths_of}
+use Rattle.edicad.specs.Statuses.{IsAnsweredAs, Says, WarnsWhy, verify_paths_of}
 use Rattle.edicad.proofs.Pairings.{verified_names, verify_status}
 use Rattle.edicad.proofs.command.verify.Goals as goal
 
-pub told-requires : goal.told-requires
-told-requires g c = rw c.outcome_of_verified-outcome.ensures (verified_names c.verify.result _ refl c.verify.ensures.names)
+pub answer-requires : goal.answer-requires
+answer-requires g c = rw c.outcome_of_verified-outcome.ensures (verified_names c.verify.result _ refl c.verify.ensures.names)
 
 pub returns-clause-answer : goal.returns-clause-answer
 returns-clause-answer g c =
     let is = c.outcome_of_verified-outcome.ensures in
     let folder = c.args.folder.now in
     let inputs = inputs_of g.row.F-Reader.Denot (g.F.Folder.holds folder) (g.F.Folder.closed folder) (g.F.Folder.standard folder) g.F.Reader.ByteIn.has_failed in
-    let out = seen (g.O.ByteOut.told c.args.out.now) (g.O.ByteOut.told c.told.new.out) (g.O.ByteOut.has_failed c.told.new.out) in
-    let err = seen (g.E.ByteOut.told c.args.err.now) (g.E.ByteOut.told c.told.new.err) (g.E.ByteOut.has_failed c.told.new.err) in
+    let out = seen (g.O.ByteOut.contents c.args.out.now) (g.O.ByteOut.contents c.answer.new.out) (g.O.ByteOut.has_failed c.answer.new.out) in
+    let err = seen (g.E.ByteOut.contents c.args.err.now) (g.E.ByteOut.contents c.answer.new.err) (g.E.ByteOut.has_failed c.answer.new.err) in
     let paths = verify_paths_of c.args.files.now c.args.pairing.now in
-    let s = c.told.result in
+    let s = c.answer.result in
     verify_status inputs (g.F.Folder.why folder) out err c.args.kinds.now c.args.files.now c.args.pairing.now s c.verify.result c.verify.ensures.ok c.verify.ensures.err
-    (subst (λ o. IsToldAs (status_for o) s) is c.told.ensures.status)
-    (subst (λ o. s < 3 → Says out (ended (words_for o paths))) is (λ few. (c.told.ensures.answer few).0))
-    (subst (λ o. status_for o < 3 → s ≡ 4 → IsTrue out.failed) is (λ small four. (c.told.ensures.unwritten small four).0))
-    (subst (λ o. 3 ≤ status_for o → s ≡ 4 → WarnsWhy (g.F.Folder.why folder) err o paths) is (λ big four. (c.told.ensures.fault big four).0))
-    (λ five. (c.told.ensures.memory five).0)
+    (subst (λ o. IsAnsweredAs (status_for o) s) is c.answer.ensures.status)
+    (subst (λ o. s < 3 → Says out (ended (words_for o paths))) is (λ few. (c.answer.ensures.answer few).0))
+    (subst (λ o. status_for o < 3 → s ≡ 4 → IsTrue out.failed) is (λ small four. (c.answer.ensures.unwritten small four).0))
+    (subst (λ o. 3 ≤ status_for o → s ≡ 4 → WarnsWhy (g.F.Folder.why folder) err o paths) is (λ big four. (c.answer.ensures.fault big four).0))
+    (λ five. (c.answer.ensures.memory five).0)

@@ -10,8 +10,8 @@ use Rattle.edicad.proofs.hashes.answer_all.Goals as goal
 
 pub loop-path-init : goal.loop-path-init
 loop-path-init g c =
-    let o = g.O.ByteOut.told c.args.out.now in
-    let e = g.E.ByteOut.told c.args.err.now in
+    let o = g.O.ByteOut.contents c.args.out.now in
+    let e = g.E.ByteOut.contents c.args.err.now in
     let inputs = inputs_of g.row.F-Reader.Denot (g.F.Folder.holds c.args.folder.now) (g.F.Folder.closed c.args.folder.now) (g.F.Folder.standard c.args.folder.now) g.F.Reader.ByteIn.has_failed in
     (none_answered inputs (g.F.Folder.why c.args.folder.now) c.args.schema.now o (g.O.ByteOut.has_failed c.args.out.now) e (g.E.ByteOut.has_failed c.args.err.now), inl refl)
 
@@ -20,11 +20,11 @@ loop-path-preserved g c =
     let inputs = inputs_of g.row.F-Reader.Denot (g.F.Folder.holds c.args.folder.now) (g.F.Folder.closed c.args.folder.now) (g.F.Folder.standard c.args.folder.now) g.F.Reader.ByteIn.has_failed in
     let why = g.F.Folder.why c.args.folder.now in
     let s = c.args.schema.now in
-    let out = seen (g.O.ByteOut.told c.args.out.now) (g.O.ByteOut.told c.answer.new.out) (g.O.ByteOut.has_failed c.answer.new.out) in
-    let err = seen (g.E.ByteOut.told c.args.err.now) (g.E.ByteOut.told c.answer.new.err) (g.E.ByteOut.has_failed c.answer.new.err) in
-    let more = answered_more inputs why s (g.O.ByteOut.told c.args.out.now) (g.O.ByteOut.told c.loop-path.out) (g.O.ByteOut.told c.answer.new.out)
+    let out = seen (g.O.ByteOut.contents c.args.out.now) (g.O.ByteOut.contents c.answer.new.out) (g.O.ByteOut.has_failed c.answer.new.out) in
+    let err = seen (g.E.ByteOut.contents c.args.err.now) (g.E.ByteOut.contents c.answer.new.err) (g.E.ByteOut.has_failed c.answer.new.err) in
+    let more = answered_more inputs why s (g.O.ByteOut.contents c.args.out.now) (g.O.ByteOut.contents c.loop-path.out) (g.O.ByteOut.contents c.answer.new.out)
     (g.O.ByteOut.has_failed c.loop-path.out) (g.O.ByteOut.has_failed c.answer.new.out)
-    (g.E.ByteOut.told c.args.err.now) (g.E.ByteOut.told c.loop-path.err) (g.E.ByteOut.told c.answer.new.err)
+    (g.E.ByteOut.contents c.args.err.now) (g.E.ByteOut.contents c.loop-path.err) (g.E.ByteOut.contents c.answer.new.err)
     (g.E.ByteOut.has_failed c.loop-path.err) (g.E.ByteOut.has_failed c.answer.new.err)
     _ _ c.loop-path.worst c.in-Ok.status c.loop-path.invariant.0 c.in-Ok.ensures.ok c.in-Ok.ensures.stays in
     let worst : c.max-worst.result ≡ max c.loop-path.worst c.in-Ok.status = c.max-worst.ensures ∙ ord_max_is c.loop-path.worst c.in-Ok.status in (
@@ -36,20 +36,20 @@ loop-path-preserved g c =
 pub returns-in-Err-clause-answer : goal.returns-in-Err-clause-answer
 returns-in-Err-clause-answer g c =
     let inputs = inputs_of g.row.F-Reader.Denot (g.F.Folder.holds c.args.folder.now) (g.F.Folder.closed c.args.folder.now) (g.F.Folder.standard c.args.folder.now) g.F.Reader.ByteIn.has_failed in
-    inr (cut_off inputs (g.F.Folder.why c.args.folder.now) c.args.schema.now (g.O.ByteOut.told c.args.out.now) (g.O.ByteOut.told c.loop-path.out) (g.O.ByteOut.told c.answer.new.out)
+    inr (cut_off inputs (g.F.Folder.why c.args.folder.now) c.args.schema.now (g.O.ByteOut.contents c.args.out.now) (g.O.ByteOut.contents c.loop-path.out) (g.O.ByteOut.contents c.answer.new.out)
     (g.O.ByteOut.has_failed c.loop-path.out) (g.O.ByteOut.has_failed c.answer.new.out)
-    (g.E.ByteOut.told c.args.err.now) (g.E.ByteOut.told c.loop-path.err) (g.E.ByteOut.told c.unwritten.new.err)
+    (g.E.ByteOut.contents c.args.err.now) (g.E.ByteOut.contents c.loop-path.err) (g.E.ByteOut.contents c.unwritten.new.err)
     (g.E.ByteOut.has_failed c.loop-path.err) (g.E.ByteOut.has_failed c.unwritten.new.err)
     (paths_of c.args.sheets.now) (paths_of (take c.loop-path.path-index c.args.sheets.now)) (paths_of (drop (suc c.loop-path.path-index) c.args.sheets.now)) _
     c.loop-path.worst c.unwritten.result
     (split_at_path c.args.sheets.now c.loop-path.path-index _ c.loop-path-test.true) c.loop-path.invariant.0 c.in-Err.ensures.err.0
-    (subst (λ before. GoesOut (g.E.ByteOut.told before) (g.E.ByteOut.told c.unwritten.new.err) (g.E.ByteOut.has_failed c.unwritten.new.err) (ended (codes "cannot write standard output")))
+    (subst (λ before. GoesOut (g.E.ByteOut.contents before) (g.E.ByteOut.contents c.unwritten.new.err) (g.E.ByteOut.has_failed c.unwritten.new.err) (ended (codes "cannot write standard output")))
     c.in-Err.ensures.err.1 c.unwritten.ensures.text)
     (λ failed. c.unwritten.ensures.stays (c.in-Err.ensures.stays failed)) c.unwritten.ensures.status)
 
 pub returns-clause-answer : goal.returns-clause-answer
 returns-clause-answer g c =
     let inputs = inputs_of g.row.F-Reader.Denot (g.F.Folder.holds c.args.folder.now) (g.F.Folder.closed c.args.folder.now) (g.F.Folder.standard c.args.folder.now) g.F.Reader.ByteIn.has_failed in
-    let out = seen (g.O.ByteOut.told c.args.out.now) (g.O.ByteOut.told c.loop-path.out) (g.O.ByteOut.has_failed c.loop-path.out) in
-    let err = seen (g.E.ByteOut.told c.args.err.now) (g.E.ByteOut.told c.loop-path.err) (g.E.ByteOut.has_failed c.loop-path.err) in
+    let out = seen (g.O.ByteOut.contents c.args.out.now) (g.O.ByteOut.contents c.loop-path.out) (g.O.ByteOut.has_failed c.loop-path.out) in
+    let err = seen (g.E.ByteOut.contents c.args.err.now) (g.E.ByteOut.contents c.loop-path.err) (g.E.ByteOut.has_failed c.loop-path.err) in
     inl (subst (λ paths. AreAnswered inputs (g.F.Folder.why c.args.folder.now) c.args.schema.now out err paths c.loop-path.worst) (all_paths c.args.sheets.now c.loop-path.path-index (omega arith)) c.loop-path.invariant.0)

@@ -9,6 +9,6 @@ use Rattle.edicad.proofs.hashes.answer_all.Given as goal
 abbrev pub invariant-loop-path : goal.invariant-loop-path
 invariant-loop-path g l =
     AreAnswered (inputs_of g.row.F-Reader.Denot (g.F.Folder.holds l.folder) (g.F.Folder.closed l.folder) (g.F.Folder.standard l.folder) g.F.Reader.ByteIn.has_failed)
-    (g.F.Folder.why l.folder) l.schema (seen (g.O.ByteOut.told l.initial.out) (g.O.ByteOut.told l.out) (g.O.ByteOut.has_failed l.out))
-    (seen (g.E.ByteOut.told l.initial.err) (g.E.ByteOut.told l.err) (g.E.ByteOut.has_failed l.err)) (paths_of (take l.path-index l.sheets)) l.worst
+    (g.F.Folder.why l.folder) l.schema (seen (g.O.ByteOut.contents l.initial.out) (g.O.ByteOut.contents l.out) (g.O.ByteOut.has_failed l.out))
+    (seen (g.E.ByteOut.contents l.initial.err) (g.E.ByteOut.contents l.err) (g.E.ByteOut.has_failed l.err)) (paths_of (take l.path-index l.sheets)) l.worst
     × IsSheetStatus l.worst

@@ -11,8 +11,8 @@ use Rattle.edicad.proofs.hashes.hash.Goals as goal
 pub returns-in-Ok-clause-answer : goal.returns-in-Ok-clause-answer
 returns-in-Ok-clause-answer g c =
     let inputs = inputs_of g.row.F-Reader.Denot (g.F.Folder.holds c.args.folder.now) (g.F.Folder.closed c.args.folder.now) (g.F.Folder.standard c.args.folder.now) g.F.Reader.ByteIn.has_failed in
-    let out = seen (g.O.ByteOut.told c.args.out.now) (g.O.ByteOut.told c.answer_all.new.out) (g.O.ByteOut.has_failed c.answer_all.new.out) in
-    let err = seen (g.E.ByteOut.told c.args.err.now) (g.E.ByteOut.told c.answer_all.new.err) (g.E.ByteOut.has_failed c.answer_all.new.err) in
+    let out = seen (g.O.ByteOut.contents c.args.out.now) (g.O.ByteOut.contents c.answer_all.new.out) (g.O.ByteOut.has_failed c.answer_all.new.out) in
+    let err = seen (g.E.ByteOut.contents c.args.err.now) (g.E.ByteOut.contents c.answer_all.new.err) (g.E.ByteOut.has_failed c.answer_all.new.err) in
     inl (
       c.in-Ok.schema,
       c.in-Ok.ensures.ok,
@@ -22,10 +22,10 @@ returns-in-Ok-clause-answer g c =
 pub returns-in-Err-clause-answer : goal.returns-in-Err-clause-answer
 returns-in-Err-clause-answer g c =
     let inputs = inputs_of g.row.F-Reader.Denot (g.F.Folder.holds c.args.folder.now) (g.F.Folder.closed c.args.folder.now) (g.F.Folder.standard c.args.folder.now) g.F.Reader.ByteIn.has_failed in
-    let told = c.told in
-    let out = seen (g.O.ByteOut.told c.args.out.now) (g.O.ByteOut.told told.new.out) (g.O.ByteOut.has_failed told.new.out) in
-    let err = seen (g.E.ByteOut.told c.args.err.now) (g.E.ByteOut.told told.new.err) (g.E.ByteOut.has_failed told.new.err) in
-    let s = told.result in
+    let answer = c.answer in
+    let out = seen (g.O.ByteOut.contents c.args.out.now) (g.O.ByteOut.contents answer.new.out) (g.O.ByteOut.has_failed answer.new.out) in
+    let err = seen (g.E.ByteOut.contents c.args.err.now) (g.E.ByteOut.contents answer.new.err) (g.E.ByteOut.has_failed answer.new.err) in
+    let s = answer.result in
     let e = c.in-Err.fault in
     let kinds = c.args.kinds.now in
     let files = c.args.files.now in
@@ -35,9 +35,9 @@ returns-in-Err-clause-answer g c =
       schema_tried inputs kinds files e c.in-Err.ensures.err,
       means_fault _ (RefusesFiles inputs kinds files (λ f. Says out (ended (schema_text f)))) (SchemaFault inputs kinds files) why paths out err s e (λ big four. c.in-Err.ensures.err)
           (λ is two. schema_refused inputs kinds files out paths e c.in-Err.ensures.err is
-          (told.ensures.answer (omega (arith, two))).0)
-          told.ensures.status
-          (λ small four. (told.ensures.unwritten small four).0)
-          (λ big four. (told.ensures.fault big four).0)
-          (λ five. (told.ensures.memory five).0),
+          (answer.ensures.answer (omega (arith, two))).0)
+          answer.ensures.status
+          (λ small four. (answer.ensures.unwritten small four).0)
+          (λ big four. (answer.ensures.fault big four).0)
+          (λ five. (answer.ensures.memory five).0),
     )

@@ -4,9 +4,9 @@ use Rattle.edicad.proofs.sheets.bundle.Goals as goal
 
 pub returns-clause-ok : goal.returns-clause-ok
 returns-clause-ok g c =
-    on_ok_map c.run_bundle.result _ _ (λ h. (g.F.Reader.ByteIn.told c.input-input.result, c.input-input.ensures, h)) (rw c.usual.ensures at c.run_bundle.ensures.ok)
+    on_ok_map c.run_bundle.result _ _ (λ h. (g.F.Reader.ByteIn.contents c.input-input.result, c.input-input.ensures, h)) (rw c.usual.ensures at c.run_bundle.ensures.ok)
 
 pub returns-clause-err : goal.returns-clause-err
 returns-clause-err g c =
-    if_err_map c.run_bundle.result _ _ (λ e h. (g.F.Reader.ByteIn.told c.input-input.result, c.run_bundle.new.reader, c.input-input.ensures, h))
+    if_err_map c.run_bundle.result _ _ (λ e h. (g.F.Reader.ByteIn.contents c.input-input.result, c.run_bundle.new.reader, c.input-input.ensures, h))
     (rw c.usual.ensures at c.run_bundle.ensures.err)

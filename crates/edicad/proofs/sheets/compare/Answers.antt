@@ -6,11 +6,11 @@ use Rattle.edicad.proofs.sheets.compare.Goals as goal
 pub returns-clause-err : goal.returns-clause-err
 returns-clause-err g c =
     let folder = c.args.folder.now in
-    let told = g.F.Reader.ByteIn.told in
+    let contents = g.F.Reader.ByteIn.contents in
     let failed = g.F.Reader.ByteIn.has_failed in
     let after = c.run_compare.new in
     pair_fault (inputs_of g.row.F-Reader.Denot (g.F.Folder.holds folder) (g.F.Folder.closed folder) (g.F.Folder.standard folder) failed) c.args.kinds.now c.args.files.now
-    (seen (told c.in_ok-scd.scd) (told after.scd) (failed after.scd)) (seen (told c.in_ok-dic.dic) (told after.dic) (failed after.dic))
-    (seen (told c.in_ok-first.first) (told after.first) (failed after.first)) (seen (told c.in_ok-second.second) (told after.second) (failed after.second))
+    (seen (contents c.in_ok-scd.scd) (contents after.scd) (failed after.scd)) (seen (contents c.in_ok-dic.dic) (contents after.dic) (failed after.dic))
+    (seen (contents c.in_ok-first.first) (contents after.first) (failed after.first)) (seen (contents c.in_ok-second.second) (contents after.second) (failed after.second))
     c.in_ok-scd.ensures.ok c.in_ok-dic.ensures.ok c.in_ok-first.ensures.ok c.in_ok-second.ensures.ok
     (λ h. (after.scd, h)) (λ h. (after.dic, h)) (λ h. (after.first, h)) (λ h. (after.second, h)) _ c.run_compare.result c.run_compare.ensures.err

@@ -14,7 +14,7 @@ returns-in-Ok-put-clause-ok g c =
     let made = shown inputs c.args.kinds.now c.args.files.now c.args.brief _ c.in-Ok.ensures.ok in (
       c.if-is_pair_input.ensures,
       of_made_pair inputs c.args.kinds.now c.args.files.now (ShowsDifference c.args.kinds.now c.args.brief c.in-Ok.field-0.difference) c.in-Ok.field-0.picture.items _ c.deref.ensures.value made
-          (Reaches g.row.F-Sink.Denot (g.F.Folder.holds c.put.new.folder c.args.out.now) (g.F.Folder.sinks folder c.args.out.now) g.F.Sink.ByteOut.told) c.in-Ok-put.ensures.ok,
+          (Reaches g.row.F-Sink.Denot (g.F.Folder.holds c.put.new.folder c.args.out.now) (g.F.Folder.sinks folder c.args.out.now) g.F.Sink.ByteOut.contents) c.in-Ok-put.ensures.ok,
     )
 
 pub returns-in-Ok-put-clause-replaced : goal.returns-in-Ok-put-clause-replaced
@@ -32,7 +32,7 @@ returns-in-Err-put-clause-err g c =
     let folder = c.args.folder.now in
     let inputs = inputs_of g.row.F-Reader.Denot (g.F.Folder.holds folder) (g.F.Folder.closed folder) (g.F.Folder.standard folder) g.F.Reader.ByteIn.has_failed in
     let stops = Stops g.row.F-Sink.Denot (IsUnmade g.row.F-NewFile.Denot (g.F.Folder.unwritable c.put.new.folder c.args.out.now) g.F.NewFile.ByteOut.has_failed)
-    (g.F.Folder.sinks folder c.args.out.now) g.F.Sink.ByteOut.told g.F.Sink.ByteOut.has_failed in
+    (g.F.Folder.sinks folder c.args.out.now) g.F.Sink.ByteOut.contents g.F.Sink.ByteOut.has_failed in
     let made = shown inputs c.args.kinds.now c.args.files.now c.args.brief _ c.in-Ok.ensures.ok in
     let some = shown_of_some inputs c.args.kinds.now c.args.files.now c.args.brief c.in-Ok.field-0.difference c.in-Ok.field-0.picture.items made in
     let IsMade = IsPictureOfPair c.args.kinds.now c.args.brief in
@@ -59,7 +59,7 @@ returns-in-Err-clause-err g c =
     let folder = c.args.folder.now in
     let inputs = inputs_of g.row.F-Reader.Denot (g.F.Folder.holds folder) (g.F.Folder.closed folder) (g.F.Folder.standard folder) g.F.Reader.ByteIn.has_failed in
     let stops = Stops g.row.F-Sink.Denot (IsUnmade g.row.F-NewFile.Denot (g.F.Folder.unwritable folder c.args.out.now) g.F.NewFile.ByteOut.has_failed)
-    (g.F.Folder.sinks folder c.args.out.now) g.F.Sink.ByteOut.told g.F.Sink.ByteOut.has_failed in
+    (g.F.Folder.sinks folder c.args.out.now) g.F.Sink.ByteOut.contents g.F.Sink.ByteOut.has_failed in
     inr (
       c.if-is_pair_input.ensures,
       pair_unwritten inputs c.args.kinds.now c.args.files.now (λ n. OfMadePair inputs (IsPictureOfPair c.args.kinds.now c.args.brief) c.args.files.now (stops n)) c.in-Err.fault

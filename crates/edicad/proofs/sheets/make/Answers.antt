@@ -6,9 +6,9 @@ use Rattle.edicad.proofs.sheets.make.Goals as goal
 pub returns-clause-err : goal.returns-clause-err
 returns-clause-err g c =
     let folder = c.args.folder.now in
-    let told = g.F.Reader.ByteIn.told in
+    let contents = g.F.Reader.ByteIn.contents in
     let failed = g.F.Reader.ByteIn.has_failed in
     file_fault (inputs_of g.row.F-Reader.Denot (g.F.Folder.holds folder) (g.F.Folder.closed folder) (g.F.Folder.standard folder) failed) c.args.kinds.now c.args.files.now
-    (seen (told c.in_ok-scd.scd) (told c.made_of.new.scd) (failed c.made_of.new.scd)) (seen (told c.in_ok-dic.dic) (told c.made_of.new.dic) (failed c.made_of.new.dic))
-    (seen (told c.in_ok-vec.vec) (told c.made_of.new.vec) (failed c.made_of.new.vec)) c.in_ok-scd.ensures.ok c.in_ok-dic.ensures.ok c.in_ok-vec.ensures.ok
+    (seen (contents c.in_ok-scd.scd) (contents c.made_of.new.scd) (failed c.made_of.new.scd)) (seen (contents c.in_ok-dic.dic) (contents c.made_of.new.dic) (failed c.made_of.new.dic))
+    (seen (contents c.in_ok-vec.vec) (contents c.made_of.new.vec) (failed c.made_of.new.vec)) c.in_ok-scd.ensures.ok c.in_ok-dic.ensures.ok c.in_ok-vec.ensures.ok
     (λ h. (c.made_of.new.scd, h)) (λ h. (c.made_of.new.dic, h)) (λ h. (c.made_of.new.vec, h)) _ _ c.made_of.result (λ _. ⊥) c.made_of.ensures.err

@@ -13,7 +13,7 @@ returns-in-Ok-clause-ok g c =
     let inputs = inputs_of g.row.F-Reader.Denot (g.F.Folder.holds folder) (g.F.Folder.closed folder) (g.F.Folder.standard folder) g.F.Reader.ByteIn.has_failed in (
       c.if-is_pair_input.ensures,
       of_made_pair inputs c.args.kinds.now c.args.files.now (IsPairingFileOf c.args.kinds.now) c.in-Ok-Same.file.items _ c.deref.ensures.value (rw c.in-Ok-Same.field-0-is at c.in-Ok-Same.ensures.ok)
-          (Reaches g.row.F-Sink.Denot (g.F.Folder.holds c.put.new.folder c.args.out.now) (g.F.Folder.sinks folder c.args.out.now) g.F.Sink.ByteOut.told) c.in-Ok.ensures.ok,
+          (Reaches g.row.F-Sink.Denot (g.F.Folder.holds c.put.new.folder c.args.out.now) (g.F.Folder.sinks folder c.args.out.now) g.F.Sink.ByteOut.contents) c.in-Ok.ensures.ok,
     )
 
 pub returns-in-Ok-clause-replaced : goal.returns-in-Ok-clause-replaced
@@ -29,7 +29,7 @@ returns-in-Ok-Same-clause-err g c =
     let folder = c.args.folder.now in
     let inputs = inputs_of g.row.F-Reader.Denot (g.F.Folder.holds folder) (g.F.Folder.closed folder) (g.F.Folder.standard folder) g.F.Reader.ByteIn.has_failed in
     let stops = Stops g.row.F-Sink.Denot (IsUnmade g.row.F-NewFile.Denot (g.F.Folder.unwritable c.put.new.folder c.args.out.now) g.F.NewFile.ByteOut.has_failed)
-    (g.F.Folder.sinks folder c.args.out.now) g.F.Sink.ByteOut.told g.F.Sink.ByteOut.has_failed in
+    (g.F.Folder.sinks folder c.args.out.now) g.F.Sink.ByteOut.contents g.F.Sink.ByteOut.has_failed in
     inr (
       c.if-is_pair_input.ensures,
       pair_put_fault inputs c.args.kinds.now c.args.files.now (IsPairingFileOf c.args.kinds.now) c.in-Ok-Same.file.items _ c.deref.ensures.value (rw c.in-Ok-Same.field-0-is at c.in-Ok-Same.ensures.ok)
@@ -51,7 +51,7 @@ returns-clause-err g c =
     let folder = c.args.folder.now in
     let inputs = inputs_of g.row.F-Reader.Denot (g.F.Folder.holds folder) (g.F.Folder.closed folder) (g.F.Folder.standard folder) g.F.Reader.ByteIn.has_failed in
     let stops = Stops g.row.F-Sink.Denot (IsUnmade g.row.F-NewFile.Denot (g.F.Folder.unwritable folder c.args.out.now) g.F.NewFile.ByteOut.has_failed)
-    (g.F.Folder.sinks folder c.args.out.now) g.F.Sink.ByteOut.told g.F.Sink.ByteOut.has_failed in
+    (g.F.Folder.sinks folder c.args.out.now) g.F.Sink.ByteOut.contents g.F.Sink.ByteOut.has_failed in
     inr (
       c.if-is_pair_input.ensures,
       pair_unwritten inputs c.args.kinds.now c.args.files.now (λ n. OfPairing inputs c.args.kinds.now c.args.files.now (stops n)) c.in-Err.fault

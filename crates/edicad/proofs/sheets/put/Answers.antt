@@ -11,7 +11,7 @@ returns-in-Err-clause-err g c =
     let folder = c.args.folder.now in
     let inputs = inputs_of g.row.F-Reader.Denot (g.F.Folder.holds folder) (g.F.Folder.closed folder) (g.F.Folder.standard folder) g.F.Reader.ByteIn.has_failed in
     let stops = Stops g.row.F-Sink.Denot (IsUnmade g.row.F-NewFile.Denot (g.F.Folder.unwritable folder c.args.out.now) g.F.NewFile.ByteOut.has_failed)
-    (g.F.Folder.sinks folder c.args.out.now) g.F.Sink.ByteOut.told g.F.Sink.ByteOut.has_failed in
+    (g.F.Folder.sinks folder c.args.out.now) g.F.Sink.ByteOut.contents g.F.Sink.ByteOut.has_failed in
     inr (
       c.if-is_input.ensures,
       fault_unwritten inputs c.args.kinds.now c.args.files.now (λ n. OfMade inputs c.args.product c.args.kinds.now c.args.files.now (stops n)) c.in-Err.fault
@@ -26,7 +26,7 @@ returns-in-Ok-clause-ok g c =
     (λ h. (
       c.if-is_input.ensures,
       of_made inputs c.args.product c.args.kinds.now c.args.files.now c.in-Ok.bytes.items _ c.deref.ensures.value c.in-Ok.ensures.ok
-          (Reaches g.row.F-Sink.Denot (g.F.Folder.holds c.put.new.folder c.args.out.now) (g.F.Folder.sinks folder c.args.out.now) g.F.Sink.ByteOut.told) h,
+          (Reaches g.row.F-Sink.Denot (g.F.Folder.holds c.put.new.folder c.args.out.now) (g.F.Folder.sinks folder c.args.out.now) g.F.Sink.ByteOut.contents) h,
     ))
     c.put.ensures.ok
 
@@ -35,7 +35,7 @@ returns-in-Ok-clause-err g c =
     let folder = c.args.folder.now in
     let inputs = inputs_of g.row.F-Reader.Denot (g.F.Folder.holds folder) (g.F.Folder.closed folder) (g.F.Folder.standard folder) g.F.Reader.ByteIn.has_failed in
     let stops = Stops g.row.F-Sink.Denot (IsUnmade g.row.F-NewFile.Denot (g.F.Folder.unwritable c.put.new.folder c.args.out.now) g.F.NewFile.ByteOut.has_failed)
-    (g.F.Folder.sinks folder c.args.out.now) g.F.Sink.ByteOut.told g.F.Sink.ByteOut.has_failed in
+    (g.F.Folder.sinks folder c.args.out.now) g.F.Sink.ByteOut.contents g.F.Sink.ByteOut.has_failed in
     if_err_map c.put.result _ _
     (λ e h. inr (
       c.if-is_input.ensures,

@@ -9,9 +9,9 @@ pub returns-in-Err-clause-err : goal.returns-in-Err-clause-err
 returns-in-Err-clause-err g c =
     let folder = c.args.folder.now in
     let inputs = inputs_of g.row.F-Reader.Denot (g.F.Folder.holds folder) (g.F.Folder.closed folder) (g.F.Folder.standard folder) g.F.Reader.ByteIn.has_failed in
-    let told = g.O.ByteOut.told c.args.out.now in
+    let contents = g.O.ByteOut.contents c.args.out.now in
     fault_unwritten inputs c.args.kinds.now c.args.files.now
-    (λ n. IsTrue (g.O.ByteOut.has_failed c.args.out.now) × OfMade inputs c.args.product c.args.kinds.now c.args.files.now (λ b. (n ≤ length b) × Appends told told (take n b))) c.in-Err.fault
+    (λ n. IsTrue (g.O.ByteOut.has_failed c.args.out.now) × OfMade inputs c.args.product c.args.kinds.now c.args.files.now (λ b. (n ≤ length b) × Appends contents contents (take n b))) c.in-Err.fault
     c.in-Err.ensures.err
 
 pub returns-in-Ok-clause-ok : goal.returns-in-Ok-clause-ok
@@ -20,15 +20,15 @@ returns-in-Ok-clause-ok g c =
     let inputs = inputs_of g.row.F-Reader.Denot (g.F.Folder.holds folder) (g.F.Folder.closed folder) (g.F.Folder.standard folder) g.F.Reader.ByteIn.has_failed in
     on_ok_map c.sent.result _ _
     (of_made inputs c.args.product c.args.kinds.now c.args.files.now c.in-Ok.bytes.items _ c.deref.ensures.value c.in-Ok.ensures.ok
-    (Appends (g.O.ByteOut.told c.args.out.now) (g.O.ByteOut.told c.sent.new.out)))
+    (Appends (g.O.ByteOut.contents c.args.out.now) (g.O.ByteOut.contents c.sent.new.out)))
     c.sent.ensures.ok
 
 pub returns-in-Ok-clause-err : goal.returns-in-Ok-clause-err
 returns-in-Ok-clause-err g c =
     let folder = c.args.folder.now in
     let inputs = inputs_of g.row.F-Reader.Denot (g.F.Folder.holds folder) (g.F.Folder.closed folder) (g.F.Folder.standard folder) g.F.Reader.ByteIn.has_failed in
-    let old = g.O.ByteOut.told c.args.out.now in
-    let new = g.O.ByteOut.told c.sent.new.out in
+    let old = g.O.ByteOut.contents c.args.out.now in
+    let new = g.O.ByteOut.contents c.sent.new.out in
     let failed = IsTrue (g.O.ByteOut.has_failed c.sent.new.out) in
     let First : ℕ → List ℕ → Type 0 = λ n b. (n ≤ length b) × Appends old new (take n b) in
     if_err_map c.sent.result _ _

@@ -7,5 +7,5 @@ use Rattle.uses.proofs.feeding.zones_of_stream.Given as goal
 abbrev pub invariant-loop-turn : goal.invariant-loop-turn
 invariant-loop-turn g l =
     (b : List ℕ) × StandsFor b l.feed × (l.feed.refused ≡ None)
-    × Consumes (g.R.ByteIn.told l.initial.stream) (g.R.ByteIn.told l.stream) b
+    × Consumes (g.R.ByteIn.contents l.initial.stream) (g.R.ByteIn.contents l.stream) b
     × (length b ≤ l._turn * 4096)

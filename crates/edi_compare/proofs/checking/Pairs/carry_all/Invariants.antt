@@ -1,5 +1,5 @@
 use Rattle.std.proofs.Common.{ℕ, ◌<◌}
-use Rattle.edi_compare.specs.Checking.{IsCarried}
+use Rattle.edi_compare.specs.inner.Checking.{IsCarried}
 use Rattle.edi_compare.proofs.checking.Pairs.carry_all.Given as goal
 
 -- the records so far are carried

@@ -1,7 +1,7 @@
 use Rattle.std.proofs.Common.{◌≡◌, ◌+◌, [], ◌∷◌, ◌++◌, List, ap, arith, length, length-append, subst, sym}
 use Rattle.edi_matching.proofs.Totals.{goes_within}
 use Rattle.edi_diff.specs.declared.parts.Parts.{Parts}
-use Rattle.edi_diff.proofs.PartsTold.{ArePartsUpTo, parts_more}
+use Rattle.edi_diff.proofs.PartsReported.{ArePartsUpTo, parts_more}
 use Rattle.edi_diff.proofs.parting.Compared.all_parts.Goals as goal
 
 pub loop-place-preserved : goal.loop-place-preserved

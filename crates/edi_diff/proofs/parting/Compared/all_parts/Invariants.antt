@@ -1,5 +1,5 @@
 use Rattle.std.proofs.Common.{◌≡◌, length}
-use Rattle.edi_diff.proofs.PartsTold.{ArePartsUpTo}
+use Rattle.edi_diff.proofs.PartsReported.{ArePartsUpTo}
 use Rattle.edi_diff.proofs.parting.Compared.all_parts.Given as goal
 
 -- the parts of the records so far

@@ -6,5 +6,5 @@ use Rattle.edi_diff.proofs.parting.Compared.parts_at.Goals as goal
 
 pub returns-then-is_some : goal.returns-then-is_some
 returns-then-is_some c = λ j free goes.
-    absurd (free (subst (λ (m : Comparison). IsMatched m.kept c.args.place) c.self.view_is
-    (some_there (get_or c.self.inside.kept.now c.args.place None) (sym c.is_some.ensures ∙ c.if-is_some.true))))
+    absurd (free (subst (λ (m : Comparison). IsMatched m.unchanged c.args.place) c.self.view_is
+    (some_there (get_or c.self.inside.unchanged.now c.args.place None) (sym c.is_some.ensures ∙ c.if-is_some.true))))

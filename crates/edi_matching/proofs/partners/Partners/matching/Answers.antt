@@ -5,7 +5,7 @@ use Rattle.edi_plan.specs.Plans.{Drawing}
 use Rattle.edi_plan.specs.Whole.{IsWhole}
 use Rattle.edi_topo.specs.TopologyRules.{BreaksTopologyRule}
 use Rattle.edi_matching.specs.inner.Partners.{TwoPlans}
-use Rattle.edi_matching.proofs.PartnersHold.{one_goes_more, partners_told}
+use Rattle.edi_matching.proofs.PartnersHold.{one_goes_more, partners_known}
 use Rattle.edi_matching.proofs.partners.Partners.matching.Goals as goal
 
 pub loop-place-preserved : goal.loop-place-preserved
@@ -27,8 +27,8 @@ returns c =
     let here : c.self.inside.plan.now ≡ two.plan = ap (λ (t : TwoPlans). t.plan) c.self.view_is in
     let there : c.self.inside.other.now ≡ two.other = ap (λ (t : TwoPlans). t.other) c.self.view_is in
     let long : length c.self.inside.plan.now.list ≡ length two.plan.list = ap (λ (p : Drawing). length p.list) here in
-    let told =
-    partners_told two (subst IsWhole here c.keeps.ensures.whole) (subst IsWhole there c.keeps-2.ensures.whole) (subst (λ (p : Drawing). IsUnbroken (BreaksTopologyRule p)) here c.self.invariant.0.0)
+    let contents =
+    partners_known two (subst IsWhole here c.keeps.ensures.whole) (subst IsWhole there c.keeps-2.ensures.whole) (subst (λ (p : Drawing). IsUnbroken (BreaksTopologyRule p)) here c.self.invariant.0.0)
     c.loop-place.to.items c.loop-place.turned.items c.from_vec.result c.from_vec-2.result c.from_vec.ensures c.from_vec-2.ensures c.loop-place.place
     (omega (arith, long)) inv.to_long inv.turned_long inv.each in
-    record { holds = told.0; partners = told.1 }
+    record { holds = contents.0; partners = contents.1 }

@@ -1,5 +1,5 @@
 use Rattle.std.proofs.Common.{true≢false, sym, ◌∙◌}
-use Rattle.edi_matching.proofs.Checked.{holds_told}
+use Rattle.edi_matching.proofs.Checked.{holds_known}
 use Rattle.edi_matching.proofs.record.Proposed.holds_there.Goals as goal
 use Rattle.edi_matching.proofs.record.Proposed.holds_there.Goals.{then-not-may_turn-via-then-not-may_turn, then-not-may_turn-via-else-not-may_turn+then-not-has_matched_ends}
 
@@ -13,4 +13,4 @@ returns-then-not-may_turn c = (
 )
 
 pub returns : goal.returns
-returns c = holds_told c.args.self.now c.args.place c.args.target c.requires.goes (c.may_turn.ensures.0 c.if-not-may_turn.false) (c.has_matched_ends.ensures.0 c.if-not-has_matched_ends.false) c.is_carried.result c.is_carried.ensures
+returns c = holds_known c.args.self.now c.args.place c.args.target c.requires.goes (c.may_turn.ensures.0 c.if-not-may_turn.false) (c.has_matched_ends.ensures.0 c.if-not-has_matched_ends.false) c.is_carried.result c.is_carried.ensures

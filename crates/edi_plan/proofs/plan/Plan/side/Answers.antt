@@ -1,7 +1,7 @@
 use Rattle.std.proofs.Common.{◌∙◌, sym, ap, subst}
 use Rattle.edi_plan.specs.Plans.{Drawing}
 use Rattle.edi_plan.specs.Sides.{IsSideIfAny}
-use Rattle.edi_plan.specs.SideTable.{side_at}
+use Rattle.edi_plan.specs.inner.SideTable.{side_at}
 use Rattle.edi_plan.proofs.plan.Plan.side.Goals as goal
 
 pub returns : goal.returns

@@ -13,11 +13,12 @@ use Rattle.edi_topo.specs.TopologyRules.{BreaksTopologyRule}
 use Rattle.edi_topo.proofs.NodeOrders.{node_key_total}
 use Rattle.edi_rank.specs.EndOrder.{OthersInOrder}
 use Rattle.edi_rank.specs.Laws.{TellsApart}
-use Rattle.edi_rank.specs.Pieces.{IsObjectRanking}
+use Rattle.edi_rank.specs.inner.Pieces.{IsObjectRanking}
 use Rattle.edi_rank.specs.Keys.{face_key_cmp, object_key, object_key_cmp}
 use Rattle.edi_rank.specs.Labelling.{Labelling, AreLabels, order_of}
 use Rattle.edi_topo.specs.Arcs.{forward_keys, IsForwardRanking}
-use Rattle.edi_rank.specs.Layers.{face_keys, no_side, number_by, ranked, placed_link_cmp, placed_link_key, LinkSource, IsFaceRanking, IsLinkRanking}
+use Rattle.edi_rank.specs.Layers.{face_keys, no_side, number_by, ranked}
+use Rattle.edi_rank.specs.inner.Layers.{placed_link_cmp, placed_link_key, LinkSource, IsFaceRanking, IsLinkRanking}
 use Rattle.edi_rank.proofs.LabelsMade.{KindLabels, Ranked, ranks_of, kind_labels, lower_ranked, link_or_not, no_link, labels_made}
 use Rattle.edi_rank.proofs.LinksApart.{placed_total}
 use Rattle.edi_rank.proofs.LowerNumbers.{lower_apart, objects_zero}

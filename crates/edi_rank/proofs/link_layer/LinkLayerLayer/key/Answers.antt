@@ -5,7 +5,7 @@ use Rattle.edi_plan.specs.Plans.{IsPlace, others_of, record_at}
 use Rattle.edi_plan.proofs.PlaceLemmas.{place_there}
 use Rattle.edi_rank.specs.EndOrder.{PutsInOrder}
 use Rattle.edi_plan.specs.Orders.{attribute_cmp}
-use Rattle.edi_rank.specs.Layers.{LinkSource}
+use Rattle.edi_rank.specs.inner.Layers.{LinkSource}
 use Rattle.edi_rank.specs.inner.PlacedLinks.{has_neither, is_empty}
 use Rattle.edi_rank.proofs.PlacedLinks.{sorted_empty}
 use Rattle.edi_rank.proofs.SameLaws.{record_agrees}

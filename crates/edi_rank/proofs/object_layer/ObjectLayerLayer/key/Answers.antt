@@ -8,7 +8,8 @@ use Rattle.edi_plan.proofs.PlaceLemmas.{place_there, place_of_kind}
 use Rattle.edi_schema.specs.Sorted.{sort_by}
 use Rattle.edi_rank.specs.EndOrder.{OthersInOrder}
 use Rattle.edi_rank.specs.Keys.{link_key, link_key_cmp, piece_by}
-use Rattle.edi_rank.specs.Pieces.{ObjectSource, object_key_at, piece_places}
+use Rattle.edi_rank.specs.Pieces.{ObjectSource, object_key_at}
+use Rattle.edi_rank.specs.inner.Pieces.{piece_places}
 use Rattle.edi_rank.specs.declared.keys.ObjectKey.{ObjectKey}
 use Rattle.edi_rank.proofs.PieceLists.{pieces_there, pieces_with, pieces_keyed_by}
 use Rattle.edi_rank.proofs.object_layer.ObjectLayerLayer.key.Goals as goal

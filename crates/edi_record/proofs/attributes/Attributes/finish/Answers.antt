@@ -1,5 +1,5 @@
 use Rattle.std.proofs.Common.{◌∙◌, ap, sym, map, Some}
-use Rattle.edi_record.proofs.AttributesKept.{attributes_come, attributes_sound}
+use Rattle.edi_record.proofs.AttributesStored.{attributes_come, attributes_sound}
 use Rattle.edi_record.proofs.attributes.Attributes.finish.Goals as goal
 
 pub returns-clause-states : goal.returns-clause-states

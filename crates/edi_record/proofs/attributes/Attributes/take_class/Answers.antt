@@ -1,5 +1,5 @@
 use Rattle.std.proofs.Common.{Some, None, refl}
-use Rattle.edi_record.proofs.AttributesKept.{class_taken, no_class_taken}
+use Rattle.edi_record.proofs.AttributesStored.{class_taken, no_class_taken}
 use Rattle.edi_record.proofs.TextParts.{pointer_found}
 use Rattle.edi_record.proofs.attributes.Attributes.take_class.Goals as goal
 

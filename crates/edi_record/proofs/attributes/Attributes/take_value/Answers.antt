@@ -1,5 +1,5 @@
 use Rattle.std.proofs.Common.{◌∙◌, refl, sym}
-use Rattle.edi_record.proofs.AttributesKept.{value_taken, stray_taken}
+use Rattle.edi_record.proofs.AttributesStored.{value_taken, stray_taken}
 use Rattle.edi_record.proofs.attributes.Attributes.take_value.Goals as goal
 
 pub returns-then-not-is_open-clause-keeps : goal.returns-then-not-is_open-clause-keeps

@@ -5,7 +5,7 @@ use Rattle.edi_record.specs.Records.{values}
 use Rattle.edi_record.specs.RecordRules.{has_no_identifier}
 use Rattle.edi_record.specs.inner.RecordRules.{kind_in, has_no_class, has_bad_point, has_bad_end, has_unknown_pointer}
 use Rattle.edi_record.specs.inner.RecordRefusal.{IsGroupRefusal}
-use Rattle.edi_record.specs.inner.Kept.{KeepsRecord}
+use Rattle.edi_record.specs.inner.Stored.{StoresRecord}
 use Rattle.edi_record.proofs.Parts.{type_is}
 use Rattle.edi_record.proofs.RecordMade.{wrong_counts, no_201, least_205, least_206, least_207, least_208, none_broken_in, breach_least, err_kept}
 use Rattle.edi_record.proofs.draft.Draft.finish.Goals as goal
@@ -32,7 +32,7 @@ returns-then-is_wrong-clause-least c = λ group k h.
 pub returns-in_err-points-clause-least : goal.returns-in_err-points-clause-least
 returns-in_err-points-clause-least c =
     let d = c.args.self in
-    err_kept _ c.in_err-points.field-0.0 (λ fault. (group : List Entry) → kind_in group ≡ Some d.kind → KeepsRecord d [] group → IsGroupRefusal group fault) c.from_residual-in_err-points.ensures.1 (λ group k h.
+    err_kept _ c.in_err-points.field-0.0 (λ fault. (group : List Entry) → kind_in group ≡ Some d.kind → StoresRecord d [] group → IsGroupRefusal group fault) c.from_residual-in_err-points.ensures.1 (λ group k h.
     let n1 = no_201 d.kind group k in
     let n2 : has_no_identifier group ≡ false = ap not (c.in-Some.ensures (values (codes "RID") group) h.identifier).0 in
     let n3 : has_no_class group ≡ false = ap not (c.in-Some-class_pointer.ensures (values (codes "SCP") group) h.class).0 in
@@ -47,7 +47,7 @@ returns-in_err-points-clause-least c =
 pub returns-in_err-ends-clause-least : goal.returns-in_err-ends-clause-least
 returns-in_err-ends-clause-least c =
     let d = c.args.self in
-    err_kept _ c.in_err-ends.field-0.0 (λ fault. (group : List Entry) → kind_in group ≡ Some d.kind → KeepsRecord d [] group → IsGroupRefusal group fault) c.from_residual-in_err-ends.ensures.1 (λ group k h.
+    err_kept _ c.in_err-ends.field-0.0 (λ fault. (group : List Entry) → kind_in group ≡ Some d.kind → StoresRecord d [] group → IsGroupRefusal group fault) c.from_residual-in_err-ends.ensures.1 (λ group k h.
     let n1 = no_201 d.kind group k in
     let n2 : has_no_identifier group ≡ false = ap not (c.in-Some.ensures (values (codes "RID") group) h.identifier).0 in
     let n3 : has_no_class group ≡ false = ap not (c.in-Some-class_pointer.ensures (values (codes "SCP") group) h.class).0 in
@@ -63,7 +63,7 @@ returns-in_err-ends-clause-least c =
 pub returns-in_err-extras-clause-least : goal.returns-in_err-extras-clause-least
 returns-in_err-extras-clause-least c =
     let d = c.args.self in
-    err_kept _ c.in_err-extras.field-0.0 (λ fault. (group : List Entry) → kind_in group ≡ Some d.kind → KeepsRecord d [] group → IsGroupRefusal group fault) c.from_residual-in_err-extras.ensures.1 (λ group k h.
+    err_kept _ c.in_err-extras.field-0.0 (λ fault. (group : List Entry) → kind_in group ≡ Some d.kind → StoresRecord d [] group → IsGroupRefusal group fault) c.from_residual-in_err-extras.ensures.1 (λ group k h.
     let n1 = no_201 d.kind group k in
     let n2 : has_no_identifier group ≡ false = ap not (c.in-Some.ensures (values (codes "RID") group) h.identifier).0 in
     let n3 : has_no_class group ≡ false = ap not (c.in-Some-class_pointer.ensures (values (codes "SCP") group) h.class).0 in

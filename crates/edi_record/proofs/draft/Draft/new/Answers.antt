@@ -1,5 +1,5 @@
 use Rattle.std.proofs.Common.{refl, sym, subst, arith}
-use Rattle.edi_record.specs.inner.Kept.{KeepsExtras}
+use Rattle.edi_record.specs.inner.Stored.{StoresExtras}
 use Rattle.edi_record.proofs.draft.Draft.new.Goals as goal
 
 pub returns-clause-keeps : goal.returns-clause-keeps
@@ -14,5 +14,5 @@ returns-clause-keeps c = λ group. record {
   attributes = c.new-3.ensures.keeps group;
   points = λ k. c.in_ok-points.ensures group;
   ends = λ k. c.in_ok-ends.ensures group;
-  extras = λ b. subst (λ o. KeepsExtras c.args.kind o c.new-4.result group group) (sym c.new-3.ensures.closed) (c.new-4.ensures c.args.kind group);
+  extras = λ b. subst (λ o. StoresExtras c.args.kind o c.new-4.result group group) (sym c.new-3.ensures.closed) (c.new-4.ensures c.args.kind group);
 }

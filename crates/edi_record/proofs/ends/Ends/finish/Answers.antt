@@ -1,5 +1,5 @@
 use Rattle.std.proofs.Common.{◌∙◌, refl, sym, ap, arith, map, Some}
-use Rattle.edi_record.proofs.EndsKept.{ends_come, ends_sound, ends_few, ends_bad}
+use Rattle.edi_record.proofs.EndsStored.{ends_come, ends_sound, ends_few, ends_bad}
 use Rattle.edi_record.proofs.ends.Ends.finish.Goals as goal
 use Rattle.edi_record.proofs.ends.Ends.finish.Goals.{then-is_broken-via-then-is_broken, then-is_broken-via-else-is_broken+then-len-lt2}
 

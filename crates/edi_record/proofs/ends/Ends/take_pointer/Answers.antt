@@ -1,5 +1,5 @@
 use Rattle.std.proofs.Common.{Some, None, refl}
-use Rattle.edi_record.proofs.EndsKept.{pointer_taken, no_pointer_taken}
+use Rattle.edi_record.proofs.EndsStored.{pointer_taken, no_pointer_taken}
 use Rattle.edi_record.proofs.TextParts.{pointer_found}
 use Rattle.edi_record.proofs.ends.Ends.take_pointer.Goals as goal
 

@@ -1,5 +1,5 @@
 use Rattle.std.proofs.Common.{◌∙◌, refl, sym, ap, Some}
-use Rattle.edi_record.proofs.EndsKept.{sense_taken, stray_sense}
+use Rattle.edi_record.proofs.EndsStored.{sense_taken, stray_sense}
 use Rattle.edi_record.proofs.ends.Ends.take_sense.Goals as goal
 
 pub returns-in_default : goal.returns-in_default

@@ -1,5 +1,5 @@
 use Rattle.std.proofs.Common.{◌∙◌, sym}
-use Rattle.edi_record.proofs.PointsKept.{extras_come, extras_sound}
+use Rattle.edi_record.proofs.PointsStored.{extras_come, extras_sound}
 use Rattle.edi_record.proofs.extras.Extras.finish.Goals as goal
 
 pub returns-clause-states : goal.returns-clause-states

@@ -1,6 +1,6 @@
 use Rattle.std.proofs.Common.{◌∙◌, ◌++◌, ◌∷◌, [], refl, sym, ap}
 use Rattle.edi_line.specs.Entry.{entry}
-use Rattle.edi_record.proofs.PointsKept.{extra_taken, pointer_met}
+use Rattle.edi_record.proofs.PointsStored.{extra_taken, pointer_met}
 use Rattle.edi_record.proofs.extras.Extras.take.Goals as goal
 
 pub returns-then-is_pointer : goal.returns-then-is_pointer

@@ -1,6 +1,6 @@
 use Rattle.std.proofs.Common.{◌∙◌, refl, sym, ap, arith}
 use Rattle.edi_record.specs.Shapes.{may_have_points}
-use Rattle.edi_record.proofs.PointsKept.{points_sound, points_bad, points_not_right}
+use Rattle.edi_record.proofs.PointsStored.{points_sound, points_bad, points_not_right}
 use Rattle.edi_record.proofs.points.Points.finish.Goals as goal
 use Rattle.edi_record.proofs.points.Points.finish.Goals.{then-is_broken-via-then-is_broken, then-is_broken-via-else-is_broken+then-not-may_have_points}
 

@@ -1,10 +1,10 @@
 use Rattle.std.proofs.Common.{map}
 use Rattle.std.proofs.lemmas.Result.{err_from_is_err_and}
 use Rattle.edi_line.specs.Entry.{entries}
-use Rattle.edi_schema.specs.Drafts.{said, drafted}
-use Rattle.edi_schema.specs.Steps.{AreMatched}
+use Rattle.edi_schema.specs.inner.Drafts.{said, drafted}
+use Rattle.edi_schema.specs.inner.Steps.{AreMatched}
 use Rattle.edi_schema.specs.SchemaRefusal.{IsGoodSchema, IsSchemaRefusal}
-use Rattle.edi_schema.proofs.Loaded.{is_read, all_said, few_drafts, stated_lent, ok_good, err_refused, few_loaded, letters_loaded, readable_loaded, stop_refused, kinds_refused, good_loaded}
+use Rattle.edi_schema.proofs.Loaded.{is_read, all_said, few_drafts, stated_borrowed, ok_good, err_refused, few_loaded, letters_loaded, readable_loaded, stop_refused, kinds_refused, good_loaded}
 use Rattle.edi_schema.proofs.schema.Schema.load.Goals as goal
 
 pub of_classes-requires-clause-few : goal.of_classes-requires-clause-few
@@ -26,7 +26,7 @@ of_classes-requires-clause-letters c =
     (map said c.deref-3.result.now) (map said c.deref-4.result.now)
     (all_said c.deref-3.result.now c.in_ok-classes.classes.items _ c.deref-3.ensures.value c.in_ok-classes.ensures)
     (all_said c.deref-4.result.now c.in_ok-words.words.items _ c.deref-4.ensures.value c.in_ok-words.ensures)
-    (map drafted c.deref-5.result.now) (stated_lent _ _ _ c.deref-5.result.now c.in_ok-drafts.drafts.items c.deref-5.ensures.value c.in_ok-drafts.ensures.stated)
+    (map drafted c.deref-5.result.now) (stated_borrowed _ _ _ c.deref-5.result.now c.in_ok-drafts.drafts.items c.deref-5.ensures.value c.in_ok-drafts.ensures.stated)
 
 pub of_classes-requires-clause-readable : goal.of_classes-requires-clause-readable
 of_classes-requires-clause-readable c =
@@ -36,7 +36,7 @@ of_classes-requires-clause-readable c =
     (map said c.deref-3.result.now) (map said c.deref-4.result.now)
     (all_said c.deref-3.result.now c.in_ok-classes.classes.items _ c.deref-3.ensures.value c.in_ok-classes.ensures)
     (all_said c.deref-4.result.now c.in_ok-words.words.items _ c.deref-4.ensures.value c.in_ok-words.ensures)
-    (map drafted c.deref-5.result.now) (stated_lent _ _ _ c.deref-5.result.now c.in_ok-drafts.drafts.items c.deref-5.ensures.value c.in_ok-drafts.ensures.stated)
+    (map drafted c.deref-5.result.now) (stated_borrowed _ _ _ c.deref-5.result.now c.in_ok-drafts.drafts.items c.deref-5.ensures.value c.in_ok-drafts.ensures.stated)
 
 pub returns-in_err-drafts-clause-refusal : goal.returns-in_err-drafts-clause-refusal
 returns-in_err-drafts-clause-refusal c =
@@ -58,7 +58,7 @@ returns-clause-schema c =
     (map said c.deref-3.result.now) (map said c.deref-4.result.now)
     (all_said c.deref-3.result.now c.in_ok-classes.classes.items _ c.deref-3.ensures.value c.in_ok-classes.ensures)
     (all_said c.deref-4.result.now c.in_ok-words.words.items _ c.deref-4.ensures.value c.in_ok-words.ensures)
-    (map drafted c.deref-5.result.now) (stated_lent _ _ _ c.deref-5.result.now c.in_ok-drafts.drafts.items c.deref-5.ensures.value c.in_ok-drafts.ensures.stated))
+    (map drafted c.deref-5.result.now) (stated_borrowed _ _ _ c.deref-5.result.now c.in_ok-drafts.drafts.items c.deref-5.ensures.value c.in_ok-drafts.ensures.stated))
 
 pub returns-clause-refusal : goal.returns-clause-refusal
 returns-clause-refusal c =
@@ -69,4 +69,4 @@ returns-clause-refusal c =
     (map said c.deref-3.result.now) (map said c.deref-4.result.now)
     (all_said c.deref-3.result.now c.in_ok-classes.classes.items _ c.deref-3.ensures.value c.in_ok-classes.ensures)
     (all_said c.deref-4.result.now c.in_ok-words.words.items _ c.deref-4.ensures.value c.in_ok-words.ensures)
-    (map drafted c.deref-5.result.now) e (stated_lent _ _ _ c.deref-5.result.now c.in_ok-drafts.drafts.items c.deref-5.ensures.value c.in_ok-drafts.ensures.stated) h)
+    (map drafted c.deref-5.result.now) e (stated_borrowed _ _ _ c.deref-5.result.now c.in_ok-drafts.drafts.items c.deref-5.ensures.value c.in_ok-drafts.ensures.stated) h)

@@ -1,7 +1,7 @@
 use Rattle.std.proofs.Common.{suc, ap}
 use Rattle.std.specs.Result.{result_err}
-use Rattle.edi_topo.specs.Arcs.{RepeatsAnEarlierArc}
-use Rattle.edi_topo.specs.Nodes.{RepeatsAnEarlier}
+use Rattle.edi_topo.specs.inner.Arcs.{RepeatsAnEarlierArc}
+use Rattle.edi_topo.specs.inner.Nodes.{RepeatsAnEarlier}
 use Rattle.edi_topo.proofs.AtPlaces.{has_it, node_breaks, arc_breaks}
 use Rattle.edi_topo.proofs.sound.Sound.of.Goals as goal
 

@@ -1,0 +1,154 @@
+#!/usr/bin/env python3
+"""Tries sheets of shapes that nobody exports, at full size and at a tenth of it.
+
+    cd crates/edicad && rt run -- --version                 builds out/edicad
+    python3 bench/shapes.py SCD DIC [SHAPE ..]              from the top; all shapes where none is named
+
+SCD and DIC are those of a bundle with the classes that are named below. Each sheet goes through `canon` with a stack of 512 KiB.
+Printed for each shape: the size of its sheet, seconds of user and system time, the peak memory as a multiple of the size,
+how many times as long as a tenth of it takes, and the program's answer. Ten times the sheet should take little more than ten times.
+"""
+import os
+import resource
+import subprocess
+import sys
+import tempfile
+
+HERE = os.path.dirname(os.path.abspath(__file__))
+PROGRAM = os.path.join(HERE, "..", "crates", "edicad", "out", "edicad")
+STACK = 512 * 1024
+
+
+def zone(head, value):
+    return b"%s%02d:%s\n" % (head, len(value), value)
+
+
+def record(kind, identifier, scp, *zones):
+    pointer = b"EDAB01;SeSD;" + scp
+    return b"".join((zone(b"RTYSA", kind), zone(b"RIDSA", identifier), zone(b"SCPCP", pointer), *zones))
+
+
+def node(identifier, x, *zones):
+    return record(b"PNO", identifier, b"PGE;NOD_id", zone(b"CORCC", b"+%d.00;+0.00;" % x), *zones)
+
+
+def piece(identifier, whole, part, scp=b"REL;CMP_id"):
+    return record(b"LNK", identifier, scp, *(zone(b"FTPCP", b"EDAB01;SeT1;" + end) for end in (whole, part)))
+
+
+def attribute(value):
+    return zone(b"ATPCP", b"EDAB01;SeSD;ATT;NOM_id") + zone(b"ATVSA", value)
+
+
+def continued(count):
+    """A value of so many NEX lines."""
+    yield node(b"n", 1, attribute(b"a"), zone(b"NEXT ", b"b" * 72) * count)
+
+
+def empty(count):
+    """A value of so many empty NEX lines."""
+    yield node(b"n", 1, attribute(b"a"), zone(b"NEXT ", b"") * count)
+
+
+def attributes(count):
+    """A node with so many attributes."""
+    yield node(b"n", 1)
+    for k in range(count):
+        yield attribute(b"%d" % (k * 7919 % count))
+
+
+def ends(count):
+    """A link of so many ends."""
+    for k in range(1000):
+        yield node(b"n%d" % k, k)
+    yield record(b"LNK", b"l", b"REL;VOISIN_id")
+    for k in range(count):
+        yield zone(b"FTPCP", b"EDAB01;SeT1;PNO;n%d" % (k * 7919 % 1000))
+
+
+def equal(count):
+    """So many equal links."""
+    yield node(b"a", 1) + node(b"b", 2)
+    for k in range(count):
+        yield piece(b"l%d" % k, b"PNO;a", b"PNO;b", b"REL;VOISIN_id")
+
+
+def objects(count):
+    """So many objects that are equal but for their pieces."""
+    for k in range(count):
+        yield node(b"n%d" % k, k)
+    for k in range(count):
+        yield record(b"FEA", b"o%d" % k, b"OBJ;PARCELLE_id", attribute(b"one name for all"))
+    for k in range(count):
+        yield piece(b"l%d" % k, b"FEA;o%d" % k, b"PNO;n%d" % (k * 7919 % count))
+
+
+def pieces(count):
+    """So many objects with 50 pieces each."""
+    for k in range(count):
+        yield node(b"n%d" % k, k)
+    for k in range(count):
+        yield record(b"FEA", b"o%d" % k, b"OBJ;PARCELLE_id")
+    for k in range(50 * count):
+        yield piece(b"l%d" % k, b"FEA;o%d" % (k // 50), b"PNO;n%d" % ((k // 50 + k % 50) % count))
+
+
+def together(count):
+    """So many nodes at one position."""
+    for k in range(count):
+        yield node(b"n%d" % k, 1, attribute(b"%d" % (k * 7919 % count)))
+
+
+def long(count):
+    """So many ends whose identifiers have 16 bytes."""
+    for k in range(1000):
+        yield node(b"n%015d" % k, k)
+    for k in range(count // 2):
+        yield piece(b"l%d" % k, b"PNO;n%015d" % (k % 1000), b"PNO;n%015d" % (k * 7919 % 1000), b"REL;VOISIN_id")
+
+
+SHAPES = {
+    "continued": (continued, 600_000),
+    "empty": (empty, 4_000_000),
+    "attributes": (attributes, 1_000_000),
+    "ends": (ends, 1_500_000),
+    "equal": (equal, 500_000),
+    "objects": (objects, 400_000),
+    "pieces": (pieces, 100_000),
+    "together": (together, 1_000_000),
+    "long": (long, 1_500_000),
+}
+
+
+def timed(scd, dic, sheet, out):
+    """The answer of a run, its seconds of processor time and its peak memory in bytes."""
+    limit = lambda: resource.setrlimit(resource.RLIMIT_STACK, (STACK, STACK))
+    process = subprocess.Popen([PROGRAM, "canon", scd, dic, sheet, out], stdout=subprocess.PIPE, preexec_fn=limit)
+    text = process.stdout.read()
+    _, status, usage = os.wait4(process.pid, 0)
+    answer = text.decode().strip() or f"status {os.waitstatus_to_exitcode(status)}"
+    return answer, usage.ru_utime + usage.ru_stime, usage.ru_maxrss * 1024
+
+
+def main():
+    scd, dic, *names = sys.argv[1:]
+    print("| shape | size | time | memory / size | against a tenth | answer |")
+    print("|---|---|---|---|---|---|")
+    with tempfile.TemporaryDirectory() as folder:
+        sheet, out = os.path.join(folder, "sheet.vec"), os.path.join(folder, "out.vec")
+        for name in names or SHAPES:
+            shape, count = SHAPES[name]
+            runs = []
+            for scale in (10, 1):
+                with open(sheet, "wb") as file:
+                    file.write(zone(b"BOMT ", b"SHAPE.VEC") + zone(b"CSET ", b"IRV"))
+                    file.writelines(shape(count // scale))
+                    file.write(zone(b"EOMT ", b""))
+                runs.append(timed(scd, dic, sheet, out))
+            size = os.path.getsize(sheet)
+            (_, least, _), (answer, seconds, peak) = runs
+            print(f"| {name} | {size / 1e6:.0f} MB | {seconds:.1f} s | {peak / size:.1f} | {seconds / least:.1f} | {answer} |", flush=True)
+
+
+if __name__ == "__main__":
+    main()

@@ -1,0 +1,116 @@
+//! The zones that have begun.
+
+ghost use Rattle.std.specs.Prelude.{◌≡◌, false, [], ◌∷◌, ◌++◌, None, Some, OnOk, option_map, option_to_list};
+ghost use Rattle.edi_line.specs.Entry.{entry};
+ghost use Rattle.edi_line.specs.Zones.{ends_group as zone_ends_group};
+ghost use Rattle.edi_line.specs.inner.Borrowed.{IsClosed, IsLengthened};
+ghost use Rattle.edi_line.specs.inner.Groups.{has_group};
+ghost use Rattle.edi_line.specs.inner.ZoneLists.{done_in, open_in, zoned_list};
+ghost use Rattle.edi_line.specs.inner.Zones.{with_more};
+
+use crate::zone::Zone;
+use std::alloc::{AllocError, Global};
+
+/// The zones that have begun. Where the list is open, the next line may still lengthen the last of them; the others
+/// are done.
+#[derive(Drop)]
+pub(crate) struct ZoneList<'a> {
+    zones: Vec<Zone<'a>>,
+    is_open: bool,
+}
+
+impl<'a> ZoneList<'a> {
+    pub(crate) fn new(alloc: Global) -> ZoneList<'a>
+        ensures done { done_in result ≡ [] }
+        ensures open_zone { open_in result ≡ None }
+    {
+        ZoneList {
+            zones: Vec::new(alloc),
+            is_open: false,
+        }
+    }
+
+    /// Puts a zone behind the others, and opens it.
+    pub(crate) fn open(&mut self, zone: Zone<'a>) -> Result<(), AllocError>
+        requires { open_in self.old ≡ None }
+        ensures done { OnOk result (done_in self.new ≡ done_in self.old) }
+        ensures open_zone { OnOk result (open_in self.new ≡ Some zone.entry) }
+    {
+        self.zones.push(zone)?;
+        self.is_open = true;
+        Ok(())
+    }
+
+    /// Lengthens the open zone, if there is one.
+    pub(crate) fn lengthen(&mut self, alloc: Global, more: &[u8]) -> Result<(), AllocError>
+        ensures leaves { OnOk result (IsLengthened self.old self.new) }
+        ensures open_zone { OnOk result (option_map entry (open_in self.new) ≡ option_map (with_more more.now) (option_map entry (open_in self.old))) }
+    {
+        if !self.is_open {
+            return Ok(());
+        }
+        match self.zones.last_mut() {
+            Some(zone) => zone.lengthen(alloc, more),
+            None => Ok(()),
+        }
+    }
+
+    /// The open zone, if there is one, is done.
+    pub(crate) fn close(&mut self)
+        ensures { IsClosed self.old self.new }
+    {
+        self.is_open = false;
+    }
+
+    /// Whether zones are done, and the next record or the end has begun.
+    pub(crate) fn has_group(&self) -> bool
+        ensures { result ≡ has_group (zoned_list self.now) }
+    {
+        if !self.is_open {
+            return false;
+        }
+        match self.zones.split_last() {
+            Some((last, done)) => !done.is_empty() && ends_group(last),
+            None => false,
+        }
+    }
+
+    /// The zones that are done.
+    pub(crate) fn done(&self) -> &[Zone<'a>]
+        ensures { result.now ≡ done_in self.now }
+    {
+        match self.zones.as_slice() {
+            [done @ .., _] if self.is_open => done,
+            zones => zones,
+        }
+    }
+
+    /// Lets the zones go that are done. The memory for so many stays.
+    pub(crate) fn let_go(&mut self)
+        ensures done { done_in self.new ≡ [] }
+        ensures open_zone { open_in self.new ≡ open_in self.old }
+    {
+        if !self.is_open {
+            self.zones.clear();
+            return;
+        }
+        if let Some(zone) = self.zones.pop() {
+            self.zones.clear();
+            self.zones.push_reserved(zone);
+        }
+    }
+
+    /// All zones, the open one too.
+    pub(crate) fn into_zones(self) -> Vec<Zone<'a>>
+        ensures { result.items ≡ done_in self.entry ++ option_to_list (open_in self.entry) }
+    {
+        self.zones
+    }
+}
+
+/// Whether a zone begins the next record or is the end.
+fn ends_group(zone: &Zone<'_>) -> bool
+    ensures { result ≡ zone_ends_group (entry zone.now) }
+{
+    matches!(&zone.code, b"RTY" | b"EOM")
+}

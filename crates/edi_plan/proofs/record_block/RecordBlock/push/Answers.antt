@@ -1,0 +1,39 @@
+use Rattle.std.proofs.Common.{refl}
+use Rattle.edi_plan.specs.declared.record_block.Head.{Head}
+use Rattle.edi_plan.specs.declared.record_block.RecordBlock.{RecordBlock}
+use Rattle.edi_plan.proofs.RecordBlocks.{Grows, IsHeadOf, records_pushed, within_pushed}
+use Rattle.edi_plan.proofs.record_block.RecordBlock.push.Goals as goal
+
+pub returns-clause-records : goal.returns-clause-records
+returns-clause-records c =
+    let r = c.args.record in
+    let new : RecordBlock = record { heads = c.push.new.self; points = c.append.new.list; attributes = c.append-2.new.list; extras = c.append-3.new.list; ends = c.append-4.new.list } in
+    let grows : Grows c.args.self.now new r = record { points = c.in_ok-points.ensures.items; attributes = c.in_ok-attributes.ensures.items; extras = c.in_ok-extras.ensures.items; ends = c.in_ok-ends.ensures.items } in
+    let head : Head = record { kind = r.kind; class = r.class; role = r.role; points = c.in_ok-points.points; attributes = c.in_ok-attributes.attributes; extras = c.in_ok-extras.extras; ends = c.in_ok-ends.ends } in
+    let is : IsHeadOf c.args.self.now r head = record {
+      kind = refl;
+      class = refl;
+      role = refl;
+      points = record { from = c.in_ok-points.ensures.from; to = c.in_ok-points.ensures.to };
+      attributes = record { from = c.in_ok-attributes.ensures.from; to = c.in_ok-attributes.ensures.to };
+      extras = record { from = c.in_ok-extras.ensures.from; to = c.in_ok-extras.ensures.to };
+      ends = record { from = c.in_ok-ends.ensures.from; to = c.in_ok-ends.ensures.to };
+    } in
+    records_pushed c.args.self.now new r grows head is c.in_ok-push.ensures.items c.requires
+
+pub returns-clause-within : goal.returns-clause-within
+returns-clause-within c =
+    let r = c.args.record in
+    let new : RecordBlock = record { heads = c.push.new.self; points = c.append.new.list; attributes = c.append-2.new.list; extras = c.append-3.new.list; ends = c.append-4.new.list } in
+    let grows : Grows c.args.self.now new r = record { points = c.in_ok-points.ensures.items; attributes = c.in_ok-attributes.ensures.items; extras = c.in_ok-extras.ensures.items; ends = c.in_ok-ends.ensures.items } in
+    let head : Head = record { kind = r.kind; class = r.class; role = r.role; points = c.in_ok-points.points; attributes = c.in_ok-attributes.attributes; extras = c.in_ok-extras.extras; ends = c.in_ok-ends.ends } in
+    let is : IsHeadOf c.args.self.now r head = record {
+      kind = refl;
+      class = refl;
+      role = refl;
+      points = record { from = c.in_ok-points.ensures.from; to = c.in_ok-points.ensures.to };
+      attributes = record { from = c.in_ok-attributes.ensures.from; to = c.in_ok-attributes.ensures.to };
+      extras = record { from = c.in_ok-extras.ensures.from; to = c.in_ok-extras.ensures.to };
+      ends = record { from = c.in_ok-ends.ensures.from; to = c.in_ok-ends.ensures.to };
+    } in
+    within_pushed c.args.self.now new r grows head is c.in_ok-push.ensures.items c.requires

@@ -1,0 +1,9 @@
+pub mod RecordBlocks
+pub mod RecordLists
+pub mod Done
+pub mod LinkNames
+pub mod Names
+pub mod Resolving
+pub mod SideTable
+pub mod Targets
+pub mod Places

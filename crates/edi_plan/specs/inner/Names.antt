@@ -1,0 +1,50 @@
+-- The names of the records of a sheet.
+use Rattle.std.specs.Prelude.{◌≡◌, ℕ, ◌<◌, Bool, false, not, ◌&&◌, List, Option, MatchOption, slice_get, Some, None, if◌then◌else◌}
+use Rattle.std.specs.List.{filter}
+use Rattle.std.specs.Map.{lookup}
+use Rattle.std.specs.Option.{option_or}
+use Rattle.edi_record.specs.Shapes.{kind_code}
+use Rattle.edi_record.specs.declared.name.Name.{Name}
+use Rattle.edi_record.specs.declared.record.Kind.{Kind}
+use Rattle.edi_record.specs.declared.record.Record.{Record}
+use Rattle.edi_schema.specs.Classes.{is_name}
+use Rattle.edi_plan.specs.PlanOf.{own_name, place_named}
+use Rattle.edi_plan.specs.Plans.{is_link}
+use Rattle.edi_plan.specs.declared.names.RecordName.{RecordName}
+use Rattle.edi_plan.specs.declared.names.Names.{Names}
+
+-- a name without where it lies in memory
+abbrev pub named : RecordName → Name
+named n = record { rty = kind_code n.kind; rid = n.rid.now }
+
+-- the place that a table has for a name
+abbrev pub place_in : List (RecordName × ℕ) → RecordName → Option ℕ
+place_in table name = lookup (λ n. is_name (named name) (named n)) table
+
+-- the new table has this place for the name if the old has none, and what the old has for each other
+abbrev pub IsPut : List (RecordName × ℕ) → RecordName → ℕ → List (RecordName × ℕ) → Type 0
+IsPut old name place new = (other : RecordName) → place_in new other ≡ option_or (place_in old other) (if is_name (named name) (named other) then Some place else None)
+
+-- each name of a record that is no link has the place of the first record of that name, and no other such name has one
+abbrev pub AreNamesOf : List Record → Names → Type 0
+AreNamesOf list names = (name : RecordName) → is_link name.kind ≡ false → place_in names.places.entries name ≡ place_named list (named name)
+
+-- the names of such records go into a table: all, but for those of links where these rise
+abbrev pub is_tabled : Bool → Kind → Bool
+is_tabled links_rise kind = not (links_rise && is_link kind)
+
+abbrev pub tabled : Bool → List Record → List Record
+tabled links_rise list = filter (λ r. is_tabled links_rise r.kind) list
+
+-- the record at this place has the name of an earlier one
+abbrev pub RepeatsAt : List Record → ℕ → Type 0
+RepeatsAt list k = (j : ℕ) × (q r : Record) × (j < k) × (slice_get list j ≡ Some q) × (slice_get list k ≡ Some r) × (own_name q ≡ own_name r)
+
+-- and none before it does
+pub record IsFirstRepeat (list : List Record) (k : ℕ) : Type 0 where
+  pub repeats : RepeatsAt list k
+  pub none_before : (j : ℕ) → j < k → ¬ (RepeatsAt list j)
+
+-- the first repeat, or there is none
+abbrev pub IsFirstRepeatIfAny : List Record → Option ℕ → Type 0
+IsFirstRepeatIfAny list found = MatchOption found ((j : ℕ) → ¬ (RepeatsAt list j)) (IsFirstRepeat list)

@@ -1,0 +1,194 @@
+//! Some records in flat lists: their points lie in one list, and so do their attributes, their extra zones and
+//! their ends.
+
+ghost use Rattle.std.specs.Prelude.{◌≡◌, ◌+◌, ◌<◌, ◌∷◌, ◌++◌, [], length, slice_index_or, IfOk, OnOk};
+ghost use Rattle.edi_plan.specs.Plans.{blank};
+ghost use Rattle.edi_plan.specs.inner.RecordBlocks.{part_of, records_in, ArePartsWithin, IsWithin};
+
+use crate::record::{PlanAttribute, PlanEnd, PlanRecord};
+use edi_line::Sequence;
+use edi_record::{Extra, Kind, Point};
+use edi_schema::{ClassRef, Role};
+use std::alloc::{AllocError, Global};
+
+/// A part of a list, from one place up to another.
+#[derive(Clone, Copy)]
+pub(crate) struct Span {
+    pub(crate) from: u32,
+    pub(crate) to: u32,
+}
+
+/// A record, and which parts of the lists are its own.
+#[derive(Clone, Copy)]
+pub(crate) struct Head {
+    pub(crate) kind: Kind,
+    pub(crate) class: ClassRef,
+    pub(crate) role: Role,
+    pub(crate) points: Span,
+    pub(crate) attributes: Span,
+    pub(crate) extras: Span,
+    pub(crate) ends: Span,
+}
+
+/// The records by their places, with the lists of what they have.
+#[derive(Drop)]
+pub(crate) struct RecordBlock {
+    pub(crate) heads: Vec<Head>,
+    pub(crate) points: Vec<Point>,
+    pub(crate) attributes: Vec<PlanAttribute>,
+    pub(crate) extras: Vec<Extra>,
+    pub(crate) ends: Vec<PlanEnd>,
+}
+
+/// A length in four bytes, or want of memory where it has more.
+fn place_of(len: usize) -> Result<u32, AllocError>
+    ensures { IfOk result (λ place. place ≡ len) }
+{
+    if len > u32::MAX as usize {
+        return Err(AllocError);
+    }
+    Ok(len as u32)
+}
+
+/// Moves the elements of a part behind those of a list. Where they lie is the answer.
+fn append<T: Drop>(list: &mut Vec<T>, part: Sequence<T>) -> Result<Span, AllocError>
+    ensures items { OnOk result (list.new.items ≡ list.old.items ++ part) }
+    ensures from { IfOk result (λ span. span.from ≡ length list.old.items) }
+    ensures to { IfOk result (λ span. span.to ≡ length list.old.items + length part) }
+{
+    let from = place_of(list.len())?;
+    let mut items = part.into_vec();
+    list.append(&mut items)?;
+    let to = place_of(list.len())?;
+    Ok(Span { from, to })
+}
+
+/// A list with no room for more.
+fn shrunk<T>(mut list: Vec<T>) -> Vec<T>
+    ensures { result.items ≡ list.items }
+{
+    list.shrink_to_fit();
+    list
+}
+
+/// A part of a list, borrowed.
+fn part<T>(list: &Vec<T>, span: Span) -> &[T]
+    requires { IsWithin (length list.now.items) span }
+    ensures { result.now ≡ part_of list.now.items span }
+{
+    &list[span.from as usize..span.to as usize]
+}
+
+impl RecordBlock {
+    /// No records yet, with room for so many.
+    pub(crate) fn with_capacity(alloc: Global, records: usize) -> Result<RecordBlock, AllocError>
+        ensures none { IfOk result (λ block. records_in block ≡ []) }
+        ensures within { IfOk result ArePartsWithin }
+    {
+        Ok(RecordBlock {
+            heads: Vec::with_capacity(alloc, records)?,
+            points: Vec::new(alloc),
+            attributes: Vec::new(alloc),
+            extras: Vec::new(alloc),
+            ends: Vec::new(alloc),
+        })
+    }
+
+    /// Adds a record.
+    pub(crate) fn push(&mut self, record: PlanRecord) -> Result<(), AllocError>
+        requires { ArePartsWithin self.old }
+        ensures records { OnOk result (records_in self.new ≡ records_in self.old ++ «record» ∷ []) }
+        ensures within { OnOk result (ArePartsWithin self.new) }
+    {
+        let points = append(&mut self.points, record.points)?;
+        let attributes = append(&mut self.attributes, record.attributes)?;
+        let extras = append(&mut self.extras, record.extras)?;
+        let ends = append(&mut self.ends, record.ends)?;
+        self.heads.push(Head {
+            kind: record.kind,
+            class: record.class,
+            role: record.role,
+            points,
+            attributes,
+            extras,
+            ends,
+        })?;
+        Ok(())
+    }
+
+    /// The same records, with no room for more.
+    pub(crate) fn closed(self) -> RecordBlock
+        requires { ArePartsWithin self }
+        ensures records { records_in result ≡ records_in self }
+        ensures within { ArePartsWithin result }
+    {
+        RecordBlock {
+            heads: shrunk(self.heads),
+            points: shrunk(self.points),
+            attributes: shrunk(self.attributes),
+            extras: shrunk(self.extras),
+            ends: shrunk(self.ends),
+        }
+    }
+
+    /// How many records there are.
+    pub(crate) fn len(&self) -> usize
+        ensures { result ≡ length (records_in self.now) }
+    {
+        self.heads.len()
+    }
+
+    /// The type of a record, by its place from 0.
+    pub(crate) fn kind(&self, place: usize) -> Kind
+        requires { place < length (records_in self.now) }
+        ensures { result ≡ (slice_index_or (records_in self.now) place blank).kind }
+    {
+        self.heads[place].kind
+    }
+
+    pub(crate) fn class(&self, place: usize) -> ClassRef
+        requires { place < length (records_in self.now) }
+        ensures { result ≡ (slice_index_or (records_in self.now) place blank).class }
+    {
+        self.heads[place].class
+    }
+
+    pub(crate) fn role(&self, place: usize) -> Role
+        requires { place < length (records_in self.now) }
+        ensures { result ≡ (slice_index_or (records_in self.now) place blank).role }
+    {
+        self.heads[place].role
+    }
+
+    pub(crate) fn points(&self, place: usize) -> &[Point]
+        requires within { ArePartsWithin self.now }
+        requires there { place < length (records_in self.now) }
+        ensures { result.now ≡ (slice_index_or (records_in self.now) place blank).points }
+    {
+        part(&self.points, self.heads[place].points)
+    }
+
+    pub(crate) fn attributes(&self, place: usize) -> &[PlanAttribute]
+        requires within { ArePartsWithin self.now }
+        requires there { place < length (records_in self.now) }
+        ensures { result.now ≡ (slice_index_or (records_in self.now) place blank).attributes }
+    {
+        part(&self.attributes, self.heads[place].attributes)
+    }
+
+    pub(crate) fn extras(&self, place: usize) -> &[Extra]
+        requires within { ArePartsWithin self.now }
+        requires there { place < length (records_in self.now) }
+        ensures { result.now ≡ (slice_index_or (records_in self.now) place blank).extras }
+    {
+        part(&self.extras, self.heads[place].extras)
+    }
+
+    pub(crate) fn ends(&self, place: usize) -> &[PlanEnd]
+        requires within { ArePartsWithin self.now }
+        requires there { place < length (records_in self.now) }
+        ensures { result.now ≡ (slice_index_or (records_in self.now) place blank).ends }
+    {
+        part(&self.ends, self.heads[place].ends)
+    }
+}

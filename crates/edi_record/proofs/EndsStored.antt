@@ -1,0 +1,171 @@
+-- Zones that go to the ends that are kept.
+use Rattle.std.proofs.Common.{◌≡◌, ℕ, ◌+◌, ◌<◌, ◌≤◌, Bool, true, false, cond, ◌||◌, leb, List, [], ◌∷◌, ◌++◌, length, map, Option, Some, None, is_none, is_some, option_map, codes, refl, sym, ap, ◌∙◌, one-add}
+use Rattle.std.specs.List.{list_any}
+use Rattle.std.proofs.lemmas.Bool.{or_left, or_right}
+use Rattle.std.proofs.lemmas.List.{append-nil}
+use Rattle.edi_line.specs.Entry.{Entry, has_code}
+use Rattle.edi_record.specs.inner.Texts.{pointer}
+use Rattle.edi_record.specs.Texts.{shown}
+use Rattle.edi_record.specs.Records.{is_link, points_at}
+use Rattle.edi_record.specs.inner.Records.{sns_after, ends}
+use Rattle.edi_record.specs.inner.RecordRules.{kind_in, count_until, repeats, has_bad_end}
+use Rattle.edi_record.specs.inner.Stored.{has_stray, sns_with, sns_come, end_with, ends_with, ended_with, bad_sns_with, StoresEnds}
+use Rattle.edi_record.specs.declared.ends.Ends.{Ends}
+use Rattle.edi_record.specs.declared.ends.OpenEnd.{OpenEnd}
+use Rattle.edi_record.specs.declared.pointer.Pointer.{Pointer}
+use Rattle.edi_record.specs.declared.record.Kind.{Kind}
+use Rattle.edi_record.specs.declared.record.End.{End}
+use Rattle.edi_record.proofs.AttributesStored.{code_is, some_joined, none_is, one_more}
+use Rattle.edi_record.proofs.AttributesRead.{one_missing}
+use Rattle.edi_record.proofs.Loops.{sns_none, sns_stops, sns_found, sns_goes_on, ends_end, ends_skip, end_read, no_end, stray_sns_goes_on}
+use Rattle.edi_record.proofs.Parts.{bad_target, bad_sns, few_ends, good_ends}
+
+abbrev senses_left : List Entry → ℕ
+senses_left zs = count_until points_at (codes "SNS") zs
+
+abbrev repeats_left : List Entry → Bool
+repeats_left zs = repeats points_at points_at (codes "SNS") zs
+
+pub sense_only : (z : Entry) → has_code (codes "SNS") z ≡ true → points_at z ≡ false
+sense_only z e = let same = code_is z (codes "SNS") e in rw same refl
+
+-- ---- an open end that is closed
+
+closes_end : (zs : List Entry) (o : Option OpenEnd) → None ≡ sns_after zs → ends_with o zs ≡ map Some (ended_with o) ++ ends zs
+closes_end zs None sns = refl
+closes_end zs (Some a) sns = by_sns (sns_come a)
+  where
+    by_sns : (s : Option (List ℕ)) → Some (end_with a (sns_with s zs)) ∷ ends zs ≡ Some (end_with a s) ∷ ends zs
+    by_sns (Some text) = refl
+    by_sns None = ap (λ s. Some (end_with a s) ∷ ends zs) (sym sns)
+
+ended_in : (zs group : List Entry) (o : Option OpenEnd) (done new : List End) → None ≡ sns_after zs → ends group ≡ map Some done ++ ends_with o zs → new ≡ done ++ ended_with o → ends group ≡ map Some new ++ ends zs
+ended_in zs group o done new sns made pushed = made ∙ ap (λ t. map Some done ++ t) (closes_end zs o sns) ∙ some_joined done (ended_with o) (ends zs) ∙ ap (λ t. map Some t ++ ends zs) (sym pushed)
+
+-- no SNS comes before these zones, and none in them for an open end
+sns_over : (zs : List Entry) (o : Option OpenEnd) → senses_left zs ≡ 0 → has_stray zs ≡ false → bad_sns_with o zs ≡ repeats_left zs
+sns_over zs None none stray = rw stray refl
+sns_over zs (Some a) none stray = rw none (by_sns (is_some a.sense))
+  where
+    by_sns : (b : Bool) → (leb (cond b 1 2) 0 || repeats_left zs) ≡ repeats_left zs
+    by_sns true = refl
+    by_sns false = refl
+
+-- ---- the pointer of the next end
+
+no_senses : (z : Entry) (zs : List Entry) → points_at z ≡ true → senses_left (z ∷ zs) ≡ 0
+no_senses z zs e = rw e refl
+
+no_stray : (z : Entry) (zs : List Entry) → points_at z ≡ true → has_stray (z ∷ zs) ≡ false
+no_stray z zs e = rw e refl
+
+pub pointer_taken : (old new : Ends) (p : Pointer) (z : Entry) (left group : List Entry) (text : List ℕ) → points_at z ≡ true → z.value ≡ text → Some (shown p) ≡ pointer text
+    → new.is_broken ≡ old.is_broken → new.opened ≡ Some (record { pointer = p; sense = None }) → new.done.items ≡ old.done.items ++ ended_with old.opened
+    → StoresEnds old (z ∷ left) group → StoresEnds new left group
+pointer_taken old new p z left group text e same read same_broken opened done h = record {
+  broken = λ b. h.broken (sym same_broken ∙ b);
+  made = λ b.
+      ended_in (z ∷ left) group old.opened old.done.items new.done.items (sns_stops z left e) (h.made (sym same_broken ∙ b)) done
+      ∙ ap (λ t. map Some new.done.items ++ t) (end_read z left text (shown p) e (sym same) read)
+      ∙ ap (λ o. map Some new.done.items ++ ends_with o left) (sym opened);
+  sns = λ b. h.sns (sym same_broken ∙ b) ∙ sns_over (z ∷ left) old.opened (no_senses z left e) (no_stray z left e) ∙ here ∙ ap (λ o. bad_sns_with o left) (sym opened);
+}
+  where
+    here : repeats_left (z ∷ left) ≡ (leb 2 (senses_left left) || repeats_left left)
+    here = rw e refl
+
+-- whatever was kept, the rule is broken
+pub ends_broken : (old new : Ends) (zs left group : List Entry) → new.is_broken ≡ true → (old.is_broken ≡ false → (list_any is_none (ends group) || bad_sns_with None group) ≡ true) → StoresEnds old zs group → StoresEnds new left group
+ends_broken old new zs left group broken found h = record {
+  broken = λ b. by_old old.is_broken refl;
+  made = λ b. let wrong : true ≡ false = sym broken ∙ b in absurd (cc);
+  sns = λ b. let wrong : true ≡ false = sym broken ∙ b in absurd (cc);
+}
+  where
+    by_old : (b : Bool) → old.is_broken ≡ b → (list_any is_none (ends group) || bad_sns_with None group) ≡ true
+    by_old true e = h.broken e
+    by_old false e = found e
+
+pub no_pointer_taken : (old new : Ends) (done : List End) (z : Entry) (left group : List Entry) (text : List ℕ) → points_at z ≡ true → z.value ≡ text → None ≡ pointer text
+    → new.is_broken ≡ true → done ≡ old.done.items ++ ended_with old.opened → StoresEnds old (z ∷ left) group → StoresEnds new left group
+no_pointer_taken old new done z left group text e same read broken pushed h = ends_broken old new (z ∷ left) left group broken (λ b. or_left _ _ (one_missing (ends group) (ends (z ∷ left)) (ends left) done
+    (ended_in (z ∷ left) group old.opened old.done.items done (sns_stops z left e) (h.made b) pushed)
+    (no_end z left text e (sym same) read))) h
+
+-- ---- an SNS
+
+senses_more : (z : Entry) (left : List Entry) → has_code (codes "SNS") z ≡ true → senses_left (z ∷ left) ≡ 1 + senses_left left
+senses_more z left e = rw (sense_only z e, e) refl
+
+skips_repeat : (z : Entry) (zs : List Entry) → points_at z ≡ false → repeats_left (z ∷ zs) ≡ repeats_left zs
+skips_repeat z zs e = rw e refl
+
+pub sense_taken : (old new : Ends) (o n : OpenEnd) (z : Entry) (left group : List Entry) → has_code (codes "SNS") z ≡ true → old.opened ≡ Some o → is_some o.sense ≡ false
+    → new.is_broken ≡ old.is_broken → new.done.items ≡ old.done.items → new.opened ≡ Some n → n.pointer ≡ o.pointer → sns_come n ≡ Some z.value → is_some n.sense ≡ true
+    → StoresEnds old (z ∷ left) group → StoresEnds new left group
+sense_taken old new o n z left group e was no_sense same_broken same_done is class sense some h = record {
+  broken = λ b. h.broken (sym same_broken ∙ b);
+  made = λ b.
+      h.made (sym same_broken ∙ b) ∙ ap (λ t. map Some old.done.items ++ ends_with t (z ∷ left)) was ∙ ap (λ t. map Some old.done.items ++ t) (here ∙ sym there)
+      ∙ ap (λ t. map Some t ++ ends_with (Some n) left) (sym same_done) ∙ ap (λ t. map Some new.done.items ++ ends_with t left) (sym is);
+  sns = λ b. h.sns (sym same_broken ∙ b) ∙ ap (λ t. bad_sns_with t (z ∷ left)) was ∙ once ∙ ap (λ t. bad_sns_with t left) (sym is);
+}
+  where
+    here : ends_with (Some o) (z ∷ left) ≡ Some (end_with o (Some z.value)) ∷ ends left
+    here =
+        ap (λ s. Some (end_with o (sns_with (option_map (λ t. t.now) s) (z ∷ left))) ∷ ends (z ∷ left)) (none_is o.sense no_sense)
+        ∙ rw (← sns_found z left (sense_only z e) e, ends_skip z left (sense_only z e)) refl
+
+    there : ends_with (Some n) left ≡ Some (end_with o (Some z.value)) ∷ ends left
+    there =
+        ap (λ s. Some (end_with n (sns_with s left)) ∷ ends left) sense
+        ∙ ap (λ p. (let x : End = record { lot = p.lot.now; subset = p.subset.now; target = record { rty = p.rty.now; rid = p.rid.now }; sns = Some z.value } in Some x ∷ ends left)) class
+
+    once : bad_sns_with (Some o) (z ∷ left) ≡ bad_sns_with (Some n) left
+    once = rw (no_sense, some, senses_more z left e, skips_repeat z left (sense_only z e), one_more (senses_left left)) refl
+
+sns_here : (z : Entry) (zs : List Entry) → has_code (codes "SNS") z ≡ true → has_stray (z ∷ zs) ≡ true
+sns_here z zs e = rw (sense_only z e, one-add, e) refl
+
+pub stray_sense : (old new : Ends) (z : Entry) (left group : List Entry) → has_code (codes "SNS") z ≡ true → old.opened ≡ None → new.is_broken ≡ true → StoresEnds old (z ∷ left) group → StoresEnds new left group
+stray_sense old new z left group e was broken h = ends_broken old new (z ∷ left) left group broken (λ b. or_right _ _ (h.sns b ∙ ap (λ o. bad_sns_with o (z ∷ left)) was ∙ or_left _ _ (sns_here z left e))) h
+
+-- ---- a zone that no end takes
+
+pub ends_pass : (a : Ends) (z : Entry) (left group : List Entry) → points_at z ≡ false → has_code (codes "SNS") z ≡ false → StoresEnds a (z ∷ left) group → StoresEnds a left group
+ends_pass a z left group not_end not_sense h = record {
+  broken = h.broken;
+  made = λ b. h.made b ∙ ap (λ t. map Some a.done.items ++ t) (past a.opened);
+  sns = λ b. h.sns b ∙ past_sns a.opened;
+}
+  where
+    past_one : (s : Option (List ℕ)) → sns_with s (z ∷ left) ≡ sns_with s left
+    past_one (Some text) = refl
+    past_one None = sym (sns_goes_on z left not_end not_sense)
+
+    past : (o : Option OpenEnd) → ends_with o (z ∷ left) ≡ ends_with o left
+    past None = ends_skip z left not_end
+    past (Some o) = ap (λ s. Some (end_with o s) ∷ ends (z ∷ left)) (past_one (sns_come o)) ∙ ap (λ t. Some (end_with o (sns_with (sns_come o) left)) ∷ t) (ends_skip z left not_end)
+
+    past_sns : (o : Option OpenEnd) → bad_sns_with o (z ∷ left) ≡ bad_sns_with o left
+    past_sns None = rw (← stray_sns_goes_on z left not_end not_sense, skips_repeat z left not_end) refl
+    past_sns (Some o) = rw (not_end, not_sense) refl
+
+-- ---- all zones have come
+
+pub ends_come : (a : Ends) (done : List End) (group : List Entry) → a.is_broken ≡ false → done ≡ a.done.items ++ ended_with a.opened → StoresEnds a [] group → ends group ≡ map Some done
+ends_come a done group b closed h = ended_in [] group a.opened a.done.items done sns_none (h.made b) closed ∙ ap (λ t. map Some done ++ t) ends_end ∙ append-nil (map Some done)
+
+pub ends_sound : (a : Ends) (kind : Kind) (done : List End) (group : List Entry) → a.is_broken ≡ false → done ≡ a.done.items ++ ended_with a.opened → 2 ≤ length done → kind_in group ≡ Some kind → is_link kind ≡ true → StoresEnds a [] group → has_bad_end group ≡ false
+ends_sound a kind done group b closed many k link h =
+    good_ends kind group done (bad_sns_with None group) k link (ends_come a done group b closed h) many refl (h.sns b ∙ sns_over [] a.opened refl refl)
+
+pub ends_few : (a : Ends) (kind : Kind) (done : List End) (group : List Entry) → a.is_broken ≡ false → done ≡ a.done.items ++ ended_with a.opened → length done < 2 → kind_in group ≡ Some kind → is_link kind ≡ true → StoresEnds a [] group → has_bad_end group ≡ true
+ends_few a kind done group b closed few k link h = few_ends kind group done k link (ends_come a done group b closed h) few
+
+pub ends_bad : (a : Ends) (kind : Kind) (group : List Entry) → a.is_broken ≡ true → kind_in group ≡ Some kind → is_link kind ≡ true → StoresEnds a [] group → has_bad_end group ≡ true
+ends_bad a kind group b k link h = by_pointer (list_any is_none (ends group)) refl (h.broken b)
+  where
+    by_pointer : (p : Bool) → list_any is_none (ends group) ≡ p → (p || bad_sns_with None group) ≡ true → has_bad_end group ≡ true
+    by_pointer true e t = bad_target kind group k link e
+    by_pointer false e t = bad_sns kind group (bad_sns_with None group) k link refl t

@@ -1,0 +1,174 @@
+-- What is stored of a record's zones that have come, while others are left.
+use Rattle.std.specs.Prelude.{◌≡◌, ℕ, ◌+◌, ◌≤◌, Bool, true, false, not, ◌&&◌, ◌||◌, nat_le, is_some, is_none, List, [], ◌∷◌, ◌++◌, map, filter, length, if◌then◌else◌, Option, Some, None, option_map, codes, bytes_eq}
+use Rattle.std.specs.List.{list_any, before_first}
+use Rattle.edi_line.specs.Entry.{Entry, has_code}
+use Rattle.edi_record.specs.inner.Texts.{point}
+use Rattle.edi_record.specs.Records.{values, has_points, is_link, opens, closes, points_at}
+use Rattle.edi_record.specs.inner.Records.{set_after, value_after, attributes, sns_after, ends, Placed, placed, is_open_after, is_extra, extra, extras}
+use Rattle.edi_record.specs.inner.RecordRules.{is_arc, count_until, repeats, has_bad_attribute, is_unknown_pointer}
+use Rattle.edi_record.specs.declared.record.Kind.{Kind}
+use Rattle.edi_record.specs.declared.record.Kind.TheVariants.{Pno, Par, Pfe, Fea, Lnk}
+use Rattle.edi_record.specs.declared.record.Attribute.{Attribute}
+use Rattle.edi_record.specs.declared.record.End.{End}
+use Rattle.edi_record.specs.declared.record.Extra.{Extra}
+use Rattle.edi_record.specs.declared.role.Role.{Role}
+use Rattle.edi_record.specs.declared.role.Role.TheVariants.{Identifier, Class, AttributeCount, AttributeClass, AttributeSet, AttributeValue, BodyCount, Place, EndPointer, EndSense, Skipped, Unknown}
+use Rattle.edi_record.specs.declared.only.Only.{Only}
+use Rattle.edi_record.specs.declared.only.Only.TheVariants.{Absent, One, Repeated}
+use Rattle.edi_record.specs.declared.attributes.Attributes.{Attributes}
+use Rattle.edi_record.specs.declared.attributes.OpenAttribute.{OpenAttribute}
+use Rattle.edi_record.specs.declared.points.Points.{Points}
+use Rattle.edi_record.specs.declared.ends.Ends.{Ends}
+use Rattle.edi_record.specs.declared.ends.OpenEnd.{OpenEnd}
+use Rattle.edi_record.specs.declared.extras.Extras.{Extras}
+use Rattle.edi_record.specs.declared.draft.Draft.{Draft}
+
+-- the role of a code that isn't known in every record
+abbrev pub body_role_in : Kind → List ℕ → Role
+body_role_in Pno code = if bytes_eq code (codes "COR") then Place else Unknown
+body_role_in Par code = if bytes_eq code (codes "COR") then Place else (if bytes_eq code (codes "PTC") then BodyCount else Unknown)
+body_role_in Pfe code = Unknown
+body_role_in Fea code = Unknown
+body_role_in Lnk code = if bytes_eq code (codes "FTC") then BodyCount else (if bytes_eq code (codes "FTP") then EndPointer else (if bytes_eq code (codes "SNS") then EndSense else Unknown))
+
+-- what a zone with a code is to a record
+abbrev pub role_in : Kind → List ℕ → Role
+role_in kind code =
+    if bytes_eq code (codes "RID") then Identifier
+    else (if bytes_eq code (codes "SCP") then Class
+    else (if bytes_eq code (codes "ATC") then AttributeCount
+    else (if bytes_eq code (codes "ATP") then AttributeClass
+    else (if bytes_eq code (codes "TEX") then AttributeSet
+    else (if bytes_eq code (codes "ATV") then AttributeValue
+    else (if bytes_eq code (codes "RTY") then Skipped
+    else (if bytes_eq code (codes "QAC") then Skipped
+    else (if bytes_eq code (codes "QAP") then Skipped
+    else body_role_in kind code))))))))
+
+-- with those that are left these are all the texts; or there are two or more
+abbrev pub AreTexts : Only → List (List ℕ) → List (List ℕ) → Type 0
+AreTexts Absent left all = all ≡ left
+AreTexts (One text) left all = all ≡ text.now ∷ left
+AreTexts Repeated left all = 2 ≤ length all
+
+-- a zone with this code and value goes from those that are left to those that have come
+abbrev pub Takes : {Part : Type 0} → (Part → List Entry → List Entry → Type 0) → List ℕ → List ℕ → Part → Part → Type 0
+Takes Keeps code value old new = (z : Entry) (left group : List Entry) → has_code code z ≡ true → z.value ≡ value → Keeps old (z ∷ left) group → Keeps new left group
+
+-- a value where no attribute is open
+abbrev pub is_stray : Placed → Bool
+is_stray p = closes p.zone && not p.open_before
+
+-- the character set that has come, or else the first of those that are left
+abbrev pub set_with : Option (List ℕ) → List Entry → Option (List ℕ)
+set_with (Some text) left = Some text
+set_with None left = set_after left
+
+-- the attribute with its character set and this value
+abbrev pub attribute_of : OpenAttribute → Option (List ℕ) → List ℕ → Attribute
+attribute_of opened set value = record { atp = record { rty = opened.class.rty.now; rid = opened.class.rid.now }; tex = set; atv = value }
+
+abbrev pub set_come : OpenAttribute → Option (List ℕ)
+set_come opened = option_map (λ s. s.now) opened.set
+
+-- the attributes that the zones which are left make with the open one
+abbrev pub attributes_with : Option OpenAttribute → List Entry → List (Option Attribute)
+attributes_with None left = attributes left
+attributes_with (Some opened) left = Some (attribute_of opened (set_with (set_come opened) left) (value_after left)) ∷ attributes left
+
+-- the open attribute, closed with a value
+abbrev pub closed_with : List ℕ → Option OpenAttribute → List Attribute
+closed_with value None = []
+closed_with value (Some opened) = attribute_of opened (set_come opened) value ∷ []
+
+-- among the zones that are left is a second character set, of the open attribute or of a later one
+abbrev pub repeats_with : Option OpenAttribute → List Entry → Bool
+repeats_with None left = repeats opens (λ z. opens z || closes z) (codes "TEX") left
+repeats_with (Some opened) left = nat_le (if is_some opened.set then 1 else 2) (count_until (λ z. opens z || closes z) (codes "TEX") left) || repeats opens (λ z. opens z || closes z) (codes "TEX") left
+
+-- of a group's attributes so much is stored, where these zones are left
+pub record StoresAttributes (a : Attributes) (left group : List Entry) : Type 0 where
+  pub broken : a.is_broken ≡ true → has_bad_attribute group ≡ true
+  pub made : a.is_broken ≡ false → attributes group ≡ map Some a.done.items ++ attributes_with a.opened left
+  pub stray : a.is_broken ≡ false → list_any is_stray (placed false group) ≡ list_any is_stray (placed (is_some a.opened) left)
+  pub repeated : a.is_broken ≡ false → repeats_with None group ≡ repeats_with a.opened left
+
+-- where the rule isn't broken then, it wasn't before, and an attribute is open then or none is
+abbrev pub LeavesOpen : Bool → Attributes → Attributes → Type 0
+LeavesOpen is_open old new = new.is_broken ≡ false → (old.is_broken ≡ false) × (is_some new.opened ≡ is_open)
+
+-- of a group's points so much is stored, where these zones are left
+pub record StoresPoints (p : Points) (left group : List Entry) : Type 0 where
+  pub broken : p.is_broken ≡ true → list_any is_none (map point (values (codes "COR") group)) ≡ true
+  pub made : p.is_broken ≡ false → map point (values (codes "COR") group) ≡ map Some p.list.items ++ map point (values (codes "COR") left)
+
+-- an SNS comes before any end
+abbrev pub has_stray : List Entry → Bool
+has_stray group = list_any (has_code (codes "SNS")) (before_first points_at group)
+
+-- the SNS that has come, or else the first of those that are left
+abbrev pub sns_with : Option (List ℕ) → List Entry → Option (List ℕ)
+sns_with (Some text) left = Some text
+sns_with None left = sns_after left
+
+abbrev pub sns_come : OpenEnd → Option (List ℕ)
+sns_come opened = option_map (λ s. s.now) opened.sense
+
+-- the end with its SNS
+abbrev pub end_with : OpenEnd → Option (List ℕ) → End
+end_with opened sns = record {
+  lot = opened.pointer.lot.now;
+  subset = opened.pointer.subset.now;
+  target = record { rty = opened.pointer.rty.now; rid = opened.pointer.rid.now };
+  sns = sns;
+}
+
+-- the ends that the zones which are left make with the open one
+abbrev pub ends_with : Option OpenEnd → List Entry → List (Option End)
+ends_with None left = ends left
+ends_with (Some opened) left = Some (end_with opened (sns_with (sns_come opened) left)) ∷ ends left
+
+-- the open end, closed
+abbrev pub ended_with : Option OpenEnd → List End
+ended_with None = []
+ended_with (Some opened) = end_with opened (sns_come opened) ∷ []
+
+-- among the zones that are left is an SNS before any end, or a second one, of the open end or of a later one
+abbrev pub bad_sns_with : Option OpenEnd → List Entry → Bool
+bad_sns_with None left = has_stray left || repeats points_at points_at (codes "SNS") left
+bad_sns_with (Some opened) left = nat_le (if is_some opened.sense then 1 else 2) (count_until points_at (codes "SNS") left) || repeats points_at points_at (codes "SNS") left
+
+-- of a group's ends so much is stored, where these zones are left
+pub record StoresEnds (e : Ends) (left group : List Entry) : Type 0 where
+  pub broken : e.is_broken ≡ true → (list_any is_none (ends group) || bad_sns_with None group) ≡ true
+  pub made : e.is_broken ≡ false → ends group ≡ map Some e.done.items ++ ends_with e.opened left
+  pub sns : e.is_broken ≡ false → bad_sns_with None group ≡ bad_sns_with e.opened left
+
+-- the extras among zones before which an attribute is open or none is
+abbrev pub extras_after : Kind → Bool → List Entry → List Extra
+extras_after kind is_open zs = map (λ (p : Placed). extra p.zone) (filter (is_extra kind) (placed is_open zs))
+
+-- of a group's extras so much is stored, where these zones are left, and an attribute is open or none is
+pub record StoresExtras (kind : Kind) (is_open : Bool) (e : Extras) (left group : List Entry) : Type 0 where
+  pub broken : e.is_broken ≡ true → list_any (is_unknown_pointer kind) (placed false group) ≡ true
+  pub made : e.is_broken ≡ false → extras kind group ≡ e.list.items ++ extras_after kind is_open left
+  pub unknown : e.is_broken ≡ false → list_any (is_unknown_pointer kind) (placed false group) ≡ list_any (is_unknown_pointer kind) (placed is_open left)
+
+-- an extra goes from the zones that are left to those that have come
+abbrev pub TakesExtra : Entry → Extras → Extras → Type 0
+TakesExtra z old new = (kind : Kind) (is_open : Bool) (left group : List Entry) → is_extra kind (record { open_before = is_open; zone = z }) ≡ true
+    → StoresExtras kind is_open old (z ∷ left) group → StoresExtras kind (is_open_after is_open z) new left group
+
+-- of a group so much is stored, where these zones are left
+pub record StoresRecord (d : Draft) (left group : List Entry) : Type 0 where
+  pub identifier : AreTexts d.identifier (values (codes "RID") left) (values (codes "RID") group)
+  pub class : AreTexts d.class (values (codes "SCP") left) (values (codes "SCP") group)
+  pub attribute_count : AreTexts d.attribute_count (values (codes "ATC") left) (values (codes "ATC") group)
+  pub point_count : is_arc d.kind ≡ true → AreTexts d.body_count (values (codes "PTC") left) (values (codes "PTC") group)
+  pub end_count : is_link d.kind ≡ true → AreTexts d.body_count (values (codes "FTC") left) (values (codes "FTC") group)
+  pub counted_points : has_points d.kind ≡ true → length (values (codes "COR") group) ≡ d.counted + length (values (codes "COR") left)
+  pub counted_ends : is_link d.kind ≡ true → length (values (codes "FTP") group) ≡ d.counted + length (values (codes "FTP") left)
+  pub attributes : StoresAttributes d.attributes left group
+  pub points : has_points d.kind ≡ true → StoresPoints d.points left group
+  pub ends : is_link d.kind ≡ true → StoresEnds d.ends left group
+  pub extras : d.attributes.is_broken ≡ false → StoresExtras d.kind (is_some d.attributes.opened) d.extras left group

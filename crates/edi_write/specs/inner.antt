@@ -1,0 +1,4 @@
+-- What private contracts use, and the functions that proofs join to the relations.
+pub mod ClassLines
+pub mod Heads
+pub mod Numbered
