@@ -4,10 +4,9 @@
     cd crates/edicad && rt run < ../../examples/node/bundle     builds out/edicad
     python3 bench/crafted.py [COUNT ..]                         from the top; needs rustc
 
-For each COUNT: a sheet of so many nodes, and a schema of so many classes, whose identifiers all fall into one group of
-the kit's table of names, under its own hash with the fixed seed (`fold`) and under SipHash-1-3 without a key (`sip`);
-`crafted.rs` finds them. Printed: the best of five runs with ordinary and with crafted names, in turn, and their ratio,
-which is to be at most 2.
+For each COUNT: a sheet of so many nodes, and a schema of so many classes, whose identifiers would all fall into one group of
+the kit's table of names if the hash, SipHash-1-3, had no key; `crafted.rs` finds them. Printed: the best of five runs with
+ordinary and with crafted names, in turn, and their ratio, which is to be at most 2.
 """
 import os
 import random
@@ -21,11 +20,11 @@ FINDER = os.path.join(OUT, "crafted")
 LETTERS = "ABCDEFGHIJKLMNOPQRSTUVWXYZabcdefghijklmnopqrstuvwxyz0123456789"
 
 
-def crafted_names(known, kind, count):
-    path = os.path.join(OUT, f"{known}_{kind}_{count}.names")
+def crafted_names(kind, count):
+    path = os.path.join(OUT, f"{kind}_{count}.names")
     if not os.path.exists(path):
         with open(path, "wb") as file:
-            subprocess.run([FINDER, known, kind, str(count)], stdout=file, check=True)
+            subprocess.run([FINDER, kind, str(count)], stdout=file, check=True)
     with open(path) as file:
         return file.read().split()
 
@@ -55,8 +54,8 @@ def bundle(what, names, name):
     return path
 
 
-def compared(known, what, count):
-    chosen = crafted_names(known, {"nodes": "PNO", "classes": "OBJ"}[what], count)
+def compared(what, count):
+    chosen = crafted_names({"nodes": "PNO", "classes": "OBJ"}[what], count)
     paths = [bundle(what, ordinary_names(chosen), f"ordinary_{what}"), bundle(what, chosen, f"crafted_{what}")]
     answer = os.path.join(OUT, "crafted.vec")
     runs = [[], []]
@@ -64,17 +63,16 @@ def compared(known, what, count):
         for k, path in enumerate(paths):
             runs[k].append(timed(PROGRAM, path, answer)[0])
     best = [min(run) for run in runs]
-    print(f"| {known} | {what} {count} | {best[0]:.2f} s | {best[1]:.2f} s | {best[1] / best[0]:.2f} |", flush=True)
+    print(f"| {what} {count} | {best[0]:.2f} s | {best[1]:.2f} s | {best[1] / best[0]:.2f} |", flush=True)
 
 
 def main():
     os.makedirs(OUT, exist_ok=True)
     subprocess.run(["rustc", "-O", "--edition", "2024", os.path.join(HERE, "crafted.rs"), "-o", FINDER], check=True)
-    print("| made for | names | ordinary | crafted | ratio |\n|---|---|---|---|---|")
+    print("| names | ordinary | crafted | ratio |\n|---|---|---|---|")
     for count in map(int, sys.argv[1:] or ["40000", "200000"]):
-        for known in ("fold", "sip"):
-            for what in ("nodes", "classes"):
-                compared(known, what, count)
+        for what in ("nodes", "classes"):
+            compared(what, count)
 
 
 if __name__ == "__main__":
