@@ -75,18 +75,22 @@ impl<'a, T: Ord> Ord for BorrowedList<'a, T> {
 }
 
 /// A list of borrowed elements, compared and ordered as these in their order. Contracts see the list of the
-/// elements.
+/// elements. The first, which mostly decides, lies in the value itself too, so that the vector need not be fetched.
 #[derive(Debug, Drop)]
 pub struct ListOfBorrowed<'a, T> {
+    first: Option<&'a T>,
     vec: Vec<&'a T>,
 }
 
 impl<'a, T> Model for ListOfBorrowed<'a, T> {
-    ghost use Rattle.std.specs.Prelude.{List, map};
+    ghost use Rattle.std.specs.Prelude.{◌≡◌, List, map, option_map};
+    ghost use Rattle.edi_line.specs.Entry.{first as first_in};
 
     ghost Value = { List T };
 
     ghost view = { λ l. map (λ item. item.now) l.vec.items };
+
+    ghost invariant = { λ l. option_map (λ item. item.now) l.first ≡ first_in (map (λ item. item.now) l.vec.items) };
 }
 
 impl<'a, T> ListOfBorrowed<'a, T> {
@@ -94,7 +98,10 @@ impl<'a, T> ListOfBorrowed<'a, T> {
     pub fn from_vec(vec: Vec<&'a T>) -> ListOfBorrowed<'a, T>
         ensures { result ≡ map (λ item. item.now) vec.entry.items }
     {
-        ListOfBorrowed { vec }
+        ListOfBorrowed {
+            first: vec.first().copied(),
+            vec,
+        }
     }
 }
 
@@ -132,6 +139,12 @@ impl<'a, T: Ord> Ord for ListOfBorrowed<'a, T> {
     ghost matches_eq = { λ x y. lists_ties T.cmp T.matches_eq x y };
 
     fn cmp(&self, other: &Self) -> Ordering {
+        if let (Some(one), Some(another)) = (self.first, other.first) {
+            let order = one.cmp(another);
+            if order.is_ne() {
+                return order;
+            }
+        }
         self.vec.as_slice().cmp(other.vec.as_slice())
     }
 }
