@@ -14,9 +14,8 @@ use Rattle.edi_rank.proofs.Arranging.{carries_arranged}
 use Rattle.edi_rank.proofs.SameLaws.{same_sym, same_trans}
 use Rattle.edi_compare.specs.inner.Forms.{HasFirst, IsPlanForm}
 use Rattle.edi_compare.specs.Namesakes.{HasNamesakes, PairsByNumber}
-use Rattle.edi_compare.specs.Pairings.{IsFirstDifference}
 use Rattle.edi_compare.specs.PlanOfFile.{IsPlanOfFile}
-use Rattle.edi_compare.specs.Verdicts.{IsFileOfPlan, IsPlanVerdict, IsVerdict}
+use Rattle.edi_compare.specs.Verdicts.{IsFileOfPlan, IsPlanVerdict, IsVerdict, IsFirstDifference}
 use Rattle.edi_compare.specs.declared.comparing.FirstForm.{FirstForm}
 use Rattle.edi_compare.specs.declared.pairing.Pairing.{Pairing}
 use Rattle.edi_compare.specs.declared.pairing.Verdict.{Verdict}

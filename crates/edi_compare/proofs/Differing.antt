@@ -6,7 +6,7 @@ use Rattle.std.proofs.lemmas.List.{drop_all}
 use Rattle.std.proofs.Math.Seq.{drop-cons}
 use Rattle.edi_line.specs.inner.Lines.{lines_of}
 use Rattle.edi_line.proofs.Cut.{lines_exist}
-use Rattle.edi_compare.specs.Pairings.{IsFirstDifference}
+use Rattle.edi_compare.specs.Verdicts.{IsFirstDifference}
 
 -- the number of the first line in which they differ, where the first of their lines has this number
 abbrev pub differ_from : ℕ → List ℕ → List ℕ → Option ℕ
@@ -15,7 +15,7 @@ differ_from line [] (y ∷ ys) = Some line
 differ_from line (x ∷ xs) [] = Some line
 differ_from line (x ∷ xs) (y ∷ ys) = cond (eqb x y) (differ_from (cond (eqb x 10) (line + 1) line) xs ys) (Some line)
 
--- the lines before this place are alike, and those at it aren't
+-- the lines before this place are equal, and those at it aren't
 pub record DifferAt (lines others : List (List ℕ)) (place : ℕ) : Type 0 where
   pub differ : get_or lines place [] ≢ get_or others place []
   pub before : (k : ℕ) → k < place → slice_get lines k ≡ slice_get others k
@@ -85,7 +85,7 @@ differ_unfed x y xs ys place same other d =
 later : (line x y : ℕ) (xs ys : List ℕ) (n : ℕ) → x ≡ y → differ_from line (x ∷ xs) (y ∷ ys) ≡ Some n → differ_from (cond (eqb x 10) (line + 1) line) xs ys ≡ Some n
 later line x y xs ys n same e = sym (ap (λ b. cond b (differ_from (cond (eqb x 10) (line + 1) line) xs ys) (Some line)) (eq-eqb x y same)) ∙ e
 
--- where it is told, they differ there
+-- where a place is given, they differ there
 
 pub record Found (line : ℕ) (xs ys : List ℕ) (n : ℕ) : Type 0 where
   pub place : ℕ
@@ -117,7 +117,7 @@ found line (x ∷ xs) (y ∷ ys) n e = go (cases_eq x y) (cases_eq x 10) (found 
         let counts : n ≡ line + f.place = f.counts ∙ ap (λ b. cond b (line + 1) line + f.place) (ne_eqb x 10 no_feed) in
         record { place = f.place; counts = counts; differ = differ_unfed x y xs ys f.place same no_feed f.differ }
 
--- and where nothing is told, they are equal
+-- and where none is given, they are equal
 pub none_found : (line : ℕ) (xs ys : List ℕ) → differ_from line xs ys ≡ None → xs ≡ ys
 none_found line [] [] e = refl
 none_found line [] (y ∷ ys) e = cc

@@ -34,7 +34,6 @@ use Rattle.edi_write.proofs.WrittenPrinted.{letters_printable, written_printable
 use Rattle.edi_write.proofs.WrittenRecords.{written_layout, written_plan, written_count}
 use Rattle.edi_write.proofs.WrittenReferences.{written_references}
 use Rattle.edi_compare.specs.Canonical.{IsCanonical}
-use Rattle.edi_compare.specs.inner.Canonical.{IsLayoutOf}
 use Rattle.edi_compare.specs.Headline.{IsFormOf}
 use Rattle.edi_line.specs.Bytes.{IsBytes}
 use Rattle.edi_compare.specs.inner.Forms.{HasForm, IsPlanForm}
@@ -45,6 +44,15 @@ use Rattle.edi_compare.specs.declared.canonical.Form.{Form}
 use Rattle.edi_compare.proofs.Headline.{plan_under, plan_joined, records_hold, references_hold, topology_hold, objects_hold, decide}
 use Rattle.edi_compare.proofs.Phases.{records_held, references_held, topology_held, all_held}
 use Rattle.edi_compare.proofs.Reading.{reading_is_one}
+
+-- The layout of the plan of an accepted sheet, whose records are numbered and put in order by their labels.
+pub record IsLayoutOf (s : Classes) (b c : List ℕ) : Type 0 where
+  pub plan : Drawing
+  pub labels : Labelling
+  pub accepted : IsAccepted s b
+  pub states : IsPlanOfFile s b plan
+  pub are_labels : AreLabels s plan labels
+  pub laid_out : c ≡ layout s (arranged s labels plan)
 
 -- ---- the records as they are read
 
@@ -62,7 +70,7 @@ module _ (s : Classes) (q : Drawing) (keeps : IsSchema s) (under : IsPlanUnder s
   written = written_records s q
 
   abbrev file : List ℕ
-  file = records.layout (letters s) q.cse written
+  file = records.records_layout (letters s) q.cse written
 
   few : length written ≤ 9999999
   few = let f = under.whole.few in omega (arith, f, written_count s q)
@@ -175,7 +183,7 @@ plan_form s p l c keeps bytes held labels laid_out = record {
     layout_of : IsLayoutOf s held.0 c
     layout_of = record { plan = p; labels = l; accepted = held.2; states = held.3; are_labels = labels; laid_out = laid_out }
 
--- and what is kept of the sheet is its form
+-- and what is stored of the sheet is its form
 pub has_form : (s : Classes) (b : List ℕ) (form : Form) → IsSchema s → length b < 2 ^ 64 → IsBytes form.file.items → IsAccepted s b → IsPlanOfFile s b form.labelled.sound
     → AreLabels s form.labelled.sound form.labelled.labels → form.file.items ≡ layout s (arranged s form.labelled.labels form.labelled.sound) → HasForm s b form
 has_form s b form keeps short bytes accepted states labels laid_out = record {

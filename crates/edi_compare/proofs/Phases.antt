@@ -2,7 +2,7 @@
 use Rattle.std.proofs.Common.{◌≡◌, ◌∙◌, subst, ℕ, ◌<◌, ◌≤◌, ◌⊎◌, inl, inr, List, [], ◌∷◌, ◌++◌, map, Err, arith}
 use Rattle.edi_line.specs.Entry.{Entry}
 use Rattle.edi_line.specs.LineRules.{BreaksIn, BreaksLineRule, line_tests, IsZonesOf}
-use Rattle.edi_line.specs.Refusal.{IsUnbroken, IsLeastBroken, Breaks as BreaksTest}
+use Rattle.edi_line.specs.Refusal.{IsUnbroken, IsLeastBroken, BreaksTest}
 use Rattle.edi_line.specs.Spelling.{Reading}
 use Rattle.edi_line.specs.inner.Spelling.{reading_of}
 use Rattle.edi_line.specs.inner.Lines.{contents_of}

@@ -1,23 +1,29 @@
 -- Ends with places and SNS are compared in one order.
 use Rattle.std.proofs.Common.{◌≡◌, ◌↔◌, ℕ, Bool, IsTrue, List, [], ◌∷◌, map, map-id, Decides, Some, option_map, Result, Ok, Err, IfOk, refl, sym, ap, ◌∙◌, subst, IsPermutation}
 use Rattle.std.specs.Cmp.{IsTotalOrder}
+use Rattle.std.specs.Ordering.{ordering_then, nat_cmp}
+use Rattle.std.specs.declared.cmp.Ordering.{Ordering}
 use Rattle.std.specs.Cmp.Lexicographic.{options_total}
 use Rattle.std.proofs.lemmas.Cmp.{then_total, on_total, nat_cmp_total}
 use Rattle.std.proofs.lemmas.List.Sorted.{IsPermutation-refl, IsPermutation-map}
 use Rattle.std.proofs.lemmas.Map.Lookups.{CmpEqualImpliesEq, exact_unsigned}
-use Rattle.edi_record.specs.Orders.{bytes_cmp}
+use Rattle.edi_record.specs.Orders.{bytes_cmp, text_cmp}
 use Rattle.edi_schema.specs.Sorted.{sort_by}
 use Rattle.edi_plan.specs.Plans.{first_of, rest_of}
 use Rattle.edi_plan.specs.declared.record.PlanEnd.{PlanEnd}
 use Rattle.edi_plan.proofs.Orders.{first_tied, then_tied, exact_options, bytes_total, bytes_exact}
 use Rattle.edi_rank.specs.Same.{moved}
 use Rattle.edi_rank.proofs.SameLaws.{map-map}
-use Rattle.edi_compare.specs.inner.Checking.{placed_end, placed_end_cmp}
+use Rattle.edi_compare.specs.inner.Checking.{placed_end}
 use Rattle.edi_compare.specs.declared.moved_ends.MovedEnd.{MovedEnd}
 use Rattle.edi_compare.specs.contracts.moved_ends.MovedEndOrd.TheImpl.{ghosts as ends}
 use Rattle.edi_compare.specs.contracts.moved_ends.MovedEndOrd.TheImpl.Laws.{lawful as laws}
 use Rattle.edi_compare.specs.contracts.moved_ends.MovedEndPartialEq.TheImpl.{ghosts as end_eq}
 use Rattle.edi_compare.proofs.Equal.{decided, permuted, one_order}
+
+-- ends go by place, then SNS
+abbrev pub placed_end_cmp : MovedEnd → MovedEnd → Ordering
+placed_end_cmp a b = ordering_then (nat_cmp a.target b.target) (text_cmp a.sns b.sns)
 
 pub placed_order : (a b : MovedEnd) → ends.cmp a b ≡ placed_end_cmp a b
 placed_order a b = refl
@@ -69,7 +75,7 @@ placed_moved to xs = sym (map-map placed_end (moved to) xs)
 pub alone_there : (to : ℕ → ℕ) (r : Bool) (x y : PlanEnd) (ends others : List PlanEnd) → ends ≡ x ∷ [] → others ≡ y ∷ [] → (IsTrue r ↔ (y ≡ moved to x)) → IsTrue r ↔ IsPermutation (map (moved to) ends) others
 alone_there to r x y ends others e f h = rw (e, f) (alone to r x y h)
 
--- the first end, and what is told of the others
+-- the first end, and what is said of the others
 
 pub first_known : {E : Type 0} (to : ℕ → ℕ) (x y : PlanEnd) (ends others rest more : List PlanEnd) (r : Result Bool E) → ends ≡ x ∷ rest → others ≡ y ∷ more → y ≡ moved to x
     → IfOk r (λ answer. IsTrue answer ↔ IsPermutation (map (moved to) rest) more)

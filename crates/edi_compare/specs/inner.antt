@@ -1,6 +1,5 @@
 -- What private contracts use, and the functions that proofs join to the relations.
 pub mod Checking
 pub mod Forms
-pub mod Canonical
 pub mod Runs
 pub mod Under

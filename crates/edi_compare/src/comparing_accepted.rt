@@ -29,13 +29,13 @@ pub fn compare_accepted(
     requires second { IsHeldPlan schema.now b.now }
     ensures { IfOk result (IsPlanVerdict schema.now a.now b.now) }
 {
-    let first = kept_form(alloc, schema, a)?;
+    let first = stored_form(alloc, schema, a)?;
     let second = form_of_plan(alloc, schema, b)?;
     verdict_of(alloc, schema, &first, &second.labels, &second.file)
 }
 
-/// What is kept of an accepted sheet while the form of another is made.
-fn kept_form(alloc: Global, schema: &Schema, sheet: &Accepted) -> Result<FirstForm, AllocError>
+/// What is stored of an accepted sheet while the form of another is made.
+fn stored_form(alloc: Global, schema: &Schema, sheet: &Accepted) -> Result<FirstForm, AllocError>
     requires { IsHeldPlan schema.now sheet.now }
     ensures { IfOk result (HasFirst schema.now sheet.now) }
 {

@@ -1,7 +1,7 @@
 //! Where two files differ.
 
 ghost use Rattle.std.specs.Prelude.{◌≡◌, MatchOption};
-ghost use Rattle.edi_compare.specs.Pairings.{IsFirstDifference};
+ghost use Rattle.edi_compare.specs.Verdicts.{IsFirstDifference};
 
 /// The number of the first line, from 1, in which two files differ or that one of them lacks; or `None` where they are
 /// equal.

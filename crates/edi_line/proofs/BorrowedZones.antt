@@ -1,4 +1,4 @@
--- Which values of zones are lent, line by line.
+-- Which values of zones are borrowed, line by line.
 use Rattle.std.proofs.Common.{◌≡◌, ℕ, ◌+◌, true, false, ◌||◌, ◌∙◌, refl, sym, ap, subst, List, [], ◌∷◌, ◌++◌, length, take, drop, Option, Some, None, option_map, option_to_list, IfSome, IfOk, Result, Ok, Err, Vec, Global}
 use Rattle.std.specs.List.{AllByRecursion}
 use Rattle.std.specs.Cow.{IsOwnedSlice}
@@ -161,7 +161,7 @@ borrows_none r s = record {
   open_zone = open_none [] (open_in r.zones) (ap (λ z. z.open_zone) s.zones);
 }
 
--- a line that is taken, where the zone that it begins is lent
+-- a line that is taken, where the zone that it begins is borrowed
 pub borrows_taken : (lines : List Reading) (line : Reading) (old middle new : Reader) → length lines ≡ old.line → BorrowsLines lines old → LeavesAfter line old middle → done_in new.zones ≡ done_in middle.zones
     → IfSome (open_in new.zones) (λ z. (z.line ≡ old.line + 1) × ¬ (IsOwnedSlice z.value)) → BorrowsLines (lines ++ line ∷ []) new
 borrows_taken lines line old middle new counted borrows leaves zones begun =

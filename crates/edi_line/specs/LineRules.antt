@@ -3,7 +3,7 @@ use Rattle.std.specs.Prelude.{◌≡◌, ℕ, ◌+◌, ◌≤◌, ◌⊎◌, fal
 use Rattle.edi_line.specs.Bytes.{most_records}
 use Rattle.edi_line.specs.Entry.{Entry}
 use Rattle.edi_line.specs.LineKinds.{is_bom, is_cse, is_rty, is_eom, is_other, is_next, is_zone, starts, bears, some_bears}
-use Rattle.edi_line.specs.Refusal.{Test, test, Breaks}
+use Rattle.edi_line.specs.Refusal.{Test, test, BreaksTest}
 use Rattle.edi_line.specs.Spelling.{Reading, AreReadings}
 use Rattle.edi_line.specs.Zones.{IsZonesIn}
 
@@ -26,7 +26,7 @@ line_tests before line =
 
 -- A line breaks a rule of its own (101, 102, 103), or one of its place.
 abbrev pub BreaksHere : List Reading → Reading → ℕ → Type 0
-BreaksHere before line rule = (line ≡ Err rule) ⊎ Breaks (line_tests before line) rule
+BreaksHere before line rule = (line ≡ Err rule) ⊎ BreaksTest (line_tests before line) rule
 
 -- the line with this number breaks the rule
 pub record BreaksAt (lines : List Reading) (rule place : ℕ) : Type 0 where

@@ -2,7 +2,7 @@
 
 ghost use Rattle.std.specs.Prelude.{◌≡◌, ℕ, List, ◌+◌, ◌*◌, ◌/◌, ◌%◌, ◌^◌, ◌<◌, ◌≤◌, ◌↔◌, [], ◌∷◌, ◌++◌, length, IsTrue, IfOk, OnOk, OnErr, MatchOption, Some, All, ℤ, pos, ◌==◌, position};
 ghost use Rattle.std.specs.Str.Parse.{AllDigits, digits_value};
-ghost use Rattle.edi_line.specs.Number.{IsNumberText, IsWhole, IsFraction, signed_by, size_of, MOST, signed_text, plain_text, size_text, point_text, fraction_digits};
+ghost use Rattle.edi_line.specs.Number.{IsNumberText, IsWhole, IsFraction, signed_by, size_of, MOST, signed_text, plain_text, size_text, fraction_text, fraction_digits};
 ghost use Rattle.edi_line.specs.inner.Number.{number, sign_of, body_of, whole_of, fraction_of};
 
 use itoa::Buffer;
@@ -208,7 +208,7 @@ fn push_size(text: &mut Vec<u8>, size: u64) -> Result<(), AllocError>
 /// The point and the digits behind it, or nothing for 0.
 fn push_point_text(text: &mut Vec<u8>, millionths: u64) -> Result<(), AllocError>
     requires { millionths < 1000000 }
-    ensures { OnOk result (text.new.items ≡ text.old.items ++ point_text millionths) }
+    ensures { OnOk result (text.new.items ≡ text.old.items ++ fraction_text millionths) }
 {
     if millionths == 0 {
         return Ok(());

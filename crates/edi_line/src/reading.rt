@@ -11,7 +11,7 @@ ghost use Rattle.edi_line.specs.LineRules.{BreaksLineRule, IsZonesOf};
 ghost use Rattle.edi_line.specs.Refusal.{IsUnbroken, IsLineRefusal, IfBroken};
 ghost use Rattle.std.specs.List.{AllByRecursion};
 ghost use Rattle.std.specs.Cow.{cow_slice_items};
-ghost use Rattle.edi_line.specs.Printing.{IsPrintable, printed, numbered};
+ghost use Rattle.edi_line.specs.Printing.{IsPrintable, printed, line_numbered};
 ghost use Rattle.edi_line.specs.inner.Borrowed.{BorrowsLines, Leaves, LeavesAfter};
 ghost use Rattle.edi_line.specs.inner.ZoneLists.{done_in, open_in};
 ghost use Rattle.edi_line.specs.inner.Held.{rule_of_kind, noted_kind, opened, Steps, Takes, Refuses, Stands, zoned, step, closed};
@@ -238,7 +238,7 @@ pub fn zones<'a>(alloc: Global, bytes: &'a [u8]) -> Result<Vec<Zone<'a>>, LineFa
 
 /// Printed zones are read as they were, each at its line, and break no rule where they have the shape of a file.
 pub fn printed_zones_are_read_again()
-    ensures zones { (zs : List Entry) (readings : List Reading) → AllByRecursion IsPrintable zs → AreReadings (printed zs) readings → IsZonesIn readings (numbered 1 zs) }
+    ensures zones { (zs : List Entry) (readings : List Reading) → AllByRecursion IsPrintable zs → AreReadings (printed zs) readings → IsZonesIn readings (line_numbered 1 zs) }
     ensures unbroken { (zs : List Entry) (charset : Option Entry) (groups : List (List Entry)) → IsFileOf zs charset groups
         → AllByRecursion IsPrintable zs → length groups ≤ most_records → IsUnbroken (BreaksLineRule (printed zs)) }
 {}

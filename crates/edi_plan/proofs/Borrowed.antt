@@ -1,4 +1,4 @@
--- Lists of what is lent, in the order of what it is lent of.
+-- Lists of what is borrowed, in the order of what it is borrowed from.
 use Rattle.std.proofs.Common.{◌≡◌, ◌+◌, List, [], ◌∷◌, map, map-id, get_or, Option, Result, Ok, Err, IfOk, Ordering, is_lt, sym, ap, ap₂, ◌∙◌, subst, arith, IsPermutation, IsSorted}
 use Rattle.std.specs.Cmp.{IsTotalOrder}
 use Rattle.std.specs.Iterator.Runs.{WholeRun}

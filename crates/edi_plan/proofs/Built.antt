@@ -6,7 +6,7 @@ use Rattle.std.proofs.lemmas.Bool.{ltb-true}
 use Rattle.std.proofs.lemmas.Option.{same_Some, none-some, get_or_from_slice_get}
 use Rattle.std.proofs.lemmas.List.Sums.{sum_by-cons}
 use native.Mathlib.Decide.{dec_le}
-use Rattle.edi_record.specs.Records.{IsValueOf}
+use Rattle.edi_record.specs.Records.{IsValueOf, is_link}
 use Rattle.edi_record.specs.inner.Records.{value_of}
 use Rattle.edi_record.specs.declared.record.Value.{Value}
 use Rattle.edi_record.specs.declared.record.Value.TheVariants.{Number, Bytes}
@@ -28,7 +28,7 @@ use Rattle.edi_schema.specs.Roles.{is_plain}
 use Rattle.edi_schema.specs.declared.role.Role.{Role}
 use Rattle.edi_schema.specs.declared.role.Role.TheVariants.{Initial, Final, Left, Right, Plain}
 use Rattle.edi_schema.specs.declared.class.Class.{Class}
-use Rattle.edi_plan.specs.Plans.{Drawing, IsPlace, record_at, blank, is_arc, is_link}
+use Rattle.edi_plan.specs.Plans.{Drawing, IsPlace, record_at, blank, is_arc}
 use Rattle.edi_plan.specs.Whole.{IsWhole}
 use Rattle.edi_plan.specs.PlanOf.{place_named, StatesPlanAttribute, StatesPlanEnd, StatesPlanRecord, IsPlanOf}
 use Rattle.edi_plan.specs.ReferenceRules.{BreaksReferenceRule, Names, JoinsArcTo}

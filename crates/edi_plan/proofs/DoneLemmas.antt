@@ -2,7 +2,7 @@
 use Rattle.std.proofs.Common.{◌≡◌, ◌≢◌, ℕ, zero, suc, ◌+◌, ◌-◌, ◌<◌, ◌≤◌, ◌⊎◌, inl, inr, Bool, true, false, cond, not, ◌&&◌, is_some, is_none, List, [], ◌∷◌, length, flat_map, Option, Some, None, MatchOption, option_map, nat_eq, slice_get, refl, sym, ap, ◌∙◌, subst, arith, Any, true≢false, eqb-true, eq-eqb}
 use Rattle.std.specs.List.{AllZip}
 use Rattle.std.proofs.lemmas.Bool.{cases_lt}
-use Rattle.edi_line.specs.Refusal.{Breaks, IsLeastBroken}
+use Rattle.edi_line.specs.Refusal.{BreaksTest, IsLeastBroken}
 use Rattle.edi_line.specs.inner.Refusal.{first_broken}
 use Rattle.edi_line.proofs.FirstBroken.{none_broken, first_is_least}
 use Rattle.edi_record.specs.declared.record.End.{End}
@@ -17,7 +17,7 @@ use Rattle.edi_plan.specs.inner.Done.{JoinsIn, IsLinkAt, JoinsBefore, IsJoinIfAn
 use Rattle.edi_plan.specs.Joined.{beside}
 use Rattle.edi_plan.specs.inner.Names.{RepeatsAt}
 use Rattle.edi_plan.specs.Plans.{first_of}
-use Rattle.edi_plan.specs.ReferenceRules.{IsAt, Names, HasRole, JoinsArcTo, JoinsWrong, RepeatsSide, LeavesSubset, BreaksReferenceRule}
+use Rattle.edi_plan.specs.ReferenceRules.{IsRecordAt, Names, HasRole, JoinsArcTo, JoinsWrong, RepeatsSide, LeavesSubset, BreaksReferenceRule}
 use Rattle.edi_plan.specs.ReferenceRules.BreaksReferenceRule.{repeats_name, lacks_class, lacks_attribute_class, leaves_subset, names_nothing, joins_wrong, repeats_side}
 use Rattle.edi_plan.specs.inner.Resolving.{LacksClass, is_elsewhere, leaves, first_subset, role_of_link, reference_tests}
 use Rattle.edi_plan.specs.inner.Resolving as resolving
@@ -74,13 +74,13 @@ module _ (s : Classes) (list : List Record) (place : ℕ) (r : Record) (here : s
   at_here : (k : ℕ) → suc k - 1 ≡ k
   at_here k = omega arith
 
-  is_at : IsAt s list (suc place) r
+  is_at : IsRecordAt s list (suc place) r
   is_at = (omega arith, subst (λ k. slice_get list k ≡ Some r) (sym (at_here place)) here)
 
-  one_record : (q : Record) → IsAt s list (suc place) q → q ≡ r
+  one_record : (q : Record) → IsRecordAt s list (suc place) q → q ≡ r
   one_record q at = same_some (sym (subst (λ k. slice_get list k ≡ Some q) (at_here place) at.1) ∙ here)
 
-  link_at : (k : ℕ) (q : Record) (o : Role) → IsLinkAt s list k q o → IsAt s list (suc k) q
+  link_at : (k : ℕ) (q : Record) (o : Role) → IsLinkAt s list k q o → IsRecordAt s list (suc k) q
   link_at k q o d = (omega arith, subst (λ j. slice_get list j ≡ Some q) (sym (at_here k)) d.here)
 
   -- the arc that an end of a joining link names is the one that it joins
@@ -234,7 +234,7 @@ module _ (s : Classes) (list : List Record) (place : ℕ) (r : Record) (here : s
       some_side (Some y) h x there = refl
       some_side None h x there = absurd (h x there)
 
-  pub test_breaks : (rule : ℕ) → Breaks (reference_tests s (first_subset list) own table r) rule → BreaksReferenceRule s list rule (suc place)
+  pub test_breaks : (rule : ℕ) → BreaksTest (reference_tests s (first_subset list) own table r) rule → BreaksReferenceRule s list rule (suc place)
   test_breaks rule (inl (e, h)) = lacks_class (sym e) (r, is_at, none_is (place_of s r.scp) h)
   test_breaks rule (inr (inl (e, h))) = lacks_attribute_class (sym e) (r, is_at, true_any (LacksClass s) (resolving.lacks_class s) (true_lacks s) r.attributes h)
   test_breaks rule (inr (inr (inl (e, h)))) = leaves_subset (sym e) (to_304 h)
@@ -244,7 +244,7 @@ module _ (s : Classes) (list : List Record) (place : ℕ) (r : Record) (here : s
   test_breaks rule (inr (inr (inr (inr (inr (inr h)))))) = absurd h
 
   -- a rule but 301 that is broken here is one of the tests, or 307 beside 306
-  pub breaks_test : (rule : ℕ) → BreaksReferenceRule s list rule (suc place) → ¬ (RepeatsAt list place) → Breaks (reference_tests s (first_subset list) own table r) rule ⊎ ((rule ≡ 307) × Breaks (reference_tests s (first_subset list) own table r) 306)
+  pub breaks_test : (rule : ℕ) → BreaksReferenceRule s list rule (suc place) → ¬ (RepeatsAt list place) → BreaksTest (reference_tests s (first_subset list) own table r) rule ⊎ ((rule ≡ 307) × BreaksTest (reference_tests s (first_subset list) own table r) 306)
   breaks_test rule (repeats_name e d) fresh =
       absurd (fresh (d.0 - 1, d.1, r, omega (arith, d.3, d.4.0), d.4.1, here, d.6 ∙ ap Rattle.edi_plan.specs.PlanOf.own_name (one_record d.2 d.5)))
   breaks_test rule (lacks_class e d) fresh = inl (inl (sym e, ap is_none (ap (λ (q : Record). place_of s q.scp) (sym (one_record d.0 d.1)) ∙ d.2)))
@@ -257,7 +257,7 @@ module _ (s : Classes) (list : List Record) (place : ℕ) (r : Record) (here : s
   breaks_test rule (joins_wrong e d) fresh = inl (inr (inr (inr (inr (inl (sym e, from_306 d))))))
   breaks_test rule (repeats_side e d) fresh = go (link_join role own) refl
     where
-      go : (o : Option Join) → link_join role own ≡ o → Breaks (reference_tests s (first_subset list) own table r) rule ⊎ ((rule ≡ 307) × Breaks (reference_tests s (first_subset list) own table r) 306)
+      go : (o : Option Join) → link_join role own ≡ o → BreaksTest (reference_tests s (first_subset list) own table r) rule ⊎ ((rule ≡ 307) × BreaksTest (reference_tests s (first_subset list) own table r) 306)
       go (Some j) h = inl (inr (inr (inr (inr (inr (inl (sym e, taken d j h)))))))
       go None h =
           let has = subst (λ t. HasRole s list t d.4) (one_record d.3 d.7) d.10 in
@@ -269,7 +269,7 @@ module _ (s : Classes) (list : List Record) (place : ℕ) (r : Record) (here : s
   pub clean_here : first_broken (reference_tests s (first_subset list) own table r) ≡ None → ¬ (RepeatsAt list place) → (rule : ℕ) → ¬ (BreaksReferenceRule s list rule (suc place))
   clean_here none fresh rule d = go (breaks_test rule d fresh)
     where
-      go : Breaks (reference_tests s (first_subset list) own table r) rule ⊎ ((rule ≡ 307) × Breaks (reference_tests s (first_subset list) own table r) 306) → ⊥
+      go : BreaksTest (reference_tests s (first_subset list) own table r) rule ⊎ ((rule ≡ 307) × BreaksTest (reference_tests s (first_subset list) own table r) 306) → ⊥
       go (inl b) = none_broken (reference_tests s (first_subset list) own table r) none rule b
       go (inr (e, b)) = none_broken (reference_tests s (first_subset list) own table r) none 306 b
 
@@ -280,7 +280,7 @@ module _ (s : Classes) (list : List Record) (place : ℕ) (r : Record) (here : s
       least : Rattle.edi_line.proofs.FirstBroken.IsLeast (reference_tests s (first_subset list) own table r) rule
       least = first_is_least (reference_tests s (first_subset list) own table r) rule refl e
 
-      go : (q : ℕ) → Breaks (reference_tests s (first_subset list) own table r) q ⊎ ((q ≡ 307) × Breaks (reference_tests s (first_subset list) own table r) 306) → rule ≤ q
+      go : (q : ℕ) → BreaksTest (reference_tests s (first_subset list) own table r) q ⊎ ((q ≡ 307) × BreaksTest (reference_tests s (first_subset list) own table r) 306) → rule ≤ q
       go q (inl b) = least.least q b
       go q (inr (is, b)) = let le = least.least 306 b in omega (arith, le, is)
 
@@ -398,5 +398,5 @@ pub repeats_301 : (s : Classes) (list : List Record) (place : ℕ) → RepeatsAt
 repeats_301 s list place d =
     (repeats_name refl (suc d.0, d.1, d.2, omega (arith, d.3), at d.0 d.1 d.4, at place d.2 d.5, d.6), λ q h. (low s list q (suc place) h).0)
   where
-    at : (k : ℕ) (r : Record) → slice_get list k ≡ Some r → IsAt s list (suc k) r
+    at : (k : ℕ) (r : Record) → slice_get list k ≡ Some r → IsRecordAt s list (suc k) r
     at k r h = (omega arith, (let e : suc k - 1 ≡ k = omega arith in subst (λ j. slice_get list j ≡ Some r) (sym e) h))

@@ -15,7 +15,7 @@ use Rattle.edi_schema.specs.declared.role.Role.TheVariants.{Initial, Final, Left
 use Rattle.edi_plan.specs.Joined.{beside, HasEnds, JoinsArc, IsJoin, IsJoined}
 use Rattle.edi_plan.specs.PlanOf.{IsPlanOf, StatesPlanEnd, StatesPlanRecord}
 use Rattle.edi_plan.specs.Plans.{Drawing, IsPlace, record_at, blank, same_kind, kind_rank}
-use Rattle.edi_plan.specs.ReferenceRules.{IsAt, BreaksReferenceRule, Names, JoinsArcTo}
+use Rattle.edi_plan.specs.ReferenceRules.{IsRecordAt, BreaksReferenceRule, Names, JoinsArcTo}
 use Rattle.edi_plan.specs.ReferenceRules.BreaksReferenceRule.{joins_wrong, repeats_side}
 use Rattle.edi_plan.specs.Sides.{targets}
 use Rattle.edi_plan.specs.declared.record.PlanEnd.{PlanEnd}
@@ -43,7 +43,7 @@ module _ (s : Classes) (sheet : Sheet) (p : Drawing) (is : IsPlanOf s sheet p) (
   there : (k : ℕ) (r : Record) → slice_get sheet.list k ≡ Some r → IsPlace p k × StatesPlanRecord s sheet.list r (record_at p k)
   there k r h = zip_back (StatesPlanRecord s sheet.list) sheet.list p.list is.each k r blank h
 
-  at_place : (k : ℕ) (r : Record) → slice_get sheet.list k ≡ Some r → IsAt s sheet.list (suc k) r
+  at_place : (k : ℕ) (r : Record) → slice_get sheet.list k ≡ Some r → IsRecordAt s sheet.list (suc k) r
   at_place k r h = (omega arith, (let e : suc k - 1 ≡ k = omega arith in subst (λ j. slice_get sheet.list j ≡ Some r) (sym e) h))
 
   plan_kind : (k : ℕ) (r : Record) (kind : Kind) → slice_get sheet.list k ≡ Some r → r.kind ≡ kind → (record_at p k).kind ≡ kind
@@ -63,7 +63,7 @@ module _ (s : Classes) (sheet : Sheet) (p : Drawing) (is : IsPlanOf s sheet p) (
           let n = same_some (sym all.1.0.target ∙ second.1) in
           λ i. m i ∷ n i ∷ []
 
-  -- a link of the plan joins if its record does, and that can be told from the plan
+  -- a link of the plan joins if its record does, and that can be seen in the plan
   module _ (k : ℕ) (join : IsJoin p k) where
     at : (r : Record) × (slice_get sheet.list k ≡ Some r) × StatesPlanRecord s sheet.list r (record_at p k)
     at = stated k join.there

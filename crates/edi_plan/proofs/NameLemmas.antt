@@ -14,7 +14,7 @@ use Rattle.edi_record.specs.declared.record.Record.{Record}
 use Rattle.edi_record.specs.contracts.record.KindPartialEq.TheImpl.{ghosts as kinds}
 use Rattle.edi_schema.proofs.Names.{same_name, name_itself}
 use Rattle.edi_schema.specs.Classes.{is_name}
-use Rattle.edi_plan.specs.Plans.{is_link}
+use Rattle.edi_record.specs.Records.{is_link}
 use Rattle.edi_plan.specs.inner.LinkNames.{LinksDiffer}
 use Rattle.edi_plan.specs.inner.Names.{named, place_in, is_tabled, IsPut, RepeatsAt, IsFirstRepeat, IsFirstRepeatIfAny}
 use Rattle.edi_plan.specs.PlanOf.{own_name, place_named}

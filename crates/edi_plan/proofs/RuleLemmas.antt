@@ -18,7 +18,8 @@ use Rattle.edi_schema.specs.declared.role.Role.{Role}
 use Rattle.edi_schema.specs.declared.role.Role.TheVariants.{Initial, Final, Left, Right, Plain}
 use Rattle.edi_plan.specs.inner.Done.{JoinsIn}
 use Rattle.edi_plan.specs.Joined.{beside}
-use Rattle.edi_plan.specs.Plans.{is_link, same_kind, kind_rank}
+use Rattle.edi_record.specs.Records.{is_link}
+use Rattle.edi_plan.specs.Plans.{same_kind, kind_rank}
 use Rattle.edi_plan.specs.ReferenceRules.{Names, HasRole}
 use Rattle.edi_plan.specs.inner.Resolving.{AreGiven, Gives, LacksClass, lacks_class, is_elsewhere, role_of_link}
 use Rattle.edi_plan.specs.inner.SideTable.{join_of_two, join_in, link_join}

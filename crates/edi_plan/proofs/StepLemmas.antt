@@ -15,7 +15,7 @@ use Rattle.edi_record.specs.declared.record.Record.{Record}
 use Rattle.edi_schema.specs.Classes.{Classes, place_of, role_named}
 use Rattle.edi_schema.specs.declared.role.Role.{Role}
 use Rattle.edi_schema.specs.declared.role.Role.TheVariants.{Plain}
-use Rattle.edi_plan.specs.Plans.{is_link}
+use Rattle.edi_record.specs.Records.{is_link}
 use Rattle.edi_plan.specs.inner.Resolving.{AreGiven, IsUnresolved, Resolves, lacks_class, leaves, reference_tests, role_of_link}
 use Rattle.edi_plan.specs.inner.SideTable.{link_tests}
 use Rattle.edi_plan.specs.declared.references.Subset.{Subset}

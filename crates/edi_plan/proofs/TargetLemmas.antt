@@ -13,7 +13,7 @@ use Rattle.edi_record.specs.declared.record.Kind.TheVariants.{Pno, Par, Pfe, Fea
 use Rattle.edi_record.specs.declared.record.Record.{Record}
 use Rattle.edi_plan.specs.inner.Names.{named, IsFirstRepeatIfAny}
 use Rattle.edi_plan.specs.PlanOf.{place_named}
-use Rattle.edi_plan.specs.Plans.{is_link}
+use Rattle.edi_record.specs.Records.{is_link}
 use Rattle.edi_plan.specs.inner.Targets.{target_kind, HasNameAt, Leads, IsTargetIfAny}
 use Rattle.edi_plan.specs.declared.names.RecordName.{RecordName}
 use Rattle.edi_plan.specs.declared.targets.Target.{Target}

@@ -3,6 +3,7 @@
 ghost use Rattle.std.specs.Prelude.{◌≡◌, ◌∷◌, [], ◌≤◌, true, length, map, unwrap_or, IfOk, OnOk};
 ghost use Rattle.std.specs.Cmp.Rules.{hashing};
 ghost use Rattle.std.proofs.Common.{rules};
+ghost use Rattle.edi_line.specs.Bytes.{most_records};
 ghost use Rattle.edi_hash.specs.Keys.{keyed_by};
 ghost use Rattle.edi_plan.specs.PlanOf.{own_name};
 ghost use Rattle.edi_plan.specs.inner.Names.{named, place_in, is_tabled as tabled_test, tabled, IsPut, AreNamesOf, IsFirstRepeatIfAny};
@@ -139,7 +140,7 @@ fn place_or<'a>(
 impl<'a> Names<'a> {
     /// The names of records, by their places from 0.
     pub(crate) fn among(alloc: Global, records: &'a [Record]) -> Result<Names<'a>, AllocError>
-        requires { length records.now ≤ 9999999 }
+        requires { length records.now ≤ most_records }
         ensures names { IfOk result (AreNamesOf records.now) }
         ensures repeat { IfOk result (λ names. IsFirstRepeatIfAny records.now names.repeat) }
     {

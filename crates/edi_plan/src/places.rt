@@ -1,6 +1,7 @@
 //! The type of each record, and the places of the records of each type.
 
 ghost use Rattle.std.specs.Prelude.{◌≡◌, ◌<◌, ◌≤◌, ◌∷◌, ◌++◌, [], length, slice_index_or, if◌then◌else◌, IfOk, OnOk};
+ghost use Rattle.edi_line.specs.Bytes.{most_records};
 ghost use Rattle.edi_record.specs.declared.record.Kind.{Kind as Kinds};
 ghost use Rattle.edi_plan.specs.inner.Places.{listed, ArePlacesOf};
 ghost use Rattle.edi_plan.specs.Plans.{same_kind};
@@ -55,7 +56,7 @@ impl Places {
 
     /// The types of these records, and their places, from 0.
     pub(crate) fn among(alloc: Global, list: &RecordList) -> Result<Places, AllocError>
-        requires few { length (records_of list.now) ≤ 9999999 }
+        requires few { length (records_of list.now) ≤ most_records }
         requires within { AreWithin list.now }
         ensures { IfOk result (ArePlacesOf (records_of list.now)) }
     {

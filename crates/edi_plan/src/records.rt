@@ -2,6 +2,7 @@
 
 ghost use Rattle.std.specs.Prelude.{◌≡◌, ◌+◌, ◌<◌, ◌≤◌, true, length, is_none, Any, IfOk, IfErr, IfSome, OnOk, MatchOption, Some, IsTrue, ◌↔◌, codes};
 ghost use Rattle.std.specs.List.{AllZip, list_any};
+ghost use Rattle.edi_line.specs.Bytes.{most_records};
 ghost use Rattle.edi_line.specs.inner.Refusal.{first_broken};
 ghost use Rattle.edi_record.specs.Records.{IsValueOf};
 ghost use Rattle.edi_schema.specs.Classes.{place_of};
@@ -204,7 +205,7 @@ fn is_place(repeat: Option<usize>, place: usize) -> bool
 
 /// A rule that is broken at a place from 0.
 fn broken(rule: u16, place: usize) -> RefFault
-    requires { place < 9999999 }
+    requires { place < most_records }
     ensures { result ≡ RefFault.Broken rule (place + 1) }
 {
     RefFault::Broken {
@@ -227,7 +228,7 @@ pub(crate) fn plan_records(
     references: &References,
     records: Sequence<Record>,
 ) -> Result<Planned, RefFault>
-    requires few { length records ≤ 9999999 }
+    requires few { length records ≤ most_records }
     requires references { AreReferences records references.now }
     ensures within { IfOk result (λ p. AreWithin p.list) }
     ensures each { IfOk result (λ p. AllZip (StatesPlanRecord schema.now records) records (records_of p.list)) }

@@ -1,6 +1,7 @@
 //! What the records of a sheet say of one another: names, and what the ends of links name.
 
 ghost use Rattle.std.specs.Prelude.{◌≡◌, ◌≤◌, length, flat_map, option_copied, option_map, IfOk};
+ghost use Rattle.edi_line.specs.Bytes.{most_records};
 ghost use Rattle.edi_plan.specs.Plans.{first_of};
 ghost use Rattle.edi_plan.specs.inner.Resolving.{first_subset, AreReferences};
 
@@ -53,7 +54,7 @@ fn subset_of(alloc: Global, records: &[Record]) -> Result<Option<Subset>, AllocE
 impl References {
     /// The references among the records of a sheet. An end is looked up once, among names borrowed from the records.
     pub(crate) fn among(alloc: Global, records: &[Record]) -> Result<References, AllocError>
-        requires { length records.now ≤ 9999999 }
+        requires { length records.now ≤ most_records }
         ensures { IfOk result (AreReferences records.now) }
     {
         let names = Names::among(alloc, records)?;

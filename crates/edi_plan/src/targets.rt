@@ -5,7 +5,7 @@ ghost use Rattle.std.specs.List.{AllZip};
 ghost use Rattle.edi_record.specs.declared.record.End.{End as Ends};
 ghost use Rattle.edi_plan.specs.inner.Names.{named, AreNamesOf, IsFirstRepeatIfAny};
 ghost use Rattle.edi_plan.specs.PlanOf.{place_named};
-ghost use Rattle.edi_plan.specs.Plans.{is_link};
+ghost use Rattle.edi_record.specs.Records.{is_link};
 ghost use Rattle.edi_plan.specs.inner.Targets.{target_kind, HasNameAt, IsTargetIfAny, AreTargets};
 
 use crate::names::{Names, RecordName, name_of};

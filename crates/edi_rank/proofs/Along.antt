@@ -3,10 +3,9 @@ use Rattle.std.proofs.Common.{◌≡◌, ℕ, zero, suc, ◌+◌, ◌<◌, List,
 use Rattle.std.proofs.lemmas.Cmp.{nat_cmp_total}
 use Rattle.std.proofs.lemmas.List.Sorted.{IsPermutation-sym, IsPermutation-trans}
 use Rattle.edi_schema.specs.Sorted.{sort_by}
-use Rattle.edi_schema.specs.inner.Sorted.{SameCounts}
 use Rattle.edi_rank.specs.Same.{OneToOne}
 use Rattle.std.proofs.lemmas.Map.Lookups.{exact_unsigned}
-use Rattle.edi_schema.proofs.SortedLists.{sort_by-same, IsPermutation-sort_by}
+use Rattle.edi_schema.proofs.SortedLists.{sort_by-same, IsPermutation-sort_by, SameCounts}
 use Rattle.edi_rank.proofs.Gathered.{gathered_equal}
 
 -- n places from one on

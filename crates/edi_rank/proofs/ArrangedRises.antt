@@ -12,7 +12,8 @@ use Rattle.edi_schema.specs.Classes.{Classes, partner_of}
 use Rattle.edi_schema.specs.Roles.{is_plain}
 use Rattle.edi_schema.specs.Sorted.{sort_by, NeverFalls}
 use Rattle.edi_schema.proofs.SortedLists.{NeverFalls-sort_by, IsPermutation-sort_by}
-use Rattle.edi_plan.specs.Plans.{Drawing, IsPlace, record_at, is_arc, is_object, is_link, first_of, rest_of, others_of}
+use Rattle.edi_record.specs.Records.{is_link}
+use Rattle.edi_plan.specs.Plans.{Drawing, IsPlace, record_at, is_arc, is_object, first_of, rest_of, others_of}
 use Rattle.edi_plan.specs.Whole.{IsWhole}
 use Rattle.edi_plan.specs.declared.record.PlanRecord.{PlanRecord}
 use Rattle.edi_plan.specs.declared.record.PlanEnd.{PlanEnd}

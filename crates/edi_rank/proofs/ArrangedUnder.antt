@@ -14,7 +14,8 @@ use Rattle.edi_schema.specs.declared.role.Role.TheVariants.{Initial, Final, Left
 use Rattle.edi_schema.proofs.SortedLists.{IsPermutation-sort_by, counts_from_permutation}
 use Rattle.edi_plan.specs.Agreeing.{AttributeAgrees, RecordAgrees, Agrees}
 use Rattle.edi_plan.specs.Orders.{attribute_cmp}
-use Rattle.edi_plan.specs.Plans.{Drawing, IsPlace, record_at, blank, is_arc, is_link}
+use Rattle.edi_record.specs.Records.{is_link}
+use Rattle.edi_plan.specs.Plans.{Drawing, IsPlace, record_at, blank, is_arc}
 use Rattle.edi_plan.specs.Whole.{IsWhole}
 use Rattle.edi_plan.specs.declared.record.PlanRecord.{PlanRecord}
 use Rattle.edi_plan.specs.declared.record.PlanEnd.{PlanEnd}

@@ -1,4 +1,4 @@
--- What carries one plan onto another is told by its values at the places of the first.
+-- What carries one plan onto another is determined by its values at the places of the first.
 use Rattle.std.proofs.Common.{◌≡◌, ℕ, ◌<◌, Bool, List, [], ◌∷◌, length, Some, option_map, refl, sym, ap, ◌∙◌, subst, IsPermutation}
 use Rattle.std.specs.List.{AllByRecursion}
 use Rattle.edi_schema.specs.Classes.{Classes}

@@ -1,11 +1,10 @@
 -- What is gathered from the records of a plan, by their places.
 use Rattle.std.proofs.Common.{◌≡◌, ℕ, suc, ◌+◌, ◌<◌, Bool, cond, List, [], ◌∷◌, filter_map, length, get_or, Option, Some, None, refl, sym, ap, ◌∙◌, arith, sum_by, count_by, zero-add}
 use Rattle.std.proofs.lemmas.List.Sums.{sum_by-cons}
-use Rattle.edi_schema.specs.inner.Sorted.{SameCounts}
 use Rattle.edi_rank.specs.Same.{OneToOne}
 use Rattle.edi_topo.proofs.Sums.{sum_by-below}
 use Rattle.edi_rank.proofs.Sums.{sum_below-renamed}
-use Rattle.edi_schema.proofs.SortedLists.{count_by-cons}
+use Rattle.edi_schema.proofs.SortedLists.{count_by-cons, SameCounts}
 
 -- what is gathered from a list, by the places
 

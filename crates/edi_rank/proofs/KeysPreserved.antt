@@ -8,7 +8,8 @@ use Rattle.edi_record.specs.declared.record.Kind.{Kind}
 use Rattle.edi_record.specs.declared.record.Kind.TheVariants.{Pno, Par, Pfe, Fea, Lnk}
 use Rattle.edi_schema.specs.Classes.{Classes}
 use Rattle.edi_schema.specs.Sorted.{sort_by}
-use Rattle.edi_plan.specs.Plans.{Drawing, record_at, blank, kind_rank, is_arc, is_object, is_link, first_of, rest_of, origin_of, others_of}
+use Rattle.edi_record.specs.Records.{is_link}
+use Rattle.edi_plan.specs.Plans.{Drawing, record_at, blank, kind_rank, is_arc, is_object, first_of, rest_of, origin_of, others_of}
 use Rattle.edi_plan.specs.Whole.{IsWhole}
 use Rattle.edi_plan.specs.declared.record.PlanRecord.{PlanRecord}
 use Rattle.edi_plan.specs.declared.record.PlanEnd.{PlanEnd}

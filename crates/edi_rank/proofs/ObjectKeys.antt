@@ -6,10 +6,10 @@ use Rattle.std.proofs.lemmas.List.Sorted.{IsPermutation-refl, IsPermutation-sym,
 use Rattle.edi_record.specs.declared.record.Kind.{Kind}
 use Rattle.edi_record.specs.declared.record.Kind.TheVariants.{Pno, Par, Pfe, Fea, Lnk}
 use Rattle.edi_schema.specs.Sorted.{sort_by}
-use Rattle.edi_schema.specs.inner.Sorted.{SameCounts}
-use Rattle.edi_schema.proofs.SortedLists.{sort_by-same, IsPermutation-sort_by, counts_from_permutation, count_by-cons}
+use Rattle.edi_schema.proofs.SortedLists.{sort_by-same, IsPermutation-sort_by, counts_from_permutation, count_by-cons, SameCounts}
 use Rattle.edi_plan.specs.Orders.{attribute_cmp}
-use Rattle.edi_plan.specs.Plans.{Drawing, IsPlace, record_at, blank, kind_rank, is_object, is_link, first_of, rest_of}
+use Rattle.edi_record.specs.Records.{is_link}
+use Rattle.edi_plan.specs.Plans.{Drawing, IsPlace, record_at, blank, kind_rank, is_object, first_of, rest_of}
 use Rattle.edi_plan.specs.Whole.{IsWhole}
 use Rattle.edi_plan.specs.declared.record.PlanRecord.{PlanRecord}
 use Rattle.edi_plan.specs.declared.record.PlanEnd.{PlanEnd}

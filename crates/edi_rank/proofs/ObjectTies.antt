@@ -1,4 +1,4 @@
--- The least object that ties is the least that is alike an earlier one.
+-- The least object that ties is the least that equals an earlier one.
 use Rattle.std.proofs.Common.{◌≡◌, ℕ, suc, ◌<◌, ◌≤◌, ◌⊎◌, inl, inr, length, get_or, refl, sym, ap, ◌∙◌, subst, arith, Equal}
 use Rattle.std.proofs.lemmas.Bool.{cases_order}
 use Rattle.std.proofs.lemmas.Cmp.{tied_itself}

@@ -1,4 +1,4 @@
--- A plan with no two objects alike is the same as such plans alone.
+-- A plan with no two objects equal is the same as such plans alone.
 use Rattle.std.proofs.Common.{◌≡◌, ℕ, suc, ◌+◌, ◌<◌, ◌⊎◌, inl, inr, Bool, true, false, cond, true≢false, ◌&&◌, ◌||◌, ◌==◌, nat_eq, List, [], ◌∷◌, map, filter_map, length, get_or, Option, Some, None, option_map, refl, sym, ap, ◌∙◌, subst, arith, IsPermutation, count_by, eq-eqb, ne_eqb, eqb-true, nat_cmp}
 use Rattle.std.specs.List.{AllByRecursion, AllZip, list_any}
 use Rattle.std.proofs.lemmas.Bool.{cases_eq, cases_order}
@@ -12,11 +12,11 @@ use Rattle.edi_record.specs.declared.record.Kind.TheVariants.{Pno, Par, Pfe, Fea
 use Rattle.edi_schema.specs.Classes.{Classes, partner_of}
 use Rattle.edi_schema.specs.Roles.{is_plain}
 use Rattle.edi_schema.specs.Sorted.{sort_by}
-use Rattle.edi_schema.specs.inner.Sorted.{SameCounts}
 use Rattle.edi_schema.specs.declared.role.Role.{Role}
 use Rattle.edi_schema.specs.declared.role.Role.TheVariants.{Initial, Final, Left, Right, Plain}
-use Rattle.edi_schema.proofs.SortedLists.{sort_by-same, IsPermutation-sort_by, counts_from_permutation}
-use Rattle.edi_plan.specs.Plans.{Drawing, IsPlace, record_at, blank, is_object, is_link, first_of, others_of}
+use Rattle.edi_schema.proofs.SortedLists.{sort_by-same, IsPermutation-sort_by, counts_from_permutation, SameCounts}
+use Rattle.edi_record.specs.Records.{is_link}
+use Rattle.edi_plan.specs.Plans.{Drawing, IsPlace, record_at, blank, is_object, first_of, others_of}
 use Rattle.edi_plan.specs.Whole.{IsWhole}
 use Rattle.edi_plan.specs.declared.record.PlanRecord.{PlanRecord}
 use Rattle.edi_plan.specs.declared.record.PlanEnd.{PlanEnd}

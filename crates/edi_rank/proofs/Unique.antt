@@ -11,7 +11,8 @@ use Rattle.edi_record.specs.declared.record.Kind.TheVariants.{Pno, Par, Pfe, Fea
 use Rattle.edi_record.specs.declared.record.Point.{Point}
 use Rattle.edi_schema.specs.Classes.{Classes, role_of}
 use Rattle.edi_schema.specs.Sorted.{NeverFalls}
-use Rattle.edi_plan.specs.Plans.{Drawing, record_at, blank, kind_rank, is_arc, is_object, is_link, first_of, rest_of, others_of}
+use Rattle.edi_record.specs.Records.{is_link}
+use Rattle.edi_plan.specs.Plans.{Drawing, record_at, blank, kind_rank, is_arc, is_object, first_of, rest_of, others_of}
 use Rattle.edi_plan.specs.declared.record.PlanRecord.{PlanRecord}
 use Rattle.edi_plan.specs.declared.record.PlanEnd.{PlanEnd}
 use Rattle.edi_rank.specs.Same.{moved, has_turned_arc, Carries}
@@ -91,7 +92,7 @@ unfolding end_of
 key_ends_back p [] up = refl
 key_ends_back p (x ∷ xs) up = ap (λ ys. x ∷ ys) (ap (map end_of) (sort_by-in_order end_cmp end_total end_exact (map (numbered p suc) xs) up) ∙ ends_back p xs)
 
--- what role a record of the other plan has is told by its class
+-- what role a record of the other plan has is known by its class
 link_of : Classes → LinkKey → PlanRecord
 link_of s k = record { kind = Lnk; class = k.class; role = role_of s k.class; points = []; attributes = k.attributes; extras = k.extras; ends = map end_of k.ends }
 

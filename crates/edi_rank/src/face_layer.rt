@@ -30,13 +30,14 @@ pub struct FaceLayer {
 
 impl Model for FaceLayer {
     ghost use Rattle.std.specs.Prelude.{List, ◌≤◌, length};
+    ghost use Rattle.edi_line.specs.Bytes.{most_records};
     ghost use Rattle.edi_rank.specs.declared.keys.FaceKey.{FaceKey};
 
     ghost Value = { List FaceKey };
 
     ghost view = { λ l. l.keys };
 
-    ghost invariant = { λ l. length l.keys ≤ 9999999 };
+    ghost invariant = { λ l. length l.keys ≤ most_records };
 }
 
 impl FaceLayer {

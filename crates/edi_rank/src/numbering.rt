@@ -1,6 +1,7 @@
 //! Numbers by place, and places by number.
 
 ghost use Rattle.std.specs.Prelude.{◌≡◌, ◌≢◌, ◌<◌, ◌≤◌, ◌-◌, ℕ, length, slice_index, IfOk};
+ghost use Rattle.edi_line.specs.Bytes.{most_records};
 ghost use Rattle.edi_record.specs.declared.record.Kind.TheVariants.{Pno, Par, Pfe};
 ghost use Rattle.edi_plan.specs.Places.{places_of, member_of};
 ghost use Rattle.edi_plan.specs.Plans.{IsPlace, record_at};
@@ -55,7 +56,7 @@ pub(crate) fn places_by_number(
     places: &[u32],
     ranks: &Ranks,
 ) -> Result<Vec<u32>, AllocError>
-    requires few { length places.now ≤ 9999999 }
+    requires few { length places.now ≤ most_records }
     requires long { length ranks.now ≡ length places.now }
     requires each { NumbersEach ranks.now }
     ensures length { IfOk result (λ order. length order.items ≡ length places.now) }

@@ -1,4 +1,4 @@
--- Zones that go to the ends that are kept.
+-- Zones that go to the ends that are stored.
 use Rattle.std.proofs.Common.{◌≡◌, ℕ, ◌+◌, ◌<◌, ◌≤◌, Bool, true, false, cond, ◌||◌, leb, List, [], ◌∷◌, ◌++◌, length, map, Option, Some, None, is_none, is_some, option_map, codes, refl, sym, ap, ◌∙◌, one-add}
 use Rattle.std.specs.List.{list_any}
 use Rattle.std.proofs.lemmas.Bool.{or_left, or_right}
@@ -74,7 +74,7 @@ pointer_taken old new p z left group text e same read same_broken opened done h 
     here : repeats_left (z ∷ left) ≡ (leb 2 (senses_left left) || repeats_left left)
     here = rw e refl
 
--- whatever was kept, the rule is broken
+-- whatever was stored, the rule is broken
 pub ends_broken : (old new : Ends) (zs left group : List Entry) → new.is_broken ≡ true → (old.is_broken ≡ false → (list_any is_none (ends group) || bad_sns_with None group) ≡ true) → StoresEnds old zs group → StoresEnds new left group
 ends_broken old new zs left group broken found h = record {
   broken = λ b. by_old old.is_broken refl;

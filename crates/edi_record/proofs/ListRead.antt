@@ -6,7 +6,7 @@ use Rattle.std.proofs.lemmas.List.{append-nil, append_assoc}
 use Rattle.edi_line.specs.Entry.{Entry, entry, entries}
 use Rattle.edi_line.specs.declared.zone.Zone.{Zone}
 use Rattle.edi_line.specs.Zones.{begins_group, before_end, groups_of}
-use Rattle.edi_line.specs.Refusal.{IsUnbroken, IsLeastBroken, Breaks}
+use Rattle.edi_line.specs.Refusal.{IsUnbroken, IsLeastBroken, BreaksTest}
 use Rattle.edi_line.specs.inner.Refusal.{first_broken}
 use Rattle.edi_line.proofs.FirstBroken.{none_broken, first_is_least}
 use Rattle.edi_line.proofs.Rules.{AreApart, two_cuts}
@@ -101,7 +101,7 @@ in_front : (gs : List (List Entry)) (g : List Entry) (more : List (List Entry)) 
 in_front [] g more h = h.0
 in_front (x ∷ gs) g more h = in_front gs g more h.1
 
-sound_unbroken : (done : List (List Entry)) → AllByRecursion IsSound done → (before : List (List Entry)) (g : List Entry) (after : List (List Entry)) (rule : ℕ) → done ≡ before ++ g ∷ after → Breaks (record_tests g) rule → ⊥
+sound_unbroken : (done : List (List Entry)) → AllByRecursion IsSound done → (before : List (List Entry)) (g : List Entry) (after : List (List Entry)) (rule : ℕ) → done ≡ before ++ g ∷ after → BreaksTest (record_tests g) rule → ⊥
 sound_unbroken done h before g after rule e b = none_broken (record_tests g) (in_front before g after (subst (AllByRecursion IsSound) e h)) rule b
 
 pub all_unbroken : (zones rest : List Entry) (list : List Record) → SoFar zones rest list → rest ≡ [] → IsUnbroken (FailsTest zones)
@@ -118,11 +118,11 @@ least_of zones rule place h =
       least = λ r p k. go r p k found.least (two_cuts h.before h.group h.after k.before k.group k.after (sym h.cut ∙ k.cut));
     }
   where
-    go : (r p : ℕ) (k : FailsTest zones r p) → ((q : ℕ) → Breaks (record_tests h.group) q → rule ≤ q) → AreApart h.before h.group k.before k.group → (place < p) ⊎ ((place ≡ p) × (rule ≤ r))
+    go : (r p : ℕ) (k : FailsTest zones r p) → ((q : ℕ) → BreaksTest (record_tests h.group) q → rule ≤ q) → AreApart h.before h.group k.before k.group → (place < p) ⊎ ((place ≡ p) × (rule ≤ r))
     go r p k least (inl (gs, same)) = absurd (sound_unbroken h.before h.sound k.before k.group gs r same k.breaks)
     go r p k least (inr (inl (same, at))) =
         let long = ap length same in
-        inr (omega (arith, k.place_is, h.place_is, long), least r (subst (λ g. Breaks (record_tests g) r) (sym at) k.breaks))
+        inr (omega (arith, k.place_is, h.place_is, long), least r (subst (λ g. BreaksTest (record_tests g) r) (sym at) k.breaks))
     go r p k least (inr (inr short)) = inl (omega (arith, k.place_is, h.place_is, short))
 
 pub refused : (zones rest : List Entry) (list : List Record) (z : Entry) (zs : List Entry) (rule place : ℕ) → SoFar zones rest list → rest ≡ z ∷ zs → begins_group z ≡ true → place ≡ length list + 1
@@ -228,10 +228,12 @@ one_record group z zs h e =
 
 -- ---- the sheet of a file
 
-pub made_of_file : (bytes : List ℕ) (charset : Option (List ℕ)) (first list : List Record) (fault found : Option RecordFault)
-    (h : IsHandedOut bytes charset (λ groups. IsMadeOf groups first None) (λ groups. IsMadeOf groups list fault)) → first ≡ [] → fault ≡ found → IsMadeOf (groups_of h.zones) list found
-made_of_file bytes charset first list fault found h none is =
-    subst (IsMadeOf (groups_of h.zones) list) is (h.handed [] (subst (IsListOf []) (sym none) (record { states = tt; sound = tt; shape = refl })))
+pub made_of_file : (bytes : List ℕ) (charset : Option (List ℕ)) (first list : List Record) (fault found : Option RecordFault) (Before After : List (List Entry) → Type 0)
+    (h : IsHandedOut bytes charset (λ groups. IsMadeOf groups first None × Before groups) (λ groups. IsMadeOf groups list fault × After groups)) → first ≡ [] → Before [] → fault ≡ found
+    → IsMadeOf (groups_of h.zones) list found × After (groups_of h.zones)
+made_of_file bytes charset first list fault found Before After h none before is =
+    let both = h.handed [] (subst (IsListOf []) (sym none) (record { states = tt; sound = tt; shape = refl }), before) in
+    (subst (IsMadeOf (groups_of h.zones) list) is both.0, both.1)
 
 pub file_unbroken : (zones : List Entry) (list : List Record) → IsListOf (groups_of zones) list → IsUnbroken (BreaksRecordRule zones)
 file_unbroken zones list h = records_unbroken zones (λ rule place b. sound_unbroken (groups_of zones) h.sound b.before b.group b.after rule b.cut b.breaks)

@@ -19,7 +19,7 @@ use Rattle.edi_record.specs.Texts.{pointer_text, third_text, point_text}
 use Rattle.edi_record.specs.Shapes.{kind_code}
 use Rattle.edi_record.specs.inner.Records.{value_of}
 use Rattle.edi_record.specs.CanonicalZones.{class_text, value_text, point_zone, set_zone, extra_zone, end_text, sns_zone, end_zone, cse_zone}
-use Rattle.edi_record.specs.RecordLayout.{Letters, attribute_zones, end_zones, count_zones, body_zones, record_zones, sheet_zones, IsExtra, IsPoint, IsRecord, IsLineName, IsLineAttribute, IsLineEnd, IsLineValue, IsLineExtra, IsLineRecord, HasPrintableLetters}
+use Rattle.edi_record.specs.RecordLayout.{Letters, zones_of_attribute, zones_of_end, count_zones, zones_of_body, zones_of_record, zones_of_sheet, IsExtra, IsPoint, IsRecord, IsLineName, IsLineAttribute, IsLineEnd, IsLineValue, IsLineExtra, IsLineRecord, HasPrintableLetters}
 use Rattle.edi_record.specs.declared.name.Name.{Name}
 use Rattle.edi_record.specs.declared.record.Kind.{Kind}
 use Rattle.edi_record.specs.declared.record.Kind.TheVariants.{Pno, Par, Pfe, Fea, Lnk}
@@ -117,16 +117,16 @@ sns_printable : (sns : Option (List ℕ)) → IfSome sns IsOneLine → AllByRecu
 sns_printable None h = tt
 sns_printable (Some text) h = (record { code = refl; zone = refl; nature = refl; format = refl; one_line = h }, tt)
 
-end_printable : (e : End) → IsLineEnd e → AllByRecursion IsPrintable (end_zones e)
-unfolding end_zones
+end_printable : (e : End) → IsLineEnd e → AllByRecursion IsPrintable (zones_of_end e)
+unfolding zones_of_end
 end_printable e h = (record { code = refl; zone = refl; nature = refl; format = refl; one_line = end_line e.target h.target }, sns_printable e.sns h.sns)
 
 set_printable : (tex : Option (List ℕ)) → IfSome tex IsOneLine → AllByRecursion IsPrintable (map set_zone (option_to_list tex))
 set_printable None h = tt
 set_printable (Some text) h = (record { code = refl; zone = refl; nature = refl; format = refl; one_line = h }, tt)
 
-attribute_printable : (s : Letters) → HasPrintableLetters s → (a : Attribute) → IsLineAttribute a → AllByRecursion IsPrintable (attribute_zones s a)
-unfolding attribute_zones
+attribute_printable : (s : Letters) → HasPrintableLetters s → (a : Attribute) → IsLineAttribute a → AllByRecursion IsPrintable (zones_of_attribute s a)
+unfolding zones_of_attribute
 attribute_printable s letters a h =
     joined IsPrintable (zone_text (codes "ATP") 67 80 (class_text a.atp) ∷ map set_zone (option_to_list a.tex)) _
     (record { code = refl; zone = refl; nature = refl; format = refl; one_line = class_line a.atp h.class }, set_printable a.tex h.set)
@@ -151,20 +151,20 @@ count_printable Pfe m n h k = tt
 count_printable Fea m n h k = tt
 count_printable Lnk m n h k = (record { code = refl; zone = refl; nature = refl; format = refl; one_line = count_line n k }, tt)
 
-body_printable : (r : Record) → IsLineRecord r → AllByRecursion IsPrintable (body_zones r.kind r.points r.ends)
-unfolding body_zones
+body_printable : (r : Record) → IsLineRecord r → AllByRecursion IsPrintable (zones_of_body r.kind r.points r.ends)
+unfolding zones_of_body
 body_printable r h =
     joined IsPrintable (count_zones r.kind (length r.points) (length r.ends)) _ (count_printable r.kind (length r.points) (length r.ends) h.few_points h.few_ends)
-    (joined IsPrintable (map point_zone r.points) (flat_map end_zones r.ends) (mapped_each IsPrintable IsPoint point_zone point_printable r.points h.points) (flat_each IsPrintable IsLineEnd end_zones end_printable r.ends h.ends))
+    (joined IsPrintable (map point_zone r.points) (flat_map zones_of_end r.ends) (mapped_each IsPrintable IsPoint point_zone point_printable r.points h.points) (flat_each IsPrintable IsLineEnd zones_of_end end_printable r.ends h.ends))
 
 behind_printable : (s : Letters) → HasPrintableLetters s → (r : Record) → IsRecord r → IsLineRecord r → AllByRecursion IsPrintable (behind s r)
 behind_printable s letters r h k =
     subst (AllByRecursion IsPrintable) (sym (behind_is s r)) (
       record { code = refl; zone = refl; nature = refl; format = refl; one_line = count_line (length r.attributes) k.few },
-      joined IsPrintable (flat_map (attribute_zones s) r.attributes) (map extra_zone r.extras) (flat_each IsPrintable IsLineAttribute (attribute_zones s) (attribute_printable s letters) r.attributes k.attributes) (extras_printable r.kind r.extras h.extras k.extras),
+      joined IsPrintable (flat_map (zones_of_attribute s) r.attributes) (map extra_zone r.extras) (flat_each IsPrintable IsLineAttribute (zones_of_attribute s) (attribute_printable s letters) r.attributes k.attributes) (extras_printable r.kind r.extras h.extras k.extras),
     )
 
-record_printable : (s : Letters) → HasPrintableLetters s → (r : Record) → IsRecord r → IsLineRecord r → AllByRecursion IsPrintable (record_zones s r)
+record_printable : (s : Letters) → HasPrintableLetters s → (r : Record) → IsRecord r → IsLineRecord r → AllByRecursion IsPrintable (zones_of_record s r)
 record_printable s letters r h k =
     subst (AllByRecursion IsPrintable) (sym (record_is s r)) (
       record { code = refl; zone = refl; nature = refl; format = refl; one_line = kind_line r.kind },
@@ -172,7 +172,7 @@ record_printable s letters r h k =
         record { code = refl; zone = refl; nature = refl; format = refl; one_line = k.rid },
         (
           record { code = refl; zone = refl; nature = refl; format = refl; one_line = class_line r.scp k.class },
-          joined IsPrintable (body_zones r.kind r.points r.ends) (behind s r) (body_printable r k) (behind_printable s letters r h k),
+          joined IsPrintable (zones_of_body r.kind r.points r.ends) (behind s r) (body_printable r k) (behind_printable s letters r h k),
         ),
       ),
     )
@@ -182,17 +182,17 @@ record_printable s letters r h k =
 last_printable : IsPrintable end_zone
 last_printable = record { code = refl; zone = refl; nature = refl; format = refl; one_line = nothing_line }
 
-records_printable : (s : Letters) → HasPrintableLetters s → (rs : List Record) → AllByRecursion IsRecord rs → AllByRecursion IsLineRecord rs → AllByRecursion IsPrintable (flat_map (record_zones s) rs)
+records_printable : (s : Letters) → HasPrintableLetters s → (rs : List Record) → AllByRecursion IsRecord rs → AllByRecursion IsLineRecord rs → AllByRecursion IsPrintable (flat_map (zones_of_record s) rs)
 records_printable s letters [] h k = tt
-records_printable s letters (r ∷ rs) h k = joined IsPrintable (record_zones s r) (flat_map (record_zones s) rs) (record_printable s letters r h.0 k.0) (records_printable s letters rs h.1 k.1)
+records_printable s letters (r ∷ rs) h k = joined IsPrintable (zones_of_record s r) (flat_map (zones_of_record s) rs) (record_printable s letters r h.0 k.0) (records_printable s letters rs h.1 k.1)
 
 cse_printable : (cse : Option (List ℕ)) → IfSome cse IsOneLine → AllByRecursion IsPrintable (map cse_zone (option_to_list cse))
 cse_printable None h = tt
 cse_printable (Some text) h = (record { code = refl; zone = refl; nature = refl; format = refl; one_line = h }, tt)
 
-pub sheet_printable : (s : Letters) (cse : Option (List ℕ)) (rs : List Record) → HasPrintableLetters s → IfSome cse IsOneLine → AllByRecursion IsRecord rs → AllByRecursion IsLineRecord rs → AllByRecursion IsPrintable (sheet_zones s cse rs)
+pub sheet_printable : (s : Letters) (cse : Option (List ℕ)) (rs : List Record) → HasPrintableLetters s → IfSome cse IsOneLine → AllByRecursion IsRecord rs → AllByRecursion IsLineRecord rs → AllByRecursion IsPrintable (zones_of_sheet s cse rs)
 sheet_printable s cse rs letters set h k = (
   record { code = refl; zone = refl; nature = refl; format = refl; one_line = All-from_recursion feed_apart (codes "CANON.VEC") (refl, (refl, (refl, (refl, (refl, (refl, (refl, (refl, (refl, tt))))))))) },
-  joined IsPrintable (map cse_zone (option_to_list cse)) (flat_map (record_zones s) rs ++ end_zone ∷ []) (cse_printable cse set)
-      (joined IsPrintable (flat_map (record_zones s) rs) (end_zone ∷ []) (records_printable s letters rs h k) (last_printable, tt)),
+  joined IsPrintable (map cse_zone (option_to_list cse)) (flat_map (zones_of_record s) rs ++ end_zone ∷ []) (cse_printable cse set)
+      (joined IsPrintable (flat_map (zones_of_record s) rs) (end_zone ∷ []) (records_printable s letters rs h k) (last_printable, tt)),
 )

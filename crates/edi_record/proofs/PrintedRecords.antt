@@ -20,7 +20,7 @@ use Rattle.edi_record.specs.inner.Records.{attributes, ends, Placed, placed, is_
 use Rattle.edi_record.specs.RecordRules.{has_no_identifier}
 use Rattle.edi_record.specs.inner.RecordRules.{kind_in, in_kind, is_arc, count_until, repeats, counts_right, counts_wrong, has_no_kind, has_no_class, has_bad_attribute, has_wrong_count, has_bad_point, has_bad_end, is_unknown_pointer, has_unknown_pointer, record_tests}
 use Rattle.edi_record.specs.CanonicalZones.{class_text, value_text, point_zone, set_zone, extra_zone, end_text, sns_zone}
-use Rattle.edi_record.specs.RecordLayout.{Letters, attribute_zones, end_zones, body_zones, record_zones, IsExtra, IsRecord, settled, settled_end, settled_record, FollowsRules}
+use Rattle.edi_record.specs.RecordLayout.{Letters, zones_of_attribute, zones_of_end, zones_of_body, zones_of_record, IsExtra, IsRecord, settled, settled_end, settled_record, FollowsRules}
 use Rattle.edi_record.specs.declared.record.Kind.{Kind}
 use Rattle.edi_record.specs.declared.record.Kind.TheVariants.{Pno, Par, Pfe, Fea, Lnk}
 use Rattle.edi_record.specs.declared.record.Record.{Record}
@@ -41,16 +41,16 @@ count_zone r = zone_text (codes "ATC") 83 78 (decimal (length r.attributes))
 
 abbrev front : Letters → Record → List Entry
 front s r =
-    zone_text (codes "RTY") 83 65 (kind_code r.kind) ∷ zone_text (codes "RID") 83 65 r.rid ∷ zone_text (codes "SCP") 67 80 (class_text r.scp) ∷ (body_zones r.kind r.points r.ends ++ count_zone r ∷ [])
+    zone_text (codes "RTY") 83 65 (kind_code r.kind) ∷ zone_text (codes "RID") 83 65 r.rid ∷ zone_text (codes "SCP") 67 80 (class_text r.scp) ∷ (zones_of_body r.kind r.points r.ends ++ count_zone r ∷ [])
 
 abbrev rest : Letters → Record → List Entry
-rest s r = flat_map (attribute_zones s) r.attributes ++ map extra_zone r.extras
+rest s r = flat_map (zones_of_attribute s) r.attributes ++ map extra_zone r.extras
 
-split : (s : Letters) (r : Record) → record_zones s r ≡ front s r ++ rest s r
+split : (s : Letters) (r : Record) → zones_of_record s r ≡ front s r ++ rest s r
 split s r =
     record_is s r
     ∙ ap (λ t. zone_text (codes "RTY") 83 65 (kind_code r.kind) ∷ zone_text (codes "RID") 83 65 r.rid ∷ zone_text (codes "SCP") 67 80 (class_text r.scp) ∷ t)
-    (ap (λ t. body_zones r.kind r.points r.ends ++ t) (behind_is s r) ∙ sym (append_assoc (body_zones r.kind r.points r.ends) (count_zone r ∷ []) (rest s r)))
+    (ap (λ t. zones_of_body r.kind r.points r.ends ++ t) (behind_is s r) ∙ sym (append_assoc (zones_of_body r.kind r.points r.ends) (count_zone r ∷ []) (rest s r)))
 
 -- a zone that neither opens nor closes an attribute
 abbrev IsApart : Entry → Type 0
@@ -62,7 +62,7 @@ apart_in_body = record { ptc = λ _. (refl, refl); ftc = λ _. (refl, refl); cor
 front_apart : (s : Letters) (r : Record) → AllByRecursion IsApart (front s r)
 front_apart s r = (
   (refl, refl),
-  ((refl, refl), ((refl, refl), joined IsApart (body_zones r.kind r.points r.ends) (count_zone r ∷ []) (body_each IsApart apart_in_body r.kind r.points r.ends) ((refl, refl), tt))),
+  ((refl, refl), ((refl, refl), joined IsApart (zones_of_body r.kind r.points r.ends) (count_zone r ∷ []) (body_each IsApart apart_in_body r.kind r.points r.ends) ((refl, refl), tt))),
 )
 
 extra_apart : (kind : Kind) (e : Extra) → IsExtra kind e → IsApart (extra_zone e)
@@ -81,8 +81,8 @@ none_stray : (b : Bool) (zs : List Entry) → AllByRecursion IsApart zs → list
 none_stray b [] h = stray_end b
 none_stray b (z ∷ zs) h = stray_skips b z zs h.0.0 h.0.1 ∙ none_stray b zs h.1
 
-stray_attribute : (b : Bool) (s : Letters) (a : Attribute) (more : List Entry) → list_any is_stray (placed b (attribute_zones s a ++ more)) ≡ list_any is_stray (placed false more)
-unfolding placed attribute_zones
+stray_attribute : (b : Bool) (s : Letters) (a : Attribute) (more : List Entry) → list_any is_stray (placed b (zones_of_attribute s a ++ more)) ≡ list_any is_stray (placed false more)
+unfolding placed zones_of_attribute
 stray_attribute b s a more = by_set a.tex
   where
     by_set : (tex : Option (List ℕ)) → list_any is_stray (placed b ((zone_text (codes "ATP") 67 80 (class_text a.atp) ∷ map set_zone (option_to_list tex) ++ zone_text (codes "ATV") 83 (s.letter a.atp) (value_text (value_of (s.is_number a.atp) a.atv)) ∷ []) ++ more))
@@ -90,13 +90,13 @@ stray_attribute b s a more = by_set a.tex
     by_set None = refl
     by_set (Some text) = refl
 
-stray_attributes : (b : Bool) (s : Letters) (xs : List Attribute) (more : List Entry) → ((c : Bool) → list_any is_stray (placed c more) ≡ false) → list_any is_stray (placed b (flat_map (attribute_zones s) xs ++ more)) ≡ false
+stray_attributes : (b : Bool) (s : Letters) (xs : List Attribute) (more : List Entry) → ((c : Bool) → list_any is_stray (placed c more) ≡ false) → list_any is_stray (placed b (flat_map (zones_of_attribute s) xs ++ more)) ≡ false
 stray_attributes b s [] more k = k b
 stray_attributes b s (a ∷ xs) more k =
-    ap (λ zs. list_any is_stray (placed b zs)) (append_assoc (attribute_zones s a) (flat_map (attribute_zones s) xs) more)
-    ∙ stray_attribute b s a (flat_map (attribute_zones s) xs ++ more) ∙ stray_attributes false s xs more k
+    ap (λ zs. list_any is_stray (placed b zs)) (append_assoc (zones_of_attribute s a) (flat_map (zones_of_attribute s) xs) more)
+    ∙ stray_attribute b s a (flat_map (zones_of_attribute s) xs ++ more) ∙ stray_attributes false s xs more k
 
-no_stray_value : (s : Letters) (r : Record) → IsRecord r → list_any is_stray (placed false (record_zones s r)) ≡ false
+no_stray_value : (s : Letters) (r : Record) → IsRecord r → list_any is_stray (placed false (zones_of_record s r)) ≡ false
 no_stray_value s r h =
     ap (λ zs. list_any is_stray (placed false zs)) (split s r) ∙ stray_past false (front s r) (rest s r) (front_apart s r)
     ∙ stray_attributes false s r.attributes (map extra_zone r.extras) (λ c. none_stray c (map extra_zone r.extras) (extras_apart r.kind r.extras h.extras))
@@ -112,21 +112,21 @@ sets_none : (zs : List Entry) → AllByRecursion IsApart zs → sets_repeat zs �
 sets_none [] h = refl
 sets_none (z ∷ zs) h = rw h.0.0 (sets_none zs h.1)
 
-sets_attribute : (s : Letters) (a : Attribute) (more : List Entry) → sets_repeat (attribute_zones s a ++ more) ≡ sets_repeat more
-unfolding attribute_zones
+sets_attribute : (s : Letters) (a : Attribute) (more : List Entry) → sets_repeat (zones_of_attribute s a ++ more) ≡ sets_repeat more
+unfolding zones_of_attribute
 sets_attribute s a more = by_set a.tex
   where
     by_set : (tex : Option (List ℕ)) → sets_repeat ((zone_text (codes "ATP") 67 80 (class_text a.atp) ∷ map set_zone (option_to_list tex) ++ zone_text (codes "ATV") 83 (s.letter a.atp) (value_text (value_of (s.is_number a.atp) a.atv)) ∷ []) ++ more) ≡ sets_repeat more
     by_set None = refl
     by_set (Some text) = refl
 
-sets_attributes : (s : Letters) (xs : List Attribute) (more : List Entry) → sets_repeat (flat_map (attribute_zones s) xs ++ more) ≡ sets_repeat more
+sets_attributes : (s : Letters) (xs : List Attribute) (more : List Entry) → sets_repeat (flat_map (zones_of_attribute s) xs ++ more) ≡ sets_repeat more
 sets_attributes s [] more = refl
 sets_attributes s (a ∷ xs) more =
-    ap sets_repeat (append_assoc (attribute_zones s a) (flat_map (attribute_zones s) xs) more)
-    ∙ sets_attribute s a (flat_map (attribute_zones s) xs ++ more) ∙ sets_attributes s xs more
+    ap sets_repeat (append_assoc (zones_of_attribute s a) (flat_map (zones_of_attribute s) xs) more)
+    ∙ sets_attribute s a (flat_map (zones_of_attribute s) xs ++ more) ∙ sets_attributes s xs more
 
-no_second_set : (s : Letters) (r : Record) → IsRecord r → sets_repeat (record_zones s r) ≡ false
+no_second_set : (s : Letters) (r : Record) → IsRecord r → sets_repeat (zones_of_record s r) ≡ false
 no_second_set s r h =
     ap sets_repeat (split s r) ∙ sets_past (front s r) (rest s r) (front_apart s r) ∙ sets_attributes s r.attributes (map extra_zone r.extras) ∙ sets_none (map extra_zone r.extras) (extras_apart r.kind r.extras h.extras)
 
@@ -149,10 +149,10 @@ right_count counting counted g n small one same =
 
 -- no zone of an attribute has the code
 abbrev AttributesLack : List ℕ → Type 0
-AttributesLack code = (s : Letters) (a : Attribute) → AllByRecursion (λ z. has_code code z ≡ false) (attribute_zones s a)
+AttributesLack code = (s : Letters) (a : Attribute) → AllByRecursion (λ z. has_code code z ≡ false) (zones_of_attribute s a)
 
 attributes_lack_atc : AttributesLack (codes "ATC")
-unfolding attribute_zones
+unfolding zones_of_attribute
 attributes_lack_atc s a = by_set a.tex
   where
     by_set : (tex : Option (List ℕ)) → AllByRecursion (λ z. has_code (codes "ATC") z ≡ false) (zone_text (codes "ATP") 67 80 (class_text a.atp) ∷ map set_zone (option_to_list tex) ++ zone_text (codes "ATV") 83 (s.letter a.atp) (value_text (value_of (s.is_number a.atp) a.atv)) ∷ [])
@@ -161,39 +161,39 @@ attributes_lack_atc s a = by_set a.tex
 
 -- the values of a code that only one zone of the body has
 body_value : (code text : List ℕ) (s : Letters) (r : Record) → IsRecord r → bytes_eq (codes "RTY") code ≡ false → bytes_eq (codes "RID") code ≡ false → bytes_eq (codes "SCP") code ≡ false
-    → map (λ (z : Entry). z.value) (filter (has_code code) (body_zones r.kind r.points r.ends)) ≡ text ∷ [] → HoldsBehind (λ z. has_code code z ≡ false) → ((e : Extra) → IsExtra r.kind e → bytes_eq e.code code ≡ false)
-    → values code (record_zones s r) ≡ text ∷ []
+    → map (λ (z : Entry). z.value) (filter (has_code code) (zones_of_body r.kind r.points r.ends)) ≡ text ∷ [] → HoldsBehind (λ z. has_code code z ≡ false) → ((e : Extra) → IsExtra r.kind e → bytes_eq e.code code ≡ false)
+    → values code (zones_of_record s r) ≡ text ∷ []
 body_value code text s r h rty rid scp body back extras =
     ap (values code) (record_is s r)
-    ∙ rw (rty, rid, scp) (ap (map (λ (z : Entry). z.value)) (filter-append (has_code code) (body_zones r.kind r.points r.ends) (behind s r) ∙ ap (λ t. filter (has_code code) (body_zones r.kind r.points r.ends) ++ t) (none_found (has_code code) (behind s r) (behind_each (λ z. has_code code z ≡ false) back s r extras h)) ∙ append-nil (filter (has_code code) (body_zones r.kind r.points r.ends))) ∙ body)
+    ∙ rw (rty, rid, scp) (ap (map (λ (z : Entry). z.value)) (filter-append (has_code code) (zones_of_body r.kind r.points r.ends) (behind s r) ∙ ap (λ t. filter (has_code code) (zones_of_body r.kind r.points r.ends) ++ t) (none_found (has_code code) (behind s r) (behind_each (λ z. has_code code z ≡ false) back s r extras h)) ∙ append-nil (filter (has_code code) (zones_of_body r.kind r.points r.ends))) ∙ body)
 
 no_point : (code : List ℕ) → bytes_eq (codes "COR") code ≡ false → (xs : List Point) → AllByRecursion (λ z. has_code code z ≡ false) (map point_zone xs)
 no_point code e xs = mapped (λ z. has_code code z ≡ false) point_zone (λ x. e) xs
 
-no_end_zone : (code : List ℕ) → bytes_eq (codes "FTP") code ≡ false → bytes_eq (codes "SNS") code ≡ false → (xs : List End) → AllByRecursion (λ z. has_code code z ≡ false) (flat_map end_zones xs)
-unfolding end_zones
-no_end_zone code e f xs = flat_mapped (λ z. has_code code z ≡ false) end_zones (λ x. (e, mapped (λ z. has_code code z ≡ false) sns_zone (λ t. f) (option_to_list x.sns))) xs
+no_end_zone : (code : List ℕ) → bytes_eq (codes "FTP") code ≡ false → bytes_eq (codes "SNS") code ≡ false → (xs : List End) → AllByRecursion (λ z. has_code code z ≡ false) (flat_map zones_of_end xs)
+unfolding zones_of_end
+no_end_zone code e f xs = flat_mapped (λ z. has_code code z ≡ false) zones_of_end (λ x. (e, mapped (λ z. has_code code z ≡ false) sns_zone (λ t. f) (option_to_list x.sns))) xs
 
-ptc_found : (points : List Point) (ends : List End) → filter (has_code (codes "PTC")) (body_zones Par points ends) ≡ zone_text (codes "PTC") 83 78 (decimal (length points)) ∷ []
-unfolding body_zones
+ptc_found : (points : List Point) (ends : List End) → filter (has_code (codes "PTC")) (zones_of_body Par points ends) ≡ zone_text (codes "PTC") 83 78 (decimal (length points)) ∷ []
+unfolding zones_of_body
 ptc_found points ends =
     ap (λ t. zone_text (codes "PTC") 83 78 (decimal (length points)) ∷ t)
-    (none_found (has_code (codes "PTC")) (map point_zone points ++ flat_map end_zones ends) (joined (λ z. has_code (codes "PTC") z ≡ false) (map point_zone points) (flat_map end_zones ends) (no_point (codes "PTC") refl points) (no_end_zone (codes "PTC") refl refl ends)))
+    (none_found (has_code (codes "PTC")) (map point_zone points ++ flat_map zones_of_end ends) (joined (λ z. has_code (codes "PTC") z ≡ false) (map point_zone points) (flat_map zones_of_end ends) (no_point (codes "PTC") refl points) (no_end_zone (codes "PTC") refl refl ends)))
 
-ftc_found : (points : List Point) (ends : List End) → filter (has_code (codes "FTC")) (body_zones Lnk points ends) ≡ zone_text (codes "FTC") 83 78 (decimal (length ends)) ∷ []
-unfolding body_zones
+ftc_found : (points : List Point) (ends : List End) → filter (has_code (codes "FTC")) (zones_of_body Lnk points ends) ≡ zone_text (codes "FTC") 83 78 (decimal (length ends)) ∷ []
+unfolding zones_of_body
 ftc_found points ends =
     ap (λ t. zone_text (codes "FTC") 83 78 (decimal (length ends)) ∷ t)
-    (none_found (has_code (codes "FTC")) (map point_zone points ++ flat_map end_zones ends) (joined (λ z. has_code (codes "FTC") z ≡ false) (map point_zone points) (flat_map end_zones ends) (no_point (codes "FTC") refl points) (no_end_zone (codes "FTC") refl refl ends)))
+    (none_found (has_code (codes "FTC")) (map point_zone points ++ flat_map zones_of_end ends) (joined (λ z. has_code (codes "FTC") z ≡ false) (map point_zone points) (flat_map zones_of_end ends) (no_point (codes "FTC") refl points) (no_end_zone (codes "FTC") refl refl ends)))
 
-atc_value : (s : Letters) (r : Record) → IsRecord r → values (codes "ATC") (record_zones s r) ≡ decimal (length r.attributes) ∷ []
+atc_value : (s : Letters) (r : Record) → IsRecord r → values (codes "ATC") (zones_of_record s r) ≡ decimal (length r.attributes) ∷ []
 atc_value s r h =
-    let body = none_found (has_code (codes "ATC")) (body_zones r.kind r.points r.ends) (body_each (λ z. has_code (codes "ATC") z ≡ false) (record { ptc = λ _. refl; ftc = λ _. refl; cor = λ _. refl; ftp = λ _. refl; sns = λ _. refl }) r.kind r.points r.ends) in
-    let others = none_found (has_code (codes "ATC")) (rest s r) (joined (λ z. has_code (codes "ATC") z ≡ false) (flat_map (attribute_zones s) r.attributes) (map extra_zone r.extras)
-    (flat_mapped (λ z. has_code (codes "ATC") z ≡ false) (attribute_zones s) (attributes_lack_atc s) r.attributes)
+    let body = none_found (has_code (codes "ATC")) (zones_of_body r.kind r.points r.ends) (body_each (λ z. has_code (codes "ATC") z ≡ false) (record { ptc = λ _. refl; ftc = λ _. refl; cor = λ _. refl; ftp = λ _. refl; sns = λ _. refl }) r.kind r.points r.ends) in
+    let others = none_found (has_code (codes "ATC")) (rest s r) (joined (λ z. has_code (codes "ATC") z ≡ false) (flat_map (zones_of_attribute s) r.attributes) (map extra_zone r.extras)
+    (flat_mapped (λ z. has_code (codes "ATC") z ≡ false) (zones_of_attribute s) (attributes_lack_atc s) r.attributes)
     (mapped_each (λ z. has_code (codes "ATC") z ≡ false) (IsExtra r.kind) extra_zone (λ e k. (unknown r.kind e k).1.1.1.0) r.extras h.extras)) in
     ap (values (codes "ATC")) (record_is s r)
-    ∙ ap (map (λ (z : Entry). z.value)) (filter-append (has_code (codes "ATC")) (body_zones r.kind r.points r.ends) (behind s r) ∙ ap (λ t. t ++ filter (has_code (codes "ATC")) (behind s r)) body ∙ ap (filter (has_code (codes "ATC"))) (behind_is s r) ∙ ap (λ t. count_zone r ∷ t) others)
+    ∙ ap (map (λ (z : Entry). z.value)) (filter-append (has_code (codes "ATC")) (zones_of_body r.kind r.points r.ends) (behind s r) ∙ ap (λ t. t ++ filter (has_code (codes "ATC")) (behind s r)) body ∙ ap (filter (has_code (codes "ATC"))) (behind_is s r) ∙ ap (λ t. count_zone r ∷ t) others)
 
 attributes_count : (g : List Entry) → length (attributes g) ≡ length (values (codes "ATP") g)
 unfolding attributes
@@ -204,11 +204,11 @@ attributes_count (z ∷ zs) = go (opens z) refl (attributes_count zs)
     go true e more = rw e (ap suc more)
     go false e more = rw e more
 
-right_attribute_count : (s : Letters) (r : Record) → IsRecord r → FollowsRules r → counts_wrong (codes "ATC") (codes "ATP") (record_zones s r) ≡ false
+right_attribute_count : (s : Letters) (r : Record) → IsRecord r → FollowsRules r → counts_wrong (codes "ATC") (codes "ATP") (zones_of_record s r) ≡ false
 right_attribute_count s r h k =
     let stated = record_again s r h in
-    right_count (codes "ATC") (codes "ATP") (record_zones s r) (length r.attributes) k.few_attributes (atc_value s r h)
-    (sym (attributes_count (record_zones s r)) ∙ same_length (attributes (record_zones s r)) (map (settled s) r.attributes) stated.attributes ∙ length-map r.attributes (settled s))
+    right_count (codes "ATC") (codes "ATP") (zones_of_record s r) (length r.attributes) k.few_attributes (atc_value s r h)
+    (sym (attributes_count (zones_of_record s r)) ∙ same_length (attributes (zones_of_record s r)) (map (settled s) r.attributes) stated.attributes ∙ length-map r.attributes (settled s))
 
 behind_none_ptc : HoldsBehind (λ z. has_code (codes "PTC") z ≡ false)
 behind_none_ptc = record { atc = λ _. refl; atp = λ _. refl; tex = λ _. refl; atv = λ _ _. refl }
@@ -216,22 +216,22 @@ behind_none_ptc = record { atc = λ _. refl; atp = λ _. refl; tex = λ _. refl;
 behind_none_ftc : HoldsBehind (λ z. has_code (codes "FTC") z ≡ false)
 behind_none_ftc = record { atc = λ _. refl; atp = λ _. refl; tex = λ _. refl; atv = λ _ _. refl }
 
-point_count : (s : Letters) (r : Record) → ReadsAs (record_zones s r) (settled_record s r) → has_points r.kind ≡ true → length (values (codes "COR") (record_zones s r)) ≡ length r.points
-point_count s r h t = sym (length-map (values (codes "COR") (record_zones s r)) point) ∙ same_length (map point (values (codes "COR") (record_zones s r))) r.points (places s r h t)
+point_count : (s : Letters) (r : Record) → ReadsAs (zones_of_record s r) (settled_record s r) → has_points r.kind ≡ true → length (values (codes "COR") (zones_of_record s r)) ≡ length r.points
+point_count s r h t = sym (length-map (values (codes "COR") (zones_of_record s r)) point) ∙ same_length (map point (values (codes "COR") (zones_of_record s r))) r.points (places s r h t)
   where
-    places : (s : Letters) (r : Record) → ReadsAs (record_zones s r) (settled_record s r) → has_points r.kind ≡ true → map point (values (codes "COR") (record_zones s r)) ≡ map Some r.points
-    places s r h t = sym (ap (λ b. cond b (map point (values (codes "COR") (record_zones s r))) []) t) ∙ h.points
+    places : (s : Letters) (r : Record) → ReadsAs (zones_of_record s r) (settled_record s r) → has_points r.kind ≡ true → map point (values (codes "COR") (zones_of_record s r)) ≡ map Some r.points
+    places s r h t = sym (ap (λ b. cond b (map point (values (codes "COR") (zones_of_record s r))) []) t) ∙ h.points
 
-right_point_count : (s : Letters) (r : Record) → IsRecord r → FollowsRules r → (in_kind is_arc (record_zones s r) && counts_wrong (codes "PTC") (codes "COR") (record_zones s r)) ≡ false
-right_point_count s r h k = go r.kind refl (kind_is (record_zones s r) (settled_record s r) (record_again s r h))
+right_point_count : (s : Letters) (r : Record) → IsRecord r → FollowsRules r → (in_kind is_arc (zones_of_record s r) && counts_wrong (codes "PTC") (codes "COR") (zones_of_record s r)) ≡ false
+right_point_count s r h k = go r.kind refl (kind_is (zones_of_record s r) (settled_record s r) (record_again s r h))
   where
-    go : (kind : Kind) → r.kind ≡ kind → kind_in (record_zones s r) ≡ Some r.kind → (in_kind is_arc (record_zones s r) && counts_wrong (codes "PTC") (codes "COR") (record_zones s r)) ≡ false
+    go : (kind : Kind) → r.kind ≡ kind → kind_in (zones_of_record s r) ≡ Some r.kind → (in_kind is_arc (zones_of_record s r) && counts_wrong (codes "PTC") (codes "COR") (zones_of_record s r)) ≡ false
     go Par t named =
-        let body : filter (has_code (codes "PTC")) (body_zones r.kind r.points r.ends) ≡ zone_text (codes "PTC") 83 78 (decimal (length r.points)) ∷ [] = rw t (ptc_found r.points r.ends) in
+        let body : filter (has_code (codes "PTC")) (zones_of_body r.kind r.points r.ends) ≡ zone_text (codes "PTC") 83 78 (decimal (length r.points)) ∷ [] = rw t (ptc_found r.points r.ends) in
         let apart : (e : Extra) → IsExtra r.kind e → bytes_eq e.code (codes "PTC") ≡ false = λ e x. ptc_apart r.kind t e x in
         let one = body_value (codes "PTC") (decimal (length r.points)) s r h refl refl refl (ap (map (λ (z : Entry). z.value)) body) behind_none_ptc apart in
-        let own : kind_in (record_zones s r) ≡ Some Par = named ∙ ap (λ x. Some x) t in
-        rw own (right_count (codes "PTC") (codes "COR") (record_zones s r) (length r.points) k.few_points one (point_count s r (record_again s r h) (rw t refl)))
+        let own : kind_in (zones_of_record s r) ≡ Some Par = named ∙ ap (λ x. Some x) t in
+        rw own (right_count (codes "PTC") (codes "COR") (zones_of_record s r) (length r.points) k.few_points one (point_count s r (record_again s r h) (rw t refl)))
       where
         ptc_apart : (kind : Kind) → kind ≡ Par → (e : Extra) → IsExtra kind e → bytes_eq e.code (codes "PTC") ≡ false
         ptc_apart Par t e x = (known_apart Par e x).1.0
@@ -244,19 +244,19 @@ right_point_count s r h k = go r.kind refl (kind_is (record_zones s r) (settled_
     go Fea t named = rw (named, t) refl
     go Lnk t named = rw (named, t) refl
 
-end_count : (s : Letters) (r : Record) → ReadsAs (record_zones s r) (settled_record s r) → is_link r.kind ≡ true → length (values (codes "FTP") (record_zones s r)) ≡ length r.ends
-end_count s r h t = sym (ends_count (record_zones s r)) ∙ same_length (ends (record_zones s r)) (map settled_end r.ends) (sym (ap (λ b. cond b (ends (record_zones s r)) []) t) ∙ h.ends) ∙ length-map r.ends settled_end
+end_count : (s : Letters) (r : Record) → ReadsAs (zones_of_record s r) (settled_record s r) → is_link r.kind ≡ true → length (values (codes "FTP") (zones_of_record s r)) ≡ length r.ends
+end_count s r h t = sym (ends_count (zones_of_record s r)) ∙ same_length (ends (zones_of_record s r)) (map settled_end r.ends) (sym (ap (λ b. cond b (ends (zones_of_record s r)) []) t) ∙ h.ends) ∙ length-map r.ends settled_end
 
-right_end_count : (s : Letters) (r : Record) → IsRecord r → FollowsRules r → (in_kind is_link (record_zones s r) && counts_wrong (codes "FTC") (codes "FTP") (record_zones s r)) ≡ false
-right_end_count s r h k = go r.kind refl (kind_is (record_zones s r) (settled_record s r) (record_again s r h))
+right_end_count : (s : Letters) (r : Record) → IsRecord r → FollowsRules r → (in_kind is_link (zones_of_record s r) && counts_wrong (codes "FTC") (codes "FTP") (zones_of_record s r)) ≡ false
+right_end_count s r h k = go r.kind refl (kind_is (zones_of_record s r) (settled_record s r) (record_again s r h))
   where
-    go : (kind : Kind) → r.kind ≡ kind → kind_in (record_zones s r) ≡ Some r.kind → (in_kind is_link (record_zones s r) && counts_wrong (codes "FTC") (codes "FTP") (record_zones s r)) ≡ false
+    go : (kind : Kind) → r.kind ≡ kind → kind_in (zones_of_record s r) ≡ Some r.kind → (in_kind is_link (zones_of_record s r) && counts_wrong (codes "FTC") (codes "FTP") (zones_of_record s r)) ≡ false
     go Lnk t named =
-        let body : filter (has_code (codes "FTC")) (body_zones r.kind r.points r.ends) ≡ zone_text (codes "FTC") 83 78 (decimal (length r.ends)) ∷ [] = rw t (ftc_found r.points r.ends) in
+        let body : filter (has_code (codes "FTC")) (zones_of_body r.kind r.points r.ends) ≡ zone_text (codes "FTC") 83 78 (decimal (length r.ends)) ∷ [] = rw t (ftc_found r.points r.ends) in
         let apart : (e : Extra) → IsExtra r.kind e → bytes_eq e.code (codes "FTC") ≡ false = λ e x. ftc_apart r.kind t e x in
         let one = body_value (codes "FTC") (decimal (length r.ends)) s r h refl refl refl (ap (map (λ (z : Entry). z.value)) body) behind_none_ftc apart in
-        let own : kind_in (record_zones s r) ≡ Some Lnk = named ∙ ap (λ x. Some x) t in
-        rw own (right_count (codes "FTC") (codes "FTP") (record_zones s r) (length r.ends) k.few_ends one (end_count s r (record_again s r h) (rw t refl)))
+        let own : kind_in (zones_of_record s r) ≡ Some Lnk = named ∙ ap (λ x. Some x) t in
+        rw own (right_count (codes "FTC") (codes "FTP") (zones_of_record s r) (length r.ends) k.few_ends one (end_count s r (record_again s r h) (rw t refl)))
       where
         ftc_apart : (kind : Kind) → kind ≡ Lnk → (e : Extra) → IsExtra kind e → bytes_eq e.code (codes "FTC") ≡ false
         ftc_apart Lnk t e x = (known_apart Lnk e x).0
@@ -271,15 +271,15 @@ right_end_count s r h k = go r.kind refl (kind_is (record_zones s r) (settled_re
 
 -- ---- 206
 
-right_places : (s : Letters) (r : Record) → IsRecord r → FollowsRules r → has_bad_point (record_zones s r) ≡ false
+right_places : (s : Letters) (r : Record) → IsRecord r → FollowsRules r → has_bad_point (zones_of_record s r) ≡ false
 right_places s r h k = go (has_points r.kind) refl
   where
-    stated : ReadsAs (record_zones s r) (settled_record s r)
+    stated : ReadsAs (zones_of_record s r) (settled_record s r)
     stated = record_again s r h
 
-    go : (b : Bool) → has_points r.kind ≡ b → has_bad_point (record_zones s r) ≡ false
-    go true t = right_points r.kind (record_zones s r) r.points (kind_is (record_zones s r) (settled_record s r) (record_again s r h)) t (sym (ap (λ b. cond b (map point (values (codes "COR") (record_zones s r))) []) t) ∙ (record_again s r h).points) (and_parts _ _ k.shape).0
-    go false t = no_points_wanted r.kind (record_zones s r) (kind_is (record_zones s r) (settled_record s r) (record_again s r h)) t
+    go : (b : Bool) → has_points r.kind ≡ b → has_bad_point (zones_of_record s r) ≡ false
+    go true t = right_points r.kind (zones_of_record s r) r.points (kind_is (zones_of_record s r) (settled_record s r) (record_again s r h)) t (sym (ap (λ b. cond b (map point (values (codes "COR") (zones_of_record s r))) []) t) ∙ (record_again s r h).points) (and_parts _ _ k.shape).0
+    go false t = no_points_wanted r.kind (zones_of_record s r) (kind_is (zones_of_record s r) (settled_record s r) (record_again s r h)) t
       where
         no_points_wanted : (kind : Kind) (g : List Entry) → kind_in g ≡ Some kind → has_points kind ≡ false → has_bad_point g ≡ false
         no_points_wanted Pfe g e t = rw e refl
@@ -309,24 +309,24 @@ ends_none : (zs : List Entry) → AllByRecursion IsOther zs → ends_repeat zs �
 ends_none [] h = refl
 ends_none (z ∷ zs) h = rw h.0.0 (ends_none zs h.1)
 
-next_count : (xs : List End) (more : List Entry) → AllByRecursion IsOther more → count_until points_at (codes "SNS") (flat_map end_zones xs ++ more) ≡ 0
-unfolding end_zones
+next_count : (xs : List End) (more : List Entry) → AllByRecursion IsOther more → count_until points_at (codes "SNS") (flat_map zones_of_end xs ++ more) ≡ 0
+unfolding zones_of_end
 next_count [] more h = no_sns_left more h
 next_count (x ∷ xs) more h = refl
 
-ends_one : (x : End) (more : List Entry) → count_until points_at (codes "SNS") more ≡ 0 → ends_repeat (end_zones x ++ more) ≡ ends_repeat more
-unfolding end_zones
+ends_one : (x : End) (more : List Entry) → count_until points_at (codes "SNS") more ≡ 0 → ends_repeat (zones_of_end x ++ more) ≡ ends_repeat more
+unfolding zones_of_end
 ends_one x more none = by_sns x.sns
   where
     by_sns : (sns : Option (List ℕ)) → ends_repeat ((zone_text (codes "FTP") 67 80 (end_text x.target) ∷ map sns_zone (option_to_list sns)) ++ more) ≡ ends_repeat more
     by_sns None = rw none refl
     by_sns (Some text) = rw none refl
 
-ends_all : (xs : List End) (more : List Entry) → AllByRecursion IsOther more → ends_repeat (flat_map end_zones xs ++ more) ≡ false
+ends_all : (xs : List End) (more : List Entry) → AllByRecursion IsOther more → ends_repeat (flat_map zones_of_end xs ++ more) ≡ false
 ends_all [] more h = ends_none more h
 ends_all (x ∷ xs) more h =
-    ap ends_repeat (append_assoc (end_zones x) (flat_map end_zones xs) more)
-    ∙ ends_one x (flat_map end_zones xs ++ more) (next_count xs more h) ∙ ends_all xs more h
+    ap ends_repeat (append_assoc (zones_of_end x) (flat_map zones_of_end xs) more)
+    ∙ ends_one x (flat_map zones_of_end xs ++ more) (next_count xs more h) ∙ ends_all xs more h
 
 stray_sns_past : (zs more : List Entry) → AllByRecursion IsOther zs → has_stray (zs ++ more) ≡ has_stray more
 stray_sns_past [] more h = refl
@@ -336,8 +336,8 @@ stray_sns_none : (zs : List Entry) → AllByRecursion IsOther zs → has_stray z
 stray_sns_none [] h = refl
 stray_sns_none (z ∷ zs) h = sym (stray_sns_goes_on z zs h.0.0 h.0.1) ∙ stray_sns_none zs h.1
 
-stray_sns_ends : (xs : List End) (more : List Entry) → AllByRecursion IsOther more → has_stray (flat_map end_zones xs ++ more) ≡ false
-unfolding end_zones
+stray_sns_ends : (xs : List End) (more : List Entry) → AllByRecursion IsOther more → has_stray (flat_map zones_of_end xs ++ more) ≡ false
+unfolding zones_of_end
 stray_sns_ends [] more h = stray_sns_none more h
 stray_sns_ends (x ∷ xs) more h = refl
 
@@ -354,26 +354,26 @@ link_front s r = zone_text (codes "RTY") 83 65 (kind_code r.kind) ∷ zone_text 
 link_front_other : (s : Letters) (r : Record) → AllByRecursion IsOther (link_front s r)
 link_front_other s r = ((refl, refl), ((refl, refl), ((refl, refl), ((refl, refl), tt))))
 
-link_body : (points : List Point) (ends : List End) → points ≡ [] → body_zones Lnk points ends ≡ zone_text (codes "FTC") 83 78 (decimal (length ends)) ∷ flat_map end_zones ends
-unfolding body_zones
+link_body : (points : List Point) (ends : List End) → points ≡ [] → zones_of_body Lnk points ends ≡ zone_text (codes "FTC") 83 78 (decimal (length ends)) ∷ flat_map zones_of_end ends
+unfolding zones_of_body
 link_body points ends e = rw e refl
 
-link_split : (s : Letters) (r : Record) → IsRecord r → r.kind ≡ Lnk → record_zones s r ≡ link_front s r ++ (flat_map end_zones r.ends ++ behind s r)
+link_split : (s : Letters) (r : Record) → IsRecord r → r.kind ≡ Lnk → zones_of_record s r ≡ link_front s r ++ (flat_map zones_of_end r.ends ++ behind s r)
 link_split s r h t =
-    let body : body_zones r.kind r.points r.ends ≡ zone_text (codes "FTC") 83 78 (decimal (length r.ends)) ∷ flat_map end_zones r.ends = rw t (link_body r.points r.ends (h.no_points (rw t refl))) in
+    let body : zones_of_body r.kind r.points r.ends ≡ zone_text (codes "FTC") 83 78 (decimal (length r.ends)) ∷ flat_map zones_of_end r.ends = rw t (link_body r.points r.ends (h.no_points (rw t refl))) in
     record_is s r ∙ ap (λ b. zone_text (codes "RTY") 83 65 (kind_code r.kind) ∷ zone_text (codes "RID") 83 65 r.rid ∷ zone_text (codes "SCP") 67 80 (class_text r.scp) ∷ (b ++ behind s r)) body
 
-right_ends : (s : Letters) (r : Record) → IsRecord r → FollowsRules r → has_bad_end (record_zones s r) ≡ false
-right_ends s r h k = go r.kind refl (kind_is (record_zones s r) (settled_record s r) (record_again s r h)) (and_parts _ _ k.shape).1
+right_ends : (s : Letters) (r : Record) → IsRecord r → FollowsRules r → has_bad_end (zones_of_record s r) ≡ false
+right_ends s r h k = go r.kind refl (kind_is (zones_of_record s r) (settled_record s r) (record_again s r h)) (and_parts _ _ k.shape).1
   where
-    go : (kind : Kind) → r.kind ≡ kind → kind_in (record_zones s r) ≡ Some r.kind → may_have_ends r.kind (length r.ends) ≡ true → has_bad_end (record_zones s r) ≡ false
+    go : (kind : Kind) → r.kind ≡ kind → kind_in (zones_of_record s r) ≡ Some r.kind → may_have_ends r.kind (length r.ends) ≡ true → has_bad_end (zones_of_record s r) ≡ false
     go Lnk t named shape =
         let after = behind_each IsOther (record { atc = λ _. (refl, refl); atp = λ _. (refl, refl); tex = λ _. (refl, refl); atv = λ _ _. (refl, refl) }) s r (no_end_apart r.kind t) h in
-        let more = flat_map end_zones r.ends ++ behind s r in
-        let stray : has_stray (record_zones s r) ≡ false = ap has_stray (link_split s r h t) ∙ stray_sns_past (link_front s r) more (link_front_other s r) ∙ stray_sns_ends r.ends (behind s r) after in
-        let twice : ends_repeat (record_zones s r) ≡ false = ap ends_repeat (link_split s r h t) ∙ ends_past (link_front s r) more (link_front_other s r) ∙ ends_all r.ends (behind s r) after in
+        let more = flat_map zones_of_end r.ends ++ behind s r in
+        let stray : has_stray (zones_of_record s r) ≡ false = ap has_stray (link_split s r h t) ∙ stray_sns_past (link_front s r) more (link_front_other s r) ∙ stray_sns_ends r.ends (behind s r) after in
+        let twice : ends_repeat (zones_of_record s r) ≡ false = ap ends_repeat (link_split s r h t) ∙ ends_past (link_front s r) more (link_front_other s r) ∙ ends_all r.ends (behind s r) after in
         let two : leb 2 (length r.ends) ≡ true = sym (ap (λ x. may_have_ends x (length r.ends)) t) ∙ shape in
-        good_ends r.kind (record_zones s r) (map settled_end r.ends) false named (rw t refl) (sym (ap (λ b. cond b (ends (record_zones s r)) []) (let l : is_link r.kind ≡ true = rw t refl in l)) ∙ (record_again s r h).ends)
+        good_ends r.kind (zones_of_record s r) (map settled_end r.ends) false named (rw t refl) (sym (ap (λ b. cond b (ends (zones_of_record s r)) []) (let l : is_link r.kind ≡ true = rw t refl in l)) ∙ (record_again s r h).ends)
         (let least = leb-true 2 (length r.ends) two in omega (arith, least, length-map r.ends settled_end)) (sym (or_from _ _ stray twice)) refl
     go Pno t named shape = rw (named, t) refl
     go Par t named shape = rw (named, t) refl
@@ -407,10 +407,10 @@ empty_pointers kind (e ∷ xs) h k =
     let u = extra_apart kind e h.0 in
     rw (h.0.unknown, and_false (bytes_eq e.code (codes "TEX")), u.0, u.1) (or_from _ _ (empty_pointer e k.0) (empty_pointers kind xs h.1 k.1))
 
-no_unknown_pointer : (s : Letters) (r : Record) → IsRecord r → FollowsRules r → has_unknown_pointer (record_zones s r) ≡ false
+no_unknown_pointer : (s : Letters) (r : Record) → IsRecord r → FollowsRules r → has_unknown_pointer (zones_of_record s r) ≡ false
 no_unknown_pointer s r h k =
-    rw (kind_is (record_zones s r) (settled_record s r) (record_again s r h))
-    (among_extras r.kind (placed false (record_zones s r)) ∙ ap (list_any is_full_pointer) (picked_extras s r h) ∙ empty_pointers r.kind r.extras h.extras k.pointers)
+    rw (kind_is (zones_of_record s r) (settled_record s r) (record_again s r h))
+    (among_extras r.kind (placed false (zones_of_record s r)) ∙ ap (list_any is_full_pointer) (picked_extras s r h) ∙ empty_pointers r.kind r.extras h.extras k.pointers)
 
 -- ---- all of them
 
@@ -418,9 +418,9 @@ none_of_eight : (a b c d e f g h : Bool) → a ≡ false → b ≡ false → c �
     → first_broken (test 201 a ∷ test 202 b ∷ test 203 c ∷ test 204 d ∷ test 205 e ∷ test 206 f ∷ test 207 g ∷ test 208 h ∷ []) ≡ None
 none_of_eight a b c d e f g h p q r s t u v w = rw (p, q, r, s, t, u, v, w) refl
 
-pub printed_unbroken : (s : Letters) (r : Record) → IsRecord r → FollowsRules r → first_broken (record_tests (record_zones s r)) ≡ None
+pub printed_unbroken : (s : Letters) (r : Record) → IsRecord r → FollowsRules r → first_broken (record_tests (zones_of_record s r)) ≡ None
 printed_unbroken s r h k =
-    let g = record_zones s r in
+    let g = zones_of_record s r in
     let stated = record_again s r h in
     none_of_eight (has_no_kind g) (has_no_identifier g) (has_no_class g) (has_bad_attribute g) (has_wrong_count g) (has_bad_point g) (has_bad_end g) (has_unknown_pointer g)
     (has_kind g (settled_record s r) stated) (has_identifier g (settled_record s r) stated k.identifier) (has_class g (settled_record s r) stated)

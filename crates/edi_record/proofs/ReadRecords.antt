@@ -10,7 +10,7 @@ use Rattle.edi_line.specs.LineRules.{BreaksLineRule, IsZonesOf}
 use Rattle.edi_line.specs.Number.{size_of, MOST}
 use Rattle.edi_line.specs.inner.Number.{number}
 use Rattle.edi_line.specs.Printing.{IsOneLine, IsPrintable}
-use Rattle.edi_line.specs.Refusal.{IsUnbroken, Breaks}
+use Rattle.edi_line.specs.Refusal.{IsUnbroken, BreaksTest}
 use Rattle.edi_line.specs.Zones.{groups_of, charset_of}
 use Rattle.edi_line.specs.inner.Zones.{zones_of}
 use Rattle.edi_line.proofs.Numbers.{number_in_range}
@@ -293,7 +293,7 @@ extras_read kind before (z ∷ zs) h = go (extras_read kind (is_open_after befor
 
 -- no rule is broken in the group
 abbrev IsKept : List Entry → Type 0
-IsKept group = (rule : ℕ) → ¬ (Breaks (record_tests group) rule)
+IsKept group = (rule : ℕ) → ¬ (BreaksTest (record_tests group) rule)
 
 kept_each : (groups : List (List Entry)) → ((before : List (List Entry)) (group : List Entry) (after : List (List Entry)) → groups ≡ before ++ group ∷ after → IsKept group) → AllByRecursion IsKept groups
 kept_each [] k = tt

@@ -9,7 +9,7 @@ use Rattle.edi_record.proofs.Stated.{any_apart}
 use Rattle.edi_record.specs.declared.record.Kind.{Kind}
 use Rattle.edi_record.specs.declared.record.Kind.TheVariants.{Pno, Par, Pfe, Fea, Lnk}
 use Rattle.edi_record.specs.declared.role.Role.{Role}
-use Rattle.edi_record.specs.declared.role.Role.TheVariants.{Identifier, Class, AttributeCount, AttributeClass, AttributeSet, AttributeValue, BodyCount, Place, EndPointer, EndSense, Skipped, Unknown}
+use Rattle.edi_record.specs.declared.role.Role.TheVariants.{Identifier, Class, AttributeCount, AttributeClass, AttributeSet, AttributeValue, BodyCount, Position, EndPointer, EndSense, Skipped, Unknown}
 
 -- a code that has the role
 abbrev pub CodeIs : Kind → List ℕ → Role → Type 0
@@ -20,7 +20,7 @@ CodeIs kind code AttributeClass = code ≡ codes "ATP"
 CodeIs kind code AttributeSet = code ≡ codes "TEX"
 CodeIs kind code AttributeValue = code ≡ codes "ATV"
 CodeIs kind code BodyCount = ((is_arc kind ≡ true) × (code ≡ codes "PTC")) ⊎ ((is_link kind ≡ true) × (code ≡ codes "FTC"))
-CodeIs kind code Place = (has_points kind ≡ true) × (code ≡ codes "COR")
+CodeIs kind code Position = (has_points kind ≡ true) × (code ≡ codes "COR")
 CodeIs kind code EndPointer = (is_link kind ≡ true) × (code ≡ codes "FTP")
 CodeIs kind code EndSense = (is_link kind ≡ true) × (code ≡ codes "SNS")
 CodeIs kind code Skipped = (code ≡ codes "RTY") ⊎ ((code ≡ codes "QAC") ⊎ (code ≡ codes "QAP"))
@@ -32,12 +32,12 @@ is code known e = (bytes_eq-Decides code known).0 e
 body_code : (kind : Kind) (code : List ℕ) → list_any (bytes_eq code) known_anywhere ≡ false → bytes_eq code (codes "TEX") ≡ false → CodeIs kind code (body_role_in kind code)
 body_code Pno code none set = go (bytes_eq code (codes "COR")) refl
   where
-    go : (a : Bool) → bytes_eq code (codes "COR") ≡ a → CodeIs Pno code (cond a Place Unknown)
+    go : (a : Bool) → bytes_eq code (codes "COR") ≡ a → CodeIs Pno code (cond a Position Unknown)
     go true p = (refl, is code (codes "COR") p)
     go false p = (rw (none, p) refl, set)
 body_code Par code none set = go (bytes_eq code (codes "COR")) refl (bytes_eq code (codes "PTC")) refl
   where
-    go : (a : Bool) → bytes_eq code (codes "COR") ≡ a → (b : Bool) → bytes_eq code (codes "PTC") ≡ b → CodeIs Par code (cond a Place (cond b BodyCount Unknown))
+    go : (a : Bool) → bytes_eq code (codes "COR") ≡ a → (b : Bool) → bytes_eq code (codes "PTC") ≡ b → CodeIs Par code (cond a Position (cond b BodyCount Unknown))
     go true p b q = (refl, is code (codes "COR") p)
     go false p true q = inl (refl, is code (codes "PTC") q)
     go false p false q = (rw (none, p, q) refl, set)

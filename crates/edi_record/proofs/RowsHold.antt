@@ -2,7 +2,7 @@
 use Rattle.std.proofs.Common.{◌≡◌, ℕ, Option, Some, None, List, [], ◌∷◌, ◌++◌, map, codes, refl, sym, ap, ◌∙◌, subst, inr, length, arith}
 use Rattle.edi_line.specs.Entry.{Entry}
 use Rattle.edi_line.specs.LineRules.{IsZonesOf}
-use Rattle.edi_line.specs.Refusal.{IsUnbroken, IsLeastBroken, Breaks}
+use Rattle.edi_line.specs.Refusal.{IsUnbroken, IsLeastBroken, BreaksTest}
 use Rattle.edi_line.specs.inner.Refusal.{first_broken}
 use Rattle.edi_line.specs.Zones.{groups_of}
 use Rattle.edi_line.specs.inner.Number.{number, whole_number, fraction_number}
@@ -15,7 +15,6 @@ use Rattle.edi_record.specs.Records.{States}
 use Rattle.edi_record.specs.Rows.{line, one_node, the_node, node_group}
 use Rattle.edi_record.specs.inner.RecordRules.{record_tests, FailsTest}
 use Rattle.edi_record.specs.inner.Records.{ReadsAs, set_after, value_after, attributes, sns_after, ends, placed}
-use Rattle.edi_record.specs.inner.Rows.{rules_of}
 use Rattle.edi_record.specs.inner.Texts.{pointer, point, count}
 use Rattle.edi_record.proofs.RulesSaid.{records_unbroken, record_least}
 use Rattle.edi_record.proofs.StatesSaid.{states_said}
@@ -30,6 +29,10 @@ node_stated = record { type = refl; rid = refl; scp = refl; points = refl; ends 
 
 pub node_said : States node_group the_node
 node_said = states_said node_group the_node node_stated
+
+-- the least rule that each record breaks
+abbrev pub rules_of : List ℕ → List (Option ℕ)
+rules_of bytes = map (λ group. first_broken (record_tests group)) (groups_of (zones_of bytes))
 
 pub node_unbroken : rules_of (one_node []) ≡ None ∷ []
 unfolding reading_of has_head number whole_number fraction_number pointer point count placed
@@ -55,7 +58,7 @@ in_one g group (b ∷ []) after e = absurd cc
 in_one g group (b ∷ c ∷ before) after e = absurd cc
 
 one_unbroken : (zones : List Entry) (g : List Entry) → groups_of zones ≡ g ∷ [] → first_broken (record_tests g) ≡ None → IsUnbroken (FailsTest zones)
-one_unbroken zones g one none rule place h = none_broken (record_tests g) none rule (subst (λ x. Breaks (record_tests x) rule) (in_one g h.group h.before h.after (sym one ∙ h.cut)).1 h.breaks)
+one_unbroken zones g one none rule place h = none_broken (record_tests g) none rule (subst (λ x. BreaksTest (record_tests x) rule) (in_one g h.group h.before h.after (sym one ∙ h.cut)).1 h.breaks)
 
 one_least : (zones : List Entry) (g : List Entry) (rule : ℕ) → groups_of zones ≡ g ∷ [] → first_broken (record_tests g) ≡ Some rule → IsLeastBroken (FailsTest zones) rule 1
 one_least zones g rule one e =
@@ -64,7 +67,7 @@ one_least zones g rule one e =
       is = record { before = []; group = g; after = []; cut = one; place_is = refl; breaks = found.breaks };
       least = λ r p h.
           let here = in_one g h.group h.before h.after (sym one ∙ h.cut) in
-          inr (omega (arith, h.place_is, ap length here.0), found.least r (subst (λ x. Breaks (record_tests x) r) here.1 h.breaks));
+          inr (omega (arith, h.place_is, ap length here.0), found.least r (subst (λ x. BreaksTest (record_tests x) r) here.1 h.breaks));
     }
 
 abbrev least_rules : List Entry → List (Option ℕ)

@@ -9,7 +9,7 @@ use Rattle.std.proofs.lemmas.List.{append_assoc, append-nil}
 use Rattle.std.proofs.lemmas.List.Folds.{Any-from_list_any, list_any-from_Any}
 use Rattle.std.proofs.lemmas.Slice.Eq.{bytes_eq-Decides}
 use Rattle.edi_line.specs.Entry.{Entry, has_code, first}
-use Rattle.edi_line.specs.Refusal.{Breaks, IsUnbroken, IsLeastBroken}
+use Rattle.edi_line.specs.Refusal.{BreaksTest, IsUnbroken, IsLeastBroken}
 use Rattle.edi_line.proofs.NumberRead.{digits_test, test_digits}
 use Rattle.edi_record.specs.Records.{values, has_points, is_link, IsSince, opens, closes, points_at, IsExtraAt, States}
 use Rattle.edi_record.specs.RecordRefusal.{IsRecordRefusal}
@@ -507,7 +507,7 @@ read_208 g h =
 
 -- ---- all rules of a group
 
-pub rule_said : (g : List Entry) (rule : ℕ) → Breaks (record_tests g) rule → BreaksGroupRule g rule
+pub rule_said : (g : List Entry) (rule : ℕ) → BreaksTest (record_tests g) rule → BreaksGroupRule g rule
 rule_said g rule (inl h) = lacks_kind (sym h.0) (said_201 g h.1)
 rule_said g rule (inr (inl h)) = lacks_identifier (sym h.0) h.1
 rule_said g rule (inr (inr (inl h))) = lacks_class (sym h.0) (said_203 g h.1)
@@ -518,7 +518,7 @@ rule_said g rule (inr (inr (inr (inr (inr (inr (inl h))))))) = let p = and_parts
 rule_said g rule (inr (inr (inr (inr (inr (inr (inr (inl h)))))))) = unknown_pointer (sym h.0) (said_208 g h.1)
 rule_said g rule (inr (inr (inr (inr (inr (inr (inr (inr h)))))))) = absurd h
 
-pub rule_read : (g : List Entry) (rule : ℕ) → BreaksGroupRule g rule → Breaks (record_tests g) rule
+pub rule_read : (g : List Entry) (rule : ℕ) → BreaksGroupRule g rule → BreaksTest (record_tests g) rule
 rule_read g rule (lacks_kind e h) = inl (sym e, read_201 g h)
 rule_read g rule (lacks_identifier e h) = inr (inl (sym e, h))
 rule_read g rule (lacks_class e h) = inr (inr (inl (sym e, read_203 g h)))

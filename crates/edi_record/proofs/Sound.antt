@@ -9,7 +9,7 @@ use Rattle.edi_line.specs.inner.Refusal.{first_broken}
 use Rattle.edi_line.specs.Zones.{IsGroup, IsFileOf, groups_of}
 use Rattle.edi_line.specs.inner.Zones.{zones_of}
 use Rattle.edi_line.specs.LineKinds.{kind_of, is_inner}
-use Rattle.edi_line.specs.Printing.{zone_text, numbered, IsOneLine}
+use Rattle.edi_line.specs.Printing.{zone_text, line_numbered, IsOneLine}
 use Rattle.edi_line.proofs.FirstBroken.{none_broken}
 use Rattle.edi_line.proofs.Printed.{printed_again}
 use Rattle.edi_line.proofs.PrintedRules as lines
@@ -20,7 +20,7 @@ use Rattle.edi_record.proofs.RulesSaid.{records_unbroken}
 use Rattle.edi_record.specs.Shapes.{kind_code}
 use Rattle.edi_record.specs.inner.RecordRules.{record_tests, FailsTest}
 use Rattle.edi_record.specs.CanonicalZones.{class_text, extra_zone, begin_zone, end_zone, cse_zone}
-use Rattle.edi_record.specs.RecordLayout.{Letters, HasPrintableLetters, body_zones, record_zones, sheet_zones, layout, IsExtra, IsRecord, IsLineRecord, FollowsRules}
+use Rattle.edi_record.specs.RecordLayout.{Letters, HasPrintableLetters, zones_of_body, zones_of_record, zones_of_sheet, records_layout, IsExtra, IsRecord, IsLineRecord, FollowsRules}
 use Rattle.edi_record.specs.Sound.{IsSoundFile}
 use Rattle.edi_record.specs.declared.record.Record.{Record}
 use Rattle.edi_record.specs.declared.record.Extra.{Extra}
@@ -48,19 +48,19 @@ inner_code code h rty = rw (h.1.1.0, h.1.1.1.0, rty, h.1.1.1.1.0, h.0, h.1.0) re
 inner_extra : (kind : Kind) (e : Extra) → IsExtra kind e → IsInner (extra_zone e)
 inner_extra kind e h = inner_code e.code (free_apart e.code h.free) (unknown kind e h).0
 
-record_group : (s : Letters) (r : Record) → IsRecord r → IsGroup (record_zones s r)
+record_group : (s : Letters) (r : Record) → IsRecord r → IsGroup (zones_of_record s r)
 record_group s r h = record {
   first = zone_text (codes "RTY") 83 65 (kind_code r.kind);
-  rest = zone_text (codes "RID") 83 65 r.rid ∷ zone_text (codes "SCP") 67 80 (class_text r.scp) ∷ (body_zones r.kind r.points r.ends ++ behind s r);
+  rest = zone_text (codes "RID") 83 65 r.rid ∷ zone_text (codes "SCP") 67 80 (class_text r.scp) ∷ (zones_of_body r.kind r.points r.ends ++ behind s r);
   joined = record_is s r;
   leads = refl;
   others = (
     refl,
-    (refl, joined IsInner (body_zones r.kind r.points r.ends) (behind s r) (body_each IsInner inner_body r.kind r.points r.ends) (behind_each IsInner inner_behind s r (inner_extra r.kind) h)),
+    (refl, joined IsInner (zones_of_body r.kind r.points r.ends) (behind s r) (body_each IsInner inner_body r.kind r.points r.ends) (behind_each IsInner inner_behind s r (inner_extra r.kind) h)),
   );
 }
 
-record_groups : (s : Letters) (rs : List Record) → AllByRecursion IsRecord rs → AllByRecursion IsGroup (map (record_zones s) rs)
+record_groups : (s : Letters) (rs : List Record) → AllByRecursion IsRecord rs → AllByRecursion IsGroup (map (zones_of_record s) rs)
 record_groups s [] h = tt
 record_groups s (r ∷ rs) h = (record_group s r h.0, record_groups s rs h.1)
 
@@ -72,13 +72,13 @@ joined_groups : (zones : Record → List Entry) (rs : List Record) → flat_map 
 joined_groups zones [] = refl
 joined_groups zones (r ∷ rs) = ap (λ t. zones r ++ t) (joined_groups zones rs)
 
-sheet_file : (s : Letters) (cse : Option (List ℕ)) (rs : List Record) → AllByRecursion IsRecord rs → IsFileOf (sheet_zones s cse rs) (option_map cse_zone cse) (map (record_zones s) rs)
+sheet_file : (s : Letters) (cse : Option (List ℕ)) (rs : List Record) → AllByRecursion IsRecord rs → IsFileOf (zones_of_sheet s cse rs) (option_map cse_zone cse) (map (zones_of_record s) rs)
 sheet_file s cse rs h = record {
   head = begin_zone;
   tail = end_zone;
   joined =
-      ap (λ t. begin_zone ∷ (t ++ (flat_map (record_zones s) rs ++ end_zone ∷ []))) (charset_zones cse)
-      ∙ ap (λ t. begin_zone ∷ (option_to_list (option_map cse_zone cse) ++ (t ++ end_zone ∷ []))) (joined_groups (record_zones s) rs);
+      ap (λ t. begin_zone ∷ (t ++ (flat_map (zones_of_record s) rs ++ end_zone ∷ []))) (charset_zones cse)
+      ∙ ap (λ t. begin_zone ∷ (option_to_list (option_map cse_zone cse) ++ (t ++ end_zone ∷ []))) (joined_groups (zones_of_record s) rs);
   head_is = refl;
   charset_is = charset_kind cse;
   groups_are = record_groups s rs h;
@@ -106,14 +106,14 @@ unmapped : {X V : Type 0} (P : V → Type 0) (f : X → V) (xs : List X) → All
 unmapped P f [] h = tt
 unmapped P f (x ∷ xs) h = (h.0, unmapped P f xs h.1)
 
--- groups that break no rule break none where they are numbered
-numbered_kept : (n : ℕ) (zs : List Entry) → AllByRecursion IsKept (groups_of zs) → AllByRecursion IsKept (groups_of (numbered n zs))
+-- groups that break no rule break none where they are line_numbered
+numbered_kept : (n : ℕ) (zs : List Entry) → AllByRecursion IsKept (groups_of zs) → AllByRecursion IsKept (groups_of (line_numbered n zs))
 numbered_kept n zs h =
     let plain = mapped IsKept bare (groups_of zs) (each_of IsKept (λ g. IsKept (bare g)) (λ g k. ap first_broken (bare_tests g) ∙ k) (groups_of zs) h) in
     let same = subst (AllByRecursion IsKept) (sym (same_groups n zs)) plain in
-    each_of (λ g. IsKept (bare g)) IsKept (λ g k. sym (ap first_broken (bare_tests g)) ∙ k) (groups_of (numbered n zs)) (unmapped IsKept bare (groups_of (numbered n zs)) same)
+    each_of (λ g. IsKept (bare g)) IsKept (λ g k. sym (ap first_broken (bare_tests g)) ∙ k) (groups_of (line_numbered n zs)) (unmapped IsKept bare (groups_of (line_numbered n zs)) same)
 
-records_kept : (s : Letters) (rs : List Record) → AllByRecursion IsRecord rs → AllByRecursion FollowsRules rs → AllByRecursion IsKept (map (record_zones s) rs)
+records_kept : (s : Letters) (rs : List Record) → AllByRecursion IsRecord rs → AllByRecursion FollowsRules rs → AllByRecursion IsKept (map (zones_of_record s) rs)
 records_kept s [] h k = tt
 records_kept s (r ∷ rs) h k = (printed_unbroken s r h.0 k.0, records_kept s rs h.1 k.1)
 
@@ -130,14 +130,14 @@ pub sheet_sound : (s : Letters) (cse : Option (List ℕ)) (rs : List Record) →
 sheet_sound s cse rs letters text is lines_of rules few =
     let file = sheet_file s cse rs is in
     let printable = sheet_printable s cse rs letters text is lines_of in
-    let few_groups : length (map (record_zones s) rs) ≤ 9999999 = (let same = length-map rs (record_zones s) in omega (arith, same, few)) in
-    let unbroken = lines.printed_unbroken (sheet_zones s cse rs) (option_map cse_zone cse) (map (record_zones s) rs) file printable few_groups in
-    let groups = file_said (sheet_zones s cse rs) (option_map cse_zone cse) (map (record_zones s) rs) file in
-    let kept = numbered_kept 1 (sheet_zones s cse rs) (subst (AllByRecursion IsKept) (sym groups.1) (records_kept s rs is rules)) in
+    let few_groups : length (map (zones_of_record s) rs) ≤ 9999999 = (let same = length-map rs (zones_of_record s) in omega (arith, same, few)) in
+    let unbroken = lines.printed_unbroken (zones_of_sheet s cse rs) (option_map cse_zone cse) (map (zones_of_record s) rs) file printable few_groups in
+    let groups = file_said (zones_of_sheet s cse rs) (option_map cse_zone cse) (map (zones_of_record s) rs) file in
+    let kept = numbered_kept 1 (zones_of_sheet s cse rs) (subst (AllByRecursion IsKept) (sym groups.1) (records_kept s rs is rules)) in
     record {
       file = file;
-      zones = zones_of (layout s cse rs);
-      are_zones = zones_said (layout s cse rs) (zones_of (layout s cse rs)) (record { readable = λ rule place own broken. unbroken_read (layout s cse rs) unbroken rule place (inl broken); is = refl });
+      zones = zones_of (records_layout s cse rs);
+      are_zones = zones_said (records_layout s cse rs) (zones_of (records_layout s cse rs)) (record { readable = λ rule place own broken. unbroken_read (records_layout s cse rs) unbroken rule place (inl broken); is = refl });
       lines = unbroken;
-      records = records_unbroken (zones_of (layout s cse rs)) (kept_unbroken (zones_of (layout s cse rs)) (subst (λ zs. AllByRecursion IsKept (groups_of zs)) (sym (printed_again (sheet_zones s cse rs) printable)) kept));
+      records = records_unbroken (zones_of (records_layout s cse rs)) (kept_unbroken (zones_of (records_layout s cse rs)) (subst (λ zs. AllByRecursion IsKept (groups_of zs)) (sym (printed_again (zones_of_sheet s cse rs) printable)) kept));
     }

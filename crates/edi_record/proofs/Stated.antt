@@ -17,7 +17,7 @@ use Rattle.edi_record.specs.Shapes.{kind_code}
 use Rattle.edi_record.specs.Records.{values, has_points, is_link, opens, closes, points_at, known_anywhere, known_in, is_known, may_be_number}
 use Rattle.edi_record.specs.inner.Records.{set_after, value_after, attributes, sns_after, end_of, ends, Placed, placed, is_extra, value_of, extra, extras, ReadsAs}
 use Rattle.edi_record.specs.CanonicalZones.{class_text, value_text, point_zone, set_zone, extra_zone, end_text, sns_zone}
-use Rattle.edi_record.specs.RecordLayout.{Letters, attribute_zones, end_zones, count_zones, body_zones, record_zones, IsOwnValue, IsExtra, IsName, IsPoint, IsRecord, settled, settled_end, settled_record}
+use Rattle.edi_record.specs.RecordLayout.{Letters, zones_of_attribute, zones_of_end, count_zones, zones_of_body, zones_of_record, IsOwnValue, IsExtra, IsName, IsPoint, IsRecord, settled, settled_end, settled_record}
 use Rattle.edi_record.specs.declared.name.Name.{Name}
 use Rattle.edi_record.specs.declared.record.Kind.{Kind}
 use Rattle.edi_record.specs.declared.record.Kind.TheVariants.{Pno, Par, Pfe, Fea, Lnk}
@@ -129,25 +129,25 @@ count_each P k Pfe m n = tt
 count_each P k Fea m n = tt
 count_each P k Lnk m n = (k.ftc (decimal n), tt)
 
-end_each : (P : Entry → Type 0) → HoldsInBody P → (e : End) → AllByRecursion P (end_zones e)
-unfolding end_zones
+end_each : (P : Entry → Type 0) → HoldsInBody P → (e : End) → AllByRecursion P (zones_of_end e)
+unfolding zones_of_end
 end_each P k e = (k.ftp (end_text e.target), mapped P sns_zone k.sns (option_to_list e.sns))
 
-pub body_each : (P : Entry → Type 0) → HoldsInBody P → (kind : Kind) (points : List Point) (ends : List End) → AllByRecursion P (body_zones kind points ends)
-unfolding body_zones
+pub body_each : (P : Entry → Type 0) → HoldsInBody P → (kind : Kind) (points : List Point) (ends : List End) → AllByRecursion P (zones_of_body kind points ends)
+unfolding zones_of_body
 body_each P k kind points ends =
     joined P (count_zones kind (length points) (length ends)) _ (count_each P k kind (length points) (length ends))
-    (joined P (map point_zone points) _ (mapped P point_zone k.cor points) (flat_mapped P end_zones (end_each P k) ends))
+    (joined P (map point_zone points) _ (mapped P point_zone k.cor points) (flat_mapped P zones_of_end (end_each P k) ends))
 
-attribute_each : (P : Entry → Type 0) → HoldsBehind P → (s : Letters) (a : Attribute) → AllByRecursion P (attribute_zones s a)
-unfolding attribute_zones
+attribute_each : (P : Entry → Type 0) → HoldsBehind P → (s : Letters) (a : Attribute) → AllByRecursion P (zones_of_attribute s a)
+unfolding zones_of_attribute
 attribute_each P k s a = joined P (zone_text (codes "ATP") 67 80 (class_text a.atp) ∷ map set_zone (option_to_list a.tex)) _ (k.atp (class_text a.atp), mapped P set_zone k.tex (option_to_list a.tex)) (k.atv (s.letter a.atp) _, tt)
 
 -- the zones behind the body
 pub behind : Letters → Record → List Entry
-behind s r = zone_text (codes "ATC") 83 78 (decimal (length r.attributes)) ∷ (flat_map (attribute_zones s) r.attributes ++ map extra_zone r.extras)
+behind s r = zone_text (codes "ATC") 83 78 (decimal (length r.attributes)) ∷ (flat_map (zones_of_attribute s) r.attributes ++ map extra_zone r.extras)
 
-pub behind_is : (s : Letters) (r : Record) → behind s r ≡ zone_text (codes "ATC") 83 78 (decimal (length r.attributes)) ∷ (flat_map (attribute_zones s) r.attributes ++ map extra_zone r.extras)
+pub behind_is : (s : Letters) (r : Record) → behind s r ≡ zone_text (codes "ATC") 83 78 (decimal (length r.attributes)) ∷ (flat_map (zones_of_attribute s) r.attributes ++ map extra_zone r.extras)
 unfolding behind
 behind_is s r = refl
 
@@ -155,15 +155,15 @@ pub behind_each : (P : Entry → Type 0) → HoldsBehind P → (s : Letters) (r 
 unfolding behind
 behind_each P k s r extras h = (
   k.atc (decimal (length r.attributes)),
-  joined P (flat_map (attribute_zones s) r.attributes) (map extra_zone r.extras)
-      (flat_mapped P (attribute_zones s) (attribute_each P k s) r.attributes)
+  joined P (flat_map (zones_of_attribute s) r.attributes) (map extra_zone r.extras)
+      (flat_mapped P (zones_of_attribute s) (attribute_each P k s) r.attributes)
       (mapped_each P (IsExtra r.kind) extra_zone extras r.extras h.extras),
 )
 
 -- ---- attributes and extras, read from the zones
 
-attribute_again : (s : Letters) (a : Attribute) (rest : List Entry) → IsName a.atp → attributes (attribute_zones s a ++ rest) ≡ Some (settled s a) ∷ attributes rest
-unfolding attributes attribute_zones set_after value_after
+attribute_again : (s : Letters) (a : Attribute) (rest : List Entry) → IsName a.atp → attributes (zones_of_attribute s a ++ rest) ≡ Some (settled s a) ∷ attributes rest
+unfolding attributes zones_of_attribute set_after value_after
 attribute_again s a rest h = by_set a.tex
   where
     by_set : (tex : Option (List ℕ)) → attributes ((zone_text (codes "ATP") 67 80 (class_text a.atp) ∷ map set_zone (option_to_list tex) ++ zone_text (codes "ATV") 83 (s.letter a.atp) (value_text (value_of (s.is_number a.atp) a.atv)) ∷ []) ++ rest)
@@ -171,11 +171,11 @@ attribute_again s a rest h = by_set a.tex
     by_set None = rw (class_again a.atp h) refl
     by_set (Some text) = rw (class_again a.atp h) refl
 
-attributes_again : (s : Letters) (xs : List Attribute) (rest : List Entry) → AllByRecursion (λ a. IsName a.atp) xs → attributes (flat_map (attribute_zones s) xs ++ rest) ≡ map Some (map (settled s) xs) ++ attributes rest
+attributes_again : (s : Letters) (xs : List Attribute) (rest : List Entry) → AllByRecursion (λ a. IsName a.atp) xs → attributes (flat_map (zones_of_attribute s) xs ++ rest) ≡ map Some (map (settled s) xs) ++ attributes rest
 attributes_again s [] rest h = refl
 attributes_again s (a ∷ xs) rest h =
-    ap attributes (append_assoc (attribute_zones s a) (flat_map (attribute_zones s) xs) rest)
-    ∙ attribute_again s a (flat_map (attribute_zones s) xs ++ rest) h.0
+    ap attributes (append_assoc (zones_of_attribute s a) (flat_map (zones_of_attribute s) xs) rest)
+    ∙ attribute_again s a (flat_map (zones_of_attribute s) xs ++ rest) h.0
     ∙ ap (λ t. Some (settled s a) ∷ t) (attributes_again s xs rest h.1)
 
 skip_body : (zs rest : List Entry) → AllByRecursion (λ z. opens z ≡ false) zs → attributes (zs ++ rest) ≡ attributes rest
@@ -209,42 +209,42 @@ pick_plain kind (z ∷ zs) rest h = rw (and_false (has_code (codes "TEX") z), h.
 plain_points : (kind : Kind) → is_known kind (codes "COR") ≡ true → (xs : List Point) → AllByRecursion (IsPlain kind) (map point_zone xs)
 plain_points kind e xs = mapped (IsPlain kind) point_zone (λ x. record { known = e; opens_none = refl; closes_none = refl }) xs
 
-plain_ends : (xs : List End) → AllByRecursion (IsPlain Lnk) (flat_map end_zones xs)
-unfolding end_zones
-plain_ends xs = flat_mapped (IsPlain Lnk) end_zones (λ e. (record { known = refl; opens_none = refl; closes_none = refl }, mapped (IsPlain Lnk) sns_zone (λ t. record { known = refl; opens_none = refl; closes_none = refl }) (option_to_list e.sns))) xs
+plain_ends : (xs : List End) → AllByRecursion (IsPlain Lnk) (flat_map zones_of_end xs)
+unfolding zones_of_end
+plain_ends xs = flat_mapped (IsPlain Lnk) zones_of_end (λ e. (record { known = refl; opens_none = refl; closes_none = refl }, mapped (IsPlain Lnk) sns_zone (λ t. record { known = refl; opens_none = refl; closes_none = refl }) (option_to_list e.sns))) xs
 
-plain_body : (kind : Kind) (points : List Point) (ends : List End) → (has_points kind ≡ false → points ≡ []) → (is_link kind ≡ false → ends ≡ []) → AllByRecursion (IsPlain kind) (body_zones kind points ends)
-unfolding body_zones
+plain_body : (kind : Kind) (points : List Point) (ends : List End) → (has_points kind ≡ false → points ≡ []) → (is_link kind ≡ false → ends ≡ []) → AllByRecursion (IsPlain kind) (zones_of_body kind points ends)
+unfolding zones_of_body
 plain_body Pno points ends p e = rw (e refl) (joined (IsPlain Pno) (map point_zone points) [] (plain_points Pno refl points) tt)
 plain_body Par points ends p e = rw (e refl) (record { known = refl; opens_none = refl; closes_none = refl }, joined (IsPlain Par) (map point_zone points) [] (plain_points Par refl points) tt)
 plain_body Pfe points ends p e = rw (p refl, e refl) tt
 plain_body Fea points ends p e = rw (p refl, e refl) tt
 plain_body Lnk points ends p e = rw (p refl) (record { known = refl; opens_none = refl; closes_none = refl }, plain_ends ends)
 
-pick_attribute : (s : Letters) (rty : Kind) (a : Attribute) (rest : List Entry) → picked rty (attribute_zones s a ++ rest) ≡ picked rty rest
-unfolding picked placed attribute_zones
+pick_attribute : (s : Letters) (rty : Kind) (a : Attribute) (rest : List Entry) → picked rty (zones_of_attribute s a ++ rest) ≡ picked rty rest
+unfolding picked placed zones_of_attribute
 pick_attribute s rty a rest = by_set a.tex
   where
     by_set : (tex : Option (List ℕ)) → picked rty ((zone_text (codes "ATP") 67 80 (class_text a.atp) ∷ map set_zone (option_to_list tex) ++ zone_text (codes "ATV") 83 (s.letter a.atp) (value_text (value_of (s.is_number a.atp) a.atv)) ∷ []) ++ rest) ≡ picked rty rest
     by_set None = refl
     by_set (Some text) = refl
 
-pick_attributes : (s : Letters) (rty : Kind) (xs : List Attribute) (rest : List Entry) → picked rty (flat_map (attribute_zones s) xs ++ rest) ≡ picked rty rest
+pick_attributes : (s : Letters) (rty : Kind) (xs : List Attribute) (rest : List Entry) → picked rty (flat_map (zones_of_attribute s) xs ++ rest) ≡ picked rty rest
 pick_attributes s rty [] rest = refl
 pick_attributes s rty (a ∷ xs) rest =
-    ap (picked rty) (append_assoc (attribute_zones s a) (flat_map (attribute_zones s) xs) rest)
-    ∙ pick_attribute s rty a (flat_map (attribute_zones s) xs ++ rest) ∙ pick_attributes s rty xs rest
+    ap (picked rty) (append_assoc (zones_of_attribute s a) (flat_map (zones_of_attribute s) xs) rest)
+    ∙ pick_attribute s rty a (flat_map (zones_of_attribute s) xs ++ rest) ∙ pick_attributes s rty xs rest
 
-pub record_is : (s : Letters) (r : Record) → record_zones s r ≡ zone_text (codes "RTY") 83 65 (kind_code r.kind) ∷ zone_text (codes "RID") 83 65 r.rid ∷ zone_text (codes "SCP") 67 80 (class_text r.scp) ∷ (body_zones r.kind r.points r.ends ++ behind s r)
-unfolding record_zones behind
+pub record_is : (s : Letters) (r : Record) → zones_of_record s r ≡ zone_text (codes "RTY") 83 65 (kind_code r.kind) ∷ zone_text (codes "RID") 83 65 r.rid ∷ zone_text (codes "SCP") 67 80 (class_text r.scp) ∷ (zones_of_body r.kind r.points r.ends ++ behind s r)
+unfolding zones_of_record behind
 record_is s r = refl
 
 -- the extras among the zones of a record are those that it prints last
-pub picked_extras : (s : Letters) (r : Record) → IsRecord r → filter (is_extra r.kind) (placed false (record_zones s r)) ≡ filter (is_extra r.kind) (placed false (map extra_zone r.extras))
+pub picked_extras : (s : Letters) (r : Record) → IsRecord r → filter (is_extra r.kind) (placed false (zones_of_record s r)) ≡ filter (is_extra r.kind) (placed false (map extra_zone r.extras))
 unfolding picked placed behind
 picked_extras s r h =
     ap (picked r.kind) (record_is s r)
-    ∙ pick_plain r.kind (body_zones r.kind r.points r.ends) (behind s r) (plain_body r.kind r.points r.ends h.no_points h.no_ends) ∙ pick_attributes s r.kind r.attributes (map extra_zone r.extras)
+    ∙ pick_plain r.kind (zones_of_body r.kind r.points r.ends) (behind s r) (plain_body r.kind r.points r.ends h.no_points h.no_ends) ∙ pick_attributes s r.kind r.attributes (map extra_zone r.extras)
 
 extra_again : (rty : Kind) (e : Extra) → IsExtra rty e → extra (extra_zone e) ≡ e
 extra_again rty e h = ap (λ v. let x : Extra = record { code = e.code; nature = e.nature; format = e.format; value = v } in x) (own_again (may_be_number e.format) e.value h.own)
@@ -278,13 +278,13 @@ unfolding ends IsNoEnd
 no_ends_in [] h = refl
 no_ends_in (z ∷ zs) h = rw h.0.0 (no_ends_in zs h.1)
 
-next_sns : (xs : List End) (rest : List Entry) → AllByRecursion IsNoEnd rest → sns_after (flat_map end_zones xs ++ rest) ≡ None
-unfolding sns_after end_zones
+next_sns : (xs : List End) (rest : List Entry) → AllByRecursion IsNoEnd rest → sns_after (flat_map zones_of_end xs ++ rest) ≡ None
+unfolding sns_after zones_of_end
 next_sns [] rest h = no_sns rest h
 next_sns (x ∷ xs) rest h = refl
 
-end_again : (e : End) (rest : List Entry) → IsName e.target → sns_after rest ≡ None → ends (end_zones e ++ rest) ≡ Some (settled_end e) ∷ ends rest
-unfolding ends end_zones sns_after
+end_again : (e : End) (rest : List Entry) → IsName e.target → sns_after rest ≡ None → ends (zones_of_end e ++ rest) ≡ Some (settled_end e) ∷ ends rest
+unfolding ends zones_of_end sns_after
 end_again e rest h none = by_sns e.sns (target_again e h)
   where
     by_sns : (sns : Option (List ℕ)) → end_of (end_text e.target) sns ≡ Some (record { lot = codes "CANON"; subset = codes "S"; target = e.target; sns = sns })
@@ -292,21 +292,21 @@ end_again e rest h none = by_sns e.sns (target_again e h)
     by_sns None t = rw (none, t) refl
     by_sns (Some text) t = rw t refl
 
-ends_again : (xs : List End) (rest : List Entry) → AllByRecursion (λ e. IsName e.target) xs → AllByRecursion IsNoEnd rest → ends (flat_map end_zones xs ++ rest) ≡ map Some (map settled_end xs)
+ends_again : (xs : List End) (rest : List Entry) → AllByRecursion (λ e. IsName e.target) xs → AllByRecursion IsNoEnd rest → ends (flat_map zones_of_end xs ++ rest) ≡ map Some (map settled_end xs)
 ends_again [] rest h k = no_ends_in rest k
 ends_again (x ∷ xs) rest h k =
-    ap ends (append_assoc (end_zones x) (flat_map end_zones xs) rest)
-    ∙ end_again x (flat_map end_zones xs ++ rest) h.0 (next_sns xs rest k)
+    ap ends (append_assoc (zones_of_end x) (flat_map zones_of_end xs) rest)
+    ∙ end_again x (flat_map zones_of_end xs ++ rest) h.0 (next_sns xs rest k)
     ∙ ap (λ t. Some (settled_end x) ∷ t) (ends_again xs rest h.1 k)
 
 -- ---- the whole record
 
 -- a code that no zone of the body or behind it has
 nothing_found : (s : Letters) (r : Record) (code : List ℕ) → HoldsInBody (λ z. has_code code z ≡ false) → HoldsBehind (λ z. has_code code z ≡ false) → ((e : Extra) → IsExtra r.kind e → bytes_eq e.code code ≡ false) → IsRecord r
-    → map (λ (z : Entry). z.value) (filter (has_code code) (body_zones r.kind r.points r.ends ++ behind s r)) ≡ []
+    → map (λ (z : Entry). z.value) (filter (has_code code) (zones_of_body r.kind r.points r.ends ++ behind s r)) ≡ []
 nothing_found s r code body back apart h =
-    ap (map (λ (z : Entry). z.value)) (none_found (has_code code) (body_zones r.kind r.points r.ends ++ behind s r)
-    (joined (λ z. has_code code z ≡ false) (body_zones r.kind r.points r.ends) (behind s r) (body_each (λ z. has_code code z ≡ false) body r.kind r.points r.ends) (behind_each (λ z. has_code code z ≡ false) back s r apart h)))
+    ap (map (λ (z : Entry). z.value)) (none_found (has_code code) (zones_of_body r.kind r.points r.ends ++ behind s r)
+    (joined (λ z. has_code code z ≡ false) (zones_of_body r.kind r.points r.ends) (behind s r) (body_each (λ z. has_code code z ≡ false) body r.kind r.points r.ends) (behind_each (λ z. has_code code z ≡ false) back s r apart h)))
 
 all_points : (xs : List Point) → filter (has_code (codes "COR")) (map point_zone xs) ≡ map point_zone xs
 all_points [] = refl
@@ -319,15 +319,15 @@ no_count Pfe m n = refl
 no_count Fea m n = refl
 no_count Lnk m n = refl
 
-no_end_cor : (xs : List End) → filter (has_code (codes "COR")) (flat_map end_zones xs) ≡ []
-unfolding end_zones
-no_end_cor xs = none_found (has_code (codes "COR")) (flat_map end_zones xs) (flat_mapped (λ z. has_code (codes "COR") z ≡ false) end_zones (λ e. (refl, mapped (λ z. has_code (codes "COR") z ≡ false) sns_zone (λ t. refl) (option_to_list e.sns))) xs)
+no_end_cor : (xs : List End) → filter (has_code (codes "COR")) (flat_map zones_of_end xs) ≡ []
+unfolding zones_of_end
+no_end_cor xs = none_found (has_code (codes "COR")) (flat_map zones_of_end xs) (flat_mapped (λ z. has_code (codes "COR") z ≡ false) zones_of_end (λ e. (refl, mapped (λ z. has_code (codes "COR") z ≡ false) sns_zone (λ t. refl) (option_to_list e.sns))) xs)
 
-cor_found : (kind : Kind) (points : List Point) (ends : List End) → filter (has_code (codes "COR")) (body_zones kind points ends) ≡ map point_zone points
-unfolding body_zones
+cor_found : (kind : Kind) (points : List Point) (ends : List End) → filter (has_code (codes "COR")) (zones_of_body kind points ends) ≡ map point_zone points
+unfolding zones_of_body
 cor_found kind points ends =
     filter-append (has_code (codes "COR")) (count_zones kind (length points) (length ends)) _
-    ∙ rw (no_count kind (length points) (length ends), filter-append (has_code (codes "COR")) (map point_zone points) (flat_map end_zones ends), all_points points, no_end_cor ends) (append-nil (map point_zone points))
+    ∙ rw (no_count kind (length points) (length ends), filter-append (has_code (codes "COR")) (map point_zone points) (flat_map zones_of_end ends), all_points points, no_end_cor ends) (append-nil (map point_zone points))
 
 points_again : (xs : List Point) → AllByRecursion IsPoint xs → map point (map (λ (z : Entry). z.value) (map point_zone xs)) ≡ map Some xs
 points_again [] h = refl
@@ -352,29 +352,29 @@ no_end_apart Par t e h = absurd cc
 no_end_apart Pfe t e h = absurd cc
 no_end_apart Fea t e h = absurd cc
 
-points_stated : (s : Letters) (r : Record) → IsRecord r → cond (has_points r.kind) (map point (values (codes "COR") (record_zones s r))) [] ≡ map Some r.points
+points_stated : (s : Letters) (r : Record) → IsRecord r → cond (has_points r.kind) (map point (values (codes "COR") (zones_of_record s r))) [] ≡ map Some r.points
 points_stated s r h = go (has_points r.kind) refl
   where
-    go : (t : Bool) → has_points r.kind ≡ t → cond t (map point (values (codes "COR") (record_zones s r))) [] ≡ map Some r.points
+    go : (t : Bool) → has_points r.kind ≡ t → cond t (map point (values (codes "COR") (zones_of_record s r))) [] ≡ map Some r.points
     go true t =
         let none = none_found (has_code (codes "COR")) (behind s r) (behind_each (λ z. has_code (codes "COR") z ≡ false) (record { atc = λ _. refl; atp = λ _. refl; tex = λ _. refl; atv = λ _ _. refl }) s r (cor_apart r.kind t) h) in
-        let all : filter (has_code (codes "COR")) (body_zones r.kind r.points r.ends ++ behind s r) ≡ map point_zone r.points = filter-append (has_code (codes "COR")) (body_zones r.kind r.points r.ends) (behind s r) ∙ rw (none, cor_found r.kind r.points r.ends) (append-nil (map point_zone r.points)) in
+        let all : filter (has_code (codes "COR")) (zones_of_body r.kind r.points r.ends ++ behind s r) ≡ map point_zone r.points = filter-append (has_code (codes "COR")) (zones_of_body r.kind r.points r.ends) (behind s r) ∙ rw (none, cor_found r.kind r.points r.ends) (append-nil (map point_zone r.points)) in
         ap (λ zs. map point (values (codes "COR") zs)) (record_is s r) ∙ ap (λ (zs : List Entry). map point (map (λ z. z.value) zs)) all ∙ points_again r.points h.points
     go false t = rw (h.no_points t) refl
 
-skip_count : (points : List Point) (xs : List End) (rest : List Entry) → points ≡ [] → ends (body_zones Lnk points xs ++ rest) ≡ ends (flat_map end_zones xs ++ rest)
-unfolding body_zones ends
+skip_count : (points : List Point) (xs : List End) (rest : List Entry) → points ≡ [] → ends (zones_of_body Lnk points xs ++ rest) ≡ ends (flat_map zones_of_end xs ++ rest)
+unfolding zones_of_body ends
 skip_count points xs rest e = rw e refl
 
 no_end_behind : HoldsBehind IsNoEnd
 unfolding IsNoEnd
 no_end_behind = record { atc = λ _. (refl, refl); atp = λ _. (refl, refl); tex = λ _. (refl, refl); atv = λ _ _. (refl, refl) }
 
-ends_stated : (s : Letters) (r : Record) → IsRecord r → cond (is_link r.kind) (ends (record_zones s r)) [] ≡ map Some (map settled_end r.ends)
+ends_stated : (s : Letters) (r : Record) → IsRecord r → cond (is_link r.kind) (ends (zones_of_record s r)) [] ≡ map Some (map settled_end r.ends)
 unfolding ends behind
 ends_stated s r h = go r.kind refl
   where
-    go : (kind : Kind) → r.kind ≡ kind → cond (is_link kind) (ends (record_zones s r)) [] ≡ map Some (map settled_end r.ends)
+    go : (kind : Kind) → r.kind ≡ kind → cond (is_link kind) (ends (zones_of_record s r)) [] ≡ map Some (map settled_end r.ends)
     go Lnk t =
         let link : is_link r.kind ≡ true = rw t refl in
         let none = h.no_points (rw t refl) in
@@ -388,23 +388,23 @@ ends_stated s r h = go r.kind refl
 opens_none_behind : HoldsInBody (λ z. opens z ≡ false)
 opens_none_behind = record { ptc = λ _. refl; ftc = λ _. refl; cor = λ _. refl; ftp = λ _. refl; sns = λ _. refl }
 
-attributes_stated : (s : Letters) (r : Record) → IsRecord r → attributes (record_zones s r) ≡ map Some (map (settled s) r.attributes)
+attributes_stated : (s : Letters) (r : Record) → IsRecord r → attributes (zones_of_record s r) ≡ map Some (map (settled s) r.attributes)
 unfolding attributes behind
 attributes_stated s r h =
     ap attributes (record_is s r)
-    ∙ skip_body (body_zones r.kind r.points r.ends) (behind s r) (body_each (λ z. opens z ≡ false) opens_none_behind r.kind r.points r.ends)
+    ∙ skip_body (zones_of_body r.kind r.points r.ends) (behind s r) (body_each (λ z. opens z ≡ false) opens_none_behind r.kind r.points r.ends)
     ∙ attributes_again s r.attributes (map extra_zone r.extras) h.classes
     ∙ rw (skip_extras r.kind r.extras h.extras) (append-nil (map Some (map (settled s) r.attributes)))
 
-extras_stated : (s : Letters) (r : Record) → IsRecord r → extras r.kind (record_zones s r) ≡ r.extras
+extras_stated : (s : Letters) (r : Record) → IsRecord r → extras r.kind (zones_of_record s r) ≡ r.extras
 unfolding picked placed behind
 extras_stated s r h =
     ap (λ zs. extras r.kind zs) (record_is s r)
-    ∙ ap (map (λ (p : Placed). extra p.zone)) (pick_plain r.kind (body_zones r.kind r.points r.ends) (behind s r) (plain_body r.kind r.points r.ends h.no_points h.no_ends) ∙ pick_attributes s r.kind r.attributes (map extra_zone r.extras))
+    ∙ ap (map (λ (p : Placed). extra p.zone)) (pick_plain r.kind (zones_of_body r.kind r.points r.ends) (behind s r) (plain_body r.kind r.points r.ends h.no_points h.no_ends) ∙ pick_attributes s r.kind r.attributes (map extra_zone r.extras))
     ∙ extras_again r.kind r.extras h.extras
 
 -- The zones of a record state it, with its ends and values as they are written.
-pub record_again : (s : Letters) (r : Record) → IsRecord r → ReadsAs (record_zones s r) (settled_record s r)
+pub record_again : (s : Letters) (r : Record) → IsRecord r → ReadsAs (zones_of_record s r) (settled_record s r)
 record_again s r h = record {
   type = ap (values (codes "RTY")) (record_is s r) ∙ ap (λ t. kind_code r.kind ∷ t) (nothing_found s r (codes "RTY") (record { ptc = λ _. refl; ftc = λ _. refl; cor = λ _. refl; ftp = λ _. refl; sns = λ _. refl }) (record { atc = λ _. refl; atp = λ _. refl; tex = λ _. refl; atv = λ _ _. refl }) (λ e k. (unknown r.kind e k).0) h);
   rid = ap (values (codes "RID")) (record_is s r) ∙ ap (λ t. r.rid ∷ t) (nothing_found s r (codes "RID") (record { ptc = λ _. refl; ftc = λ _. refl; cor = λ _. refl; ftp = λ _. refl; sns = λ _. refl }) (record { atc = λ _. refl; atp = λ _. refl; tex = λ _. refl; atv = λ _ _. refl }) (λ e k. (unknown r.kind e k).1.0) h);

@@ -5,7 +5,7 @@ use Rattle.std.specs.List.{list_any}
 use Rattle.edi_line.specs.Entry.{Entry, has_code, first}
 use Rattle.edi_line.specs.Refusal.{test}
 use Rattle.edi_line.specs.Zones.{begins_group, ends_group, before_end, groups_of}
-use Rattle.edi_line.specs.Printing.{at_line, lines_of_zone, numbered}
+use Rattle.edi_line.specs.Printing.{at_line, lines_of_zone, line_numbered}
 use Rattle.edi_record.specs.inner.Texts.{pointer, point}
 use Rattle.edi_record.specs.Records.{values, has_points, is_link, opens, closes, points_at}
 use Rattle.edi_record.specs.inner.Records.{Placed, is_open_after, placed}
@@ -152,10 +152,10 @@ bare_groups (z ∷ zs) = go (begins_group z) (bare_groups zs)
     go true e = ap (λ t. (at_line 0 z ∷ t) ∷ groups_of (bare zs)) (bare_before zs) ∙ ap (λ t. bare (z ∷ before_end zs) ∷ t) e
     go false e = e
 
-bare_numbered : (n : ℕ) (zs : List Entry) → bare (numbered n zs) ≡ bare zs
+bare_numbered : (n : ℕ) (zs : List Entry) → bare (line_numbered n zs) ≡ bare zs
 bare_numbered n [] = refl
 bare_numbered n (z ∷ zs) = ap (λ t. at_line 0 z ∷ t) (bare_numbered (n + length (lines_of_zone z)) zs)
 
--- the groups of numbered zones are those of the zones, but for the lines
-pub same_groups : (n : ℕ) (zs : List Entry) → map bare (groups_of (numbered n zs)) ≡ map bare (groups_of zs)
-same_groups n zs = sym (bare_groups (numbered n zs)) ∙ ap groups_of (bare_numbered n zs) ∙ bare_groups zs
+-- the groups of line_numbered zones are those of the zones, but for the lines
+pub same_groups : (n : ℕ) (zs : List Entry) → map bare (groups_of (line_numbered n zs)) ≡ map bare (groups_of zs)
+same_groups n zs = sym (bare_groups (line_numbered n zs)) ∙ ap groups_of (bare_numbered n zs) ∙ bare_groups zs

@@ -1,10 +1,12 @@
 -- The single zones of the canonical file.
-use Rattle.std.specs.Prelude.{ℕ, List, [], codes}
+use Rattle.std.specs.Prelude.{ℕ, List, [], ◌∷◌, ◌++◌, codes, decimal}
 use Rattle.edi_line.specs.Entry.{Entry}
 use Rattle.edi_line.specs.Number.{plain_text}
 use Rattle.edi_line.specs.Printing.{zone_text, zone_headed}
+use Rattle.edi_record.specs.Shapes.{kind_code}
 use Rattle.edi_record.specs.Texts.{pointer_text, point_text}
 use Rattle.edi_record.specs.declared.name.Name.{Name}
+use Rattle.edi_record.specs.declared.record.Kind.{Kind}
 use Rattle.edi_record.specs.declared.record.Extra.{Extra}
 use Rattle.edi_record.specs.declared.record.Value.{Value}
 use Rattle.edi_record.specs.declared.record.Value.TheVariants.{Number, Bytes}
@@ -18,6 +20,33 @@ class_text n = pointer_text (record { lot = codes "CANON"; subset = codes "SD"; 
 abbrev pub value_text : Value → List ℕ
 value_text (Number m) = plain_text m
 value_text (Bytes text) = text
+
+-- the type of a record, its identifier, its class
+abbrev pub type_zone : Kind → Entry
+type_zone kind = zone_headed (codes "RTYSA") (kind_code kind)
+
+abbrev pub identifier_zone : List ℕ → Entry
+identifier_zone rid = zone_headed (codes "RIDSA") rid
+
+abbrev pub class_zone : Name → Entry
+class_zone class = zone_headed (codes "SCPCP") (class_text class)
+
+-- how many points an arc has, how many ends a link, how many attributes a record
+abbrev pub point_count_zone : ℕ → Entry
+point_count_zone count = zone_headed (codes "PTCSN") (decimal count)
+
+abbrev pub end_count_zone : ℕ → Entry
+end_count_zone count = zone_headed (codes "FTCSN") (decimal count)
+
+abbrev pub attribute_count_zone : ℕ → Entry
+attribute_count_zone count = zone_headed (codes "ATCSN") (decimal count)
+
+-- an attribute's class, and its value, whose format is the letter of the class
+abbrev pub attribute_zone : Name → Entry
+attribute_zone class = zone_headed (codes "ATPCP") (class_text class)
+
+abbrev pub value_zone : ℕ → Value → Entry
+value_zone letter value = zone_headed (codes "ATVS" ++ letter ∷ []) (value_text value)
 
 -- a point
 abbrev pub point_zone : Point → Entry
@@ -34,6 +63,9 @@ extra_zone e = zone_text e.code e.nature e.format (value_text e.value)
 -- an end of a link: a pointer into the subset S of the lot CANON
 abbrev pub end_text : Name → List ℕ
 end_text n = pointer_text (record { lot = codes "CANON"; subset = codes "S"; rty = n.rty; rid = n.rid })
+
+abbrev pub target_zone : Name → Entry
+target_zone target = zone_headed (codes "FTPCP") (end_text target)
 
 -- the sense of an end
 abbrev pub sns_zone : List ℕ → Entry

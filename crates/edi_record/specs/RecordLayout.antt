@@ -23,46 +23,46 @@ use Rattle.edi_record.specs.declared.record.Value.{Value}
 use Rattle.edi_record.specs.declared.record.Value.TheVariants.{Number, Bytes}
 use Rattle.edi_record.specs.declared.record.End.{End}
 use Rattle.edi_record.specs.declared.record.Point.{Point}
-use Rattle.edi_record.specs.CanonicalZones.{class_text, value_text, point_zone, set_zone, extra_zone, end_text, sns_zone, begin_zone, end_zone, cse_zone}
+use Rattle.edi_record.specs.CanonicalZones.{value_text, type_zone, identifier_zone, class_zone, point_count_zone, point_zone, end_count_zone, target_zone, sns_zone, attribute_count_zone, attribute_zone, set_zone, value_zone, extra_zone, begin_zone, cse_zone, end_zone}
 
 -- what the schema says of an attribute's class
 pub record Letters : Type 0 where
   pub letter : Name → ℕ
   pub is_number : Name → Bool
 
-unfoldable pub attribute_zones : Letters → Attribute → List Entry
-attribute_zones s a =
-    zone_headed (codes "ATPCP") (class_text a.atp)
+unfoldable pub zones_of_attribute : Letters → Attribute → List Entry
+zones_of_attribute s a =
+    attribute_zone a.atp
     ∷ map set_zone (option_to_list a.tex)
-    ++ zone_headed (codes "ATVS" ++ s.letter a.atp ∷ []) (value_text (value_of (s.is_number a.atp) a.atv)) ∷ []
+    ++ value_zone (s.letter a.atp) (value_of (s.is_number a.atp) a.atv) ∷ []
 
-unfoldable pub end_zones : End → List Entry
-end_zones e = zone_headed (codes "FTPCP") (end_text e.target) ∷ map sns_zone (option_to_list e.sns)
+unfoldable pub zones_of_end : End → List Entry
+zones_of_end e = target_zone e.target ∷ map sns_zone (option_to_list e.sns)
 
 -- the count of points or ends, where there is one
 abbrev pub count_zones : Kind → ℕ → ℕ → List Entry
 count_zones Pno points ends = []
-count_zones Par points ends = zone_headed (codes "PTCSN") (decimal points) ∷ []
+count_zones Par points ends = point_count_zone points ∷ []
 count_zones Pfe points ends = []
 count_zones Fea points ends = []
-count_zones Lnk points ends = zone_headed (codes "FTCSN") (decimal ends) ∷ []
+count_zones Lnk points ends = end_count_zone ends ∷ []
 
-unfoldable pub body_zones : Kind → List Point → List End → List Entry
-body_zones kind points ends = count_zones kind (length points) (length ends) ++ (map point_zone points ++ flat_map end_zones ends)
+unfoldable pub zones_of_body : Kind → List Point → List End → List Entry
+zones_of_body kind points ends = count_zones kind (length points) (length ends) ++ (map point_zone points ++ flat_map zones_of_end ends)
 
-unfoldable pub record_zones : Letters → Record → List Entry
-record_zones s r =
-    zone_headed (codes "RTYSA") (kind_code r.kind) ∷ zone_headed (codes "RIDSA") r.rid ∷ zone_headed (codes "SCPCP") (class_text r.scp)
-    ∷ (body_zones r.kind r.points r.ends
-    ++ (zone_headed (codes "ATCSN") (decimal (length r.attributes))
-    ∷ (flat_map (attribute_zones s) r.attributes ++ map extra_zone r.extras)))
+unfoldable pub zones_of_record : Letters → Record → List Entry
+zones_of_record s r =
+    type_zone r.kind ∷ identifier_zone r.rid ∷ class_zone r.scp
+    ∷ (zones_of_body r.kind r.points r.ends
+    ++ (attribute_count_zone (length r.attributes)
+    ∷ (flat_map (zones_of_attribute s) r.attributes ++ map extra_zone r.extras)))
 
-abbrev pub sheet_zones : Letters → Option (List ℕ) → List Record → List Entry
-sheet_zones s cse rs = begin_zone ∷ (map cse_zone (option_to_list cse) ++ (flat_map (record_zones s) rs ++ end_zone ∷ []))
+abbrev pub zones_of_sheet : Letters → Option (List ℕ) → List Record → List Entry
+zones_of_sheet s cse rs = begin_zone ∷ (map cse_zone (option_to_list cse) ++ (flat_map (zones_of_record s) rs ++ end_zone ∷ []))
 
 -- the bytes of the records with their character set
-abbrev pub layout : Letters → Option (List ℕ) → List Record → List ℕ
-layout s cse rs = printed (sheet_zones s cse rs)
+abbrev pub records_layout : Letters → Option (List ℕ) → List Record → List ℕ
+records_layout s cse rs = printed (zones_of_sheet s cse rs)
 
 -- ---- what a record needs to be read again
 
@@ -150,11 +150,11 @@ pub record IsLineRecord (r : Record) : Type 0 where
 abbrev pub HasPrintableLetters : Letters → Type 0
 HasPrintableLetters s = (n : Name) → is_printable (s.letter n) ≡ true
 
--- The layout of records states them, with their ends and values as they are written.
+-- The records_layout of records states them, with their ends and values as they are written.
 abbrev pub LayoutIsReadAgain : Type 0
 LayoutIsReadAgain =
-    (s : Letters) (cse : Option (List ℕ)) (rs : List Record) (readings : List Reading) (zones : List Entry) → AllByRecursion IsPrintable (sheet_zones s cse rs) → AllByRecursion IsRecord rs
-    → AreReadings (layout s cse rs) readings → IsZonesIn readings zones
+    (s : Letters) (cse : Option (List ℕ)) (rs : List Record) (readings : List Reading) (zones : List Entry) → AllByRecursion IsPrintable (zones_of_sheet s cse rs) → AllByRecursion IsRecord rs
+    → AreReadings (records_layout s cse rs) readings → IsZonesIn readings zones
     → (option_map (λ (e : Entry). e.value) (charset_of zones) ≡ cse) × AllZip States (groups_of zones) (map (settled_record s) rs)
 
 -- what holds of a record that was read from zones which break no rule of records
@@ -168,10 +168,10 @@ pub record FollowsRules (r : Record) : Type 0 where
 
 -- The zones of such a record break no rule of records.
 abbrev pub PrintedRecordsAreUnbroken : Type 0
-PrintedRecordsAreUnbroken = (s : Letters) (r : Record) → IsRecord r → FollowsRules r → (rule : ℕ) → ¬ (BreaksGroupRule (record_zones s r) rule)
+PrintedRecordsAreUnbroken = (s : Letters) (r : Record) → IsRecord r → FollowsRules r → (rule : ℕ) → ¬ (BreaksGroupRule (zones_of_record s r) rule)
 
 -- Sheets whose texts are each one line can be printed.
 abbrev pub SheetsArePrintable : Type 0
 SheetsArePrintable =
     (s : Letters) (cse : Option (List ℕ)) (rs : List Record) → HasPrintableLetters s → IfSome cse IsOneLine → AllByRecursion IsRecord rs → AllByRecursion IsLineRecord rs
-    → AllByRecursion IsPrintable (sheet_zones s cse rs)
+    → AllByRecursion IsPrintable (zones_of_sheet s cse rs)

@@ -65,7 +65,7 @@ module _ (group : List Entry) where
     of_points : IsOfKind group Par → CountsWrong (codes "PTC") (codes "COR") → HasWrongCount
     of_ends : IsOfKind group Lnk → CountsWrong (codes "FTC") (codes "FTP") → HasWrongCount
 
-  -- 206: a COR of a node or an arc is no place; a node without exactly one COR; an arc with fewer than two
+  -- 206: a COR of a node or an arc is no position; a node without exactly one COR; an arc with fewer than two
   pub data HasBadPoint : Type 0 where
     no_position : (kind : Kind) → IsOfKind group kind → has_points kind ≡ true → Any (λ text. (p : Point) → ¬ (IsPosition text p)) (values (codes "COR") group) → HasBadPoint
     of_node : IsOfKind group Pno → length (values (codes "COR") group) ≢ 1 → HasBadPoint
@@ -101,7 +101,7 @@ module _ (group : List Entry) where
     bad_end : rule ≡ 207 → IsOfKind group Lnk → HasBadEnd → BreaksGroupRule rule
     unknown_pointer : rule ≡ 208 → HasUnknownPointer → BreaksGroupRule rule
 
--- the record of this number breaks the rule
+-- the record at this place breaks the rule
 pub record BreaksRecordRule (zones : List Entry) (rule place : ℕ) : Type 0 where
   pub before : List (List Entry)
   pub group : List Entry

@@ -9,15 +9,15 @@ use Rattle.edi_line.specs.Refusal.{IsUnbroken}
 use Rattle.edi_line.specs.Printing.{IsOneLine}
 use Rattle.edi_record.specs.RecordRules.{BreaksRecordRule}
 use Rattle.edi_record.specs.CanonicalZones.{cse_zone}
-use Rattle.edi_record.specs.RecordLayout.{Letters, HasPrintableLetters, record_zones, sheet_zones, layout, IsRecord, IsLineRecord, FollowsRules}
+use Rattle.edi_record.specs.RecordLayout.{Letters, HasPrintableLetters, zones_of_record, zones_of_sheet, records_layout, IsRecord, IsLineRecord, FollowsRules}
 use Rattle.edi_record.specs.declared.record.Record.{Record}
 
 -- the zones of these records are those of a file, and its bytes break no rule of lines and of records
 pub record IsSoundFile (s : Letters) (cse : Option (List ℕ)) (rs : List Record) : Type 0 where
-  pub file : IsFileOf (sheet_zones s cse rs) (option_map cse_zone cse) (map (record_zones s) rs)
+  pub file : IsFileOf (zones_of_sheet s cse rs) (option_map cse_zone cse) (map (zones_of_record s) rs)
   pub zones : List Entry
-  pub are_zones : IsZonesOf (layout s cse rs) zones
-  pub lines : IsUnbroken (BreaksLineRule (layout s cse rs))
+  pub are_zones : IsZonesOf (records_layout s cse rs) zones
+  pub lines : IsUnbroken (BreaksLineRule (records_layout s cse rs))
   pub records : IsUnbroken (BreaksRecordRule zones)
 
 -- Sheets of at most 9,999,999 records that can be printed are printed without a broken rule.

@@ -1,4 +1,4 @@
--- Texts of pointers, of places and of counts.
+-- Texts of pointers, of positions and of counts.
 use Rattle.std.specs.Prelude.{◌≡◌, ◌⊎◌, ℕ, ◌<◌, ◌==◌, Bool, false, List, [], ◌∷◌, ◌++◌, All, length, Option, Some, None, option_to_list, ℤ}
 use Rattle.std.specs.List.{join_with_byte, AllZip}
 use Rattle.std.specs.Str.Parse.{AllDigits, digits_value}

@@ -4,6 +4,5 @@ pub mod Records
 pub mod RecordRules
 pub mod Stored
 pub mod RecordRefusal
-pub mod Rows
 pub mod Lists
 pub mod Shapes

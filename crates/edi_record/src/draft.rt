@@ -84,7 +84,7 @@ impl<'a> Draft<'a> {
             Role::AttributeSet => self.extras.take(alloc, zone)?,
             Role::AttributeValue => self.attributes.take_value(alloc, text)?,
             Role::BodyCount => self.body_count.take(text),
-            Role::Place => {
+            Role::Position => {
                 self.counted += 1;
                 self.points.take(text)?;
             }

@@ -22,7 +22,7 @@ mod stating;
 
 pub use fault::{RecordFault, SheetFault};
 pub use groups::{first_value, group_here, lacks_identifier};
-pub use list::read_sheet;
+pub use list::{KeepNothing, read_sheet, read_sheet_beside};
 pub use name::Name;
 pub use pointer::{Pointer, texts_are_unique};
 pub use reading::{

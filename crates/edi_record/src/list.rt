@@ -1,12 +1,13 @@
 //! The records of a file, made while its lines are read.
 
-ghost use Rattle.std.specs.Prelude.{◌≡◌, ℕ, List, IfOk, IfErr, OnOk};
+ghost use Rattle.std.specs.Prelude.{◌≡◌, ℕ, List, [], IfOk, IfErr, OnOk, ⊤};
 ghost use Rattle.edi_line.specs.Entry.{Entry};
 ghost use Rattle.edi_line.specs.LineRules.{BreaksLineRule, IsZonesOf};
 ghost use Rattle.edi_line.specs.Refusal.{IsUnbroken};
 ghost use Rattle.edi_record.specs.RecordRefusal.{IsSheetRefusal};
 ghost use Rattle.edi_record.specs.RecordRules.{BreaksRecordRule};
 ghost use Rattle.edi_record.specs.Records.{StatesSheet};
+ghost use Rattle.edi_record.specs.Beside.{HasTakenAll};
 ghost use Rattle.edi_record.specs.inner.Lists.{IsMadeOf};
 
 use crate::fault::{GroupFault, RecordFault, SheetFault};
@@ -45,6 +46,35 @@ impl GroupOut for RecordList {
     }
 }
 
+/// A list of records, and what is given the same zones.
+#[derive(Drop)]
+struct Beside<O> {
+    records: RecordList,
+    other: O,
+}
+
+impl<O: GroupOut> GroupOut for Beside<O> {
+    ghost Holds = { λ both groups. IsMadeOf groups both.records.list.items both.records.fault × O.Holds both.other groups };
+
+    fn take(&mut self, alloc: Global, group: &[Zone<'_>]) -> Result<(), AllocError> {
+        self.records.take(alloc, group)?;
+        self.other.take(alloc, group)?;
+        Ok(())
+    }
+}
+
+/// Takes zones, and keeps nothing of them.
+#[derive(Drop)]
+pub struct KeepNothing;
+
+impl GroupOut for KeepNothing {
+    ghost Holds = { λ nothing groups. ⊤ };
+
+    fn take(&mut self, _alloc: Global, _group: &[Zone<'_>]) -> Result<(), AllocError> {
+        Ok(())
+    }
+}
+
 /// The records that a file states, in their order, with its character set; or why it states none: the first broken
 /// rule of lines (101 to 110) with its line, or else of records (201 to 208) with its record, both counted from 1
 /// (docs/FORMAT.md, "The order of the rules").
@@ -56,17 +86,41 @@ pub fn read_sheet(alloc: Global, bytes: &[u8]) -> Result<Sheet, SheetFault>
     ensures records { OnOk result ((zones : List Entry) → IsZonesOf bytes.now zones → IsUnbroken (BreaksRecordRule zones)) }
     ensures refusal { IfErr result (IsSheetRefusal bytes.now) }
 {
-    let mut records = RecordList {
-        list: Vec::new(alloc),
-        fault: None,
+    let (sheet, _) = read_sheet_beside(alloc, bytes, KeepNothing)?;
+    Ok(sheet)
+}
+
+/// What `read_sheet` gives, and what was given the zones of each record in the same pass, of which it had taken none.
+pub fn read_sheet_beside<O: GroupOut + Drop>(
+    alloc: Global,
+    bytes: &[u8],
+    other: O,
+) -> Result<(Sheet, O), SheetFault>
+    requires none_taken { O.Holds other [] }
+    ensures sheet { IfOk result (λ read. (zones : List Entry) × IsZonesOf bytes.now zones × StatesSheet zones read.0) }
+    ensures other { IfOk result (λ read. HasTakenAll bytes.now (O.Holds read.1)) }
+    ensures lines { OnOk result (IsUnbroken (BreaksLineRule bytes.now)) }
+    ensures records { OnOk result ((zones : List Entry) → IsZonesOf bytes.now zones → IsUnbroken (BreaksRecordRule zones)) }
+    ensures refusal { IfErr result (IsSheetRefusal bytes.now) }
+{
+    let mut both = Beside {
+        records: RecordList {
+            list: Vec::new(alloc),
+            fault: None,
+        },
+        other,
     };
-    let cse = read_groups(alloc, bytes, &mut records)?;
+    let cse = read_groups(alloc, bytes, &mut both)?;
+    let Beside { records, other } = both;
     let RecordList { list, fault } = records;
     match fault {
         Some(fault) => Err(SheetFault::Record(fault)),
-        None => Ok(Sheet {
-            cse,
-            list: Sequence::from_vec(list),
-        }),
+        None => {
+            let sheet = Sheet {
+                cse,
+                list: Sequence::from_vec(list),
+            };
+            Ok((sheet, other))
+        }
     }
 }

@@ -7,7 +7,7 @@ ghost use Rattle.edi_line.specs.Entry.{Entry, entry, entries};
 ghost use Rattle.edi_line.specs.LineRules.{IsZonesOf};
 ghost use Rattle.edi_line.specs.Refusal.{IsUnbroken, IsLeastBroken};
 ghost use Rattle.edi_line.specs.Zones.{groups_of, charset_of as charset_in};
-ghost use Rattle.edi_record.specs.RecordLayout.{Letters, IsRecord, record_zones, settled_record, LayoutIsReadAgain, PrintedRecordsAreUnbroken, SheetsArePrintable};
+ghost use Rattle.edi_record.specs.RecordLayout.{Letters, IsRecord, zones_of_record, settled_record, LayoutIsReadAgain, PrintedRecordsAreUnbroken, SheetsArePrintable};
 ghost use Rattle.edi_record.specs.Readable.{ReadSheetsArePrintable};
 ghost use Rattle.edi_record.specs.RecordRefusal.{IsRecordRefusal};
 ghost use Rattle.edi_record.specs.RecordRules.{BreaksRecordRule, LacksKind, is_identifier, has_no_identifier, LacksClass};
@@ -102,7 +102,7 @@ pub fn records_are_unique()
 
 /// The zones of a record state it, with its ends and values as they are written.
 pub fn records_are_read_again()
-    ensures record { (s : Letters) (r : Record) → IsRecord r → States (record_zones s r) (settled_record s r) }
+    ensures record { (s : Letters) (r : Record) → IsRecord r → States (zones_of_record s r) (settled_record s r) }
     ensures sheet { LayoutIsReadAgain }
 {}
 

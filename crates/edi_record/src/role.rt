@@ -15,7 +15,7 @@ pub(crate) enum Role {
     AttributeSet,
     AttributeValue,
     BodyCount,
-    Place,
+    Position,
     EndPointer,
     EndSense,
     Skipped,
@@ -45,8 +45,8 @@ fn body_role(kind: Kind, code: [u8; 3]) -> Role
     ensures { result ≡ body_role_in kind code }
 {
     match (kind, &code) {
-        (Kind::Pno, b"COR") => Role::Place,
-        (Kind::Par, b"COR") => Role::Place,
+        (Kind::Pno, b"COR") => Role::Position,
+        (Kind::Par, b"COR") => Role::Position,
         (Kind::Par, b"PTC") => Role::BodyCount,
         (Kind::Lnk, b"FTC") => Role::BodyCount,
         (Kind::Lnk, b"FTP") => Role::EndPointer,

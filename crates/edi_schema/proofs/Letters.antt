@@ -8,7 +8,7 @@ use Rattle.edi_line.specs.Entry.{Entry}
 use Rattle.edi_record.specs.declared.name.Name.{Name}
 use Rattle.edi_schema.specs.Roles.{KindCodes}
 use Rattle.edi_schema.specs.Classes.{Classes, IsLetter}
-use Rattle.edi_schema.specs.SchemaOf.{Words, letter_of, StatesClass, IsSchemaOf}
+use Rattle.edi_schema.specs.SchemaOf.{Words, letter_read, StatesClass, IsSchemaOf}
 use Rattle.edi_schema.specs.declared.class.Class.{Class}
 
 both_true : (a b : Bool) → (a && b) ≡ true → (a ≡ true) × (b ≡ true)
@@ -16,7 +16,7 @@ both_true true true e = (refl, refl)
 both_true true false e = absurd (true≢false (sym e))
 both_true false b e = absurd (true≢false (sym e))
 
-is_letter : (word_type : Option (List ℕ)) → IsLetter (letter_of word_type)
+is_letter : (word_type : Option (List ℕ)) → IsLetter (letter_read word_type)
 is_letter None = (omega arith, omega arith)
 is_letter (Some []) = (omega arith, omega arith)
 is_letter (Some (c ∷ [])) = go (nat_le 65 c && nat_le c 90) refl

@@ -16,7 +16,7 @@ use Rattle.edi_record.specs.inner.Texts.{class_of}
 use Rattle.edi_record.proofs.StatesSaid.{points_read}
 use Rattle.edi_schema.specs.Roles.{KindCodes, role_by}
 use Rattle.edi_schema.specs.Classes.{Classes, is_name, name_cmp}
-use Rattle.edi_schema.specs.SchemaOf.{IsGroupsOf, Words, StatesWord, HasType, StatesClass, IsSchemaOf, letter_of, is_number_type}
+use Rattle.edi_schema.specs.SchemaOf.{IsGroupsOf, Words, StatesWord, HasType, StatesClass, IsSchemaOf, letter_read, is_number_type}
 use Rattle.edi_schema.specs.SchemaOf.HasType.{none, some}
 use Rattle.edi_schema.specs.SchemaRefusal.{IsGoodSchema}
 use Rattle.edi_schema.specs.Sorted.{AlwaysRises}
@@ -59,7 +59,7 @@ entry_one kinds words g p q h k =
     let typ : h.typ ≡ k.typ = type_one words g h.typ k.typ h.has_type k.has_type in
     pair_same p q name (class_same p.1 q.1
     (h.role ∙ (ap (λ n. role_by kinds (first (values (codes "KND") g)) n.rid) name ∙ sym k.role))
-    (h.letter ∙ (ap letter_of typ ∙ sym k.letter))
+    (h.letter ∙ (ap letter_read typ ∙ sym k.letter))
     (h.number ∙ (ap is_number_type typ ∙ sym k.number)))
 
 classes_one : (kinds : KindCodes) (words : Words) (gs : List (List Entry)) (ps qs : Classes) → AllZip (StatesClass kinds words) gs ps → AllZip (StatesClass kinds words) gs qs → ps ≡ qs

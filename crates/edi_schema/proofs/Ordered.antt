@@ -8,7 +8,7 @@ use Rattle.std.proofs.lemmas.Cmp.{then_total, on_total, lists_total, nat_cmp_tot
 use Rattle.std.proofs.lemmas.Option.{same_Some, none-some}
 use Rattle.edi_record.specs.declared.name.Name.{Name}
 use Rattle.edi_schema.specs.Sorted.{AlwaysRises}
-use Rattle.edi_schema.specs.Classes.{Classes, IsSchema, name_cmp, name_at}
+use Rattle.edi_schema.specs.Classes.{Classes, IsSchema, name_cmp, class_name_at}
 
 pub name_total : IsTotalOrder name_cmp
 name_total = then_total (on_total (λ (a : Name). a.rty) (lists_total nat_cmp_total)) (on_total (λ (a : Name). a.rid) (lists_total nat_cmp_total))
@@ -34,5 +34,5 @@ ordered (x ∷ xs) up zero (suc b) m n h g = rw (sym (same_Some x m h)) (all_at 
 ordered (x ∷ xs) up (suc a) zero m n h g = rw (sym (same_Some x n g)) (name_total.antisymm m x ∙ ap ordering_reverse (all_at (λ y. name_cmp x y ≡ Less) xs up.0 a m h) ∙ nat_cmp_is (suc a) 0 Greater (omega arith))
 ordered (x ∷ xs) up (suc a) (suc b) m n h g = ordered xs up.1 a b m n h g ∙ sym (nat_cmp_suc a b)
 
-pub classes_ordered : (s : Classes) → IsSchema s → (a b : ℕ) (m n : Name) → name_at s a ≡ Some m → name_at s b ≡ Some n → name_cmp m n ≡ nat_cmp a b
+pub classes_ordered : (s : Classes) → IsSchema s → (a b : ℕ) (m n : Name) → class_name_at s a ≡ Some m → class_name_at s b ≡ Some n → name_cmp m n ≡ nat_cmp a b
 classes_ordered s keeps = ordered (keys_of s) keeps.in_order

@@ -8,7 +8,10 @@ use Rattle.std.proofs.lemmas.Map.Lookups.{CmpEqualImpliesEq}
 use Rattle.std.proofs.lemmas.List.Sums.{sum_by-cons}
 use Rattle.std.proofs.lemmas.List.Sorted.{sum_by-IsPermutation, IsPermutation-refl, IsPermutation-cons, IsPermutation-trans, IsPermutation-middle}
 use Rattle.edi_schema.specs.Sorted.{insert_sorted, sort_by, NeverFalls}
-use Rattle.edi_schema.specs.inner.Sorted.{SameCounts}
+
+-- each test passes as many of the one as of the other
+abbrev pub SameCounts : {X : Type 0} → List X → List X → Type 0
+SameCounts {X} xs ys = (test : X → Bool) → count_by test xs ≡ count_by test ys
 
 pub counts_from_permutation : {X : Type 0} (xs ys : List X) → IsPermutation xs ys → SameCounts xs ys
 counts_from_permutation xs ys h test = sym (sum_by-IsPermutation (λ x. cond (test x) 1 0) xs ys h)

@@ -1,20 +1,21 @@
 -- Laws of schemas.
 use Rattle.std.specs.Prelude.{◌≡◌, ℕ, ◌≤◌, List, length, Some}
 use Rattle.std.specs.Ordering.{nat_cmp}
+use Rattle.edi_line.specs.Bytes.{most_records}
 use Rattle.edi_record.specs.declared.name.Name.{Name}
 use Rattle.edi_schema.specs.Roles.{KindCodes}
-use Rattle.edi_schema.specs.Classes.{Classes, IsSchema, IsPaired, name_cmp, name_at}
+use Rattle.edi_schema.specs.Classes.{Classes, IsSchema, IsPaired, name_cmp, class_name_at}
 use Rattle.edi_schema.specs.SchemaRefusal.{IsGoodSchema}
 
--- with at most 9999999 records in the file of classes, as its lines allow
+-- with at most 9,999,999 records in the file of classes, as its lines allow
 abbrev pub GoodSchemasAreSchemas : Type 0
-GoodSchemasAreSchemas = (scd dic : List ℕ) (kinds : KindCodes) (s : Classes) → IsGoodSchema scd dic kinds s → length s ≤ 9999999 → IsSchema s
+GoodSchemasAreSchemas = (scd dic : List ℕ) (kinds : KindCodes) (s : Classes) → IsGoodSchema scd dic kinds s → length s ≤ most_records → IsSchema s
 
 abbrev pub SchemasArePaired : Type 0
 SchemasArePaired = (s : Classes) → IsSchema s → IsPaired s
 
 abbrev pub SchemasAreOrdered : Type 0
-SchemasAreOrdered = (s : Classes) → IsSchema s → (a b : ℕ) (m n : Name) → name_at s a ≡ Some m → name_at s b ≡ Some n → name_cmp m n ≡ nat_cmp a b
+SchemasAreOrdered = (s : Classes) → IsSchema s → (a b : ℕ) (m n : Name) → class_name_at s a ≡ Some m → class_name_at s b ≡ Some n → name_cmp m n ≡ nat_cmp a b
 
 -- two schemas of one file of classes, one dictionary and four codes are one
 abbrev pub SchemasAreOne : Type 0

@@ -37,11 +37,11 @@ pub data HasType (words : Words) (group : List Entry) : Option (List ℕ) → Ty
       → lookup (is_name name) words ≡ Some typ → HasType words group typ
 
 -- the letter of a TYP: its one letter, and else `A`
-abbrev pub letter_of : Option (List ℕ) → ℕ
-letter_of None = 65
-letter_of (Some []) = 65
-letter_of (Some (c ∷ [])) = if nat_le 65 c && nat_le c 90 then c else 65
-letter_of (Some (c ∷ d ∷ cs)) = 65
+abbrev pub letter_read : Option (List ℕ) → ℕ
+letter_read None = 65
+letter_read (Some []) = 65
+letter_read (Some (c ∷ [])) = if nat_le 65 c && nat_le c 90 then c else 65
+letter_read (Some (c ∷ d ∷ cs)) = 65
 
 abbrev pub is_number_type : Option (List ℕ) → Bool
 is_number_type None = false
@@ -53,7 +53,7 @@ pub record StatesClass (kinds : KindCodes) (words : Words) (group : List Entry) 
   pub named : IsNamed group entry.0
   pub has_type : HasType words group typ
   pub role : entry.1.role ≡ role_by kinds (first (values (codes "KND") group)) entry.0.rid
-  pub letter : entry.1.letter ≡ letter_of typ
+  pub letter : entry.1.letter ≡ letter_read typ
   pub number : entry.1.is_number ≡ is_number_type typ
 
 -- The schema of the records of two files and four codes: the class of each record of the first, in the order of their names.

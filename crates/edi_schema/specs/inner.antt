@@ -2,4 +2,3 @@
 pub mod Drafts
 pub mod Places
 pub mod Steps
-pub mod Sorted

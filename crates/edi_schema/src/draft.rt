@@ -3,7 +3,7 @@
 ghost use Rattle.std.specs.Prelude.{◌≡◌, ◌+◌, Some, map, option_map, IfOk, IfErr};
 ghost use Rattle.edi_schema.specs.inner.Drafts.{named, said, word_in, type_by, class_in, drafted};
 ghost use Rattle.edi_schema.specs.Roles.{role_by};
-ghost use Rattle.edi_schema.specs.SchemaOf.{letter_of, is_number_type};
+ghost use Rattle.edi_schema.specs.SchemaOf.{letter_read, is_number_type};
 ghost use Rattle.edi_schema.specs.inner.Steps.{IfEntry, IsFirstLacking};
 ghost use Rattle.edi_schema.specs.declared.fault.Source.TheVariants.{Scd};
 
@@ -26,7 +26,7 @@ pub(crate) struct Draft<'a> {
 
 /// The letter of a TYP: its one letter A to Z, and else A.
 fn letter(word_type: Option<&[u8]>) -> u8
-    ensures { result ≡ letter_of (option_map (λ t. t.now) word_type.entry) }
+    ensures { result ≡ letter_read (option_map (λ t. t.now) word_type.entry) }
 {
     match word_type {
         Some([letter @ b'A'..=b'Z']) => *letter,

@@ -5,7 +5,7 @@ ghost use Rattle.std.specs.Bool.{MatchBool};
 ghost use Rattle.std.specs.List.{list_any};
 ghost use Rattle.edi_schema.specs.Classes.{is_pointable as pointable};
 ghost use Rattle.edi_schema.specs.inner.Drafts.{drafted};
-ghost use Rattle.edi_schema.specs.inner.Places.{are_equal as alike, are_paired, ArePlaces, ArePointable, AreUnpaired, AreUnpointable};
+ghost use Rattle.edi_schema.specs.inner.Places.{are_equal as equal_places, are_paired, ArePlaces, ArePointable, AreUnpaired, AreUnpointable};
 ghost use Rattle.edi_schema.specs.declared.role.Role.{Role};
 
 use crate::by_role::ByRole;
@@ -14,7 +14,7 @@ use crate::role::Role;
 
 /// Whether there are both places or none.
 fn are_equal(one: Option<u32>, other: Option<u32>) -> bool
-    ensures { result ≡ alike one other }
+    ensures { result ≡ equal_places one other }
 {
     match (one, other) {
         (Some(_), Some(_)) => true,

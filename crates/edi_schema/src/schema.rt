@@ -1,4 +1,5 @@
 ghost use Rattle.std.specs.Prelude.{◌≡◌, ◌<◌, ◌≤◌, length, map, Some, option_map, IfOk, IfErr, IfSome, OnOk};
+ghost use Rattle.edi_line.specs.Bytes.{most_records};
 ghost use Rattle.edi_line.specs.Entry.{entries};
 ghost use Rattle.edi_line.specs.LineRules.{IsZonesOf, BreaksLineRule};
 ghost use Rattle.edi_line.specs.Zones.{HasShape};
@@ -78,7 +79,7 @@ fn stated<'a>(
 }
 
 impl Schema {
-    ghost use Rattle.edi_schema.specs.Classes.{Classes, IsSchema, place_of, name_at, class_at, role_of, partner_at};
+    ghost use Rattle.edi_schema.specs.Classes.{Classes, IsSchema, place_of, class_name_at, class_at, role_of, partner_at};
     ghost use Rattle.std.specs.Map.{keys_of};
     ghost use Rattle.edi_schema.specs.Classes.{name_cmp, IsLetter, IsReadName};
     ghost use Rattle.std.specs.List.{AllByRecursion};
@@ -113,7 +114,7 @@ impl Schema {
 
     /// The schema of classes in the order of their names.
     fn of_classes(alloc: Global, classes: &[Draft<'_>]) -> Result<Schema, SchemaFault>
-        requires few { length classes.now ≤ 9999999 }
+        requires few { length classes.now ≤ most_records }
         requires rises { AlwaysRises name_cmp (keys_of (map drafted classes.now)) }
         requires letters { AllByRecursion (λ e. IsLetter e.1.letter) (map drafted classes.now) }
         requires readable { AllByRecursion (λ e. IsReadName e.0) (map drafted classes.now) }
@@ -145,7 +146,7 @@ impl Schema {
     /// The type and the identifier of a class of this schema.
     pub fn name(&self, class: ClassRef) -> &Name
         requires { class < length self.now }
-        ensures { Some result.now ≡ name_at self.now class }
+        ensures { Some result.now ≡ class_name_at self.now class }
     {
         self.classes.get_index(class.place() as usize).unwrap().0
     }

@@ -4,8 +4,8 @@ ghost use Rattle.std.specs.Prelude.{◌≡◌, map, flat_map, IfOk, IsPermutatio
 ghost use Rattle.std.specs.List.{IsDistinct};
 ghost use Rattle.std.specs.Map.{keys_of};
 ghost use Rattle.edi_hash.specs.Keys.{keyed_by};
-ghost use Rattle.edi_schema.specs.Classes.{is_name, name_cmp, name_parts};
-ghost use Rattle.edi_schema.specs.inner.Drafts.{drafted};
+ghost use Rattle.edi_schema.specs.Classes.{is_name, name_cmp};
+ghost use Rattle.edi_schema.specs.inner.Drafts.{drafted, name_parts};
 ghost use Rattle.edi_schema.specs.Sorted.{AlwaysRises};
 
 use crate::class::Class;

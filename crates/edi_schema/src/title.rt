@@ -3,8 +3,7 @@
 ghost use Rattle.std.specs.Prelude.{◌≡◌, ◌++◌, List, ℕ};
 ghost use Rattle.edi_line.specs.Entry.{entries};
 ghost use Rattle.edi_hash.specs.Keys.{Holds};
-ghost use Rattle.edi_schema.specs.Classes.{name_parts};
-ghost use Rattle.edi_schema.specs.inner.Drafts.{name_in, named};
+ghost use Rattle.edi_schema.specs.inner.Drafts.{name_in, named, name_parts};
 
 use edi_hash::KeyNames;
 use edi_line::Zone;

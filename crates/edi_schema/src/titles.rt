@@ -3,8 +3,8 @@
 ghost use Rattle.std.specs.Prelude.{◌≡◌, ℕ, ◌+◌, Some, None, map, flat_map, position, IfOk, OnOk, IfErr};
 ghost use Rattle.std.specs.List.{IsDistinct};
 ghost use Rattle.edi_hash.specs.Keys.{keyed_by};
-ghost use Rattle.edi_schema.specs.Classes.{is_name, name_parts};
-ghost use Rattle.edi_schema.specs.inner.Drafts.{named, said};
+ghost use Rattle.edi_schema.specs.Classes.{is_name};
+ghost use Rattle.edi_schema.specs.inner.Drafts.{named, said, name_parts};
 ghost use Rattle.edi_schema.specs.inner.Steps.{IfEntry, IsFirstRepeat};
 
 use crate::definition::Definition;

@@ -24,7 +24,7 @@ key_of p m = get_or (forward_keys p) m []
 
 -- ---- the forward direction of points and of their reverse is one
 
--- points with one forward direction are alike in one of the two
+-- points with one forward direction are equal in one of the two
 pub in_one_direction : (xs ys : List Point) → forward xs ≡ forward ys → (ys ≡ xs) ⊎ (ys ≡ reverse xs)
 in_one_direction xs ys e = go (is_forward xs) (is_forward ys) e
   where

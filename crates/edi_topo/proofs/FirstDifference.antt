@@ -33,7 +33,7 @@ module _ {X : Type 0} (cmp : X → X → Ordering) (d : X) where
   first_difference (x ∷ xs) (y ∷ ys) (suc i) h k before differs =
       ap (λ o. ordering_then o (slice_cmp cmp xs ys)) (before 0 (omega arith)) ∙ first_difference xs ys i (omega (arith, h)) (omega (arith, k)) (λ j l. before (suc j) (omega (arith, l))) differs
 
-  -- lists that are alike up to a place, and at it, are alike up to the next
+  -- lists that are equal up to a place, and at it, are equal up to the next
   pub one_further : (xs ys : List X) (i : ℕ) → ((j : ℕ) → j < i → cmp (get_or xs j d) (get_or ys j d) ≡ Equal)
       → cmp (get_or xs i d) (get_or ys i d) ≡ Equal → (j : ℕ) → j < i + 1 → cmp (get_or xs j d) (get_or ys j d) ≡ Equal
   one_further xs ys i before here j h = go (cases_lt j i)

@@ -1,4 +1,4 @@
--- The least member of a layer of nodes that ties is the least node that is alike an earlier one.
+-- The least member of a layer of nodes that ties is the least node that equals an earlier one.
 use Rattle.std.proofs.Common.{◌≡◌, ℕ, ◌<◌, ◌≤◌, ◌⊎◌, inl, inr, List, length, get_or, sym, ap, ◌∙◌, subst, arith, Equal}
 use Rattle.std.proofs.lemmas.List.{get_or-map}
 use Rattle.std.proofs.lemmas.Bool.{cases_order}
@@ -30,7 +30,7 @@ module _ (p : Drawing) (whole : IsWhole p) where
   key_is : (m : ℕ) → m < count_of p → key_of p m ≡ node_key (record_at p (place m))
   key_is m h = get_or-map (λ k. node_key (record_at p k)) (places_of Pno p) m 0 no_node h
 
-  -- members tie exactly where their nodes are alike
+  -- members tie exactly where their nodes are equal
 
   equal_there : (m n : ℕ) → m < count_of p → n < count_of p → nodes.cmp (key_of p m) (key_of p n) ≡ Equal → AreEqualNodes p (place m) (place n)
   equal_there m n h l tie = equal_from_keys p (place m) (place n) whole (place_there Pno p m h) (place_there Pno p n l) (place_of_kind Pno p m h) (place_of_kind Pno p n l)
@@ -40,7 +40,7 @@ module _ (p : Drawing) (whole : IsWhole p) where
   tie_there m n h l d = node_order (key_of p m) (key_of p n) ∙ subst (λ k. node_key_cmp (key_of p m) k ≡ Equal) (sym (key_is n l))
       (subst (λ k. node_key_cmp k (node_key (record_at p (place n))) ≡ Equal) (sym (key_is m h)) (keys_of_alike p (place m) (place n) d))
 
-  -- the member of a node that is alike an earlier one
+  -- the member of a node that equals an earlier one
   tying_member : (n : ℕ) → RepeatsAnEarlier p n → (m : ℕ) × Ties nodes.cmp (key_of p) (count_of p) m × (place m ≡ n)
   tying_member n d =
       let a = has_place Pno p d.0 d.2.first d.2.first_node in

@@ -1,4 +1,4 @@
--- The order of nodes is total, and nodes tie exactly where they are alike.
+-- The order of nodes is total, and nodes tie exactly where they are equal.
 use Rattle.std.proofs.Common.{◌≡◌, ℕ, suc, true, true≢false, List, [], ◌∷◌, length, get_or, refl, sym, ap, ◌∙◌, subst, arith, nat_cmp, IsPermutation, Equal, eqb-true}
 use Rattle.std.specs.Cmp.{IsTotalOrder}
 use Rattle.std.specs.Cmp.Lexicographic.{slice_cmp}

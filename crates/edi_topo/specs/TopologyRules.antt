@@ -30,15 +30,15 @@ module _ (p : Drawing) where
 
     -- 401: the initial node isn't at the arc's first point
     abbrev pub StartsElsewhere : Type 0
-    StartsElsewhere = (a n : ℕ) × (first place : Point) × (others : List Point) × IsAt a × HasPoints Par a (first ∷ others)
-        × Side p a Initial n × HasPoints Pno n (place ∷ []) × (place ≢ first)
+    StartsElsewhere = (a n : ℕ) × (first position : Point) × (others : List Point) × IsAt a × HasPoints Par a (first ∷ others)
+        × Side p a Initial n × HasPoints Pno n (position ∷ []) × (position ≢ first)
 
     -- 402: the final node isn't at the arc's last point
     abbrev pub EndsElsewhere : Type 0
-    EndsElsewhere = (a n : ℕ) × (last place : Point) × (others : List Point) × IsAt a × HasPoints Par a (others ++ last ∷ [])
-        × Side p a Final n × HasPoints Pno n (place ∷ []) × (place ≢ last)
+    EndsElsewhere = (a n : ℕ) × (last position : Point) × (others : List Point) × IsAt a × HasPoints Par a (others ++ last ∷ [])
+        × Side p a Final n × HasPoints Pno n (position ∷ []) × (position ≢ last)
 
-    -- 403: a node with the place, the class, the attributes and the extras of an earlier node
+    -- 403: a node with the position, the class, the attributes and the extras of an earlier node
     abbrev pub RepeatsNode : Type 0
     RepeatsNode = (m n : ℕ) × IsAt n × (m < n) × AreEqualNodes p m n
 

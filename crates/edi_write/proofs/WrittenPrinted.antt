@@ -69,7 +69,7 @@ use Rattle.edi_rank.proofs.ArrangedUnder.{directed_long}
 use Rattle.edi_rank.proofs.SameLaws.{ends_moved}
 use Rattle.edi_rank.proofs.Unique.{all_places}
 use Rattle.edi_plan.proofs.Built.{zip_at, zip_length, zip_one}
-use Rattle.edi_write.specs.Layout.{name_of, no_name, identifier, kind_letter, layout, number_in}
+use Rattle.edi_write.specs.Layout.{class_name_of, no_name, identifier, kind_letter, layout, number_in}
 use Rattle.edi_write.proofs.Naming.{number_few}
 use Rattle.edi_write.proofs.WrittenRecords.{none_there, written_at, written_count, written_layout, written_plan}
 use Rattle.edi_write.proofs.WrittenReferences.{written_references}
@@ -93,7 +93,7 @@ position_some test xs k h = go (nat_lt (position_or_len test xs) (length xs)) re
     go true e g = (same_Some _ _ g, ltb-true _ _ e)
     go false e g = absurd (none-some k g)
 
-name_is : (s : Classes) (n : Name) (c : ℕ) → place_of s n ≡ Some c → name_of s c ≡ n
+name_is : (s : Classes) (n : Name) (c : ℕ) → place_of s n ≡ Some c → class_name_of s c ≡ n
 name_is s n c h =
     let at = position_some (is_name n) (keys_of s) c h in
     ap (λ o. unwrap_or o no_name) (ap (slice_get (keys_of s)) (sym at.0) ∙ found_name n (keys_of s) at.1)
@@ -186,11 +186,11 @@ senses_moved to (e ∷ es) lines = (lines.0, senses_moved to es lines.1)
 
 -- what an attribute needs to be printed
 abbrev Prints : Classes → PlanAttribute → Type 0
-Prints s a = IsName (name_of s a.atp) × IsLineAttribute (written_attribute s a)
+Prints s a = IsName (class_name_of s a.atp) × IsLineAttribute (written_attribute s a)
 
 attribute_prints : (s : Classes) (b : Attribute) (a : PlanAttribute) → IsName b.atp → IsLineAttribute b → StatesPlanAttribute s b a → Prints s a
 attribute_prints s b a name line states =
-    let same : b.atp ≡ name_of s a.atp = sym (name_is s b.atp a.atp states.class) in
+    let same : b.atp ≡ class_name_of s a.atp = sym (name_is s b.atp a.atp states.class) in
     let may : (m : Bool) → IsOneLine (value_text (value_of m b.atv)) = λ m. value_line m b.atv line.value in (
       subst IsName same name,
       record {
@@ -223,10 +223,10 @@ abbrev CanPrint : Record → Type 0
 CanPrint r = IsRecord r × IsLineRecord r × FollowsRules r
 
 -- the class after the turns: that which was read, or its partner
-class_prints : (s : Classes) → HasPrintableKinds s → (turned : ℕ → Bool) (x : PlanRecord) → x.role ≡ role_of s x.class → IsPrintableName (name_of s x.class) → IsPrintableName (name_of s (class_after (partner_of s) turned x))
+class_prints : (s : Classes) → HasPrintableKinds s → (turned : ℕ → Bool) (x : PlanRecord) → x.role ≡ role_of s x.class → IsPrintableName (class_name_of s x.class) → IsPrintableName (class_name_of s (class_after (partner_of s) turned x))
 class_prints s kinds turned x role prints = go (is_plain x.role) (has_turned_arc turned x) refl
   where
-    go : (a t : Bool) → is_plain x.role ≡ a → IsPrintableName (name_of s (cond a x.class (cond t (partner_of s x.class) x.class)))
+    go : (a t : Bool) → is_plain x.role ≡ a → IsPrintableName (class_name_of s (cond a x.class (cond t (partner_of s x.class) x.class)))
     go true t e = prints
     go false true e = kinds x.class (ap is_plain (sym role) ∙ e) prints
     go false false e = prints
@@ -296,8 +296,8 @@ module _ (s : Classes) (kinds : HasPrintableKinds s) (q : Drawing) (whole : IsWh
       role : x.role ≡ role_of s x.class
       role = same_Some x.role (role_of s x.class) (sym states.role ∙ role_there s r.scp x.class states.class)
 
-      prints : IsPrintableName (name_of s y.class)
-      prints = subst (λ class. IsPrintableName (name_of s class)) (sym c.class)
+      prints : IsPrintableName (class_name_of s y.class)
+      prints = subst (λ class. IsPrintableName (class_name_of s class)) (sym c.class)
           (class_prints s kinds turned x role (subst IsPrintableName (sym (name_is s r.scp x.class states.class)) (is.class, line.class)))
 
       points : AllByRecursion IsPoint y.points
@@ -386,7 +386,7 @@ written_printable s sheet p q kinds printable plan same whole = record {
 -- ---- the classes of attributes are of type ATT
 
 types_stated : (s : Classes) (bs : List Attribute) (xs : List PlanAttribute) → AllByRecursion (λ b. b.atp.rty ≡ codes "ATT") bs → AllZip (StatesPlanAttribute s) bs xs
-    → AllByRecursion (λ a. (name_of s a.atp).rty ≡ codes "ATT") xs
+    → AllByRecursion (λ a. (class_name_of s a.atp).rty ≡ codes "ATT") xs
 types_stated s [] [] types all = tt
 types_stated s [] (a ∷ xs) types all = absurd all
 types_stated s (b ∷ bs) [] types all = absurd all
@@ -404,19 +404,19 @@ module _ (s : Classes) (sheet : Sheet) (p : Drawing) (unbroken : IsUnbroken (Bre
       go false e = absurd (unbroken 303 (suc k) (lacks_attribute_class refl
           (r, at, (i, b, slice_get_within r.attributes i b there, get_or_from_slice_get r.attributes i b b there, inl (λ same. true≢false (sym ((bytes_eq-Decides b.atp.rty (codes "ATT")).1 same) ∙ e))))))
 
-  types_at : (k : ℕ) → IsPlace p k → AllByRecursion (λ a. (name_of s a.atp).rty ≡ codes "ATT") (record_at p k).attributes
+  types_at : (k : ℕ) → IsPlace p k → AllByRecursion (λ a. (class_name_of s a.atp).rty ≡ codes "ATT") (record_at p k).attributes
   types_at k h =
       let d = zip_at (StatesPlanRecord s sheet.list) sheet.list p.list plan.each k blank h in
       types_stated s d.0.attributes (record_at p k).attributes (all_found (λ b. b.atp.rty ≡ codes "ATT") d.0.attributes (λ i b e. type_read k d.0 d.1 i b e)) d.2.attributes
 
 pub attribute_classes : (s : Classes) (sheet : Sheet) (p q : Drawing) → IsUnbroken (BreaksReferenceRule s sheet.list) → IsPlanOf s sheet p → Same s p q → HasAttributeClasses s q
-attribute_classes s sheet p q unbroken plan same = all_places (λ r. AllByRecursion (λ a. (name_of s a.atp).rty ≡ codes "ATT") r.attributes) q.list blank each
+attribute_classes s sheet p q unbroken plan same = all_places (λ r. AllByRecursion (λ a. (class_name_of s a.atp).rty ≡ codes "ATT") r.attributes) q.list blank each
   where
-    each : (k : ℕ) → IsPlace q k → AllByRecursion (λ a. (name_of s a.atp).rty ≡ codes "ATT") (record_at q k).attributes
+    each : (k : ℕ) → IsPlace q k → AllByRecursion (λ a. (class_name_of s a.atp).rty ≡ codes "ATT") (record_at q k).attributes
     each k h =
         let from = same.2.places.onto k h in
-        subst (λ j. AllByRecursion (λ a. (name_of s a.atp).rty ≡ codes "ATT") (record_at q j).attributes) from.2
-        (permuted (λ a. (name_of s a.atp).rty ≡ codes "ATT") (record_at p from.0).attributes (record_at q (same.0 from.0)).attributes (same.2.each from.0 from.1).attributes (types_at s sheet p unbroken plan from.0 from.1))
+        subst (λ j. AllByRecursion (λ a. (class_name_of s a.atp).rty ≡ codes "ATT") (record_at q j).attributes) from.2
+        (permuted (λ a. (class_name_of s a.atp).rty ≡ codes "ATT") (record_at p from.0).attributes (record_at q (same.0 from.0)).attributes (same.2.each from.0 from.1).attributes (types_at s sheet p unbroken plan from.0 from.1))
 
 -- ---- the layout, read again
 

@@ -41,7 +41,7 @@ use Rattle.edi_plan.specs.declared.record.PlanAttribute.{PlanAttribute}
 use Rattle.edi_plan.specs.declared.record.PlanEnd.{PlanEnd}
 use Rattle.edi_plan.proofs.Built.{named_at}
 use Rattle.edi_plan.proofs.Resolved.{role_there}
-use Rattle.edi_write.specs.Layout.{record_zones, attribute_zones, body_zones, end_zones, zones_from, name_in, number_in, letter_of, name_of, no_name, identifier, layout}
+use Rattle.edi_write.specs.Layout.{record_zones, attribute_zones, body_zones, end_zones, zones_from, name_in, number_in, class_letter_of, class_name_of, no_name, identifier, layout}
 use Rattle.edi_write.specs.Written.{letters, written_attribute, written_end, written_record, written_from, written_records}
 use Rattle.edi_write.proofs.Naming.{names_apart}
 use Rattle.edi_rank.proofs.Unique.{all_places}
@@ -65,19 +65,19 @@ position_is test xs k e h =
     let less : nat_lt (position_or_len test xs) (length xs) ≡ true = lt-ltb _ _ (omega (arith, e, h)) in
     ap (λ b. cond b (Some (position_or_len test xs)) None) less ∙ ap Some e
 
-name_there : (s : Classes) (c : ℕ) → c < length s → slice_get (keys_of s) c ≡ Some (name_of s c)
+name_there : (s : Classes) (c : ℕ) → c < length s → slice_get (keys_of s) c ≡ Some (class_name_of s c)
 name_there s c h =
     let there = slice_get-get_or (keys_of s) c no_name (omega (arith, h, keys_length s)) in
     there ∙ ap Some (sym (ap (λ o. unwrap_or o no_name) there))
 
-pub place_there : (s : Classes) → IsSchema s → (c : ℕ) → c < length s → place_of s (name_of s c) ≡ Some c
-place_there s keeps c h = position_is (is_name (name_of s c)) (keys_of s) c (first_place (keys_of s) keeps.in_order c (name_of s c) (name_there s c h)) (omega (arith, h, keys_length s))
+pub place_there : (s : Classes) → IsSchema s → (c : ℕ) → c < length s → place_of s (class_name_of s c) ≡ Some c
+place_there s keeps c h = position_is (is_name (class_name_of s c)) (keys_of s) c (first_place (keys_of s) keeps.in_order c (class_name_of s c) (name_there s c h)) (omega (arith, h, keys_length s))
 
-letter_there : (s : Classes) → IsSchema s → (c : ℕ) → c < length s → (letters s).letter (name_of s c) ≡ letter_of s c
-letter_there s keeps c h = ap (λ o. unwrap_or (option_map (λ (x : Class). x.letter) o) 65) (named_at s (name_of s c) c (place_there s keeps c h)).1
+letter_there : (s : Classes) → IsSchema s → (c : ℕ) → c < length s → (letters s).letter (class_name_of s c) ≡ class_letter_of s c
+letter_there s keeps c h = ap (λ o. unwrap_or (option_map (λ (x : Class). x.letter) o) 65) (named_at s (class_name_of s c) c (place_there s keeps c h)).1
 
-number_there : (s : Classes) → IsSchema s → (c : ℕ) → c < length s → (letters s).is_number (name_of s c) ≡ is_number_of s c
-number_there s keeps c h = ap (λ o. unwrap_or (option_map (λ (x : Class). x.is_number) o) false) (named_at s (name_of s c) c (place_there s keeps c h)).1
+number_there : (s : Classes) → IsSchema s → (c : ℕ) → c < length s → (letters s).is_number (class_name_of s c) ≡ is_number_of s c
+number_there s keeps c h = ap (λ o. unwrap_or (option_map (λ (x : Class). x.is_number) o) false) (named_at s (class_name_of s c) c (place_there s keeps c h)).1
 
 -- ---- a value by its text
 
@@ -92,23 +92,23 @@ value_own true text = go (number text) refl
 again : (may : Bool) (v : Value) (text : List ℕ) → v ≡ value_of may text → value_of may (value_text v) ≡ v
 again may v text e = own_again may v (subst (IsOwnValue may) (sym e) (value_own may text))
 
-attribute_again : (s : Classes) → IsSchema s → (a : PlanAttribute) → AttributeAgrees s a → value_of ((letters s).is_number (name_of s a.atp)) (value_text a.value) ≡ a.value
+attribute_again : (s : Classes) → IsSchema s → (a : PlanAttribute) → AttributeAgrees s a → value_of ((letters s).is_number (class_name_of s a.atp)) (value_text a.value) ≡ a.value
 attribute_again s keeps a agrees = ap (λ may. value_of may (value_text a.value)) (number_there s keeps a.atp agrees.known) ∙ again (is_number_of s a.atp) a.value agrees.text (value_read (is_number_of s a.atp) agrees.text a.value agrees.value)
 
 -- ---- the zones of what is written
 
-attribute_same : (s : Classes) → IsSchema s → (a : PlanAttribute) → AttributeAgrees s a → attribute_zones s a ≡ records.attribute_zones (letters s) (written_attribute s a)
-unfolding records.attribute_zones
+attribute_same : (s : Classes) → IsSchema s → (a : PlanAttribute) → AttributeAgrees s a → attribute_zones s a ≡ records.zones_of_attribute (letters s) (written_attribute s a)
+unfolding records.zones_of_attribute
 attribute_same s keeps a agrees =
-    ap₂ (λ letter text. zone_text (codes "ATP") 67 80 (class_text (name_of s a.atp)) ∷ (map set_zone (option_to_list a.tex) ++ zone_text (codes "ATV") 83 letter text ∷ []))
+    ap₂ (λ letter text. zone_text (codes "ATP") 67 80 (class_text (class_name_of s a.atp)) ∷ (map set_zone (option_to_list a.tex) ++ zone_text (codes "ATV") 83 letter text ∷ []))
     (sym (letter_there s keeps a.atp agrees.known)) (ap value_text (sym (attribute_again s keeps a agrees)))
 
-attributes_same : (s : Classes) → IsSchema s → (xs : List PlanAttribute) → AllByRecursion (AttributeAgrees s) xs → flat_map (attribute_zones s) xs ≡ flat_map (records.attribute_zones (letters s)) (map (written_attribute s) xs)
+attributes_same : (s : Classes) → IsSchema s → (xs : List PlanAttribute) → AllByRecursion (AttributeAgrees s) xs → flat_map (attribute_zones s) xs ≡ flat_map (records.zones_of_attribute (letters s)) (map (written_attribute s) xs)
 attributes_same s keeps [] agree = refl
 attributes_same s keeps (a ∷ xs) agree = ap₂ ◌++◌ (attribute_same s keeps a agree.0) (attributes_same s keeps xs agree.1)
 
-ends_same : (s : Classes) (p : Drawing) (es : List PlanEnd) → flat_map (end_zones s p) es ≡ flat_map records.end_zones (map (written_end s p) es)
-unfolding records.end_zones
+ends_same : (s : Classes) (p : Drawing) (es : List PlanEnd) → flat_map (end_zones s p) es ≡ flat_map records.zones_of_end (map (written_end s p) es)
+unfolding records.zones_of_end
 ends_same s p [] = refl
 ends_same s p (e ∷ es) = ap (λ zs. end_zones s p e ++ zs) (ends_same s p es)
 
@@ -121,35 +121,35 @@ none_there [] h = refl
 none_there (x ∷ xs) h = let e : suc (length xs) ≡ 0 = eqb-true _ _ h in absurd (omega (arith, e))
 
 body_same : (s : Classes) (p : Drawing) (r : PlanRecord) (kind : Kind) → may_have_points kind (length r.points) ≡ true → may_have_ends kind (length r.ends) ≡ true
-    → body_zones s p kind r ≡ records.body_zones kind r.points (map (written_end s p) r.ends)
-unfolding records.body_zones
+    → body_zones s p kind r ≡ records.zones_of_body kind r.points (map (written_end s p) r.ends)
+unfolding records.zones_of_body
 body_same s p r Pno points ends =
-    sym (append-nil (map point_zone r.points)) ∙ ap (λ es. map point_zone r.points ++ flat_map records.end_zones (map (written_end s p) es)) (sym (none_there r.ends ends))
+    sym (append-nil (map point_zone r.points)) ∙ ap (λ es. map point_zone r.points ++ flat_map records.zones_of_end (map (written_end s p) es)) (sym (none_there r.ends ends))
 body_same s p r Par points ends =
     ap (λ zs. zone_text (codes "PTC") 83 78 (decimal (length r.points)) ∷ zs)
-    (sym (append-nil (map point_zone r.points)) ∙ ap (λ es. map point_zone r.points ++ flat_map records.end_zones (map (written_end s p) es)) (sym (none_there r.ends ends)))
-body_same s p r Pfe points ends = ap₂ (λ ps es. map point_zone ps ++ flat_map records.end_zones (map (written_end s p) es)) (sym (none_there r.points points)) (sym (none_there r.ends ends))
-body_same s p r Fea points ends = ap₂ (λ ps es. map point_zone ps ++ flat_map records.end_zones (map (written_end s p) es)) (sym (none_there r.points points)) (sym (none_there r.ends ends))
+    (sym (append-nil (map point_zone r.points)) ∙ ap (λ es. map point_zone r.points ++ flat_map records.zones_of_end (map (written_end s p) es)) (sym (none_there r.ends ends)))
+body_same s p r Pfe points ends = ap₂ (λ ps es. map point_zone ps ++ flat_map records.zones_of_end (map (written_end s p) es)) (sym (none_there r.points points)) (sym (none_there r.ends ends))
+body_same s p r Fea points ends = ap₂ (λ ps es. map point_zone ps ++ flat_map records.zones_of_end (map (written_end s p) es)) (sym (none_there r.points points)) (sym (none_there r.ends ends))
 body_same s p r Lnk points ends =
     ap₂ (λ n zs. zone_text (codes "FTC") 83 78 (decimal n) ∷ zs) (sym (length-map r.ends (written_end s p)))
-    (ends_same s p r.ends ∙ ap (λ ps. map point_zone ps ++ flat_map records.end_zones (map (written_end s p) r.ends)) (sym (none_there r.points points)))
+    (ends_same s p r.ends ∙ ap (λ ps. map point_zone ps ++ flat_map records.zones_of_end (map (written_end s p) r.ends)) (sym (none_there r.points points)))
 
 record_same : (s : Classes) → IsSchema s → (p : Drawing) (number : ℕ) (r : PlanRecord) → RecordAgrees s r → IsShaped r
-    → record_zones s p number r ≡ records.record_zones (letters s) (written_record s p number r)
-unfolding records.record_zones
+    → record_zones s p number r ≡ records.zones_of_record (letters s) (written_record s p number r)
+unfolding records.zones_of_record
 record_same s keeps p number r agrees shaped =
-    ap (λ zs. zone_text (codes "RTY") 83 65 (kind_code r.kind) ∷ zone_text (codes "RID") 83 65 (identifier r.kind number) ∷ zone_text (codes "SCP") 67 80 (class_text (name_of s r.class)) ∷ zs)
+    ap (λ zs. zone_text (codes "RTY") 83 65 (kind_code r.kind) ∷ zone_text (codes "RID") 83 65 (identifier r.kind number) ∷ zone_text (codes "SCP") 67 80 (class_text (class_name_of s r.class)) ∷ zs)
     (ap₂ ◌++◌ (body_same s p r r.kind shaped.0 shaped.1) (ap₂ (λ n zs. zone_text (codes "ATC") 83 78 (decimal n) ∷ (zs ++ map extra_zone r.extras)) (sym (length-map r.attributes (written_attribute s))) (attributes_same s keeps r.attributes agrees.attributes)))
 
 zones_same : (s : Classes) → IsSchema s → (p : Drawing) (place : ℕ) (rs : List PlanRecord) → AllByRecursion (RecordAgrees s) rs → AllByRecursion IsShaped rs
-    → zones_from s p place rs ≡ flat_map (records.record_zones (letters s)) (written_from s p place rs)
+    → zones_from s p place rs ≡ flat_map (records.zones_of_record (letters s)) (written_from s p place rs)
 zones_same s keeps p place [] agree shaped = refl
 zones_same s keeps p place (r ∷ rs) agree shaped = ap₂ ◌++◌ (record_same s keeps p (number_in s p place) r agree.0 shaped.0) (zones_same s keeps p (place + 1) rs agree.1 shaped.1)
 
 pub all_shaped : (p : Drawing) → IsWhole p → AllByRecursion IsShaped p.list
 all_shaped p whole = all_places IsShaped p.list blank (λ k h. (whole.points k h, whole.ends k h))
 
-pub written_layout : (s : Classes) (p : Drawing) → IsSchema s → IsWhole p → Agrees s p → layout s p ≡ records.layout (letters s) p.cse (written_records s p)
+pub written_layout : (s : Classes) (p : Drawing) → IsSchema s → IsWhole p → Agrees s p → layout s p ≡ records.records_layout (letters s) p.cse (written_records s p)
 unfolding layout
 written_layout s p keeps whole agrees =
     ap (λ zs. printed (begin_zone ∷ (map cse_zone (option_to_list p.cse) ++ (zs ++ end_zone ∷ [])))) (zones_same s keeps p 0 p.list agrees (all_shaped p whole))
@@ -158,10 +158,10 @@ written_layout s p keeps whole agrees =
 
 states_attribute : (s : Classes) → IsSchema s → (a : PlanAttribute) → AttributeAgrees s a → StatesPlanAttribute s (settled (letters s) (written_attribute s a)) a
 states_attribute s keeps a agrees =
-    let may = (letters s).is_number (name_of s a.atp) in
+    let may = (letters s).is_number (class_name_of s a.atp) in
     let one = attribute_again s keeps a agrees in
     let text = value_text (value_of may (value_text a.value)) in
-    record { class = place_there s keeps a.atp agrees.known; set = refl; value = value_stated s (name_of s a.atp) may text a.value refl (subst (IsValueOf (may ≡ true) text) (ap (λ v. value_of may (value_text v)) one ∙ one) (value_said may text)) }
+    record { class = place_there s keeps a.atp agrees.known; set = refl; value = value_stated s (class_name_of s a.atp) may text a.value refl (subst (IsValueOf (may ≡ true) text) (ap (λ v. value_of may (value_text v)) one ∙ one) (value_said may text)) }
 
 states_attributes : (s : Classes) → IsSchema s → (xs : List PlanAttribute) → AllByRecursion (AttributeAgrees s) xs → AllZip (StatesPlanAttribute s) (map (settled (letters s)) (map (written_attribute s) xs)) xs
 states_attributes s keeps [] agree = tt
@@ -259,7 +259,7 @@ states_record : (s : Classes) → IsSchema s → (p : Drawing) (list : List Reco
 states_record s keeps p list named number r agrees there = record {
   kind = refl;
   class = place_there s keeps r.class agrees.known;
-  role = role_there s (name_of s r.class) r.class (place_there s keeps r.class agrees.known) ∙ ap Some (sym agrees.role);
+  role = role_there s (class_name_of s r.class) r.class (place_there s keeps r.class agrees.known) ∙ ap Some (sym agrees.role);
   points = refl;
   attributes = states_attributes s keeps r.attributes agrees.attributes;
   extras = refl;

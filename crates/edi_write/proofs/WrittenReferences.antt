@@ -17,15 +17,16 @@ use Rattle.edi_schema.specs.declared.role.Role.TheVariants.{Initial, Final, Left
 use Rattle.edi_plan.specs.Agreeing.{AttributeAgrees, RecordAgrees, Agrees}
 use Rattle.edi_plan.specs.Joined.{beside, HasEnds, IsJoin, IsJoined, JoinsArc}
 use Rattle.edi_plan.specs.PlanOf.{own_name, place_named}
-use Rattle.edi_plan.specs.Plans.{Drawing, IsPlace, record_at, blank, is_link}
-use Rattle.edi_plan.specs.ReferenceRules.{BreaksReferenceRule, HasRole, JoinsArcTo, Names, RepeatsName, LacksClass, LacksAttributeClass, LeavesSubset, NamesNothing, JoinsWrong, RepeatsSide}
+use Rattle.edi_record.specs.Records.{is_link}
+use Rattle.edi_plan.specs.Plans.{Drawing, IsPlace, record_at, blank}
+use Rattle.edi_plan.specs.ReferenceRules.{BreaksReferenceRule, HasRole, JoinsArcTo, Names, RepeatsName, HasUnknownClass, LacksAttributeClass, LeavesSubset, NamesNothing, JoinsWrong, RepeatsSide}
 use Rattle.edi_plan.specs.ReferenceRules.BreaksReferenceRule.{repeats_name, lacks_class, lacks_attribute_class, leaves_subset, names_nothing, joins_wrong, repeats_side}
 use Rattle.edi_plan.specs.Whole.{IsWhole}
 use Rattle.edi_plan.specs.declared.record.PlanAttribute.{PlanAttribute}
 use Rattle.edi_plan.specs.declared.record.PlanEnd.{PlanEnd}
 use Rattle.edi_plan.proofs.Resolved.{role_there}
 use Rattle.edi_rank.proofs.SameLaws.{record_agrees}
-use Rattle.edi_write.specs.Layout.{name_of, name_in}
+use Rattle.edi_write.specs.Layout.{class_name_of, name_in}
 use Rattle.edi_write.specs.Written.{letters, written_attribute, written_end, written_records, HasAttributeClasses}
 use Rattle.edi_write.proofs.Naming.{one_place}
 use Rattle.edi_write.proofs.WrittenRecords.{place_there, read_records, read_record, read_at, read_back, read_named}
@@ -78,7 +79,7 @@ module _ (s : Classes) (p : Drawing) (keeps : IsSchema s) (whole : IsWhole p) (a
   class_read k h = place_there s keeps (record_at p k).class (agrees_at k h).known
 
   role_read : (k : ℕ) → IsPlace p k → role_named s (read_record s p k).scp ≡ Some (record_at p k).role
-  role_read k h = role_there s (name_of s (record_at p k).class) (record_at p k).class (class_read k h) ∙ ap Some (sym (agrees_at k h).role)
+  role_read k h = role_there s (class_name_of s (record_at p k).class) (record_at p k).class (class_read k h) ∙ ap Some (sym (agrees_at k h).role)
 
   -- ---- names
 
@@ -90,7 +91,7 @@ module _ (s : Classes) (p : Drawing) (keeps : IsSchema s) (whole : IsWhole p) (a
       let one = one_place s p whole (h.0 - 1) (at - 1) q.0 r.0 same in
       omega (arith, one, h.3, h.4.0, h.5.0)
 
-  no_class_lacks : (at : ℕ) → LacksClass s list at → ⊥
+  no_class_lacks : (at : ℕ) → HasUnknownClass s list at → ⊥
   no_class_lacks at h =
       let r = at_back at h.0 h.1.1 in
       none-some _ (sym h.2 ∙ (ap (λ (x : Record). place_of s x.scp) r.1 ∙ class_read (at - 1) r.0))
@@ -100,7 +101,7 @@ module _ (s : Classes) (p : Drawing) (keeps : IsSchema s) (whole : IsWhole p) (a
   abbrev IsFound : Attribute → Type 0
   IsFound b = (b.atp.rty ≡ codes "ATT") × ((class : ℕ) × (place_of s b.atp ≡ Some class))
 
-  found : (xs : List PlanAttribute) → AllByRecursion (AttributeAgrees s) xs → AllByRecursion (λ a. (name_of s a.atp).rty ≡ codes "ATT") xs → AllByRecursion IsFound (map (settled (letters s)) (map (written_attribute s) xs))
+  found : (xs : List PlanAttribute) → AllByRecursion (AttributeAgrees s) xs → AllByRecursion (λ a. (class_name_of s a.atp).rty ≡ codes "ATT") xs → AllByRecursion IsFound (map (settled (letters s)) (map (written_attribute s) xs))
   found [] agree types = tt
   found (a ∷ xs) agree types = ((types.0, (a.atp, place_there s keeps a.atp agree.0.known)), found xs agree.1 types.1)
 
@@ -111,7 +112,7 @@ module _ (s : Classes) (p : Drawing) (keeps : IsSchema s) (whole : IsWhole p) (a
   no_attribute_lacks : HasAttributeClasses s p → (at : ℕ) → LacksAttributeClass s list at → ⊥
   no_attribute_lacks types at h =
       let r = at_back at h.0 h.1.1 in
-      let all = found (record_at p (at - 1)).attributes (agrees_at (at - 1) r.0).attributes (all_at (λ x. AllByRecursion (λ a. (name_of s a.atp).rty ≡ codes "ATT") x.attributes) p.list (at - 1) blank r.0 types) in
+      let all = found (record_at p (at - 1)).attributes (agrees_at (at - 1) r.0).attributes (all_at (λ x. AllByRecursion (λ a. (class_name_of s a.atp).rty ≡ codes "ATT") x.attributes) p.list (at - 1) blank r.0 types) in
       none_met (λ b. (b.atp.rty ≢ codes "ATT") ⊎ (place_of s b.atp ≡ None)) IsFound unfound h.0.attributes (subst (λ (x : Record). AllByRecursion IsFound x.attributes) (sym r.1) all) h.2
 
   -- ---- ends

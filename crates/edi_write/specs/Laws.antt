@@ -27,7 +27,7 @@ use Rattle.edi_write.specs.Written.{letters, written_record, written_records, Ha
 
 -- The layout of a plan is that of the records that are written of it.
 abbrev pub WrittenLayout : Type 0
-WrittenLayout = (s : Classes) (p : Drawing) → IsSchema s → IsWhole p → Agrees s p → layout s p ≡ records.layout (letters s) p.cse (written_records s p)
+WrittenLayout = (s : Classes) (p : Drawing) → IsSchema s → IsWhole p → Agrees s p → layout s p ≡ records.records_layout (letters s) p.cse (written_records s p)
 
 -- The name that is written of a record names it among the records that are written.
 abbrev pub WrittenIsNamed : Type 0

@@ -2,13 +2,13 @@
 use Rattle.std.specs.Prelude.{ℕ, ◌+◌, List, [], ◌∷◌, ◌++◌, length, take, map, flat_map, count_by, option_map, option_to_list, unwrap_or, codes, decimal}
 use Rattle.edi_line.specs.Bytes.{letter_a}
 use Rattle.edi_line.specs.Entry.{Entry}
-use Rattle.edi_line.specs.Printing.{zone_headed, printed}
-use Rattle.edi_record.specs.CanonicalZones.{class_text, end_text, value_text, point_zone, set_zone, sns_zone, extra_zone, begin_zone, cse_zone, end_zone}
+use Rattle.edi_line.specs.Printing.{printed}
+use Rattle.edi_record.specs.CanonicalZones.{type_zone, identifier_zone, class_zone, point_count_zone, point_zone, end_count_zone, target_zone, sns_zone, attribute_count_zone, attribute_zone, set_zone, value_zone, extra_zone, begin_zone, cse_zone, end_zone}
 use Rattle.edi_record.specs.declared.record.Kind.{Kind}
 use Rattle.edi_record.specs.declared.record.Kind.TheVariants.{Pno, Par, Pfe, Fea, Lnk}
 use Rattle.edi_record.specs.declared.name.Name.{Name}
 use Rattle.edi_record.specs.Shapes.{kind_code}
-use Rattle.edi_schema.specs.Classes.{Classes, name_at, class_at}
+use Rattle.edi_schema.specs.Classes.{Classes, class_name_at, class_at}
 use Rattle.edi_plan.specs.Plans.{Drawing, record_at, same_kind}
 use Rattle.edi_plan.specs.declared.record.PlanRecord.{PlanRecord}
 use Rattle.edi_plan.specs.declared.record.PlanAttribute.{PlanAttribute}
@@ -19,11 +19,11 @@ use Rattle.edi_plan.specs.declared.record.PlanEnd.{PlanEnd}
 abbrev pub no_name : Name
 no_name = record { rty = []; rid = [] }
 
-abbrev pub name_of : Classes → ℕ → Name
-name_of s class = unwrap_or (name_at s class) no_name
+abbrev pub class_name_of : Classes → ℕ → Name
+class_name_of s class = unwrap_or (class_name_at s class) no_name
 
-abbrev pub letter_of : Classes → ℕ → ℕ
-letter_of s class = unwrap_or (option_map (λ c. c.letter) (class_at s class)) letter_a
+abbrev pub class_letter_of : Classes → ℕ → ℕ
+class_letter_of s class = unwrap_or (option_map (λ c. c.letter) (class_at s class)) letter_a
 
 -- the identifier of a record: the letter of its type and its number
 
@@ -39,17 +39,15 @@ identifier kind number = kind_letter kind ++ decimal number
 
 -- the zones of an attribute: its class, its character set if any, its value
 abbrev pub attribute_zones : Classes → PlanAttribute → List Entry
-attribute_zones s a = zone_headed (codes "ATPCP") (class_text (name_of s a.atp))
-    ∷ (map set_zone (option_to_list a.tex) ++ zone_headed (codes "ATVS" ++ letter_of s a.atp ∷ []) (value_text a.value) ∷ [])
+attribute_zones s a = attribute_zone (class_name_of s a.atp) ∷ (map set_zone (option_to_list a.tex) ++ value_zone (class_letter_of s a.atp) a.value ∷ [])
 
 -- what stands in front of the body, and behind it
 
 abbrev pub head_zones : Classes → ℕ → PlanRecord → List Entry
-head_zones s number r = zone_headed (codes "RTYSA") (kind_code r.kind) ∷ zone_headed (codes "RIDSA") (identifier r.kind number)
-    ∷ zone_headed (codes "SCPCP") (class_text (name_of s r.class)) ∷ []
+head_zones s number r = type_zone r.kind ∷ identifier_zone (identifier r.kind number) ∷ class_zone (class_name_of s r.class) ∷ []
 
 abbrev pub tail_zones : Classes → PlanRecord → List Entry
-tail_zones s r = zone_headed (codes "ATCSN") (decimal (length r.attributes)) ∷ (flat_map (attribute_zones s) r.attributes ++ map extra_zone r.extras)
+tail_zones s r = attribute_count_zone (length r.attributes) ∷ (flat_map (attribute_zones s) r.attributes ++ map extra_zone r.extras)
 
 module _ (s : Classes) (p : Drawing) where
   -- the number of a record: one more than the records of its type before it
@@ -60,15 +58,15 @@ module _ (s : Classes) (p : Drawing) where
   name_in place = record { rty = kind_code (record_at p place).kind; rid = identifier (record_at p place).kind (number_in place) }
 
   abbrev pub end_zones : PlanEnd → List Entry
-  end_zones e = zone_headed (codes "FTPCP") (end_text (name_in e.target)) ∷ map sns_zone (option_to_list e.sns)
+  end_zones e = target_zone (name_in e.target) ∷ map sns_zone (option_to_list e.sns)
 
   -- what stands between the class and the attributes
   abbrev pub body_zones : Kind → PlanRecord → List Entry
   body_zones Pno r = map point_zone r.points
-  body_zones Par r = zone_headed (codes "PTCSN") (decimal (length r.points)) ∷ map point_zone r.points
+  body_zones Par r = point_count_zone (length r.points) ∷ map point_zone r.points
   body_zones Pfe r = []
   body_zones Fea r = []
-  body_zones Lnk r = zone_headed (codes "FTCSN") (decimal (length r.ends)) ∷ flat_map end_zones r.ends
+  body_zones Lnk r = end_count_zone (length r.ends) ∷ flat_map end_zones r.ends
 
   -- the zones of a record with this number
   abbrev pub record_zones : ℕ → PlanRecord → List Entry

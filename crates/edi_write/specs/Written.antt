@@ -14,7 +14,7 @@ use Rattle.edi_plan.specs.Plans.{Drawing}
 use Rattle.edi_plan.specs.declared.record.PlanRecord.{PlanRecord}
 use Rattle.edi_plan.specs.declared.record.PlanAttribute.{PlanAttribute}
 use Rattle.edi_plan.specs.declared.record.PlanEnd.{PlanEnd}
-use Rattle.edi_write.specs.Layout.{name_of, name_in, number_in, identifier}
+use Rattle.edi_write.specs.Layout.{class_name_of, name_in, number_in, identifier}
 
 -- what the schema says of each name: the letter of its values, and whether they are numbers
 abbrev pub letters : Classes → Letters
@@ -22,7 +22,7 @@ letters s = record { letter = λ n. unwrap_or (letter_named s n) 65; is_number =
 
 -- an attribute as it is written: the name of its class, and its value as a text
 abbrev pub written_attribute : Classes → PlanAttribute → Attribute
-written_attribute s a = record { atp = name_of s a.atp; tex = a.tex; atv = value_text a.value }
+written_attribute s a = record { atp = class_name_of s a.atp; tex = a.tex; atv = value_text a.value }
 
 -- an end as it is written: the name of the record that it ends at, and its SNS
 abbrev pub written_end : Classes → Drawing → PlanEnd → End
@@ -33,7 +33,7 @@ abbrev pub written_record : Classes → Drawing → ℕ → PlanRecord → Recor
 written_record s p number r = record {
   kind = r.kind;
   rid = identifier r.kind number;
-  scp = name_of s r.class;
+  scp = class_name_of s r.class;
   points = r.points;
   ends = map (written_end s p) r.ends;
   attributes = map (written_attribute s) r.attributes;
@@ -51,7 +51,7 @@ written_records s p = written_from s p 0 p.list
 
 -- each attribute's class is of type ATT
 abbrev pub HasAttributeClasses : Classes → Drawing → Type 0
-HasAttributeClasses s p = AllByRecursion (λ r. AllByRecursion (λ a. (name_of s a.atp).rty ≡ codes "ATT") r.attributes) p.list
+HasAttributeClasses s p = AllByRecursion (λ r. AllByRecursion (λ a. (class_name_of s a.atp).rty ≡ codes "ATT") r.attributes) p.list
 
 -- a name can be printed: no semicolon, and one line
 abbrev pub IsPrintableName : Name → Type 0
@@ -59,7 +59,7 @@ IsPrintableName name = IsName name × IsLineName name
 
 -- where the name of a class of a kind can be printed, so can that of its partner
 abbrev pub HasPrintableKinds : Classes → Type 0
-HasPrintableKinds s = (class : ℕ) → is_plain (role_of s class) ≡ false → IsPrintableName (name_of s class) → IsPrintableName (name_of s (partner_of s class))
+HasPrintableKinds s = (class : ℕ) → is_plain (role_of s class) ≡ false → IsPrintableName (class_name_of s class) → IsPrintableName (class_name_of s (partner_of s class))
 
 -- what records and their character set need to be printed and read again
 pub record CanBePrinted (cse : Option (List ℕ)) (rs : List Record) : Type 0 where

@@ -8,31 +8,13 @@ ghost use Rattle.edi_rank.specs.Arranged.{arranged};
 ghost use Rattle.edi_rank.specs.Labelling.{AreLabels};
 ghost use Rattle.edi_write.specs.Layout.{layout};
 
+use crate::heads::{BEGIN, CHARACTER_SET, END};
 use crate::page::Page;
 use crate::records::write_records;
-use crate::zones::Head;
 use edi_rank::Labels;
 use edi_schema::Schema;
 use edi_topo::Sound;
 use std::alloc::{AllocError, Global};
-
-const BEGIN: Head = Head {
-    code: *b"BOM",
-    nature: b'T',
-    format: b' ',
-};
-
-const CHARACTER_SET: Head = Head {
-    code: *b"CSE",
-    nature: b'T',
-    format: b' ',
-};
-
-const END: Head = Head {
-    code: *b"EOM",
-    nature: b'T',
-    format: b' ',
-};
 
 /// The bytes of a sound plan, turned and numbered by its labels: the layout of
 /// docs/FORMAT.md, "The canonical file". The schema is that which the plan was built under.

@@ -4,20 +4,14 @@ ghost use Rattle.std.specs.Prelude.{◌≡◌, ◌<◌, ◌++◌, length, codes,
 ghost use Rattle.edi_line.specs.Printing.{printed_zone, zone_headed};
 ghost use Rattle.edi_record.specs.CanonicalZones.{class_text};
 ghost use Rattle.edi_schema.specs.Classes.{Classes};
-ghost use Rattle.edi_write.specs.Layout.{name_of};
+ghost use Rattle.edi_write.specs.Layout.{class_name_of};
 ghost use Rattle.edi_write.specs.inner.ClassLines.{IsLineOf};
 
+use crate::heads::CLASS;
 use crate::page::Page;
 use crate::parts::write_class;
-use crate::zones::Head;
 use edi_schema::{ClassRef, Schema};
 use std::alloc::{AllocError, Global};
-
-const CLASS: Head = Head {
-    code: *b"SCP",
-    nature: b'C',
-    format: b'P',
-};
 
 /// A page with nothing but the zone of a class, and that class; or no class yet.
 #[derive(Drop)]
@@ -42,7 +36,7 @@ impl ClassLine {
         requires line { IsLineOf schema.now self.old }
         requires class { class < length schema.now }
         ensures line { OnOk result (IsLineOf schema.now self.new) }
-        ensures printed { OnOk result (self.new.page.file.items ≡ printed_zone (zone_headed (codes "SCPCP") (class_text (name_of schema.now class)))) }
+        ensures printed { OnOk result (self.new.page.file.items ≡ printed_zone (zone_headed (codes "SCPCP") (class_text (class_name_of schema.now class)))) }
     {
         if self.class == Some(class) {
             return Ok(());
@@ -63,7 +57,7 @@ impl ClassLine {
         requires line { IsLineOf schema.now self.old }
         requires class { class < length schema.now }
         ensures line { OnOk result (IsLineOf schema.now self.new) }
-        ensures written { OnOk result (page.new.file.items ≡ page.old.file.items ++ printed_zone (zone_headed (codes "SCPCP") (class_text (name_of schema.now class)))) }
+        ensures written { OnOk result (page.new.file.items ≡ page.old.file.items ++ printed_zone (zone_headed (codes "SCPCP") (class_text (class_name_of schema.now class)))) }
     {
         self.turn_to(schema, class)?;
         page.file.extend_from_slice(&self.page.file)

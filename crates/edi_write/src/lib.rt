@@ -3,6 +3,7 @@
 
 pub mod canon;
 mod class_line;
+mod heads;
 pub mod laws;
 mod links;
 mod names;

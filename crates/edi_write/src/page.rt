@@ -4,7 +4,8 @@ ghost use Rattle.std.specs.Prelude.{◌≡◌, [], ◌++◌, OnOk};
 ghost use Rattle.edi_line.specs.Printing.{printed_zone};
 ghost use Rattle.edi_write.specs.inner.Heads.{headed};
 
-use crate::zones::{Head, write_zone};
+use crate::heads::Head;
+use crate::zones::write_zone;
 use std::alloc::{AllocError, Global};
 
 /// The bytes that are written so far, and the text that is made for the value of the next zone. There is one text for

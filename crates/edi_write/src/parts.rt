@@ -7,32 +7,14 @@ ghost use Rattle.edi_record.specs.CanonicalZones.{class_text, value_text, point_
 ghost use Rattle.edi_record.specs.Texts.{point_text};
 ghost use Rattle.edi_plan.specs.Agreeing.{AttributeAgrees};
 ghost use Rattle.edi_write.specs.inner.Heads.{headed};
-ghost use Rattle.edi_write.specs.Layout.{attribute_zones, name_of};
+ghost use Rattle.edi_write.specs.Layout.{attribute_zones, class_name_of};
 
+use crate::heads::{ATTRIBUTE, COORDINATES, Head, VALUE_CHARACTER_SET, value_head};
 use crate::page::Page;
-use crate::zones::Head;
 use edi_plan::PlanAttribute;
 use edi_record::{Extra, Name, Point, Value};
 use edi_schema::Schema;
 use std::alloc::AllocError;
-
-const COORDINATES: Head = Head {
-    code: *b"COR",
-    nature: b'C',
-    format: b'C',
-};
-
-const ATTRIBUTE: Head = Head {
-    code: *b"ATP",
-    nature: b'C',
-    format: b'P',
-};
-
-const CHARACTER_SET: Head = Head {
-    code: *b"TEX",
-    nature: b'T',
-    format: b' ',
-};
 
 /// Writes a pointer to a class.
 pub(crate) fn write_class(page: &mut Page, head: Head, class: &Name) -> Result<(), AllocError>
@@ -102,13 +84,9 @@ pub(crate) fn write_attribute(
 {
     write_class(page, ATTRIBUTE, schema.name(attribute.atp))?;
     if let Some(set) = &attribute.tex {
-        page.write(CHARACTER_SET, set.as_slice())?;
+        page.write(VALUE_CHARACTER_SET, set.as_slice())?;
     }
-    let head = Head {
-        code: *b"ATV",
-        nature: b'S',
-        format: schema.letter(attribute.atp),
-    };
+    let head = value_head(schema.letter(attribute.atp));
     write_value(page, head, &attribute.value)
 }
 

@@ -15,41 +15,17 @@ ghost use Rattle.edi_write.specs.Layout.{attribute_zones, head_zones};
 ghost use Rattle.edi_write.specs.inner.Numbered.{arc_body, link_body, numbered_body, numbered_zones, ordered_tail};
 
 use crate::class_line::ClassLine;
+use crate::heads::{ATTRIBUTE_COUNT, END_COUNT, Head, IDENTIFIER, POINT_COUNT};
 use crate::links::write_ends;
 use crate::names::{put_identifier, type_zone};
 use crate::page::Page;
 use crate::parts::{write_attribute, write_extra, write_point};
-use crate::zones::Head;
 use edi_plan::{Plan, PlanAttribute, sorted_attributes};
 use edi_rank::{Labels, class_turned};
 use edi_record::{Extra, Kind, Point};
 use edi_schema::Schema;
 use itoa::Buffer;
 use std::alloc::{AllocError, Global};
-
-const IDENTIFIER: Head = Head {
-    code: *b"RID",
-    nature: b'S',
-    format: b'A',
-};
-
-const ATTRIBUTES: Head = Head {
-    code: *b"ATC",
-    nature: b'S',
-    format: b'N',
-};
-
-const POINTS: Head = Head {
-    code: *b"PTC",
-    nature: b'S',
-    format: b'N',
-};
-
-const ENDS: Head = Head {
-    code: *b"FTC",
-    nature: b'S',
-    format: b'N',
-};
 
 fn write_number(page: &mut Page, head: Head, number: usize) -> Result<(), AllocError>
     ensures { OnOk result (page.new.file.items ≡ page.old.file.items ++ printed_zone (headed head (decimal number))) }
@@ -61,7 +37,7 @@ fn write_number(page: &mut Page, head: Head, number: usize) -> Result<(), AllocE
 /// The zone of the count where there are no attributes.
 #[tactic(auto, using(crate::proofs::Counts::no_attributes))]
 fn zone_of_none() -> &'static [u8]
-    ensures { result.now ≡ printed_zone (headed ATTRIBUTES (decimal 0)) }
+    ensures { result.now ≡ printed_zone (headed ATTRIBUTE_COUNT (decimal 0)) }
 {
     b"ATCSN01:0\r\n"
 }
@@ -69,29 +45,29 @@ fn zone_of_none() -> &'static [u8]
 /// The zone of the count where there are two ends.
 #[tactic(auto, using(crate::proofs::Counts::two_ends))]
 fn zone_of_two() -> &'static [u8]
-    ensures { result.now ≡ printed_zone (headed ENDS (decimal 2)) }
+    ensures { result.now ≡ printed_zone (headed END_COUNT (decimal 2)) }
 {
     b"FTCSN01:2\r\n"
 }
 
 /// Writes the count of a record's attributes. Most records have none.
 fn write_attribute_count(page: &mut Page, count: usize) -> Result<(), AllocError>
-    ensures { OnOk result (page.new.file.items ≡ page.old.file.items ++ printed_zone (headed ATTRIBUTES (decimal count))) }
+    ensures { OnOk result (page.new.file.items ≡ page.old.file.items ++ printed_zone (headed ATTRIBUTE_COUNT (decimal count))) }
 {
     if count == 0 {
         return page.file.extend_from_slice(zone_of_none());
     }
-    write_number(page, ATTRIBUTES, count)
+    write_number(page, ATTRIBUTE_COUNT, count)
 }
 
 /// Writes the count of a link's ends. Nearly each link has two.
 fn write_end_count(page: &mut Page, count: usize) -> Result<(), AllocError>
-    ensures { OnOk result (page.new.file.items ≡ page.old.file.items ++ printed_zone (headed ENDS (decimal count))) }
+    ensures { OnOk result (page.new.file.items ≡ page.old.file.items ++ printed_zone (headed END_COUNT (decimal count))) }
 {
     if count == 2 {
         return page.file.extend_from_slice(zone_of_two());
     }
-    write_number(page, ENDS, count)
+    write_number(page, END_COUNT, count)
 }
 
 fn write_forward(page: &mut Page, points: &[Point]) -> Result<(), AllocError>
@@ -163,7 +139,7 @@ fn write_head(
 fn write_arc(page: &mut Page, points: &[Point], turned: bool) -> Result<(), AllocError>
     ensures { OnOk result (page.new.file.items ≡ page.old.file.items ++ printed (arc_body turned points.now)) }
 {
-    write_number(page, POINTS, points.len())?;
+    write_number(page, POINT_COUNT, points.len())?;
     if turned {
         write_backward(page, points)
     } else {

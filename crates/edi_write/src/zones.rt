@@ -4,24 +4,11 @@ ghost use Rattle.std.specs.Prelude.{◌≡◌, ℕ, List, ◌+◌, ◌<◌, ◌+
 ghost use Rattle.edi_line.specs.Printing.{line_text, printed_zone, zone_text};
 ghost use Rattle.edi_write.specs.inner.Heads.{headed};
 
+use crate::heads::{Head, NEXT};
 use std::alloc::AllocError;
 
 /// How many bytes of a value a line has at most.
 const LINE_ROOM: usize = 72;
-
-/// What stands before the length of a value.
-#[derive(Clone, Copy, Debug)]
-pub(crate) struct Head {
-    pub(crate) code: [u8; 3],
-    pub(crate) nature: u8,
-    pub(crate) format: u8,
-}
-
-const NEXT: Head = Head {
-    code: *b"NEX",
-    nature: b'T',
-    format: b' ',
-};
 
 /// Writes a line at the end.
 fn write_line(out: &mut Vec<u8>, head: Head, value: &[u8]) -> Result<(), AllocError>

@@ -1,8 +1,5 @@
 -- What is checked of a pairing, record by record.
 use Rattle.std.specs.Prelude.{◌≡◌, ℕ, ◌<◌, Bool, true, List, length, slice_index}
-use Rattle.std.specs.Ordering.{ordering_then, nat_cmp}
-use Rattle.std.specs.declared.cmp.Ordering.{Ordering}
-use Rattle.edi_record.specs.Orders.{text_cmp}
 use Rattle.edi_record.specs.declared.record.Kind.TheVariants.{Par}
 use Rattle.edi_schema.specs.Classes.{Classes, partner_of}
 use Rattle.edi_plan.specs.Plans.{Drawing, IsPlace, record_at}
@@ -43,7 +40,3 @@ pub record HasSameBody (m : Matching) (i : ℕ) : Type 0 where
 -- an end as it is compared
 abbrev pub placed_end : PlanEnd → MovedEnd
 placed_end e = record { target = e.target; sns = e.sns }
-
--- ends go by place, then SNS
-abbrev pub placed_end_cmp : MovedEnd → MovedEnd → Ordering
-placed_end_cmp a b = ordering_then (nat_cmp a.target b.target) (text_cmp a.sns b.sns)

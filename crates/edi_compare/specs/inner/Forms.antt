@@ -1,4 +1,4 @@
--- What is kept of an accepted sheet to compare it.
+-- What is stored of an accepted sheet to compare it.
 use Rattle.std.specs.Prelude.{ℕ, List}
 use Rattle.edi_schema.specs.Classes.{Classes}
 use Rattle.edi_plan.specs.Plans.{Drawing}
@@ -29,7 +29,7 @@ pub record HasForm (s : Classes) (b : List ℕ) (form : Form) : Type 0 where
   pub plan : IsPlanOfFile s b form.labelled.sound
   pub plan_form : IsPlanForm s form.labelled.sound form.labelled.labels form.file.items
 
--- what is kept of the form of a plan while that of another is made: its canonical file, and of its records what pairs them
+-- what is stored of the form of a plan while that of another is made: its canonical file, and of its records what pairs them
 pub record HasFirst (s : Classes) (p : Drawing) (f : FirstForm) : Type 0 where
   pub labels : Labelling
   pub plan_form : IsPlanForm s p labels f.file.items

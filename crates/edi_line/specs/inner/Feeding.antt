@@ -6,13 +6,13 @@ use Rattle.edi_line.specs.Spelling.{Reading}
 use Rattle.edi_line.specs.inner.Held.{Takes, Refuses}
 use Rattle.edi_line.specs.inner.Zones.{readings_of}
 use Rattle.edi_line.specs.declared.feed.Refusal.{Refusal}
-use Rattle.edi_line.specs.declared.feed.Refusal.TheVariants as kept
+use Rattle.edi_line.specs.declared.feed.Refusal.TheVariants as refusal
 use Rattle.edi_line.specs.declared.reading.Reader.{Reader}
 
 -- what a feed stores of its fault, as clauses see it
 abbrev pub refusal_seen : Refusal → Refused
-refusal_seen kept.Memory = ByMemory
-refusal_seen (kept.Broken rule at) = ByRule rule at
+refusal_seen refusal.Memory = ByMemory
+refusal_seen (refusal.Broken rule at) = ByRule rule at
 
 -- it took these lines one by one
 abbrev pub TakesAll : Reader → List Reading → Reader → Type 0

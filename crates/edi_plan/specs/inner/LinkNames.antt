@@ -2,7 +2,7 @@
 use Rattle.std.specs.Prelude.{◌≡◌, ◌≢◌, ℕ, ◌+◌, ◌-◌, ◌*◌, ◌%◌, ◌^◌, ◌<◌, ◌&&◌, true, nat_le, List, Some, slice_get, if◌then◌else◌}
 use Rattle.std.specs.List.{fold}
 use Rattle.edi_record.specs.declared.record.Record.{Record}
-use Rattle.edi_plan.specs.Plans.{is_link}
+use Rattle.edi_record.specs.Records.{is_link}
 
 -- the number with one more digit, or 0 behind any other byte
 abbrev pub with_digit : ℕ → ℕ → ℕ

@@ -9,7 +9,7 @@ use Rattle.edi_record.specs.declared.record.Kind.{Kind}
 use Rattle.edi_record.specs.declared.record.Record.{Record}
 use Rattle.edi_schema.specs.Classes.{is_name}
 use Rattle.edi_plan.specs.PlanOf.{own_name, place_named}
-use Rattle.edi_plan.specs.Plans.{is_link}
+use Rattle.edi_record.specs.Records.{is_link}
 use Rattle.edi_plan.specs.declared.names.RecordName.{RecordName}
 use Rattle.edi_plan.specs.declared.names.Names.{Names}
 

@@ -12,7 +12,8 @@ use Rattle.edi_schema.specs.declared.role.Role.{Role}
 use Rattle.edi_schema.specs.declared.role.Role.TheVariants.{Plain}
 use Rattle.edi_plan.specs.inner.Names.{IsFirstRepeatIfAny}
 use Rattle.edi_plan.specs.PlanOf.{StatesPlanAttribute}
-use Rattle.edi_plan.specs.Plans.{first_of, is_link}
+use Rattle.edi_record.specs.Records.{is_link}
+use Rattle.edi_plan.specs.Plans.{first_of}
 use Rattle.edi_plan.specs.inner.SideTable.{link_tests}
 use Rattle.edi_plan.specs.inner.Targets.{AreTargets}
 use Rattle.edi_plan.specs.declared.fault.Unresolved.{Unresolved}

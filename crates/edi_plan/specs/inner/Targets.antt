@@ -8,7 +8,7 @@ use Rattle.edi_record.specs.declared.record.Kind.{Kind}
 use Rattle.edi_record.specs.declared.record.Kind.TheVariants.{Pno, Par, Pfe, Fea}
 use Rattle.edi_record.specs.declared.record.Record.{Record}
 use Rattle.edi_plan.specs.PlanOf.{own_name, place_named}
-use Rattle.edi_plan.specs.Plans.{is_link}
+use Rattle.edi_record.specs.Records.{is_link}
 use Rattle.edi_plan.specs.declared.targets.Target.{Target}
 
 -- the type of node, arc, face or object that a code names

@@ -3,7 +3,7 @@ use Rattle.std.specs.Prelude.{◌≡◌, ℕ, ◌+◌, Bool, true, false, not, �
 use Rattle.std.specs.List.{list_any, before_first}
 use Rattle.edi_line.specs.Entry.{Entry, has_code, first}
 use Rattle.edi_line.specs.Zones.{groups_of}
-use Rattle.edi_line.specs.Refusal.{Test, test, Breaks}
+use Rattle.edi_line.specs.Refusal.{Test, test, BreaksTest}
 use Rattle.edi_record.specs.inner.Texts.{pointer, point, count}
 use Rattle.edi_record.specs.Records.{values, has_points, is_link, opens, closes, points_at}
 use Rattle.edi_record.specs.inner.Records.{Placed, placed, is_extra}
@@ -132,4 +132,4 @@ pub record FailsTest (zones : List Entry) (rule place : ℕ) : Type 0 where
   pub after : List (List Entry)
   pub cut : groups_of zones ≡ before ++ group ∷ after
   pub place_is : place ≡ length before + 1
-  pub breaks : Breaks (record_tests group) rule
+  pub breaks : BreaksTest (record_tests group) rule

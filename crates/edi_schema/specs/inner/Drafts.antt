@@ -1,5 +1,5 @@
 -- What single records of a schema's files say.
-use Rattle.std.specs.Prelude.{ℕ, Bool, List, [], Option, Some, None, codes, option_map, option_and_then, unwrap_or, find}
+use Rattle.std.specs.Prelude.{ℕ, Bool, List, [], ◌∷◌, Option, Some, None, codes, option_map, option_and_then, unwrap_or, find}
 use Rattle.edi_line.specs.Entry.{Entry}
 use Rattle.edi_record.specs.declared.name.Name.{Name}
 use Rattle.edi_record.specs.Records.{values, first}
@@ -7,11 +7,15 @@ use Rattle.edi_record.specs.RecordRules.{has_no_identifier}
 use Rattle.edi_record.specs.inner.Texts.{class_of}
 use Rattle.edi_schema.specs.Roles.{KindCodes, role_by}
 use Rattle.edi_schema.specs.Classes.{is_name}
-use Rattle.edi_schema.specs.SchemaOf.{letter_of, is_number_type}
+use Rattle.edi_schema.specs.SchemaOf.{letter_read, is_number_type}
 use Rattle.edi_schema.specs.declared.class.Class.{Class}
 use Rattle.edi_schema.specs.declared.title.Title.{Title}
 use Rattle.edi_schema.specs.declared.definition.Definition.{Definition}
 use Rattle.edi_schema.specs.declared.draft.Draft.{Draft}
+
+-- the two parts of a name
+abbrev pub name_parts : Name → List (List ℕ)
+name_parts name = name.rty ∷ name.rid ∷ []
 
 -- the value of the first zone with a code, or nothing
 abbrev pub text_in : List ℕ → List Entry → List ℕ
@@ -65,7 +69,7 @@ type_by words (Some text) = option_map (λ word. word.word_type) (word_in words 
 abbrev pub class_by : KindCodes → Said → Option (List ℕ) → Class
 class_by kinds s word_type = record {
   role = role_by kinds s.kind s.name.rid;
-  letter = letter_of word_type;
+  letter = letter_read word_type;
   is_number = is_number_type word_type;
 }
 

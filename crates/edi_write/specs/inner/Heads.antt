@@ -2,7 +2,7 @@
 use Rattle.std.specs.Prelude.{ℕ, List}
 use Rattle.edi_line.specs.Entry.{Entry}
 use Rattle.edi_line.specs.Printing.{zone_text}
-use Rattle.edi_write.specs.declared.zones.Head.{Head}
+use Rattle.edi_write.specs.declared.heads.Head.{Head}
 
 abbrev pub headed : Head → List ℕ → Entry
 headed head value = zone_text head.code head.nature head.format value

@@ -1,5 +1,5 @@
 use Rattle.std.proofs.Common.{◌∙◌, sym, subst}
-use Rattle.edi_compare.specs.Pairings.{IsFirstDifference}
+use Rattle.edi_compare.specs.Verdicts.{IsFirstDifference}
 use Rattle.edi_compare.proofs.Compared.{different, counts, paired_same}
 use Rattle.edi_compare.proofs.comparing.verdict_of.Goals as goal
 

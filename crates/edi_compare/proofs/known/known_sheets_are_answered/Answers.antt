@@ -1,8 +1,11 @@
-use Rattle.edi_compare.proofs.KnownSheets.{sheet_accepted, node_form, empty_accepted, empty_form, sheets_differ, nothing_refused}
+use Rattle.edi_compare.proofs.KnownSheets.{sheet_accepted, states_node, node_form, empty_accepted, empty_form, sheets_differ, nothing_refused}
 use Rattle.edi_compare.proofs.known.known_sheets_are_answered.Goals as goal
 
 pub returns-clause-accepted : goal.returns-clause-accepted
 returns-clause-accepted c = sheet_accepted
+
+pub returns-clause-plan : goal.returns-clause-plan
+returns-clause-plan c = states_node
 
 pub returns-clause-canonical : goal.returns-clause-canonical
 returns-clause-canonical c = node_form.canonical

@@ -4,8 +4,8 @@ use Rattle.std.proofs.lemmas.Slice.Eq.{slice_eq-Decides}
 use Rattle.edi_schema.specs.Sorted.{sort_by}
 use Rattle.edi_schema.proofs.SortedLists.{sorted_is}
 use Rattle.edi_rank.specs.Same.{moved}
-use Rattle.edi_compare.specs.inner.Checking.{placed_end, placed_end_cmp}
-use Rattle.edi_compare.proofs.Placed.{placed_order, placed_total, placed_exact, placed_decided, placed_permuted, placed_in_order, placed_moved}
+use Rattle.edi_compare.specs.inner.Checking.{placed_end}
+use Rattle.edi_compare.proofs.Placed.{placed_order, placed_total, placed_exact, placed_decided, placed_permuted, placed_in_order, placed_moved, placed_end_cmp}
 use Rattle.edi_compare.proofs.moved_ends.same_in_order.Goals as goal
 
 pub returns : goal.returns

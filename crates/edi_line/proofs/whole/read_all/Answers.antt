@@ -3,7 +3,7 @@ use Rattle.std.proofs.lemmas.List.{length-take-le}
 use Rattle.edi_line.proofs.DeviceLemmas.{Consumes-append}
 use Rattle.edi_line.proofs.whole.read_all.Goals as goal
 
--- what was kept, and the piece that is too much
+-- what was stored, and the piece that is too much
 pub returns-then-limit-len-clause-too_long : goal.returns-then-limit-len-clause-too_long
 returns-then-limit-len-clause-too_long g c =
     let bytes = c.loop-bytes.bytes in

@@ -1,7 +1,6 @@
 use Rattle.std.proofs.Common.{flat_map, take}
 use Rattle.edi_hash.specs.Keys.{Holds}
-use Rattle.edi_schema.specs.Classes.{name_parts}
-use Rattle.edi_schema.specs.inner.Drafts.{drafted}
+use Rattle.edi_schema.specs.inner.Drafts.{drafted, name_parts}
 use Rattle.edi_schema.proofs.sorting.hash_of.Given as goal
 
 abbrev pub invariant-loop-draft : goal.invariant-loop-draft

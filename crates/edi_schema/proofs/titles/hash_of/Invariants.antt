@@ -1,7 +1,6 @@
 use Rattle.std.proofs.Common.{flat_map, take}
 use Rattle.edi_hash.specs.Keys.{Holds}
-use Rattle.edi_schema.specs.Classes.{name_parts}
-use Rattle.edi_schema.specs.inner.Drafts.{said}
+use Rattle.edi_schema.specs.inner.Drafts.{said, name_parts}
 use Rattle.edi_schema.proofs.titles.hash_of.Given as goal
 
 abbrev pub invariant-loop-record : goal.invariant-loop-record

@@ -1,7 +1,7 @@
 use Rattle.std.proofs.Common.{◌≡◌, ◌∙◌, ◌&&◌, true, false, refl, sym, ap, length, is_some, codes, bytes_eq}
 use Rattle.edi_line.specs.Entry.{entry}
 use Rattle.edi_record.specs.Records.{values}
-use Rattle.edi_record.specs.declared.role.Role.TheVariants.{Identifier, Class, AttributeCount, AttributeClass, AttributeSet, AttributeValue, BodyCount, Place, EndPointer, EndSense, Skipped, Unknown}
+use Rattle.edi_record.specs.declared.role.Role.TheVariants.{Identifier, Class, AttributeCount, AttributeClass, AttributeSet, AttributeValue, BodyCount, Position, EndPointer, EndSense, Skipped, Unknown}
 use Rattle.edi_record.proofs.RecordStored.{text_taken, count_taken, others, has, no_set, extras_stay, extras_move, extras_beside_set, set_is_extra, extra_kept, body_count_taken, skipped, unknown_taken}
 use Rattle.edi_record.proofs.Roles.{code_of, place_known, link_known, no_link}
 use Rattle.edi_record.proofs.draft.Draft.take.Goals as goal
@@ -147,11 +147,11 @@ returns-in_ok-take-in-AttributeSet-2-clause-keeps c = λ left group h.
       extras = extra_kept (codes "TEX") d c.take-in-AttributeSet-2.new.self z left group is refl refl (set_is_extra d.kind (is_some d.attributes.opened) z is none) c.in_ok-take-in-AttributeSet-2.ensures h.extras;
     }
 
-pub returns-in_ok-take-in-Place-clause-keeps : goal.returns-in_ok-take-in-Place-clause-keeps
-returns-in_ok-take-in-Place-clause-keeps c = λ left group h.
+pub returns-in_ok-take-in-Position-clause-keeps : goal.returns-in_ok-take-in-Position-clause-keeps
+returns-in_ok-take-in-Position-clause-keeps c = λ left group h.
     let d = c.args.self.now in
     let z = entry c.args.zone.now in
-    let place = code_of d.kind z.code Place c.in-Place.ensures in
+    let place = code_of d.kind z.code Position c.in-Position.ensures in
     let is : z.code ≡ codes "COR" = place.1 in
     let o = others (codes "COR") d z left group is h in
     record {
@@ -163,7 +163,7 @@ returns-in_ok-take-in-Place-clause-keeps c = λ left group h.
       counted_points = λ k. count_taken (codes "COR") d.counted (length (values (codes "COR") group)) z left (has (codes "COR") z is) (h.counted_points k);
       counted_ends = λ k. absurd (no_link d.kind place.0 k);
       attributes = o.attributes refl refl (no_set d);
-      points = λ k. c.in_ok-take-in-Place.ensures z left group (has (codes "COR") z is) (sym c.as_slice-text.ensures.value) (h.points k);
+      points = λ k. c.in_ok-take-in-Position.ensures z left group (has (codes "COR") z is) (sym c.as_slice-text.ensures.value) (h.points k);
       ends = o.ends refl refl;
       extras = extras_stay (codes "COR") d z left group is refl refl (o.extras (place_known d.kind place.0));
     }

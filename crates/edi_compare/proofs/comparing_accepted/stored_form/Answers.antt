@@ -1,7 +1,7 @@
 use Rattle.std.proofs.Common.{◌∙◌, subst}
 use Rattle.edi_plan.specs.Plans.{Drawing}
 use Rattle.edi_compare.specs.Namesakes.{IsNumbered}
-use Rattle.edi_compare.proofs.comparing_accepted.kept_form.Goals as goal
+use Rattle.edi_compare.proofs.comparing_accepted.stored_form.Goals as goal
 
 pub returns : goal.returns
 returns c = record {

@@ -4,20 +4,20 @@ use Rattle.edi_compare.specs.Faults.{of_record}
 use Rattle.edi_compare.specs.Refused.{IsRefusal}
 use Rattle.edi_compare.proofs.Phases.{all_held}
 use Rattle.edi_compare.proofs.Refusals.{err_kept, rank_fault}
-use Rattle.edi_compare.proofs.accepted.accept_from.Goals as goal
+use Rattle.edi_compare.proofs.accepted.accept_beside.Goals as goal
 
 pub returns-in_err-tell_objects_apart-clause-refusal : goal.returns-in_err-tell_objects_apart-clause-refusal
-returns-in_err-tell_objects_apart-clause-refusal c =
+returns-in_err-tell_objects_apart-clause-refusal g c =
     let s = c.args.schema.now in let b = (cow_slice_items c.args.bytes) in let f = c.in_err-tell_objects_apart.field-0.0 in
     err_kept _ (of_record f) (IsRefusal s b) c.from_residual-in_err-tell_objects_apart.ensures.1
     (rank_fault s b c.in_ok-sound.ensures.held c.in_ok-sound.sound c.in_ok-sound.ensures.plan f c.in_err-tell_objects_apart.ensures.least)
 
 pub returns-clause-accepted : goal.returns-clause-accepted
-returns-clause-accepted c =
+returns-clause-accepted g c =
     all_held c.args.schema.now (cow_slice_items c.args.bytes) c.in_ok-sound.ensures.held c.in_ok-sound.sound c.in_ok-sound.ensures.plan c.in_ok-tell_objects_apart.ensures.distinct
 
 pub returns-clause-held : goal.returns-clause-held
-returns-clause-held c =
+returns-clause-held g c =
     let s = c.args.schema.now in let b = (cow_slice_items c.args.bytes) in (
       b,
       subst (λ bytes. length bytes < 2 ^ 64) c.as_slice.ensures.value c.hold_bytes.ensures.short,
