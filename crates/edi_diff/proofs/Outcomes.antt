@@ -32,7 +32,7 @@ pub fits : (first second : LocatedSheet) (unchanged became : Matching) (parts : 
 fits first second unchanged became parts here there long are = record {
   first_sites = here;
   second_sites = there;
-  all_kept = long;
+  all_unchanged = long;
   all_became = are.all_entered;
   within = are.within;
 }

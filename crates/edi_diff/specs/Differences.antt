@@ -48,5 +48,5 @@ pub record AreFindings (s : Classes) (a b : List ℕ) (brief : Bool) (found : Fi
   pub differs : IsDifference s a b brief found.difference
   pub by_first : differs.first ≡ found.first
   pub by_second : differs.second ≡ found.second
-  pub by_kept : differs.unchanged ≡ found.unchanged
+  pub by_unchanged : differs.unchanged ≡ found.unchanged
   pub by_became : differs.is_text.became ≡ found.became

@@ -50,7 +50,7 @@ pub(crate) fn parts_of(
     compared.all_parts(alloc)
 }
 
-/// Two plans, what is kept of the first and what became of it. The targets have 0 for a record that became nothing.
+/// Two plans, what is unchanged of the first and what became of it. The targets have 0 for a record that became nothing.
 #[derive(Drop)]
 struct Compared<'a> {
     schema: &'a Schema,
@@ -73,7 +73,7 @@ impl<'a> Model for Compared<'a> {
 }
 
 impl<'a> Compared<'a> {
-    /// The parts of each record, none for one that is kept or became nothing.
+    /// The parts of each record, none for one that is unchanged or became nothing.
     fn all_parts(&self, alloc: Global) -> Result<Vec<Parts>, AllocError>
         ensures { IfOk result (λ parts. (i j : ℕ) → ¬ (IsMatched self.now.unchanged i) → GoesTo self.now.to i j
             → AreParts self.now.classes (became self.now) i (record_at self.now.plan i) (record_at self.now.other j) (parts_at parts.items i)) }

@@ -7,12 +7,11 @@ ghost use Rattle.edi_compare.specs.PlanOfFile.{IsPlanOfFile};
 ghost use Rattle.edi_compare.specs.Refused.{IsRefusal};
 ghost use Rattle.edi_compare.specs.Rules.{IsAccepted};
 ghost use Rattle.edi_plan.specs.Places.{places_of};
-ghost use Rattle.edi_schema.specs.Classes.{Classes};
 ghost use Rattle.edi_diff.specs.Reports.{HasSites};
 ghost use Rattle.edi_diff.specs.Sites.{AreSitesOf};
 
-use crate::site::{Site, sites};
-use edi_compare::{Accepted, Fault, accept_from, line_refused};
+use crate::site::{Site, SiteList};
+use edi_compare::{Accepted, Fault, accept_beside};
 use edi_line::Sequence;
 use edi_record::Kind;
 use edi_schema::Schema;
@@ -37,7 +36,7 @@ impl LocatedSheet {
 }
 
 /// The plan of a sheet under a schema, and the sites of its records, if no rule is broken; or the refusal that
-/// `edi_compare::accept` gives. The file is read twice, so that its values are not in memory beside the plan.
+/// `edi_compare::accept` gives.
 pub fn locate(alloc: Global, schema: &Schema, bytes: &[u8]) -> Result<LocatedSheet, Fault>
     ensures accepted { OnOk result (IsAccepted schema.now bytes.now) }
     ensures plan { IfOk result (λ sheet. IsPlanOfFile schema.now bytes.now sheet.accepted) }
@@ -63,21 +62,9 @@ pub fn locate_from(
     ensures all { IfOk result HasSites }
     ensures refusal { IfErr result (IsRefusal schema.now (cow_slice_items bytes.entry)) }
 {
-    let sites = sites_of(alloc, bytes.as_slice())?;
-    let accepted = accept_from(alloc, schema, bytes)?;
+    let (accepted, sites) = accept_beside(alloc, schema, bytes, SiteList::new(alloc))?;
     Ok(LocatedSheet {
         accepted,
-        sites: Sequence::from_vec(sites),
+        sites: Sequence::from_vec(sites.list),
     })
-}
-
-/// The sites of the records of a file. Where its lines break a rule, a sheet is refused under any schema.
-fn sites_of(alloc: Global, bytes: &[u8]) -> Result<Vec<Site>, Fault>
-    ensures sites { IfOk result (λ sites. AreSitesOf bytes.now sites.items) }
-    ensures refusal { IfErr result (λ fault. (s : Classes) → IsRefusal s bytes.now fault) }
-{
-    match sites(alloc, bytes) {
-        Ok(sites) => Ok(sites),
-        Err(fault) => Err(line_refused(fault)),
-    }
 }

@@ -25,8 +25,19 @@ pub struct Site {
 
 /// The sites of the records that have come.
 #[derive(Drop)]
-struct SiteList {
-    list: Vec<Site>,
+pub(crate) struct SiteList {
+    pub(crate) list: Vec<Site>,
+}
+
+impl SiteList {
+    /// No sites, before the first record.
+    pub(crate) fn new(alloc: Global) -> SiteList
+        ensures { result.list.items ≡ [] }
+    {
+        SiteList {
+            list: Vec::new(alloc),
+        }
+    }
 }
 
 impl GroupOut for SiteList {
@@ -63,9 +74,7 @@ pub fn sites(alloc: Global, bytes: &[u8]) -> Result<Vec<Site>, LineFault>
     ensures sound { OnOk result (IsUnbroken (BreaksLineRule bytes.now)) }
     ensures least { IfErr result (IsLineRefusal (BreaksLineRule bytes.now)) }
 {
-    let mut sites = SiteList {
-        list: Vec::new(alloc),
-    };
+    let mut sites = SiteList::new(alloc);
     read_groups(alloc, bytes, &mut sites)?;
     Ok(sites.list)
 }

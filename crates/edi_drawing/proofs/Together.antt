@@ -21,4 +21,4 @@ drawn_by s a b brief found picture are drawn = record {
     all =
         ap (λ x. marked_sheets x are.differs.second are.differs.unchanged are.differs.is_text.became) are.by_first
         ∙ (ap (λ x. marked_sheets found.first x are.differs.unchanged are.differs.is_text.became) are.by_second
-        ∙ (ap (λ x. marked_sheets found.first found.second x are.differs.is_text.became) are.by_kept ∙ ap (λ x. marked_sheets found.first found.second found.unchanged x) are.by_became))
+        ∙ (ap (λ x. marked_sheets found.first found.second x are.differs.is_text.became) are.by_unchanged ∙ ap (λ x. marked_sheets found.first found.second found.unchanged x) are.by_became))

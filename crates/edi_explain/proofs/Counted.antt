@@ -6,7 +6,7 @@ use Rattle.edi_line.proofs.Heads.{read_103}
 use Rattle.edi_line.proofs.Readings.{rule_read}
 use Rattle.edi_line.specs.LineRules.{BreaksHere, BreaksIn, BreaksLineRule, line_tests}
 use Rattle.edi_line.specs.Lines.{content_of}
-use Rattle.edi_line.specs.Refusal.{Breaks, IsLeastBroken}
+use Rattle.edi_line.specs.Refusal.{BreaksTest, IsLeastBroken}
 use Rattle.edi_line.specs.Spelling.{HasMore, Reading}
 use Rattle.edi_line.specs.inner.Lines.{contents_of, lines_of}
 use Rattle.edi_line.specs.inner.Spelling.{reading_of}
@@ -19,7 +19,7 @@ own_rule : (before : List Reading) (line : Reading) → BreaksHere before line 1
 own_rule before line (inl e) = e
 own_rule before line (inr h) = absurd (go h)
   where
-    go : Breaks (line_tests before line) 103 → ⊥
+    go : BreaksTest (line_tests before line) 103 → ⊥
     go (inl h) = omega (arith, h.0)
     go (inr (inl h)) = omega (arith, h.0)
     go (inr (inr (inl h))) = omega (arith, h.0)

@@ -1,4 +1,4 @@
--- The first object alike another.
+-- The first object equal to another.
 use Rattle.std.proofs.Common.{◌≡◌, ◌∙◌, ◌+◌, ◌<◌, ◌≤◌, ◌⊎◌, inl, inr, ℕ, length, get_or, sym, ap, subst, arith, Contains}
 use Rattle.std.proofs.lemmas.Bool.{cases_order}
 use Rattle.std.proofs.lemmas.List.{get_or-map}
@@ -19,7 +19,7 @@ use Rattle.edi_explain.specs.Partners.{IsEqualObject, IsLeast}
 abbrev pub object_place : Drawing → ℕ → ℕ
 object_place p i = get_or (places_of Fea p) i 0
 
--- an object that is alike is among the objects
+-- an object that another is equal to is among the objects
 pub no_such_object : (p : Drawing) (place : ℕ) → ¬ (Contains (places_of Fea p) place) → (k : ℕ) → ¬ (IsEqualObject p place k)
 no_such_object p place none k h =
     let at = has_place Fea p place h.1.second h.1.second_object in
@@ -29,7 +29,7 @@ module _ (p : Drawing) (whole : IsWhole p) (l : ObjectSource) (keyed : AreKeyed 
   key_is : (i : ℕ) → i < length (places_of Fea p) → object_key_at l (object_place p i) ≡ object_key p keyed.number (object_place p i)
   key_is i h = sym (get_or-map (object_key_at l) (places_of Fea p) i 0 no_object h) ∙ (ap (λ ks. get_or ks i no_object) keyed.keys ∙ get_or-map (object_key p keyed.number) (places_of Fea p) i 0 no_object h)
 
-  -- no object of the first is alike this one
+  -- none of the first objects is equal to this one
   abbrev pub NoneEqual : ℕ → Type 0
   NoneEqual n = (i : ℕ) → i < n → ¬ (AreEqualObjects p (object_place p i) (object_place p member))
 
@@ -39,8 +39,8 @@ module _ (p : Drawing) (whole : IsWhole p) (l : ObjectSource) (keyed : AreKeyed 
       one_key_equal p keyed.number whole keyed.apart (object_place p i) (object_place p member) (place_there Fea p i within) (place_there Fea p member there)
       (place_of_kind Fea p i within) (place_of_kind Fea p member there) (sym (key_is i within) ∙ (e ∙ key_is member there))
 
-  pub key_of_alike : (i : ℕ) → i < member → AreEqualObjects p (object_place p i) (object_place p member) → object_key_at l (object_place p i) ≡ object_key_at l (object_place p member)
-  key_of_alike i less d = key_is i (omega (arith, less, there)) ∙ (equal_one_key p keyed.number (object_place p i) (object_place p member) d ∙ sym (key_is member there))
+  pub key_of_equal : (i : ℕ) → i < member → AreEqualObjects p (object_place p i) (object_place p member) → object_key_at l (object_place p i) ≡ object_key_at l (object_place p member)
+  key_of_equal i less d = key_is i (omega (arith, less, there)) ∙ (equal_one_key p keyed.number (object_place p i) (object_place p member) d ∙ sym (key_is member there))
 
   pub more_not_equal : (n : ℕ) → NoneEqual n → ¬ (AreEqualObjects p (object_place p n) (object_place p member)) → (i : ℕ) → i < n + 1 → ¬ (AreEqualObjects p (object_place p i) (object_place p member))
   more_not_equal n before not i less d = go (cases_order n i)
@@ -50,7 +50,7 @@ module _ (p : Drawing) (whole : IsWhole p) (l : ObjectSource) (keyed : AreKeyed 
       go (inr (inl past)) = omega (arith, less, past)
       go (inr (inr earlier)) = before i earlier d
 
-  -- which of the objects an alike one is
+  -- which of the objects an equal one is
   equal_member : (k : ℕ) → IsEqualObject p (object_place p member) k → (i : ℕ) × (i < member) × (object_place p i ≡ k)
   equal_member k h =
       let at = has_place Fea p k h.1.first h.1.first_object in

@@ -1,5 +1,5 @@
 -- The part that a file is by its first line of a type.
-use Rattle.std.proofs.Common.{◌≡◌, ◌∙◌, ◌<◌, ◌≤◌, ◌⊎◌, inl, inr, ◌++◌, ◌∷◌, ℕ, Bool, true, false, cond, List, [], Option, Some, None, MatchOption, length, take, drop, refl, sym, ap, subst, arith, codes, bytes_eq, nat_eq}
+use Rattle.std.proofs.Common.{◌≡◌, ◌∙◌, ◌<◌, ◌≤◌, ◌⊎◌, inl, inr, ◌++◌, ◌∷◌, ℕ, Bool, true, false, cond, List, [], Option, Some, None, MatchOption, length, take, drop, refl, sym, ap, subst, arith, codes, bytes_eq, nat_eq, if◌then◌else◌}
 use Rattle.std.specs.List.{AllByRecursion, starts_with}
 use Rattle.std.proofs.lemmas.Bool.{cases_lt, false_from_ne_true}
 use Rattle.std.proofs.lemmas.List.{length-take-le, take-append-drop, take_at, take_all}
@@ -7,8 +7,12 @@ use Rattle.std.proofs.lemmas.Slice.Eq.{bytes_eq-Decides}
 use Rattle.edi_line.proofs.Cut.{lines_exist, lines_unique}
 use Rattle.edi_line.specs.inner.Lines.{lines_of}
 use Rattle.edi_explain.specs.Hints.{IsPartAmong, IsPartIfAny, part_typed, type_head}
-use Rattle.edi_explain.specs.inner.Hints.{part_in}
 use Rattle.edi_explain.specs.declared.hints.Part.{Part}
+
+-- the part that the first line of a type is of
+abbrev pub part_in : List (List ℕ) → Option Part
+part_in [] = None
+part_in (line ∷ lines) = if starts_with nat_eq line type_head then part_typed (take 3 (drop 8 line)) else part_in lines
 
 -- only three bytes are a type
 no_type : (value : List ℕ) → length value < 3 → part_typed value ≡ None

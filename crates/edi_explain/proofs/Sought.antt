@@ -1,5 +1,5 @@
 -- What was found when all groups have come.
-use Rattle.std.proofs.Common.{◌≡◌, ◌+◌, ◌-◌, ◌≤◌, ℕ, suc, zero, List, ◌∷◌, length, Option, Some, None, MatchOption, ap, subst, arith, refl}
+use Rattle.std.proofs.Common.{◌≡◌, ◌+◌, ◌-◌, ◌≤◌, ℕ, suc, zero, List, [], ◌∷◌, length, replicate, Option, Some, None, MatchOption, ap, subst, arith, refl}
 use Rattle.std.proofs.lemmas.Option.{slice_get_within}
 use Rattle.std.specs.Option.{SomeIff}
 use Rattle.edi_line.specs.Entry.{Entry}
@@ -9,7 +9,14 @@ use Rattle.edi_explain.specs.Sites.{IsSiteIfAny}
 use Rattle.edi_explain.specs.declared.seeking.SoughtSite.{SoughtSite}
 use Rattle.edi_explain.specs.declared.seeking.SoughtSites.{SoughtSites}
 use Rattle.edi_explain.specs.declared.site.RecordSite.{RecordSite}
-use Rattle.edi_explain.specs.inner.Seeking.{AreSought, IsSought, IsSiteAmong, number_of, so_many}
+use Rattle.edi_explain.specs.inner.Seeking.{AreSought, IsSought, IsSiteAmong, number_of}
+
+abbrev blank_zone : Entry
+blank_zone = record { line = 0; code = []; nature = 0; format = 0; value = [] }
+
+-- a group of so many zones
+abbrev pub so_many : ℕ → List Entry
+so_many number = replicate number blank_zone
 
 pub so_long : (n : ℕ) → length (so_many n) ≡ n
 so_long zero = refl

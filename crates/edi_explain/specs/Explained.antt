@@ -1,5 +1,6 @@
 -- What is said of a refusal, of a plan and of a rule.
 use Rattle.std.specs.Prelude.{◌≡◌, ◌↔◌, ◌++◌, ℕ, Bool, IsTrue, List, [], ◌∷◌, Option, Some, None, codes, decimal, count_by, true}
+use Rattle.edi_line.specs.Bytes.{line_feed}
 use Rattle.edi_line.specs.Number.{plain_text}
 use Rattle.edi_record.specs.declared.record.Kind.{Kind}
 use Rattle.edi_record.specs.declared.record.Kind.TheVariants.{Pno, Par, Pfe, Fea, Lnk}
@@ -52,11 +53,11 @@ ExplainsSchema scd dic scd_name dic_name schema.Kinds lines = (text : Option Rul
 
 -- a sentence behind words, as a line
 abbrev pub worded_line : List ℕ → List ℕ → List ℕ
-worded_line words sentence = words ++ sentence ++ 10 ∷ []
+worded_line words sentence = words ++ sentence ++ line_feed ∷ []
 
 -- how many records of a type a plan has, behind a word
 abbrev pub count_line : Drawing → List ℕ → Kind → List ℕ
-count_line p word kind = word ++ codes ": " ++ decimal (count_by (λ r. same_kind kind r.kind) p.list) ++ 10 ∷ []
+count_line p word kind = word ++ codes ": " ++ decimal (count_by (λ r. same_kind kind r.kind) p.list) ++ line_feed ∷ []
 
 abbrev pub count_lines : Drawing → List ℕ
 count_lines p = count_line p (codes "nodes") Pno ++ count_line p (codes "arcs") Par ++ count_line p (codes "faces") Pfe
@@ -64,7 +65,7 @@ count_lines p = count_line p (codes "nodes") Pno ++ count_line p (codes "arcs") 
 
 -- the least and the greatest of some coordinates, behind a word
 abbrev pub span_line : List ℕ → Span → List ℕ
-span_line word span = word ++ codes ": " ++ plain_text span.least ++ codes " to " ++ plain_text span.greatest ++ 10 ∷ []
+span_line word span = word ++ codes ": " ++ plain_text span.least ++ codes " to " ++ plain_text span.greatest ++ line_feed ∷ []
 
 abbrev pub extent_lines : Option Extent → List ℕ
 extent_lines (Some extent) = span_line (codes "x") extent.x ++ span_line (codes "y") extent.y

@@ -1,6 +1,7 @@
 -- The usual causes of a refusal that a file shows.
 use Rattle.std.specs.Prelude.{◌≡◌, ◌++◌, ◌||◌, ℕ, Bool, false, List, [], ◌∷◌, Option, Some, None, MatchOption, codes, length, nat_eq, bytes_eq, if◌then◌else◌}
 use Rattle.std.specs.List.{AllByRecursion, starts_with, ends_with}
+use Rattle.edi_line.specs.Bytes.{line_feed}
 use Rattle.edi_line.specs.Lines.{IsLinesOf}
 use Rattle.edi_explain.specs.declared.hints.Part.{Part}
 use Rattle.edi_explain.specs.declared.hints.Part.TheVariants.{Thf, Gen, Geo, Qal, Scd, Dic, Vec}
@@ -51,15 +52,23 @@ name_of Vec = codes "VEC"
 
 -- hint: FILE, and words
 abbrev pub hint_line : List ℕ → List ℕ → List ℕ
-hint_line name words = codes "hint: " ++ name ++ words ++ 10 ∷ []
+hint_line name words = codes "hint: " ++ name ++ words ++ line_feed ∷ []
 
--- it begins with a byte order mark, as UTF-8 has it
+-- the byte order mark, as UTF-8 has it
+abbrev pub byte_order_mark : List ℕ
+byte_order_mark = 239 ∷ 187 ∷ 191 ∷ []
+
+-- it begins with one
 abbrev pub mark_hint : List ℕ → List ℕ → List ℕ
-mark_hint name b = if starts_with nat_eq b (239 ∷ 187 ∷ 191 ∷ []) then hint_line name (codes " begins with a byte order mark, which has to go") else []
+mark_hint name b = if starts_with nat_eq b byte_order_mark then hint_line name (codes " begins with a byte order mark, which has to go") else []
 
--- it ends in a byte 0x1A
+-- the byte 0x1A, with which some systems end a text
+abbrev pub text_end : ℕ
+text_end = 26
+
+-- it ends in that byte
 abbrev pub end_hint : List ℕ → List ℕ → List ℕ
-end_hint name b = if ends_with nat_eq b (26 ∷ []) then hint_line name (codes " ends in a byte 0x1A, which has to go") else []
+end_hint name b = if ends_with nat_eq b (text_end ∷ []) then hint_line name (codes " ends in a byte 0x1A, which has to go") else []
 
 -- two parts are one
 abbrev pub same_part : Part → Part → Bool
@@ -69,7 +78,7 @@ same_part a b = bytes_eq (name_of a) (name_of b)
 abbrev pub part_hint : List ℕ → Part → Option Part → List ℕ
 part_hint name wanted None = []
 part_hint name wanted (Some part) = if same_part part wanted then []
-    else codes "hint: " ++ name ++ codes " is " ++ name_of part ++ codes " by its first record, and was given as " ++ name_of wanted ++ 10 ∷ []
+    else codes "hint: " ++ name ++ codes " is " ++ name_of part ++ codes " by its first record, and was given as " ++ name_of wanted ++ line_feed ∷ []
 
 -- the hints on a file in the place of a part
 abbrev pub AreHints : List ℕ → List ℕ → Part → List ℕ → Type 0

@@ -5,9 +5,16 @@ use Rattle.edi_line.specs.Lines.{IsLinesOf, content_of}
 use Rattle.edi_line.specs.Spelling.{IsHead, Spelling}
 use Rattle.edi_explain.specs.Hints.{hint_line}
 
--- a byte in which no character of UTF-8 begins, 80 to BF
+-- the first and the last byte in which no character of UTF-8 begins, 0x80 and 0xBF
+abbrev pub first_continuation : ℕ
+first_continuation = 128
+
+abbrev pub last_continuation : ℕ
+last_continuation = 191
+
+-- a byte in which no character of UTF-8 begins
 abbrev pub is_continuation : ℕ → Bool
-is_continuation c = nat_le 128 c && nat_le c 191
+is_continuation c = nat_le first_continuation c && nat_le c last_continuation
 
 -- how many characters bytes are as UTF-8
 abbrev pub character_count : List ℕ → ℕ

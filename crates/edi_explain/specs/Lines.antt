@@ -1,5 +1,6 @@
 -- The lines that say where something is refused and why.
 use Rattle.std.specs.Prelude.{◌++◌, ◌==◌, ℕ, List, [], ◌∷◌, Option, Some, None, codes, decimal, if◌then◌else◌}
+use Rattle.edi_line.specs.Bytes.{line_feed}
 use Rattle.edi_explain.specs.declared.refused.Refused.{Refused}
 use Rattle.edi_explain.specs.declared.site.RecordSite.{RecordSite}
 use Rattle.edi_explain.specs.declared.text.RuleText.{RuleText}
@@ -10,7 +11,7 @@ position_text name line = name ++ codes ":" ++ decimal line ++ codes ": "
 
 -- [RULE] behind a space, and the end of the line
 abbrev pub rule_mark : ℕ → List ℕ
-rule_mark rule = codes " [" ++ decimal rule ++ codes "]" ++ 10 ∷ []
+rule_mark rule = codes " [" ++ decimal rule ++ codes "]" ++ line_feed ∷ []
 
 -- FILE:LINE: sentence [RULE]
 abbrev pub line_line : List ℕ → ℕ → List ℕ → ℕ → List ℕ

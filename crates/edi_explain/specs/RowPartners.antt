@@ -1,12 +1,8 @@
 -- The earlier record of a schema's file that rule 602 speaks of.
-use Rattle.std.specs.Prelude.{◌≡◌, ℕ, ◌<◌, List, slice_get, Option, Some}
+use Rattle.std.specs.Prelude.{◌≡◌, ℕ, ◌<◌, List, slice_get, Some}
 use Rattle.edi_line.specs.Entry.{Entry}
 use Rattle.edi_record.specs.declared.name.Name.{Name}
 use Rattle.edi_schema.specs.SchemaOf.{IsNamed}
-
--- both texts are there and are one
-abbrev pub AreOne : Option (List ℕ) → Option (List ℕ) → Type 0
-AreOne first second = (text : List ℕ) × (first ≡ Some text) × (second ≡ Some text)
 
 -- the zones of two records have one name
 abbrev pub ShareName : List Entry → List Entry → Type 0

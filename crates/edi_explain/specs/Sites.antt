@@ -1,5 +1,5 @@
 -- Where the records of a file stand.
-use Rattle.std.specs.Prelude.{◌≡◌, ℕ, suc, List, [], ◌∷◌, Option, Some, MatchOption, codes, slice_get}
+use Rattle.std.specs.Prelude.{◌≡◌, ℕ, suc, List, ◌∷◌, Option, Some, MatchOption, codes, slice_get}
 use Rattle.edi_line.specs.Entry.{Entry, first}
 use Rattle.edi_line.specs.Zones.{groups_of}
 use Rattle.edi_record.specs.Records.{values}
@@ -25,7 +25,3 @@ pub record IsSiteOf (zones : List Entry) (number : ℕ) (site : RecordSite) : Ty
 -- where the record with this number stands, or the file has no such record
 abbrev pub IsSiteIfAny : List Entry → ℕ → Option RecordSite → Type 0
 IsSiteIfAny zones number found = MatchOption found ((site : RecordSite) → ¬ (IsSiteOf zones number site)) (IsSiteOf zones number)
-
--- the site of a group, which only an empty one lacks
-abbrev pub IsGroupSite : List Entry → Option RecordSite → Type 0
-IsGroupSite group found = MatchOption found (group ≡ []) (IsSiteOfGroup group)

@@ -1,5 +1,6 @@
 -- What the reader leaves out of a sheet.
 use Rattle.std.specs.Prelude.{◌≡◌, ◌++◌, ◌||◌, ℕ, Bool, List, [], ◌∷◌, codes, count_by, decimal, flat_map}
+use Rattle.edi_line.specs.Bytes.{line_feed}
 use Rattle.edi_line.specs.Entry.{Entry, has_code}
 use Rattle.edi_line.specs.LineKinds.{bears, is_remark}
 use Rattle.edi_line.specs.LineRules.{IsZonesOf}
@@ -28,7 +29,7 @@ HasRemarks b count = (readings : List Reading) × AreReadings b readings × (cou
 
 -- how many of something are left out
 abbrev pub left_out_line : List ℕ → ℕ → List ℕ
-left_out_line words count = words ++ codes " left out: " ++ decimal count ++ 10 ∷ []
+left_out_line words count = words ++ codes " left out: " ++ decimal count ++ line_feed ∷ []
 
 -- The lines on what an accepted sheet has beside its plan.
 abbrev pub DescribesSkipped : List ℕ → List ℕ → Type 0

@@ -1,8 +1,9 @@
 -- What the public contracts do not reach: how the code goes about it, and what private contracts and proofs need.
 pub mod Arcs
 pub mod Barring
-pub mod Hints
 pub mod Lengths
 pub mod Objects
 pub mod Repeats
+pub mod RowPartners
 pub mod Seeking
+pub mod Sites

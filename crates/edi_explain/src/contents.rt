@@ -1,6 +1,7 @@
 //! The lines of a file, and their contents.
 
 ghost use Rattle.std.specs.Prelude.{◌≡◌, ◌∷◌, ◌<◌, ◌-◌, ◌==◌, length, option_map, position, slice_get};
+ghost use Rattle.edi_line.specs.Bytes.{line_feed};
 ghost use Rattle.edi_line.specs.Lines.{content_of, without_last};
 ghost use Rattle.edi_line.specs.inner.Lines.{contents_of, lines_of};
 
@@ -16,8 +17,9 @@ pub(crate) fn first_line(bytes: &[u8]) -> (&[u8], &[u8])
     }
 }
 
+/// The place of the first line feed.
 fn feed_in(bytes: &[u8]) -> Option<usize>
-    ensures { result ≡ position (λ c. c == 10) bytes.now }
+    ensures { result ≡ position (λ c. c == line_feed) bytes.now }
 {
     bytes.iter().position(|c| *c == b'\n')
 }

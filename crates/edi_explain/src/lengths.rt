@@ -2,6 +2,7 @@
 
 ghost use Rattle.std.specs.Prelude.{◌≡◌, ◌↔◌, ◌++◌, ◌==◌, IsTrue, OnOk};
 ghost use Rattle.std.specs.List.{list_all};
+ghost use Rattle.edi_line.specs.Bytes.{space};
 ghost use Rattle.edi_line.specs.LineRules.{BreaksLineRule};
 ghost use Rattle.edi_line.specs.Refusal.{IsLeastBroken};
 ghost use Rattle.edi_line.specs.Spelling.{HasMore};
@@ -28,7 +29,7 @@ fn characters(bytes: &[u8]) -> usize
 
 /// Whether bytes are spaces alone.
 fn are_spaces(bytes: &[u8]) -> bool
-    ensures { result ≡ list_all (λ c. c == 32) bytes.now }
+    ensures { result ≡ list_all (λ c. c == space) bytes.now }
 {
     bytes.iter().all(|byte| *byte == b' ')
 }

@@ -4,7 +4,8 @@ ghost use Rattle.std.specs.Prelude.{◌↔◌, IsTrue, option_map};
 ghost use Rattle.edi_line.specs.Entry.{entries};
 ghost use Rattle.edi_line.specs.Zones.{groups_of};
 ghost use Rattle.edi_explain.specs.Partners.{IsLeastIfAny};
-ghost use Rattle.edi_explain.specs.RowPartners.{AreOne, ShareName, SharesRowName};
+ghost use Rattle.edi_explain.specs.RowPartners.{ShareName, SharesRowName};
+ghost use Rattle.edi_explain.specs.inner.RowPartners.{AreOne};
 
 use crate::site::group_of;
 use edi_line::Zone;

@@ -5,7 +5,8 @@ ghost use Rattle.edi_line.specs.Entry.{Entry, entries};
 ghost use Rattle.edi_line.specs.LineRules.{BreaksLineRule, IsZonesOf};
 ghost use Rattle.edi_line.specs.Refusal.{IsLineRefusal, IsUnbroken};
 ghost use Rattle.edi_line.specs.Zones.{groups_of};
-ghost use Rattle.edi_explain.specs.Sites.{IsGroupSite, IsSiteIfAny};
+ghost use Rattle.edi_explain.specs.Sites.{IsSiteIfAny};
+ghost use Rattle.edi_explain.specs.inner.Sites.{IsGroupSite};
 
 use crate::seeking::sites_in;
 use edi_line::{LineFault, Text, Zone};

@@ -5,3 +5,4 @@ pub mod Found
 pub mod SamePlans
 pub mod PartnersHold
 pub mod KnownMatchings
+pub mod Checksums

@@ -17,8 +17,8 @@ abbrev pub moved_node : Drawing
 moved_node = record { cse = None; list = node_at 3 ∷ node_at 1 ∷ [] }
 
 -- the first node is the second of the other plan
-abbrev pub kept_node : Matching
-kept_node = record { to = Some 1 ∷ None ∷ []; turned = false ∷ false ∷ [] }
+abbrev pub matched_node : Matching
+matched_node = record { to = Some 1 ∷ None ∷ []; turned = false ∷ false ∷ [] }
 
 -- and the second is the first
 abbrev pub both_nodes : Matching

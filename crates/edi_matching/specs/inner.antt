@@ -3,3 +3,4 @@ pub mod Proposals
 pub mod Marks
 pub mod Partners
 pub mod Same
+pub mod Checksums

@@ -2,6 +2,7 @@
 
 ghost use Rattle.std.specs.Prelude.{◌<◌, length};
 
+use crate::entries::by_contents;
 use crate::partners::same_record;
 use edi_plan::Plan;
 use edi_record::Kind;
@@ -66,8 +67,70 @@ fn add_same(
     Ok(())
 }
 
-/// Adds the objects with one key that hold the same, of lists in the order of their keys.
+/// Adds objects with one key that hold the same, of lists in the order of their keys.
 pub(crate) fn add_objects<K: Ord>(
+    alloc: Global,
+    plan: &Plan,
+    objects: &[(K, u32)],
+    other: &Plan,
+    others: &[(K, u32)],
+    to: &mut [Option<u32>],
+    taken: &mut [bool],
+) -> Result<(), AllocError> {
+    let mut at = 0;
+    for index in 0..objects.len() {
+        if starts_run(objects, index) {
+            let key = &objects[index].0;
+            at = first_from(others, at, key);
+            let run = run_with(objects, index, key);
+            let there = run_with(others, at, key);
+            add_run(alloc, plan, run, other, there, to, taken)?;
+        }
+    }
+    Ok(())
+}
+
+/// Whether the entry before this position, if there is one, has another key.
+fn starts_run<K: Ord>(pairs: &[(K, u32)], at: usize) -> bool
+    requires { at < length pairs.now }
+{
+    at == 0 || pairs[at - 1].0 != pairs[at].0
+}
+
+/// The entries from this position on, up to the first with another key.
+fn run_with<'a, K: Ord>(pairs: &'a [(K, u32)], from: usize, key: &K) -> &'a [(K, u32)] {
+    let rest = &pairs[from.min(pairs.len())..];
+    match rest.iter().position(|pair| pair.0 != *key) {
+        Some(end) => &rest[..end],
+        None => rest,
+    }
+}
+
+/// Adds objects of two lists that hold the same. Mostly there is one on either side.
+fn add_run<K>(
+    alloc: Global,
+    plan: &Plan,
+    objects: &[(K, u32)],
+    other: &Plan,
+    others: &[(K, u32)],
+    to: &mut [Option<u32>],
+    taken: &mut [bool],
+) -> Result<(), AllocError> {
+    match (objects, others) {
+        (_, []) => Ok(()),
+        ([one], [another]) => {
+            add_same(alloc, plan, Some(one.1), other, Some(another.1), to, taken)
+        }
+        _ => {
+            let objects = by_contents(alloc, plan, objects)?;
+            let others = by_contents(alloc, other, others)?;
+            add_in_order(alloc, plan, &objects, other, &others, to, taken)
+        }
+    }
+}
+
+/// Adds the objects with one key that hold the same, one after the other, of lists in the order of their keys.
+fn add_in_order<K: Ord>(
     alloc: Global,
     plan: &Plan,
     objects: &[(K, u32)],
@@ -124,15 +187,16 @@ fn is_lone<K: Ord>(pairs: &[(K, u32)], at: usize) -> bool
     !repeats && !repeated
 }
 
-/// Adds the links with one key, of lists in the order of their keys.
-pub(crate) fn add_links<K: Ord>(
-    links: &[(K, u32)],
-    others: &[(K, u32)],
+/// Adds the links with one key, of lists in the order of their keys, and lets the lists go.
+pub(crate) fn add_links<K: Ord + Drop>(
+    links: Vec<(K, u32)>,
+    others: Vec<(K, u32)>,
     to: &mut [Option<u32>],
     taken: &mut [bool],
 ) {
+    let others = others.as_slice();
     let mut at = 0;
-    for (key, place) in links {
+    for (key, place) in &links {
         at = first_from(others, at, key);
         if at < others.len() && others[at].0 == *key {
             add(to, taken, *place, others[at].1);

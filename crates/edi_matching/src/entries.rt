@@ -1,18 +1,34 @@
 //! Objects and links by keys that speak of the places where their ends go.
 
-ghost use Rattle.std.specs.Prelude.{◌≡◌, ◌<◌, length};
+ghost use Rattle.std.specs.Prelude.{◌≡◌, length};
 ghost use Rattle.edi_plan.specs.Plans.{IsPlace};
 ghost use Rattle.edi_compare.specs.Pairings.{HasClasses};
 
 use crate::added::target_of;
+use crate::plain_links::is_plain;
 use edi_line::{BorrowedList, ListOfBorrowed, Sequence};
-use edi_plan::{Plan, PlanEnd, sorted_attributes};
+use edi_plan::{Plan, PlanAttribute, PlanEnd, sorted_attributes};
 use edi_rank::{LinkKey, NumberedEnd, class_turned};
-use edi_record::Kind;
+use edi_record::{Extra, Kind};
 use edi_schema::{ClassRef, Schema};
 use std::alloc::{AllocError, Global};
 
-/// The links whose ends are all matched, in the order of what they hold after the reversals.
+/// What an object is found by: the class of a link that names it, and a matched record that this link names too.
+#[derive(Debug, Drop, PartialEq, Eq, PartialOrd, Ord)]
+pub(crate) struct Beside<'a> {
+    class: ClassRef,
+    end: NumberedEnd<'a>,
+}
+
+/// What a record holds beside its points and its ends.
+#[derive(Debug, Drop, PartialEq, Eq, PartialOrd, Ord)]
+pub(crate) struct Contents<'a> {
+    class: ClassRef,
+    attributes: ListOfBorrowed<'a, PlanAttribute>,
+    extras: BorrowedList<'a, Extra>,
+}
+
+/// The links that aren't plain and whose ends are all matched, in the order of what they hold after the reversals.
 pub(crate) fn links_by_key<'a>(
     alloc: Global,
     schema: &Schema,
@@ -24,11 +40,11 @@ pub(crate) fn links_by_key<'a>(
     requires long { length turned.now ≡ length plan.now.list }
 {
     let mut links = Vec::new(alloc);
-    for place in 0..plan.len() {
-        if plan.kind(place) == Kind::Lnk {
-            let class = class_turned(schema, plan, turned, place);
-            if let Some(ends) = ends_there(alloc, plan, to, plan.ends(place))? {
-                links.push((key_with(alloc, plan, place, class, ends)?, place))?;
+    for place in plan.places(Kind::Lnk) {
+        if *place < plan.len() && !is_plain(plan, *place) {
+            let class = class_turned(schema, plan, turned, *place);
+            if let Some(ends) = ends_there(alloc, plan, to, plan.ends(*place))? {
+                links.push((link_key(alloc, plan, *place, class, ends)?, *place))?;
             }
         }
     }
@@ -36,21 +52,21 @@ pub(crate) fn links_by_key<'a>(
     Ok(links)
 }
 
-/// The objects that aren't done, by their classes, attributes and extras, and a matched record that a link names beside
-/// them: one entry for each such end, in the order of these keys.
-pub(crate) fn objects_by_key<'a>(
+/// The objects that aren't done, by what they are found by: one entry for each matched record beside them, in the order
+/// of these keys.
+pub(crate) fn objects_beside<'a>(
     alloc: Global,
     plan: &'a Plan,
     to: &[Option<u32>],
     done: &[bool],
-) -> Result<Vec<(LinkKey<'a>, u32)>, AllocError> {
+) -> Result<Vec<(Beside<'a>, u32)>, AllocError> {
     let mut objects = Vec::new(alloc);
-    for place in 0..plan.len() {
-        if let Some(object) = object_among(plan, plan.ends(place))
-            && object < plan.len()
+    for place in plan.places(Kind::Lnk) {
+        if *place < plan.len()
+            && let Some(object) = object_among(plan, plan.ends(*place))
             && !is_done(done, object)
         {
-            push_beside(alloc, &mut objects, plan, to, object, place)?;
+            push_beside(&mut objects, plan, to, object, *place)?;
         }
     }
     objects.sort_unstable();
@@ -59,51 +75,70 @@ pub(crate) fn objects_by_key<'a>(
 
 /// Appends an object with each matched record that this link names.
 fn push_beside<'a>(
-    alloc: Global,
-    objects: &mut Vec<(LinkKey<'a>, u32)>,
+    objects: &mut Vec<(Beside<'a>, u32)>,
     plan: &'a Plan,
     to: &[Option<u32>],
     object: u32,
     link: u32,
 ) -> Result<(), AllocError>
-    requires object { IsPlace plan.now object }
-    requires link { IsPlace plan.now link }
+    requires { IsPlace plan.now link }
 {
+    let class = plan.scp(link);
     for end in plan.ends(link) {
-        if let Some(beside) = end_there(plan, to, end) {
-            let ends = alone(alloc, beside)?;
-            let key = key_with(alloc, plan, object, plan.scp(link), ends)?;
-            objects.push((key, object))?;
+        if let Some(end) = end_there(plan, to, end) {
+            objects.push((Beside { class, end }, object))?;
         }
     }
     Ok(())
 }
 
-/// The objects that aren't done, in the order of their classes, attributes and extras.
+/// The objects that aren't done, in the order of what they hold.
 pub(crate) fn objects_by_contents<'a>(
     alloc: Global,
     plan: &'a Plan,
     done: &[bool],
-) -> Result<Vec<(LinkKey<'a>, u32)>, AllocError> {
+) -> Result<Vec<(Contents<'a>, u32)>, AllocError> {
     let mut objects = Vec::new(alloc);
-    for place in 0..plan.len() {
-        if plan.kind(place) == Kind::Fea && !is_done(done, place) {
-            let key = key_with(alloc, plan, place, plan.scp(place), Vec::new(alloc))?;
-            objects.push((key, place))?;
+    for place in plan.places(Kind::Fea) {
+        if *place < plan.len() && !is_done(done, *place) {
+            objects.push((contents_at(alloc, plan, *place)?, *place))?;
         }
     }
     objects.sort_unstable();
     Ok(objects)
 }
 
-fn is_done(done: &[bool], place: u32) -> bool {
-    done.get(place as usize).copied().unwrap_or(false)
+/// The records of these entries, in the order of what they hold.
+pub(crate) fn by_contents<'a, K>(
+    alloc: Global,
+    plan: &'a Plan,
+    entries: &[(K, u32)],
+) -> Result<Vec<(Contents<'a>, u32)>, AllocError> {
+    let mut records = Vec::with_capacity(alloc, entries.len())?;
+    for entry in entries {
+        let place = entry.1;
+        if place < plan.len() {
+            records.push((contents_at(alloc, plan, place)?, place))?;
+        }
+    }
+    records.sort_unstable();
+    Ok(records)
 }
 
-fn alone(alloc: Global, end: NumberedEnd<'_>) -> Result<Vec<NumberedEnd<'_>>, AllocError> {
-    let mut ends = Vec::with_capacity(alloc, 1)?;
-    ends.push(end)?;
-    Ok(ends)
+/// What a record holds beside its points and its ends.
+fn contents_at(alloc: Global, plan: &Plan, place: u32) -> Result<Contents<'_>, AllocError>
+    requires { IsPlace plan.now place }
+{
+    let attributes = sorted_attributes(alloc, plan.attributes(place))?;
+    Ok(Contents {
+        class: plan.scp(place),
+        attributes: ListOfBorrowed::from_vec(attributes),
+        extras: BorrowedList::of(plan.extras(place)),
+    })
+}
+
+fn is_done(done: &[bool], place: u32) -> bool {
+    done.get(place as usize).copied().unwrap_or(false)
 }
 
 /// An object among these ends.
@@ -116,8 +151,8 @@ fn object_among(plan: &Plan, ends: &[PlanEnd]) -> Option<u32> {
     None
 }
 
-/// What a record holds, with this class and these ends.
-fn key_with<'a>(
+/// What a link holds, with this class and these ends.
+fn link_key<'a>(
     alloc: Global,
     plan: &'a Plan,
     place: u32,

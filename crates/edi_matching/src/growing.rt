@@ -5,18 +5,20 @@ ghost use Rattle.edi_plan.specs.Plans.{IsPlace};
 ghost use Rattle.edi_compare.specs.Pairings.{HasClasses};
 ghost use Rattle.edi_matching.specs.Matchings.{IsMatched, MatchingHolds};
 
-use crate::added::{add_faces, add_links, add_lone_objects, add_objects};
+use crate::added::{add_faces, add_links, add_lone_objects, add_objects, target_of};
 use crate::checking::check_matching;
-use crate::entries::{links_by_key, objects_by_contents, objects_by_key};
+use crate::entries::{links_by_key, objects_beside, objects_by_contents};
 use crate::matching::Matching;
+use crate::plain_links::plain_links;
 use edi_compare::Accepted;
 use edi_line::Sequence;
 use edi_plan::Plan;
+use edi_record::Kind;
 use edi_schema::Schema;
 use std::alloc::{AllocError, Global};
 
-/// How often objects are sought by what their links name beside them: by nodes, arcs and faces first, then by the objects
-/// that were found so, and then by those.
+/// How often objects are sought by what their links name beside them, at most: by nodes, arcs and faces first, then by the
+/// objects that were found so, and then by those.
 const ROUNDS: u32 = 3;
 
 /// A matching that matches what this one does, and more if that holds.
@@ -90,17 +92,50 @@ fn with_more(
     let itself = each_to_itself(alloc, other)?;
     let unturned = vec![in alloc; false; other.len() as usize]?;
     add_faces(alloc, plan, other, turned, &mut to, &mut taken)?;
-    for _ in 0..ROUNDS {
-        add_objects_beside(alloc, plan, other, &itself, &mut to, &mut taken)?;
-    }
+    add_objects_in_rounds(alloc, plan, other, &itself, &mut to, &mut taken)?;
     add_objects_by_contents(alloc, plan, other, &mut to, &mut taken)?;
+    let links = plain_links(alloc, schema, plan, &to, turned)?;
+    let others = plain_links(alloc, schema, other, &itself, &unturned)?;
+    add_links(links, others, &mut to, &mut taken);
     let links = links_by_key(alloc, schema, plan, &to, turned)?;
     let others = links_by_key(alloc, schema, other, &itself, &unturned)?;
-    add_links(&links, &others, &mut to, &mut taken);
+    add_links(links, others, &mut to, &mut taken);
     Ok(Matching {
         to: Sequence::from_vec(to),
         turned: Sequence::from_vec(copied(alloc, turned)?),
     })
+}
+
+/// Adds objects by the matched records that their links name beside them, until none is left or a round finds none.
+fn add_objects_in_rounds(
+    alloc: Global,
+    plan: &Plan,
+    other: &Plan,
+    itself: &[Option<u32>],
+    to: &mut [Option<u32>],
+    taken: &mut [bool],
+) -> Result<(), AllocError> {
+    let mut left = count_left(plan, to);
+    for _ in 0..ROUNDS {
+        if left == 0 {
+            return Ok(());
+        }
+        add_objects_beside(alloc, plan, other, itself, to, taken)?;
+        let still_left = count_left(plan, to);
+        if still_left == left {
+            return Ok(());
+        }
+        left = still_left;
+    }
+    Ok(())
+}
+
+/// How many objects aren't matched.
+fn count_left(plan: &Plan, to: &[Option<u32>]) -> usize {
+    let objects = plan.places(Kind::Fea).iter();
+    objects
+        .filter(|place| target_of(to, **place).is_none())
+        .count()
 }
 
 /// Adds objects by the matched records that their links name beside them.
@@ -113,8 +148,8 @@ fn add_objects_beside(
     taken: &mut [bool],
 ) -> Result<(), AllocError> {
     let done = matched_places(alloc, to)?;
-    let objects = objects_by_key(alloc, plan, to, &done)?;
-    let others = objects_by_key(alloc, other, itself, taken)?;
+    let objects = objects_beside(alloc, plan, to, &done)?;
+    let others = objects_beside(alloc, other, itself, taken)?;
     add_objects(alloc, plan, &objects, other, &others, to, taken)
 }
 

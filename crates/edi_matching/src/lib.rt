@@ -3,6 +3,7 @@
 
 mod added;
 pub mod checking;
+mod checksum;
 pub mod differing;
 mod entries;
 mod growing;
@@ -12,6 +13,7 @@ pub mod laws;
 pub mod matching;
 mod partners;
 pub mod places;
+mod plain_links;
 pub mod record;
 mod same;
 

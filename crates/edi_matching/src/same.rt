@@ -5,10 +5,14 @@ ghost use Rattle.edi_rank.specs.Labelling.{AreLabels};
 ghost use Rattle.edi_rank.specs.Same.{Same};
 ghost use Rattle.edi_compare.specs.Laws.{IsAcceptedPlan};
 ghost use Rattle.edi_compare.specs.Pairings.{PairingCarries};
+ghost use Rattle.edi_matching.specs.inner.Checksums.{HaveOneChecksum};
 ghost use Rattle.edi_matching.specs.inner.Same.{AreAsMany};
 
+use crate::checksum::plan_checksum;
+use edi_compare::contents::same_texts;
 use edi_compare::numbered::{numbered_records, paired};
 use edi_compare::{Accepted, Pairing, check_pairing};
+use edi_plan::Plan;
 use edi_rank::{Labels, RankFault};
 use edi_record::Kind;
 use edi_schema::Schema;
@@ -26,9 +30,22 @@ pub(crate) fn same_pairing(
     requires second { IsAcceptedPlan schema.now second.now }
     ensures { IfOk result (λ found. MatchOption found (¬ (Same schema.now first.now second.now)) (PairingCarries schema.now first.now second.now)) }
 {
+    schema.keeps();
+    let plan = first.sound().plan();
+    let other = second.sound().plan();
+    if !may_be_same(plan, other) {
+        return Ok(None);
+    }
     let labels = labels_of(alloc, schema, first.sound())?;
     let others = labels_of(alloc, schema, second.sound())?;
     pairing_by_labels(alloc, schema, first, second, labels, &others)
+}
+
+/// Whether two plans have one character set and one checksum, as they have if they are the same. Most that differ haven't.
+fn may_be_same(plan: &Plan, other: &Plan) -> bool
+    ensures { IsTrue result ↔ HaveOneChecksum plan.now other.now }
+{
+    same_texts(other.cse(), plan.cse()) && plan_checksum(other) == plan_checksum(plan)
 }
 
 /// The pairing by types and numbers, if it carries the plan of the one sheet onto that of the other.

@@ -3,7 +3,8 @@ use Rattle.std.proofs.Common.{◌≡◌, ℕ, List, Result, Ok, Err, IfOk, IfErr
 use Rattle.edi_schema.specs.Roles.{KindCodes}
 use Rattle.edi_compare.specs.Runs.{MatchFault, RefusesSchema, RefusesSecond, RefusesSheet, IfBothKnown, IfFourKnown, IfThreeKnown}
 use Rattle.edi_compare.proofs.FourKnown.{four_err}
-use Rattle.edi_pairing.specs.VerifyRuns.{FilesFault, MatchRun, RefusesFile, IfFiveKnown}
+use Rattle.edi_pairing.specs.VerifyRuns.{MatchRun, RefusesFile, IfFiveKnown}
+use Rattle.edi_pairing.specs.inner.VerifyRuns.{FilesFault}
 use Rattle.edi_pairing.specs.declared.fault.VerifyRunFault.{VerifyRunFault}
 use Rattle.edi_pairing.specs.declared.fault.VerifyRunFault.TheVariants.{Run, Pairing as OfPairing}
 

@@ -56,7 +56,7 @@ both true true h = (refl, refl)
 both true false h = cc
 both false b h = cc
 
--- two lent names that `==` holds equal are one name
+-- two borrowed names that `==` holds equal are one name
 pub eq_name : (a b : BorrowedName) → names.eq a b ≡ true → name_of a ≡ name_of b
 eq_name a b h =
     let parts = both (kinds.eq a.kind b.kind) (bytes_eq a.rid.now b.rid.now) h in

@@ -6,7 +6,7 @@ use Rattle.edi_rank.specs.Labelling.{turned_at}
 use Rattle.edi_pairing.specs.Names.{AreNames, name_at}
 use Rattle.edi_pairing.specs.PairingText.{head, line_at, line_of, first_lines, Pairs, States, Begins, IsFirstWrong}
 use Rattle.edi_pairing.specs.Laws.{TextsAreUnique}
-use Rattle.edi_pairing.specs.inner.Reading.{BeginsWith, IsReadTo}
+use Rattle.edi_pairing.specs.inner.Reading.{BeginsWith}
 use Rattle.edi_pairing.specs.declared.names.RecordName.{RecordName}
 use Rattle.edi_compare.specs.declared.pairing.Pairing.{Pairing}
 use Rattle.edi_pairing.proofs.LineLemmas.{line_apart}
@@ -26,6 +26,13 @@ some_left text r e h none = true_false (ap (λ t. length t == 0) (sym none) ∙ 
     true_false : true ≡ false → ⊥
     true_false is = cc
 
+-- the lines of so many records were read, and this comes behind them
+pub record IsReadTo (a b : List RecordName) (file : List ℕ) (to : List ℕ) (turned : List Bool) (behind : List ℕ) (count : ℕ) : Type 0 where
+  pub paired : length to ≡ count
+  pub directed : length turned ≡ count
+  pub pairs : Pairs a b (record { to = to; turned = turned }) count
+  pub cut : file ≡ first_lines a b (record { to = to; turned = turned }) (suc count) ++ behind
+
 -- two pairings have the same entries before a place
 pub record AreOneTo (p q : Pairing) (n : ℕ) : Type 0 where
   pub to : (k : ℕ) → k < n → get_or p.to k 0 ≡ get_or q.to k 0
@@ -39,9 +46,9 @@ module _ (a b : List RecordName) where
   fewer p n m le h = record { within = λ k l. h.within k (omega arith); typed = λ k l. h.typed k (omega arith) }
 
   -- the lines of the same entries are the same
-  pub lines_kept : (p q : Pairing) (n : ℕ) → AreOneTo p q n → first_lines a b p (suc n) ≡ first_lines a b q (suc n)
-  lines_kept p q zero h = refl
-  lines_kept p q (suc n) h = ap₂ (λ x y. x ++ y) (lines_kept p q n (less_one p q n h)) (ap₂ (λ t u. line_of (name_at a n) (name_at b t).rid u) (h.to n (omega arith)) (h.turned n (omega arith)))
+  pub lines_same : (p q : Pairing) (n : ℕ) → AreOneTo p q n → first_lines a b p (suc n) ≡ first_lines a b q (suc n)
+  lines_same p q zero h = refl
+  lines_same p q (suc n) h = ap₂ (λ x y. x ++ y) (lines_same p q n (less_one p q n h)) (ap₂ (λ t u. line_of (name_at a n) (name_at b t).rid u) (h.to n (omega arith)) (h.turned n (omega arith)))
 
   -- the line of a record, with what comes behind it
   begins : (p : Pairing) (n : ℕ) (x : List ℕ) → Pairs a b p (suc n) → BeginsWith b (name_at a n) (line_at a b p (suc n) ++ x) (get_or p.to n 0) (turned_at p.turned n) x
@@ -132,7 +139,7 @@ module _ (a b : List RecordName) where
 
       whole : file ≡ (first_lines a b q (suc n) ++ line_at a b q (suc n)) ++ behind
       whole =
-          let front : first_lines a b p (suc n) ≡ first_lines a b q (suc n) = lines_kept p q n (record { to = to_old; turned = turned_old }) in
+          let front : first_lines a b p (suc n) ≡ first_lines a b q (suc n) = lines_same p q n (record { to = to_old; turned = turned_old }) in
           let here : text ≡ line_at a b q (suc n) ++ behind = line.cut ∙ (λ i. line_of (sym is i) (name_at b (sym to_new i)).rid (sym turned_new i) ++ behind) in
           h.cut ∙ ((λ i. front i ++ here i) ∙ sym (append_assoc (first_lines a b q (suc n)) (line_at a b q (suc n)) behind))
 

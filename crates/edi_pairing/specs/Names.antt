@@ -1,7 +1,7 @@
 -- The names of the records of a sheet.
 use Rattle.std.specs.Prelude.{◌≡◌, ℕ, ◌<◌, ◌≤◌, ◌||◌, ◌==◌, Bool, false, List, [], map, length, slice_index_or}
 use Rattle.std.specs.List.{list_any}
-use Rattle.edi_line.specs.Bytes.{semicolon, line_feed}
+use Rattle.edi_line.specs.Bytes.{line_feed, most_records, semicolon}
 use Rattle.edi_record.specs.declared.record.Kind.TheVariants.{Pno}
 use Rattle.edi_record.specs.declared.record.Record.{Record}
 use Rattle.edi_record.specs.declared.sheet.Sheet.{Sheet}
@@ -22,7 +22,7 @@ is_mark c = c == semicolon || c == line_feed
 
 -- what holds of the names of an accepted sheet: identifiers hold neither mark, and no two records have one name
 pub record AreNames (names : List RecordName) : Type 0 where
-  pub few : length names ≤ 9999999
+  pub few : length names ≤ most_records
   pub plain : (k : ℕ) → k < length names → list_any is_mark (name_at names k).rid ≡ false
   pub distinct : (j k : ℕ) → j < length names → k < length names → name_at names j ≡ name_at names k → j ≡ k
 

@@ -7,8 +7,6 @@ use Rattle.edi_compare.specs.PlanOfFile.{IsPlanOfFile}
 use Rattle.edi_compare.specs.Refused.{IsProper, IsRefusal}
 use Rattle.edi_compare.specs.Rules.{IsAccepted}
 use Rattle.edi_compare.specs.Verdicts.{IsVerdict}
-use Rattle.edi_compare.specs.declared.fault.Fault.{Fault}
-use Rattle.edi_compare.specs.declared.fault.Fault.TheVariants as sheet
 use Rattle.edi_compare.specs.declared.pairing.Pairing.{Pairing}
 use Rattle.edi_compare.specs.declared.pairing.Verdict.TheVariants.{Different, Same}
 use Rattle.edi_pairing.specs.Names.{AreNamesOf}
@@ -63,17 +61,7 @@ IsVerifyRefusal s a b file (First f) = IsProper f × IsRefusal s a f
 IsVerifyRefusal s a b file (Second f) = IsAccepted s a × IsProper f × IsRefusal s b f
 IsVerifyRefusal s a b file (OfPairing at) = IsAccepted s a × IsAccepted s b × IsFirstWrongOf a b file at
 
--- the faults of the parts as faults of the whole
+-- the fault of a pairing's file as one of a check
 abbrev pub of_pairing : PairingFault → VerifyFault
 of_pairing (pairing_.Memory e) = Memory e
 of_pairing (pairing_.Line at) = OfPairing at
-
-abbrev pub of_first : Fault → VerifyFault
-of_first (sheet.Memory e) = Memory e
-of_first (sheet.Line rule at) = First (sheet.Line rule at)
-of_first (sheet.Entry rule at) = First (sheet.Entry rule at)
-
-abbrev pub of_second : Fault → VerifyFault
-of_second (sheet.Memory e) = Memory e
-of_second (sheet.Line rule at) = Second (sheet.Line rule at)
-of_second (sheet.Entry rule at) = Second (sheet.Entry rule at)

@@ -5,7 +5,6 @@ use Rattle.edi_schema.specs.Roles.{KindCodes}
 use Rattle.edi_schema.specs.SchemaRefusal.{IsGoodSchema}
 use Rattle.edi_compare.specs.Rules.{IsAccepted}
 use Rattle.edi_compare.specs.Runs.{AfterReading, IsRead, IsTooLong, MatchFault, RefusesSchema, RefusesSecond, RefusesSheet, Seen, IfBothKnown, IfFourKnown, IfThreeKnown}
-use Rattle.edi_compare.specs.inner.Runs.{PairFault}
 use Rattle.edi_compare.specs.declared.fault.RunFault.{RunFault}
 use Rattle.edi_pairing.specs.Verified.{IsFirstWrongOf, IsVerified}
 use Rattle.edi_pairing.specs.declared.fault.VerifyRunFault.{VerifyRunFault}
@@ -75,7 +74,3 @@ VerifyingFault kinds i untouched e = MatchRun e
 -- the fact holds where the fault came after reading
 abbrev pub AfterAllRead : VerifyRunFault → Type 0 → Type 0
 AfterAllRead e P = MatchRun e (λ f. AfterReading f P) (λ _. P)
-
--- the fault of files that were read: their schema is refused, a sheet, or the pairing's file
-abbrev pub FilesFault : KindCodes → List ℕ → List ℕ → List ℕ → List ℕ → List ℕ → VerifyRunFault → Type 0
-FilesFault kinds scd dic a b file e = MatchRun e (PairFault kinds scd dic a b) (RefusesFile kinds scd dic a b file)

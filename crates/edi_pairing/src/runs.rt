@@ -3,7 +3,8 @@ ghost use Rattle.std.specs.Prelude.{◌≡◌, IfOk, IfErr, OnOk};
 ghost use Rattle.edi_compare.specs.Runs.{AfterReading, AreFourRead, ComparingFault, IfFourKnown, seen};
 ghost use Rattle.edi_compare.specs.inner.Runs.{PairFault};
 ghost use Rattle.edi_pairing.specs.CompareRuns.{IsComparedUnder};
-ghost use Rattle.edi_pairing.specs.VerifyRuns.{AfterAllRead, AreAllRead, FilesFault, IsVerifiedUnder, IfFiveKnown, VerifyingFault};
+ghost use Rattle.edi_pairing.specs.VerifyRuns.{AfterAllRead, AreAllRead, IsVerifiedUnder, IfFiveKnown, VerifyingFault};
+ghost use Rattle.edi_pairing.specs.inner.VerifyRuns.{FilesFault};
 
 use crate::fault::{VerifyFault, VerifyRunFault};
 use crate::verifying::verify;

@@ -2,7 +2,8 @@
 
 ghost use Rattle.std.specs.Prelude.{◌≡◌, OnOk, IfOk, IfErr};
 ghost use Rattle.edi_compare.specs.Rules.{IsAccepted};
-ghost use Rattle.edi_pairing.specs.Verified.{IsVerified, IsVerifyRefusal, of_first, of_second};
+ghost use Rattle.edi_pairing.specs.Verified.{IsVerified, IsVerifyRefusal};
+ghost use Rattle.edi_pairing.specs.inner.Verified.{of_first, of_second};
 
 use crate::fault::VerifyFault;
 use crate::reading::read_pairing;

@@ -38,10 +38,10 @@ bounds_is p joined a k left right there one other =
 filtered_more : (p : Drawing) (arcs : List ℕ) (a k : ℕ) (b : Bool) → bounds p k a ≡ b → filter (bounds p k) (arcs ++ a ∷ []) ≡ filter (bounds p k) arcs ++ (if b then a ∷ [] else [])
 filtered_more p arcs a k b e = filter-append (bounds p k) arcs (a ∷ []) ∙ ap (λ t. filter (bounds p k) arcs ++ (if t then a ∷ [] else [])) e
 
--- both or none
-alike : (b : Bool) → one_alone b b ≡ false
-alike true = refl
-alike false = refl
+-- the face on both sides, or on none
+same_not_alone : (b : Bool) → one_alone b b ≡ false
+same_not_alone true = refl
+same_not_alone false = refl
 
 append_none : (xs : List ℕ) → xs ++ [] ≡ xs
 append_none [] = refl
@@ -52,7 +52,7 @@ pub more_none : (p : Drawing) → IsJoined p → (a : ℕ) (left right : Option 
 more_none p joined a left right there one other same lists arcs h = record {
   long = h.long;
   each = λ k place.
-      let no : bounds p k a ≡ false = bounds_is p joined a k left right there one other ∙ (ap (λ o. one_alone (is_face k left) (is_face k o)) (sym same) ∙ alike (is_face k left)) in
+      let no : bounds p k a ≡ false = bounds_is p joined a k left right there one other ∙ (ap (λ o. one_alone (is_face k left) (is_face k o)) (sym same) ∙ same_not_alone (is_face k left)) in
       h.each k place ∙ (sym (append_none (filter (bounds p k) arcs)) ∙ sym (filtered_more p arcs a k false no));
 }
 

@@ -10,7 +10,8 @@ use Rattle.edi_schema.specs.Roles.{is_plain, same_role}
 use Rattle.edi_schema.specs.declared.role.Role.{Role}
 use Rattle.edi_schema.specs.declared.role.Role.TheVariants.{Initial, Final, Left, Right, Plain}
 use Rattle.edi_plan.specs.Joined.{HasEnds, IsJoin, IsJoined}
-use Rattle.edi_plan.specs.Plans.{Drawing, IsPlace, blank, is_arc, is_link, record_at}
+use Rattle.edi_record.specs.Records.{is_link}
+use Rattle.edi_plan.specs.Plans.{Drawing, IsPlace, blank, is_arc, record_at}
 use Rattle.edi_plan.specs.Sides.{Side, targets}
 use Rattle.edi_plan.specs.declared.record.PlanRecord.{PlanRecord}
 use Rattle.edi_picture.specs.Faces.{are_two, is_beside, links}

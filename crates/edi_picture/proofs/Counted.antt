@@ -130,8 +130,8 @@ turned_at old new e x y ex ey b was is =
     (λ k. is k ∙ ap (λ (t : ℤ × ℤ). cond (is_at (spot_cmp t) k) b (contains spot_cmp old k)) (pair_is e.x e.y x y ex ey))
 
 -- what has the same keys has the same places
-pub kept_place : (old new : BTreeSet (ℤ × ℤ)) (x y : ℤ) → new.keys ≡ old.keys → contains spot_cmp old (x, y) ≡ contains spot_cmp new (x, y)
-kept_place old new x y same = ap (list_any (is_at (spot_cmp (x, y)))) (sym same)
+pub unchanged_place : (old new : BTreeSet (ℤ × ℤ)) (x y : ℤ) → new.keys ≡ old.keys → contains spot_cmp old (x, y) ≡ contains spot_cmp new (x, y)
+unchanged_place old new x y same = ap (list_any (is_at (spot_cmp (x, y)))) (sym same)
 
 pub none_odd : (odd : BTreeSet (ℤ × ℤ)) → odd.keys ≡ [] → HasOdd odd []
 none_odd odd none q = ap (list_any (is_at (spot_cmp (q.x, q.y)))) none

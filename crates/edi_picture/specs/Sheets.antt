@@ -3,7 +3,7 @@ use Rattle.std.specs.Prelude.{ℕ, ◌<◌, List, [], length, slice_index_or, un
 use Rattle.std.specs.List.{AllByRecursion, flat_map}
 use Rattle.edi_record.specs.declared.record.Point.{Point}
 use Rattle.edi_record.specs.declared.name.Name.{Name}
-use Rattle.edi_schema.specs.Classes.{Classes, name_at}
+use Rattle.edi_schema.specs.Classes.{Classes, class_name_at}
 use Rattle.edi_plan.specs.Plans.{Drawing}
 use Rattle.edi_picture.specs.declared.mark.Mark.{Mark}
 use Rattle.edi_picture.specs.declared.mark.Mark.TheVariants.{Hidden}
@@ -23,7 +23,7 @@ mark_at sheet k = slice_index_or sheet.marks k Hidden
 
 -- the type and the identifier of a class
 abbrev pub class_name : Classes → ℕ → Name
-class_name s class = unwrap_or (name_at s class) (record { rty = []; rid = [] })
+class_name s class = unwrap_or (class_name_at s class) (record { rty = []; rid = [] })
 
 -- the points of a plan, and those of all plans
 abbrev pub points_of : Drawing → List Point

@@ -1,21 +1,36 @@
 -- Titles of records, which browsers show, and bytes in XML.
 use Rattle.std.specs.Prelude.{ℕ, ◌==◌, ◌&&◌, nat_le, List, [], ◌∷◌, ◌++◌, if◌then◌else◌, codes, decimal}
 use Rattle.std.specs.List.{flat_map}
+use Rattle.edi_line.specs.Bytes.{space, tilde}
 use Rattle.edi_record.specs.Shapes.{kind_code}
 use Rattle.edi_record.specs.declared.name.Name.{Name}
 use Rattle.edi_schema.specs.Classes.{Classes}
 use Rattle.edi_plan.specs.Plans.{record_at}
 use Rattle.edi_picture.specs.Sheets.{Sheet, class_name, identifier_at}
 
--- A byte in XML: as it is if it is printable ASCII and no mark of XML; from 160 on the character of Latin-1 with its number;
--- any other as a question mark.
+-- the marks of XML, `&`, `<` and `>`
+abbrev pub ampersand : ℕ
+ampersand = 38
+
+abbrev pub less_than : ℕ
+less_than = 60
+
+abbrev pub greater_than : ℕ
+greater_than = 62
+
+-- the first of the characters that Latin-1 has and ASCII has not
+abbrev pub no_break_space : ℕ
+no_break_space = 160
+
+-- A byte in XML: as it is if it is printable ASCII and no mark of XML; from the no-break space on the character of Latin-1 with
+-- its number; any other as a question mark.
 abbrev pub escaped : ℕ → List ℕ
 escaped c =
-    if c == 38 then codes "&amp;"
-    else if c == 60 then codes "&lt;"
-    else if c == 62 then codes "&gt;"
-    else if nat_le 32 c && nat_le c 126 then c ∷ []
-    else if nat_le 160 c then codes "&#" ++ decimal c ++ codes ";"
+    if c == ampersand then codes "&amp;"
+    else if c == less_than then codes "&lt;"
+    else if c == greater_than then codes "&gt;"
+    else if nat_le space c && nat_le c tilde then c ∷ []
+    else if nat_le no_break_space c then codes "&#" ++ decimal c ++ codes ";"
     else codes "?"
 
 abbrev pub escaped_text : List ℕ → List ℕ

@@ -1,7 +1,7 @@
 //! Lengths as decimals.
 
 ghost use Rattle.std.specs.Prelude.{◌≡◌, ◌++◌, ◌<◌, OnOk};
-ghost use Rattle.edi_line.specs.Number.{fraction_digits, point_text, size_text};
+ghost use Rattle.edi_line.specs.Number.{fraction_digits, fraction_text, size_text};
 
 use crate::writing::put;
 use itoa::Buffer;
@@ -20,7 +20,7 @@ pub(crate) fn push_length(text: &mut Vec<u8>, millionths: u64) -> Result<(), All
 /// Appends the point and the digits behind it, or nothing for 0.
 fn push_point(text: &mut Vec<u8>, millionths: u64) -> Result<(), AllocError>
     requires { millionths < 1000000 }
-    ensures { OnOk result (text.new.items ≡ text.old.items ++ point_text millionths) }
+    ensures { OnOk result (text.new.items ≡ text.old.items ++ fraction_text millionths) }
 {
     if millionths == 0 {
         return Ok(());

@@ -44,7 +44,7 @@ fn push_escaped(text: &mut Vec<u8>, byte: u8) -> Result<(), AllocError>
         b'&' => put(text, b"&amp;"),
         b'<' => put(text, b"&lt;"),
         b'>' => put(text, b"&gt;"),
-        32..=126 => put(text, &[byte]),
+        b' '..=b'~' => put(text, &[byte]),
         160..=255 => push_character(text, byte),
         _ => put(text, b"?"),
     }

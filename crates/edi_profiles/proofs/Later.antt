@@ -87,7 +87,7 @@ shared p m n h = record { first = h.first; second = h.second; first_node = h.fir
 
 topology_today : (p : Drawing) (rule at : ℕ) → BreaksTopology today p rule at → BreaksTopology three_coordinates p rule at
 topology_today p rule at (inl h) = inl h
-topology_today p rule at (inr (e, (m, n, place, less, alike))) = inr (e, (m, n, place, less, shared p m n alike))
+topology_today p rule at (inr (e, (m, n, place, less, equal))) = inr (e, (m, n, place, less, shared p m n equal))
 
 accepted_by_today : (s : Classes) (b : List ℕ) → IsAcceptedBy three_coordinates s b → IsAcceptedBy today s b
 accepted_by_today s b accepted = also_accepted three_coordinates s b accepted today (λ zones rule at h. h) (λ sheet g. g) (λ p g. topology_today p)

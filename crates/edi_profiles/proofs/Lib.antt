@@ -3,4 +3,5 @@ pub mod Today
 pub mod Flat
 pub mod Points
 pub mod Later
+pub mod Stated
 pub mod Sheets

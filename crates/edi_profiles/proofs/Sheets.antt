@@ -27,11 +27,12 @@ use Rattle.edi_compare.specs.PlanOfFile.{IsPlanOfFile, IsSheetOf}
 use Rattle.edi_compare.specs.Rules.{LinesHold}
 use Rattle.edi_compare.proofs.KnownSheets.{sheet_accepted, states_node}
 use Rattle.edi_compare.proofs.Phases.{one_plan}
-use Rattle.edi_profiles.specs.Known.{extra_zone, first_group, high_group, high_point, high_sheet, node_of, second_group, shared_plan, shared_sheet}
+use Rattle.edi_profiles.specs.Known.{high_sheet, shared_sheet}
 use Rattle.edi_profiles.specs.Laws.{IsFlatFile, IsFlatGroup}
 use Rattle.edi_profiles.specs.Profiles.{BreaksTopology, IsAcceptedBy, IsPlanBy, LacksPosition, ShareAPosition, three_coordinates, today, two_coordinates}
 use Rattle.edi_profiles.specs.Profiles.BreaksBy.{of_records, of_topology}
 use Rattle.edi_profiles.proofs.Later.{accepted_by_three, breaks_three}
+use Rattle.edi_profiles.proofs.Stated.{extra_zone, first_group, high_group, high_point, node_of, second_group, shared_plan}
 use Rattle.edi_profiles.proofs.Today.{accepted_then, plan_now, plan_then}
 use Rattle.edi_profiles.proofs.Transfer.{also_accepted, references_held}
 

@@ -39,7 +39,7 @@ plan_then s b p g = (g.0, sheet_then b g.0 g.1, g.2)
 
 topology_now : (p : Drawing) (rule at : ℕ) → BreaksTopology today p rule at → BreaksTopologyRule p rule at
 topology_now p rule at (inl h) = h.1
-topology_now p rule at (inr (e, (m, n, place, less, alike))) = repeats_node e (m, n, place, less, alike)
+topology_now p rule at (inr (e, (m, n, place, less, equal))) = repeats_node e (m, n, place, less, equal)
 
 not_403 : (rule other : ℕ) → rule ≡ other → other ≢ 403 → rule ≢ 403
 not_403 rule other e apart f = apart (sym e ∙ f)

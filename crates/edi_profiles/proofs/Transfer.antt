@@ -17,7 +17,7 @@ zip_map R S [] (y ∷ ys) f all = absurd all
 zip_map R S (x ∷ xs) [] f all = absurd all
 zip_map R S (x ∷ xs) (y ∷ ys) f all = (f x y all.0, zip_map R S xs ys f all.1)
 
--- what an accepted sheet keeps, phase by phase
+-- what holds of an accepted sheet, phase by phase
 module _ (P : Profile) (s : Classes) (b : List ℕ) (accepted : IsAcceptedBy P s b) where
   pub records_held : RecordsHoldBy P s b
   records_held =

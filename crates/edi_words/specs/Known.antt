@@ -1,12 +1,16 @@
 -- Known words.
-use Rattle.std.specs.Prelude.{◌==◌, List, [], ◌∷◌, Option, map, option_map, codes}
+use Rattle.std.specs.Prelude.{◌==◌, ℕ, List, [], ◌∷◌, Option, map, option_map, codes}
 use Rattle.std.specs.List.{slice_split}
 use Rattle.clap.specs.Words.{Text, first_of, one_of, subcommand_of}
 use Rattle.edi_words.specs.Requests.{edicad, values_at}
 
--- the words of a line, parted by spaces (32)
+-- the byte that parts words
+abbrev pub space : ℕ
+space = 32
+
+-- the words of a line, parted by spaces
 abbrev pub words_in : Text → List Text
-words_in line = slice_split (λ x. x == 32) line
+words_in line = slice_split (λ x. x == space) line
 
 -- the subcommand of a line, with the values of the option and of the files
 abbrev pub values_of : Text → Option (Text × List (Option Text))

@@ -1,5 +1,5 @@
 -- What the words of the command line ask for.
-use Rattle.std.specs.Prelude.{◌≡◌, ◌⊎◌, ◌<◌, ◌+◌, ◌==◌, ℕ, Bool, true, false, if◌then◌else◌, List, [], ◌∷◌, Option, Some, None, IfSome, codes, is_some, map, option_map, unwrap_or}
+use Rattle.std.specs.Prelude.{◌≡◌, ◌⊎◌, ◌<◌, ◌+◌, ◌==◌, ℕ, Bool, true, false, if◌then◌else◌, List, [], ◌∷◌, Option, Some, None, codes, is_some, map, option_map, unwrap_or}
 use Rattle.std.specs.List.{slice_split}
 use Rattle.std.specs.Str.{bytes_eq}
 use Rattle.std.proofs.Common.{Bor}
@@ -97,10 +97,14 @@ edicad = with_subcommand (with_subcommand (with_subcommand (with_subcommand (wit
 abbrev pub usual_kinds : KindCodes
 usual_kinds = record { initial = codes "IND"; final_node = codes "FND"; left = codes "LPO"; right = codes "RPO" }
 
--- the four codes, parted by commas (44)
+-- the byte that parts the codes, `,`
+abbrev pub comma : ℕ
+comma = 44
+
+-- the four codes, parted by commas
 abbrev pub AreKindsIn : List ℕ → KindCodes → Type 0
 AreKindsIn text k =
-    (slice_split (λ x. x == 44) text ≡ k.initial ∷ k.final_node ∷ k.left ∷ k.right ∷ []) × AreKindCodes k
+    (slice_split (λ x. x == comma) text ≡ k.initial ∷ k.final_node ∷ k.left ∷ k.right ∷ []) × AreKindCodes k
 
 -- the codes of the option, and the usual ones where it isn't given
 abbrev pub AreKindsOf : Option (List ℕ) → KindCodes → Type 0
@@ -188,10 +192,6 @@ misuse_text TwoStandard = codes "only one input can be -"
 misuse_text NoSheet = codes "explain takes RULE, or SCD, DIC and VEC"
 misuse_text StandardPairing = codes "--pairing takes a file, and not -"
 misuse_text StandardPicture = codes "--picture takes a file, and not -"
-
--- the subcommand, if there is one, is check, canon, compare, hash, explain, verify, diff or draw
-abbrev pub IsOwn : Option (Text × List Row) → Type 0
-IsOwn met = IfSome met (λ p. (p.0 ≡ codes "check") ⊎ ((p.0 ≡ codes "canon") ⊎ ((p.0 ≡ codes "compare") ⊎ ((p.0 ≡ codes "hash") ⊎ ((p.0 ≡ codes "explain") ⊎ ((p.0 ≡ codes "verify") ⊎ ((p.0 ≡ codes "diff") ⊎ (p.0 ≡ codes "draw"))))))))
 
 -- the file that an option names, if it is given, and which isn't standard output
 abbrev pub IsOptionFile : Text → List Row → Option (Bor (List ℕ)) → Type 0

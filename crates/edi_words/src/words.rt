@@ -2,7 +2,8 @@
 ghost use Rattle.std.specs.Prelude.{◌≡◌, ◌↔◌, ◌<◌, ◌≤◌, ◌^◌, IsTrue, IfErr, IfOk, MatchOption, OnOk, Some, [], codes, length, map, option_map, string_bytes};
 ghost use Rattle.clap.specs.Words.{HasKind, app_of, fault_of, found_of, kind_of, new_rule, one_of, rows_of, rule_of, subcommand_of, subcommand_rows_of, with_rule};
 ghost use Rattle.edi_schema.specs.Roles.{KindCodes};
-ghost use Rattle.edi_words.specs.Requests.{AreKindsIn, AreKindsOf, AreManyFiles, ArePairFiles, AreSheetFiles, IsAsked, IsFlag, GiveKinds, IsOwn, Means, brief_rule, canon_command, check_command, compare_command, diff_command, draw_command, edicad, explain_command, file_option_rule, file_rule, files_rule, hash_command, is_given, is_standard_path, kinds_rule, output_command, pairing_rule, picture_rule, schema_command, standard_at, standard_count, standard_in, status_of_kind, subject_rule, value_at, values_at, verify_command};
+ghost use Rattle.edi_words.specs.Requests.{AreKindsIn, AreKindsOf, AreManyFiles, ArePairFiles, AreSheetFiles, IsAsked, IsFlag, GiveKinds, Means, brief_rule, canon_command, check_command, compare_command, diff_command, draw_command, edicad, explain_command, file_option_rule, file_rule, files_rule, hash_command, is_given, is_standard_path, kinds_rule, output_command, pairing_rule, picture_rule, schema_command, standard_at, standard_count, standard_in, status_of_kind, subject_rule, value_at, values_at, verify_command};
+ghost use Rattle.edi_words.specs.inner.Requests.{IsOwn};
 
 use clap::error::ErrorKind;
 use clap::{Arg, ArgAction, ArgMatches, Command, Error};
@@ -433,7 +434,7 @@ fn meant<'a, R: Eprint + AllocGlobal>(rt: &R, matches: &ArgMatches<'a>) -> Reque
             files: pair_files(given),
             pairing: path(given, "FILE"),
         },
-        "diff" => told_apart(given, kinds),
+        "diff" => differing(given, kinds),
         "draw" => Request::Draw {
             kinds,
             files: sheet_files(given),
@@ -459,7 +460,7 @@ fn compared<'a>(given: &ArgMatches<'a>, kinds: Kinds<'a>) -> Request<'a>
 }
 
 // What the arguments of `diff` ask for.
-fn told_apart<'a>(given: &ArgMatches<'a>, kinds: Kinds<'a>) -> Request<'a>
+fn differing<'a>(given: &ArgMatches<'a>, kinds: Kinds<'a>) -> Request<'a>
     requires { GiveKinds (rows_of (found_of given.now)) kinds }
     ensures { Means (Some (codes "diff", rows_of (found_of given.now))) result }
 {

@@ -12,7 +12,8 @@ use Rattle.edi_pairing.specs.declared.fault.VerifyRunFault.{VerifyRunFault}
 use Rattle.edi_pairing.specs.declared.fault.VerifyRunFault.TheVariants.{Run, Pairing as OfPairingFile}
 use Rattle.edi_words.specs.declared.words.PairFiles.{PairFiles}
 use Rattle.edicad.specs.Folders.{Leavings}
-use Rattle.edicad.specs.Outcome.{FaultHasNames, HasNames, ended, paired_outcome, status_for, status_of_fault, verified_outcome, words_for, words_of_fault}
+use Rattle.edicad.specs.Outcome.{FaultHasNames, HasNames, ended, status_for, status_of_fault, words_for, words_of_fault}
+use Rattle.edicad.specs.inner.Outcome.{paired_outcome, verified_outcome}
 use Rattle.edicad.specs.Outputs.{IsWholeOrNew}
 use Rattle.edicad.specs.Reasons.{Why}
 use Rattle.edicad.specs.SheetRuns.{AreFiveThere, AreFourThere, FirstOfFiveMissing, FirstOfFourMissing, Gives, HoldsTooMuch, Inputs, IsNoPairInput, IsPairInput, OfFive, OfPair, OfPairing, PairFileFault, PutPairFault, VerifyFileFault, verify_path_at}

@@ -4,6 +4,7 @@ use Rattle.std.specs.List.{AllZip, fold, list_any}
 use Rattle.std.proofs.Common.{Result, Ok, Err}
 use Rattle.hex.specs.Hex.{encode_lower}
 use Rattle.sha2.specs.Sha256.{sha256}
+use Rattle.edi_line.specs.Bytes.{carriage_return, line_feed}
 use Rattle.edi_schema.specs.Classes.{Classes, IsSchema}
 use Rattle.edi_schema.specs.Roles.{KindCodes}
 use Rattle.edi_schema.specs.SchemaRefusal.{IsGoodSchema}
@@ -51,24 +52,38 @@ abbrev pub IsAnswerOf : Inputs → Classes → List ℕ → Result (List ℕ) Ru
 IsAnswerOf inputs s path (Ok digest) = (contents : Option (List ℕ)) × Gives inputs path contents × IfSome contents (λ b. IsDigestOf s b digest)
 IsAnswerOf inputs s path (Err e) = HashFault inputs s path e
 
--- a backslash (92), a line feed (10) or a carriage return (13), which a line shows by an escape
+-- the bytes of escapes, `\`, `n` and `r`
+abbrev pub backslash : ℕ
+backslash = 92
+
+abbrev pub letter_n : ℕ
+letter_n = 110
+
+abbrev pub letter_r : ℕ
+letter_r = 114
+
+-- a backslash, a line feed or a carriage return, which a line shows by an escape
 abbrev pub is_escaped : ℕ → Bool
-is_escaped x = (x == 92) || ((x == 10) || (x == 13))
+is_escaped x = (x == backslash) || ((x == line_feed) || (x == carriage_return))
 
 -- a byte as a line shows it: \\, \n and \r stand for those three
 abbrev pub shown_byte : ℕ → List ℕ
-shown_byte x = if x == 92 then 92 ∷ 92 ∷ [] else if x == 10 then 92 ∷ 110 ∷ [] else if x == 13 then 92 ∷ 114 ∷ [] else x ∷ []
+shown_byte x =
+    if x == backslash then backslash ∷ backslash ∷ []
+    else if x == line_feed then backslash ∷ letter_n ∷ []
+    else if x == carriage_return then backslash ∷ letter_r ∷ []
+    else x ∷ []
 
 abbrev pub shown : List ℕ → List ℕ
 shown name = flat_map shown_byte name
 
 -- a backslash before a line whose name has an escape
 abbrev pub mark_of : List ℕ → List ℕ
-mark_of name = if list_any is_escaped name then 92 ∷ [] else []
+mark_of name = if list_any is_escaped name then backslash ∷ [] else []
 
 -- the digits of the digest, two spaces and the name
 abbrev pub digest_line : List ℕ → List ℕ → List ℕ
-digest_line digest name = mark_of name ++ encode_lower digest ++ codes "  " ++ shown name ++ 10 ∷ []
+digest_line digest name = mark_of name ++ encode_lower digest ++ codes "  " ++ shown name ++ line_feed ∷ []
 
 -- the name, and what is wrong with its sheet
 abbrev pub fault_line : RunFault → List ℕ → List ℕ
@@ -88,16 +103,6 @@ IsStep inputs why s path step =
     ⊎ (((e : RunFault) × (reason : Option Reason) × IsAnswerOf inputs s path (Err e) × IsReasonOf why e path reason
     × (step ≡ record { out = []; err = fault_line e path ++ reason_line (shown path) reason; status = status_of_fault e }))
     ⊎ ((answer : Result (List ℕ) RunFault) × IsAnswerOf inputs s path answer × (step ≡ record { out = []; err = ended (codes "out of memory"); status = 5 })))
-
--- the streams got what a sheet adds, and this is its status
-abbrev pub StepsOn : Inputs → Why → Classes → List ℕ → Seen → Seen → ℕ → Type 0
-StepsOn inputs why s path out err status =
-    (step : Step) × IsStep inputs why s path step × (step.status ≡ status) × Says out step.out × Warns err step.err
-
--- the output failed in the line of the sheet of a path, of which so many bytes went out
-abbrev pub StopsAt : Inputs → Classes → List ℕ → Seen → Type 0
-StopsAt inputs s path out = (digest : List ℕ) × IsAnswerOf inputs s path (Ok digest) × IsTrue out.failed
-    × ((count : ℕ) × Says out (take count (digest_line digest path)))
 
 -- the greatest status
 abbrev pub worst_of : List Step → ℕ

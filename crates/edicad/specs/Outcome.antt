@@ -1,19 +1,16 @@
 -- The line and the status of each outcome.
-use Rattle.std.specs.Prelude.{ℕ, Bool, true, false, ◌-◌, ◌<◌, Option, Some, None, List, [], ◌∷◌, ◌++◌, ◌||◌, length, codes, ⊤, map, zero, suc, ◌==◌, if◌then◌else◌}
-use Rattle.std.proofs.Common.{Bor, Result, Ok, Err}
+use Rattle.std.specs.Prelude.{ℕ, ◌-◌, ◌<◌, List, [], ◌∷◌, ◌++◌, ◌||◌, length, codes, ⊤, map, zero, suc, ◌==◌, if◌then◌else◌}
+use Rattle.std.proofs.Common.{Bor}
 use Rattle.std.specs.Fmt.{decimal}
+use Rattle.edi_line.specs.Bytes.{line_feed}
 use Rattle.edi_schema.specs.declared.fault.Source.{Source}
 use Rattle.edi_schema.specs.declared.fault.Source.TheVariants.{Scd, Dic}
 use Rattle.edi_schema.specs.declared.fault.SchemaFault.{SchemaFault}
 use Rattle.edi_schema.specs.declared.fault.SchemaFault.TheVariants as schema
 use Rattle.edi_compare.specs.declared.fault.Fault.{Fault as SheetFault}
 use Rattle.edi_compare.specs.declared.fault.Fault.TheVariants as sheet
-use Rattle.edi_compare.specs.declared.pairing.Verdict.{Verdict}
-use Rattle.edi_compare.specs.declared.pairing.Verdict.TheVariants as verdict
 use Rattle.edi_compare.specs.declared.fault.RunFault.{RunFault}
 use Rattle.edi_compare.specs.declared.fault.RunFault.TheVariants.{Memory, Read, TooLong, Schema, First, Second, Write}
-use Rattle.edi_pairing.specs.declared.fault.VerifyRunFault.{VerifyRunFault}
-use Rattle.edi_pairing.specs.declared.fault.VerifyRunFault.TheVariants as verifying
 use Rattle.edi_words.specs.Requests.{is_standard_path}
 use Rattle.edicad.specs.declared.outcome.Outcome.{Outcome}
 use Rattle.edicad.specs.declared.outcome.Outcome.TheVariants.{Accepted, Same, Different, Pairs, Unpaired, WrongPairing, Fault}
@@ -133,7 +130,7 @@ texts paths = map (λ (path : Bor (List ℕ)). path.now) paths
 
 -- with a line feed
 abbrev pub ended : List ℕ → List ℕ
-ended words = words ++ 10 ∷ []
+ended words = words ++ line_feed ∷ []
 
 abbrev pub line_for : Outcome → List (Bor (List ℕ)) → List ℕ
 line_for outcome paths = ended (words_for outcome (texts paths))
@@ -157,22 +154,3 @@ HasNames Pairs names = ⊤
 HasNames Unpaired names = ⊤
 HasNames (WrongPairing line) names = ⊤
 HasNames (Fault fault) names = FaultHasNames fault (length names)
-
--- what a comparison came to
-abbrev pub outcome_for : Result Verdict RunFault → Outcome
-outcome_for (Ok (verdict.Same pairing)) = Same
-outcome_for (Ok (verdict.Different line)) = Different line
-outcome_for (Err fault) = Fault fault
-
--- what a comparison to a pairing's file came to, of which the line is known where the plans are not the same
-abbrev pub paired_outcome : Result (Option ℕ) RunFault → Outcome
-paired_outcome (Ok None) = Same
-paired_outcome (Ok (Some line)) = Different line
-paired_outcome (Err fault) = Fault fault
-
--- what the check of a pairing's file came to
-abbrev pub verified_outcome : Result Bool VerifyRunFault → Outcome
-verified_outcome (Ok true) = Pairs
-verified_outcome (Ok false) = Unpaired
-verified_outcome (Err (verifying.Run fault)) = Fault fault
-verified_outcome (Err (verifying.Pairing at)) = WrongPairing at

@@ -1,10 +1,11 @@
 //! What the program does with its words.
-ghost use Rattle.std.specs.Prelude.{◌≡◌, ◌⊎◌, ◌<◌, ℕ, IsTrue, List, Option, map, string_bytes, codes};
+ghost use Rattle.std.specs.Prelude.{◌≡◌, ◌⊎◌, ◌<◌, ℕ, IsTrue, List, MatchOption, Option, map, string_bytes, codes};
 ghost use Rattle.std.specs.Bool.{MatchBool};
 ghost use Rattle.std.specs.Io.KnownBytes.{Appends};
 ghost use Rattle.edi_compare.specs.Runs.{seen};
 ghost use Rattle.edicad.specs.Answered.{IsAnswered, IsMadeStatus};
-ghost use Rattle.edicad.specs.Outcome.{ended, outcome_for, paired_outcome, verified_outcome};
+ghost use Rattle.edicad.specs.Outcome.{ended};
+ghost use Rattle.edicad.specs.inner.Outcome.{outcome_for, paired_outcome, verified_outcome};
 ghost use Rattle.edicad.specs.Outputs.{IsUnmade, Reaches, Stops};
 ghost use Rattle.edi_words.specs.Requests.{IsAsked};
 ghost use Rattle.edicad.specs.SheetRuns.{inputs_of};
@@ -16,7 +17,7 @@ use crate::explains::{explain, explain_rule};
 use crate::folder::Folder;
 use crate::hashes::hash;
 use crate::outcome::Outcome;
-use crate::product::Product;
+use crate::product::Product::{self, Canonical, Picture};
 use crate::system::{CommandLine, Errors, Words};
 use crate::{report, sheets};
 use edi_compare::{RunFault, Verdict};
@@ -110,24 +111,12 @@ pub fn answered<F: Folder, O: ByteOut, E: ByteOut>(
             kinds,
             files,
             out: path,
-        } => make(
-            alloc,
-            folder,
-            Product::Canonical,
-            &kinds,
-            &files,
-            path,
-            out,
-            err,
-        ),
+        } => make(alloc, folder, Canonical, &kinds, &files, path, out, err),
         Request::Compare {
             kinds,
             files,
             pairing,
-        } => match pairing {
-            Some(path) => pair(alloc, folder, &kinds, &files, path, out, err),
-            None => compare(alloc, folder, &kinds, &files, out, err),
-        },
+        } => compare_or_pair(alloc, folder, &kinds, &files, pairing, out, err),
         Request::Hash { kinds, files } => hash(alloc, folder, &kinds, &files, out, err),
         Request::Explain { kinds, files } => explain(alloc, folder, &kinds, &files, out, err),
         Request::Rule { word } => explain_rule(alloc, word, out, err),
@@ -141,24 +130,12 @@ pub fn answered<F: Folder, O: ByteOut, E: ByteOut>(
             files,
             brief,
             picture,
-        } => match picture {
-            Some(path) => draw_difference(alloc, folder, &kinds, &files, brief, path, out, err),
-            None => diff(alloc, folder, &kinds, &files, brief, out, err),
-        },
+        } => diff_or_draw(alloc, folder, &kinds, &files, brief, picture, out, err),
         Request::Draw {
             kinds,
             files,
             out: path,
-        } => make(
-            alloc,
-            folder,
-            Product::Picture,
-            &kinds,
-            &files,
-            path,
-            out,
-            err,
-        ),
+        } => make(alloc, folder, Picture, &kinds, &files, path, out, err),
         Request::Misused(misuse) => report::misused(err, misuse),
         Request::Answered(status) => status,
     }
@@ -264,6 +241,27 @@ fn send<F: Folder, O: ByteOut, E: ByteOut>(
     }
 }
 
+// Whether two sheets state the same plan, and a pairing of them to a path, where one is named.
+fn compare_or_pair<F: Folder, O: ByteOut, E: ByteOut>(
+    alloc: Global,
+    folder: &mut F,
+    kinds: &Kinds<'_>,
+    files: &PairFiles<'_>,
+    pairing: Option<&str>,
+    out: &mut O,
+    err: &mut E,
+) -> u8
+    ensures status { IsPairStatus result }
+    ensures answer { MatchOption pairing.entry (IsCompareStatus (inputs_of F.Reader (F.holds folder.old) (F.closed folder.old) (F.standard folder.old) F.Reader.has_failed) (F.why folder.new) (seen (O.contents out.old) (O.contents out.new) (O.has_failed out.new)) (seen (E.contents err.old) (E.contents err.new) (E.has_failed err.new)) kinds.now files.now result)
+        (λ path. IsPairingStatus (inputs_of F.Reader (F.holds folder.old) (F.closed folder.old) (F.standard folder.old) F.Reader.has_failed) (F.is_one folder.old) (F.why folder.new) (seen (O.contents out.old) (O.contents out.new) (O.has_failed out.new)) (seen (E.contents err.old) (E.contents err.new) (E.has_failed err.new)) kinds.now files.now path.now
+        (Reaches F.Sink (F.holds folder.new path.now) (F.sinks folder.old path.now) F.Sink.contents) (Stops F.Sink (IsUnmade F.NewFile (F.unwritable folder.new path.now) F.NewFile.has_failed) (F.sinks folder.old path.now) F.Sink.contents F.Sink.has_failed) result) }
+{
+    match pairing {
+        Some(path) => pair(alloc, folder, kinds, files, path, out, err),
+        None => compare(alloc, folder, kinds, files, out, err),
+    }
+}
+
 // Whether two sheets state the same plan.
 fn compare<F: Folder, O: ByteOut, E: ByteOut>(
     alloc: Global,
@@ -324,6 +322,28 @@ fn verify<F: Folder, O: ByteOut, E: ByteOut>(
     ];
     let outcome = outcome_of_verified(sheets::verify(alloc, folder, kinds, files, pairing));
     report::answer(alloc, folder, out, err, &outcome, &paths)
+}
+
+// What differs between two sheets, or the last line of that alone, and a picture of it to a path, where one is named.
+fn diff_or_draw<F: Folder, O: ByteOut, E: ByteOut>(
+    alloc: Global,
+    folder: &mut F,
+    kinds: &Kinds<'_>,
+    files: &PairFiles<'_>,
+    brief: bool,
+    picture: Option<&str>,
+    out: &mut O,
+    err: &mut E,
+) -> u8
+    ensures status { IsPairStatus result }
+    ensures answer { MatchOption picture.entry (IsDiffStatus (inputs_of F.Reader (F.holds folder.old) (F.closed folder.old) (F.standard folder.old) F.Reader.has_failed) (F.why folder.new) (seen (O.contents out.old) (O.contents out.new) (O.has_failed out.new)) (seen (E.contents err.old) (E.contents err.new) (E.has_failed err.new)) kinds.now files.now brief result)
+        (λ path. IsPictureStatus (inputs_of F.Reader (F.holds folder.old) (F.closed folder.old) (F.standard folder.old) F.Reader.has_failed) (F.is_one folder.old) (F.why folder.new) (seen (O.contents out.old) (O.contents out.new) (O.has_failed out.new)) (seen (E.contents err.old) (E.contents err.new) (E.has_failed err.new)) kinds.now files.now brief path.now
+        (Reaches F.Sink (F.holds folder.new path.now) (F.sinks folder.old path.now) F.Sink.contents) (Stops F.Sink (IsUnmade F.NewFile (F.unwritable folder.new path.now) F.NewFile.has_failed) (F.sinks folder.old path.now) F.Sink.contents F.Sink.has_failed) result) }
+{
+    match picture {
+        Some(path) => draw_difference(alloc, folder, kinds, files, brief, path, out, err),
+        None => diff(alloc, folder, kinds, files, brief, out, err),
+    }
 }
 
 // What differs between two sheets, or the last line of that alone.

@@ -1,5 +1,5 @@
 //! What is said of a sheet and of a rule.
-ghost use Rattle.std.specs.Prelude.{◌≡◌, ◌⊎◌, ◌++◌, ◌<◌, ℕ, List, [], false, true, IfErr, IfOk, IfSome, IsTrue, codes};
+ghost use Rattle.std.specs.Prelude.{◌≡◌, ◌⊎◌, ◌++◌, ◌<◌, ℕ, List, [], false, true, IfErr, IfOk, IsTrue, codes};
 ghost use Rattle.std.specs.Bool.{MatchBool};
 ghost use Rattle.std.specs.Io.KnownBytes.{Appends};
 ghost use Rattle.edi_line.specs.LineRules.{BreaksLineRule};
@@ -7,7 +7,7 @@ ghost use Rattle.edi_line.specs.Refusal.{IsUnbroken};
 ghost use Rattle.edi_schema.specs.Roles.{KindCodes};
 ghost use Rattle.edi_schema.specs.SchemaRefusal.{IsSchemaRefusal};
 ghost use Rattle.edi_compare.specs.Refused.{IsProper};
-ghost use Rattle.edi_compare.specs.Runs.{IsProperSchemaFault, IsTooLong, MatchFault, seen};
+ghost use Rattle.edi_compare.specs.Runs.{IsProperSchemaFault, seen};
 ghost use Rattle.edi_explain.specs.Explained.{DescribesPlan, ExplainsSchema, ExplainsSheet};
 ghost use Rattle.edi_explain.specs.Found.{IsFound};
 ghost use Rattle.edi_explain.specs.Skipped.{DescribesSkipped};
@@ -20,20 +20,17 @@ use crate::folder::Folder;
 use crate::outcome::{Outcome, input_name, line_of_fault, line_of_schema};
 use crate::report;
 use crate::sheets::opened;
-use edi_compare::RunFault;
+use edi_compare::{RunFault, read_input};
 use edi_explain::{
     Found, NamedFile, describe_plan, describe_skipped, examine, explain_schema, explain_sheet,
     hints_of, page_of, rule_of_word,
 };
-use edi_line::{ByteIn, ByteOut, ReadFault, read_all};
+use edi_line::ByteOut;
 use edi_plan::Plan;
 use edi_schema::{Kinds, Schema, SchemaFault};
 use edi_words::SheetFiles;
 use edi_write::put_all;
 use std::alloc::{AllocError, Global};
-
-// How many bytes an input has at most.
-const MOST_BYTES: u64 = 4_294_967_296;
 
 const WRITE_STATUS: u8 = 4;
 
@@ -102,26 +99,12 @@ fn said<F: Folder>(
     let mut scd = opened(folder, files.scd, 1)?;
     let mut dic = opened(folder, files.dic, 2)?;
     let mut vec = opened(folder, files.vec, 3)?;
-    let scd = whole(alloc, &mut scd, 1)?;
-    let dic = whole(alloc, &mut dic, 2)?;
-    let vec = whole(alloc, &mut vec, 3)?;
+    let scd = read_input(alloc, &mut scd, 1)?;
+    let dic = read_input(alloc, &mut dic, 2)?;
+    let vec = read_input(alloc, &mut vec, 3)?;
     match all_said(alloc, kinds, files, &SheetBytes { scd, dic, vec }) {
         Ok(said) => Ok(said),
         Err(error) => Err(RunFault::Memory(error)),
-    }
-}
-
-// All bytes of the input of this number.
-fn whole<R: ByteIn>(alloc: Global, reader: &mut R, input: u8) -> Result<Vec<u8>, RunFault>
-    ensures all { IfOk result (λ bytes. IfSome (R.contents reader.old) (λ contents. bytes.items ≡ contents)) }
-    ensures err { IfErr result (λ e. MatchFault e (λ n. (n ≡ input) × IsTrue (R.has_failed reader.new))
-        (λ n. (n ≡ input) × IsTooLong (R.contents reader.old)) (λ _. ⊥) (λ _. ⊥) (λ _. ⊥) (λ _. ⊥)) }
-{
-    match read_all(alloc, reader, MOST_BYTES) {
-        Ok(bytes) => Ok(bytes),
-        Err(ReadFault::Memory(error)) => Err(RunFault::Memory(error)),
-        Err(ReadFault::Read) => Err(RunFault::Read { input }),
-        Err(ReadFault::TooLong) => Err(RunFault::TooLong { input }),
     }
 }
 

@@ -2,7 +2,8 @@
 ghost use Rattle.std.specs.Prelude.{◌≡◌, ◌⊎◌, ◌++◌, IfErr, IfOk, IsTrue, Option, codes, map};
 ghost use Rattle.std.specs.List.{list_any};
 ghost use Rattle.edi_compare.specs.Runs.{seen};
-ghost use Rattle.edicad.specs.Hashes.{AnswersAll, GivesSchema, IsAnswerOf, IsHashStatus, SchemaFault, StepsOn, StopsAt, digest_line, fault_line, is_escaped, mark_of, shown};
+ghost use Rattle.edicad.specs.Hashes.{AnswersAll, GivesSchema, IsAnswerOf, IsHashStatus, SchemaFault, digest_line, fault_line, is_escaped, mark_of, shown};
+ghost use Rattle.edicad.specs.inner.Hashes.{StepsOn, StopsAt};
 ghost use Rattle.edicad.specs.Outcome.{FaultHasNames, ended, status_of_fault};
 ghost use Rattle.edicad.specs.Reasons.{IsReasonOf, reason_line};
 ghost use Rattle.edicad.specs.declared.reason.Reason.{Reason};

@@ -3,6 +3,7 @@
 ghost use Rattle.std.specs.Prelude.{◌≡◌, IfOk, IfSome};
 ghost use Rattle.edi_line.specs.Entry.{entries};
 ghost use Rattle.edi_line.specs.LineRules.{IsZonesOf};
+ghost use Rattle.uses.specs.declared.feeding.StreamFault.TheVariants.{Line};
 
 use edi_line::{ByteIn, Feed, LineFault, Zone};
 use std::alloc::Global;
@@ -14,6 +15,14 @@ pub enum StreamFault {
     Line(LineFault),
     /// The stream has failed, or goes on for too long.
     Read,
+}
+
+impl From<LineFault> for StreamFault {
+    ghost from_gives = { λ f e. e ≡ Line f };
+
+    fn from(fault: LineFault) -> StreamFault {
+        StreamFault::Line(fault)
+    }
 }
 
 /// The zones of what a stream holds, read in pieces of 4096 bytes and never whole in memory.
@@ -28,17 +37,8 @@ pub fn zones_of_stream<R: ByteIn>(
     for _turn in 0..u32::MAX {
         match stream.read(&mut buffer) {
             None => return Err(StreamFault::Read),
-            Some(0) => {
-                return match feed.finish() {
-                    Ok(zones) => Ok(zones),
-                    Err(fault) => Err(StreamFault::Line(fault)),
-                };
-            }
-            Some(count) => {
-                if let Err(fault) = feed.feed(&buffer[..count]) {
-                    return Err(StreamFault::Line(fault));
-                }
-            }
+            Some(0) => return Ok(feed.finish()?),
+            Some(count) => feed.feed(&buffer[..count])?,
         }
     }
     Err(StreamFault::Read)

@@ -4,16 +4,22 @@ ghost use Rattle.std.specs.Prelude.{◌≡◌, ◌↔◌, ℕ, List, length, IfO
 ghost use Rattle.std.specs.Io.KnownBytes.{Appends};
 ghost use Rattle.edi_schema.specs.SchemaRefusal.{IsGoodSchema, IsSchemaRefusal};
 ghost use Rattle.edi_plan.specs.Plans.{Drawing};
+ghost use Rattle.edi_rank.specs.Same.{Same};
 ghost use Rattle.edi_compare.specs.Headline.{IsFormOf};
+ghost use Rattle.edi_compare.specs.HeldPlans.{IsHeldPlan};
+ghost use Rattle.edi_compare.specs.Pairings.{HasClasses, PairingCarries};
 ghost use Rattle.edi_compare.specs.PlanOfFile.{IsPlanOfFile, StateSame};
 ghost use Rattle.edi_compare.specs.Refused.{IsPairRefusal, IsRefusal};
 ghost use Rattle.uses.specs.Callers.{IfRefused, SomePairing, own_kinds};
 
-use edi_compare::{CompareFault, Fault, Pairing, Verdict, accept, canon, compare};
+use edi_compare::{
+    Accepted, CompareFault, Fault, Pairing, Verdict, accept, canon, check_pairing, compare,
+    compare_accepted, first_refused, second_refused,
+};
 use edi_line::ByteOut;
 use edi_schema::{Kinds, Schema, SchemaFault};
 use edi_write::{Written, put_all};
-use std::alloc::Global;
+use std::alloc::{AllocError, Global};
 
 /// How many records the plan of a sheet has.
 pub fn count_records(alloc: Global, schema: &Schema, sheet: &[u8]) -> Result<u32, Fault>
@@ -73,7 +79,7 @@ pub fn is_same_plan(
 }
 
 /// A pairing that carries the plan of the first sheet onto that of the second, or none where no pairing does.
-pub fn confirmed_pairing(
+pub fn found_pairing(
     alloc: Global,
     schema: &Schema,
     first: &[u8],
@@ -86,6 +92,56 @@ pub fn confirmed_pairing(
         Ok(Verdict::Same(pairing)) => Ok(Some(pairing)),
         Ok(Verdict::Different { .. }) => Ok(None),
         Err(fault) => Err(fault),
+    }
+}
+
+/// A pairing that carries the plan of one accepted sheet onto that of another, or none where no pairing does. It is found and
+/// then checked, and neither sheet is read again. The check trusts nothing of how the pairing was found, and never denies one
+/// that comparing found.
+pub fn pairing_of_accepted(
+    alloc: Global,
+    schema: &Schema,
+    first: &Accepted,
+    second: &Accepted,
+) -> Result<Option<Pairing>, AllocError>
+    requires first { IsHeldPlan schema.now first.now }
+    requires second { IsHeldPlan schema.now second.now }
+    requires classes { HasClasses schema.now first.now }
+    ensures { IfOk result (λ found. MatchOption found (¬ (Same schema.now first.now second.now)) (PairingCarries schema.now first.now second.now)) }
+{
+    match compare_accepted(alloc, schema, first, second)? {
+        Verdict::Same(pairing) => {
+            if check_pairing(alloc, schema, first, second, &pairing)? {
+                Ok(Some(pairing))
+            } else {
+                unreachable!()
+            }
+        }
+        Verdict::Different { .. } => Ok(None),
+    }
+}
+
+/// A pairing of two sheets that is found and checked as by `pairing_of_accepted`, each being accepted once.
+pub fn checked_pairing(
+    alloc: Global,
+    schema: &Schema,
+    first: &[u8],
+    second: &[u8],
+) -> Result<Option<Pairing>, CompareFault>
+    ensures pairing { IfOk result (λ found. MatchOption found (¬ (StateSame schema.now first.now second.now)) (SomePairing schema.now first.now second.now)) }
+    ensures refusal { IfErr result (IsPairRefusal schema.now first.now second.now) }
+{
+    let accepted = match accept(alloc, schema, first) {
+        Ok(accepted) => accepted,
+        Err(fault) => return Err(first_refused(fault)),
+    };
+    let other = match accept(alloc, schema, second) {
+        Ok(accepted) => accepted,
+        Err(fault) => return Err(second_refused(fault)),
+    };
+    match pairing_of_accepted(alloc, schema, &accepted, &other) {
+        Ok(found) => Ok(found),
+        Err(error) => Err(CompareFault::Memory(error)),
     }
 }
 

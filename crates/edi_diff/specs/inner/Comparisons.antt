@@ -6,7 +6,7 @@ use Rattle.edi_compare.specs.Pairings.{HasClasses}
 use Rattle.edi_matching.specs.Matchings.{GoesTo, targets_of}
 use Rattle.edi_matching.specs.declared.matching.Matching.{Matching}
 
--- two plans, what is kept of the first and what became of it, with the targets of that
+-- two plans, what is unchanged of the first and what became of it, with the targets of that
 pub record Comparison : Type 0 where
   pub classes : Classes
   pub plan : Drawing
@@ -23,7 +23,7 @@ became m = record { to = m.to; turned = m.turned }
 -- there is an entry for each record, and each target is a record
 pub record IsComparable (m : Comparison) : Type 0 where
   pub classed : HasClasses m.classes m.plan
-  pub all_kept : length m.unchanged ≡ length m.plan.list
+  pub all_unchanged : length m.unchanged ≡ length m.plan.list
   pub all_entered : length m.to ≡ length m.plan.list
   pub all_directed : length m.turned ≡ length m.plan.list
   pub all_targeted : length m.targets ≡ length m.plan.list

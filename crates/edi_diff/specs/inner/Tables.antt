@@ -8,7 +8,7 @@ use Rattle.edi_diff.specs.Reports.{HasSites, Report}
 pub record IsFitting (r : Report) : Type 0 where
   pub first_sites : HasSites r.first
   pub second_sites : HasSites r.second
-  pub all_kept : length r.unchanged ≡ length r.first.accepted.list
+  pub all_unchanged : length r.unchanged ≡ length r.first.accepted.list
   pub all_became : length r.became ≡ length r.first.accepted.list
   pub within : (i j : ℕ) → slice_index_or r.became i None ≡ Some j → IsPlace r.second.accepted j
 

@@ -1,5 +1,5 @@
 -- Sites that are sought while the zones of records come.
-use Rattle.std.specs.Prelude.{◌≡◌, ℕ, suc, ◌+◌, List, [], ◌∷◌, length, replicate, Option, Some, None, MatchOption, slice_get}
+use Rattle.std.specs.Prelude.{◌≡◌, ℕ, suc, ◌+◌, List, [], ◌∷◌, length, Option, Some, None, MatchOption, slice_get}
 use Rattle.edi_line.specs.Entry.{Entry}
 use Rattle.edi_explain.specs.Sites.{IsSiteOfGroup}
 use Rattle.edi_explain.specs.declared.site.RecordSite.{RecordSite}
@@ -30,10 +30,3 @@ AreSought s (first ∷ second ∷ come) = IsSought (length first) come s.here ×
 abbrev pub number_of : Option ℕ → ℕ
 number_of (Some place) = suc place
 number_of None = 0
-
-abbrev pub blank_zone : Entry
-blank_zone = record { line = 0; code = []; nature = 0; format = 0; value = [] }
-
--- a group of so many zones
-abbrev pub so_many : ℕ → List Entry
-so_many number = replicate number blank_zone

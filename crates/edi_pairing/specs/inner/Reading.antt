@@ -1,8 +1,8 @@
--- How a file is read, line by line.
-use Rattle.std.specs.Prelude.{◌≡◌, ℕ, suc, ◌<◌, Bool, true, false, List, ◌∷◌, ◌++◌, length}
+-- How a line is read.
+use Rattle.std.specs.Prelude.{◌≡◌, ℕ, ◌<◌, Bool, true, false, List, ◌∷◌, ◌++◌, length}
 use Rattle.std.specs.List.{list_any}
 use Rattle.edi_pairing.specs.Names.{is_mark, name_at}
-use Rattle.edi_pairing.specs.PairingText.{Pairs, first_lines, line_of}
+use Rattle.edi_pairing.specs.PairingText.{line_of}
 use Rattle.edi_pairing.specs.declared.names.RecordName.{RecordName}
 
 -- the text is a front without a mark, and an end that begins with one
@@ -19,10 +19,3 @@ pub record BeginsWith (b : List RecordName) (name : RecordName) (text : List ℕ
   pub within : to < length b
   pub typed : (name_at b to).kind ≡ name.kind
   pub cut : text ≡ line_of name (name_at b to).rid turned ++ behind
-
--- the lines of so many records were read, and this comes behind them
-pub record IsReadTo (a b : List RecordName) (file : List ℕ) (to : List ℕ) (turned : List Bool) (behind : List ℕ) (count : ℕ) : Type 0 where
-  pub paired : length to ≡ count
-  pub directed : length turned ≡ count
-  pub pairs : Pairs a b (record { to = to; turned = turned }) count
-  pub cut : file ≡ first_lines a b (record { to = to; turned = turned }) (suc count) ++ behind

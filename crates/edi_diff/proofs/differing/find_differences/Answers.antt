@@ -36,6 +36,6 @@ returns-clause-findings c = record {
   };
   by_first = refl;
   by_second = refl;
-  by_kept = refl;
+  by_unchanged = refl;
   by_became = c.in_ok-became.ensures.1;
 }

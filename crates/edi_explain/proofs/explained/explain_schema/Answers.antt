@@ -5,7 +5,7 @@ use Rattle.edi_line.specs.Refusal.{IsLeastBroken, IsUnbroken}
 use Rattle.edi_schema.specs.Roles.{KindCodes}
 use Rattle.edi_schema.specs.declared.fault.SchemaFault.TheVariants.{Line}
 use Rattle.edi_schema.specs.SchemaRefusal.{IsSchemaRefusal}
-use Rattle.edi_schema.specs.SchemaRules.{LinesHold}
+use Rattle.edi_schema.specs.SchemaRules.{SchemaLinesHold}
 use Rattle.edi_schema.specs.declared.fault.Source.{Source}
 use Rattle.edi_schema.specs.declared.fault.Source.TheVariants.{Scd, Dic}
 use Rattle.edi_explain.specs.Explained.{ExplainsLine, of_source}
@@ -13,7 +13,7 @@ use Rattle.edi_explain.specs.Lines.{lines_of_sites}
 use Rattle.edi_explain.specs.Refusals.{IsRowRefusedAt}
 use Rattle.edi_explain.proofs.explained.explain_schema.Goals as goal
 
-lines_of : (file : Source) (scd dic : List ℕ) → LinesHold scd dic → IsUnbroken (BreaksLineRule (of_source file scd dic))
+lines_of : (file : Source) (scd dic : List ℕ) → SchemaLinesHold scd dic → IsUnbroken (BreaksLineRule (of_source file scd dic))
 lines_of Scd scd dic h = h.0
 lines_of Dic scd dic h = h.1
 

@@ -2,8 +2,7 @@ use Rattle.std.proofs.Common.{◌≡◌, ◌∙◌, ◌∷◌, List, [], ℕ, tr
 use Rattle.std.specs.List.{starts_with}
 use Rattle.edi_line.specs.inner.Lines.{lines_of}
 use Rattle.edi_explain.specs.Hints.{type_head}
-use Rattle.edi_explain.specs.inner.Hints.{part_in}
-use Rattle.edi_explain.proofs.Parts.{head_found, part_found}
+use Rattle.edi_explain.proofs.Parts.{head_found, part_found, part_in}
 use Rattle.edi_explain.proofs.hints.part_of.Goals as goal
 
 pub returns-then-starts_with : goal.returns-then-starts_with

@@ -1,6 +1,6 @@
 use Rattle.std.proofs.Common.{◌≡◌, length}
 use Rattle.edi_line.specs.inner.Lines.{lines_of}
-use Rattle.edi_explain.specs.inner.Hints.{part_in}
+use Rattle.edi_explain.proofs.Parts.{part_in}
 use Rattle.edi_explain.proofs.hints.part_of.Given as goal
 
 abbrev pub invariant-loop-rest : goal.invariant-loop-rest

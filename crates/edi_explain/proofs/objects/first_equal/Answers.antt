@@ -4,7 +4,7 @@ use Rattle.edi_plan.specs.Places.{places_of}
 use Rattle.edi_plan.specs.Plans.{Drawing}
 use Rattle.edi_rank.specs.Pieces.{ObjectSource, object_key_at}
 use Rattle.edi_explain.specs.Partners.{IsEqualObject, IsLeast}
-use Rattle.edi_explain.proofs.Equal.{object_place, equal_by_key, key_of_alike, more_not_equal, least_equal, none_equal_before}
+use Rattle.edi_explain.proofs.Equal.{object_place, equal_by_key, key_of_equal, more_not_equal, least_equal, none_equal_before}
 use Rattle.edi_explain.proofs.objects.first_equal.Goals as goal
 
 -- the key is of the plan's object, since the layer is of the plan
@@ -32,7 +32,7 @@ loop-earlier-preserved c =
     let i = c.loop-earlier.earlier in
     let less : i < m = omega arith in
     more_not_equal p c.keeps.ensures.whole l c.requires.keys m c.requires.member i c.loop-earlier.invariant
-    (λ d. let t = c.in_ok-has_key.ensures.1 (of_plan l p i c.requires.keys.plan ∙ (key_of_alike p c.keeps.ensures.whole l c.requires.keys m c.requires.member i less d ∙ (sym (of_plan l p m c.requires.keys.plan) ∙ sym c.in_ok-key.ensures))) in
+    (λ d. let t = c.in_ok-has_key.ensures.1 (of_plan l p i c.requires.keys.plan ∙ (key_of_equal p c.keeps.ensures.whole l c.requires.keys m c.requires.member i less d ∙ (sym (of_plan l p m c.requires.keys.plan) ∙ sym c.in_ok-key.ensures))) in
     let f = c.if-branch.false in cc)
 
 pub returns : goal.returns

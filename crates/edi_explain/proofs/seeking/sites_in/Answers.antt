@@ -1,6 +1,6 @@
 use Rattle.std.proofs.Common.{[], ◌∷◌, sym, subst}
-use Rattle.edi_explain.specs.inner.Seeking.{IsSought, number_of, so_many}
-use Rattle.edi_explain.proofs.Sought.{found_sites, numbered_back, so_long}
+use Rattle.edi_explain.specs.inner.Seeking.{IsSought, number_of}
+use Rattle.edi_explain.proofs.Sought.{found_sites, numbered_back, so_long, so_many}
 use Rattle.edi_explain.proofs.seeking.sites_in.Goals as goal
 
 pub returns-clause-sites : goal.returns-clause-sites

@@ -1,4 +1,4 @@
-use Rattle.edi_pairing.specs.inner.Reading.{IsReadTo}
+use Rattle.edi_pairing.proofs.TextLemmas.{IsReadTo}
 use Rattle.edi_pairing.proofs.reading.read_pairing.Given as goal
 
 abbrev pub invariant-loop-place : goal.invariant-loop-place

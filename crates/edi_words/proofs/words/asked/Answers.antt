@@ -1,6 +1,7 @@
 use Rattle.std.proofs.Common.{◌∙◌, refl, sym, subst, map, string_bytes, inl, inr, ap}
 use Rattle.clap.specs.Words.{kind_of, subcommand_of}
-use Rattle.edi_words.specs.Requests.{IsOwn, Means, edicad, status_of_kind}
+use Rattle.edi_words.specs.Requests.{Means, edicad, status_of_kind}
+use Rattle.edi_words.specs.inner.Requests.{IsOwn}
 use Rattle.edi_words.proofs.Subcommands.{met_is_own}
 use Rattle.edi_words.proofs.words.asked.Goals as goal
 

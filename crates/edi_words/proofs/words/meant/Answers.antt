@@ -3,7 +3,8 @@ use Rattle.std.specs.Prelude.{unwrap_or}
 use Rattle.std.proofs.lemmas.Bool.{false≢true}
 use Rattle.clap.specs.Words.{found_of, rows_of}
 use Rattle.clap.proofs.WalkLemmas.{first_value-rows}
-use Rattle.edi_words.specs.Requests.{AreKindsOf, IsOwn, Means}
+use Rattle.edi_words.specs.Requests.{AreKindsOf, Means}
+use Rattle.edi_words.specs.inner.Requests.{IsOwn}
 use Rattle.edi_words.proofs.words.meant.Goals as goal
 
 -- a pair of which both parts are known
@@ -72,8 +73,8 @@ returns-in-verify g c =
       c.path-in-verify.ensures,
     )
 
-pub told_apart-requires : goal.told_apart-requires
-told_apart-requires g c =
+pub differing-requires : goal.differing-requires
+differing-requires g c =
     let text_is = c.get_str.ensures ∙ first_value-rows (found_of c.in-Some.given.now) _ in
     subst (λ t. AreKindsOf t c.in-Some-kinds_of.kinds) text_is c.in-Some-kinds_of.ensures
 
@@ -81,7 +82,7 @@ pub returns-in-diff : goal.returns-in-diff
 returns-in-diff g c =
     let rows = rows_of (found_of c.in-Some.given.now) in
     let met = pair_of _ _ _ _ c.in-Some.ensures.name c.in-Some.ensures.rows in
-    subst (λ m. Means m c.told_apart.result) (sym (met ∙ ap (λ name. Some (name, rows)) c.in-diff.is)) c.told_apart.ensures
+    subst (λ m. Means m c.differing.result) (sym (met ∙ ap (λ name. Some (name, rows)) c.in-diff.is)) c.differing.ensures
 
 pub returns-in-draw : goal.returns-in-draw
 returns-in-draw g c =

@@ -8,7 +8,7 @@ loop-turn-preserved g c =
     let b = c.loop-turn.invariant.0 in
     let count = c.in-Some.count in
     let buffer = c.read.new.buffer in
-    let call = c.in_default.ensures in
+    let call = c.in_ok-feed-in-Some.ensures in
     let read = c.in-Some.ensures in (
       b ++ take count buffer,
       call.takes b c.loop-turn.invariant.1,

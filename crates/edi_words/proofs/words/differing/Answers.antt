@@ -2,7 +2,7 @@ use Rattle.std.proofs.Common.{◌∙◌, sym, refl, ap}
 use Rattle.clap.specs.Words.{found_of, rows_of}
 use Rattle.clap.proofs.WalkLemmas.{first_value-rows}
 use Rattle.edi_words.specs.Requests.{is_standard_path}
-use Rattle.edi_words.proofs.words.told_apart.Goals as goal
+use Rattle.edi_words.proofs.words.differing.Goals as goal
 
 pub returns : goal.returns
 returns c = (

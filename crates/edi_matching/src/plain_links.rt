@@ -1,0 +1,83 @@
+//! Links with two ends and nothing else, by the places where these go.
+
+ghost use Rattle.std.specs.Prelude.{◌≡◌, ◌<◌, length};
+ghost use Rattle.edi_plan.specs.Plans.{IsPlace, record_at};
+ghost use Rattle.edi_compare.specs.Pairings.{HasClasses};
+
+use crate::added::target_of;
+use edi_plan::Plan;
+use edi_rank::class_turned;
+use edi_record::Kind;
+use edi_schema::{ClassRef, Schema};
+use std::alloc::{AllocError, Global};
+
+/// A plain link by its class after the reversals, and the places where its origin and its other end go. Their types are
+/// those of the records there.
+#[derive(Clone, Copy, Debug, PartialEq, Eq, PartialOrd, Ord)]
+pub(crate) struct PlainLink {
+    class: ClassRef,
+    origin: u32,
+    other: u32,
+}
+
+/// Whether a record is a link with two ends without SNS, and has neither attributes nor extra zones. Nearly each link is.
+pub(crate) fn is_plain(plan: &Plan, place: u32) -> bool
+    requires { IsPlace plan.now place }
+{
+    match plan.ends(place) {
+        [origin, other] => {
+            origin.sns.is_none()
+                && other.sns.is_none()
+                && plan.attributes(place).is_empty()
+                && plan.extras(place).is_empty()
+        }
+        _ => false,
+    }
+}
+
+/// The plain links whose ends are both matched, in the order of their keys.
+pub(crate) fn plain_links(
+    alloc: Global,
+    schema: &Schema,
+    plan: &Plan,
+    to: &[Option<u32>],
+    turned: &[bool],
+) -> Result<Vec<(PlainLink, u32)>, AllocError>
+    requires classes { HasClasses schema.now plan.now }
+    requires long { length turned.now ≡ length plan.now.list }
+{
+    let places = plan.places(Kind::Lnk);
+    let mut links = Vec::with_capacity(alloc, places.len())?;
+    for place in places {
+        if *place < plan.len()
+            && is_plain(plan, *place)
+            && let Some(link) = plain_link(schema, plan, to, turned, *place)
+        {
+            links.push((link, *place))?;
+        }
+    }
+    links.sort_unstable();
+    Ok(links)
+}
+
+/// The key of a plain link, if both of its ends are matched.
+fn plain_link(
+    schema: &Schema,
+    plan: &Plan,
+    to: &[Option<u32>],
+    turned: &[bool],
+    place: u32,
+) -> Option<PlainLink>
+    requires place { IsPlace plan.now place }
+    requires class { (record_at plan.now place).class < length schema.now }
+    requires long { length turned.now ≡ length plan.now.list }
+{
+    let [origin, other] = plan.ends(place) else {
+        return None;
+    };
+    Some(PlainLink {
+        class: class_turned(schema, plan, turned, place),
+        origin: target_of(to, origin.target)?,
+        other: target_of(to, other.target)?,
+    })
+}

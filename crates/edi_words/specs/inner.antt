@@ -1,0 +1,2 @@
+-- What the public contracts do not reach: what private contracts and proofs need.
+pub mod Requests

@@ -1,0 +1,19 @@
+-- What the answer to one sheet leaves.
+use Rattle.std.specs.Prelude.{◌≡◌, ℕ, List, IsTrue, take}
+use Rattle.std.proofs.Common.{Ok}
+use Rattle.edi_schema.specs.Classes.{Classes}
+use Rattle.edi_compare.specs.Runs.{Seen}
+use Rattle.edicad.specs.Hashes.{IsAnswerOf, IsStep, Step, digest_line}
+use Rattle.edicad.specs.Reasons.{Why}
+use Rattle.edicad.specs.SheetRuns.{Inputs}
+use Rattle.edicad.specs.Statuses.{Says, Warns}
+
+-- the streams got what a sheet adds, and this is its status
+abbrev pub StepsOn : Inputs → Why → Classes → List ℕ → Seen → Seen → ℕ → Type 0
+StepsOn inputs why s path out err status =
+    (step : Step) × IsStep inputs why s path step × (step.status ≡ status) × Says out step.out × Warns err step.err
+
+-- the output failed in the line of the sheet of a path, of which so many bytes went out
+abbrev pub StopsAt : Inputs → Classes → List ℕ → Seen → Type 0
+StopsAt inputs s path out = (digest : List ℕ) × IsAnswerOf inputs s path (Ok digest) × IsTrue out.failed
+    × ((count : ℕ) × Says out (take count (digest_line digest path)))
