@@ -19,7 +19,7 @@ from `crates/uses/src`; the gate checks that it is current. The definitions that
 specs/ ([DEFINITIONS.md](DEFINITIONS.md)); `crates/uses/specs` has those of these callers.
 
 A schema is loaded once and serves any number of sheets. What allocates takes the allocator first and may answer that
-memory is wanting, which says nothing of the sheet. A refused call leaves what it borrowed as it was, readers, writers
+there is no memory for it, which says nothing of the sheet. A refused call leaves what it borrowed as it was, readers, writers
 and feeds aside. Coordinates are whole millionths of the file's unit.
 """
 

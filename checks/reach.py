@@ -169,7 +169,7 @@ def count(items):
 
 def page(base):
     out = ["# What the claims rest on", "",
-           "Every definition that the contracts of three calls reach, file by file, from the claim down. Made by",
+           "Every definition that the contracts of four calls reach, file by file, from the claim down. Made by",
            "`checks/reach.py`; the gate checks that it is current. [AUDIT.md](AUDIT.md) says how to read it.", ""]
     listed = set()
     for call, what, roots in CLAIMS:
