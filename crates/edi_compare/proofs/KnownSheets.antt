@@ -9,7 +9,8 @@ use Rattle.edi_line.specs.Refusal.{IsUnbroken, IsLeastBroken}
 use Rattle.edi_line.specs.Zones.{groups_of}
 use Rattle.edi_line.specs.inner.Number.{whole_number, fraction_number, number}
 use Rattle.edi_line.specs.inner.Spelling.{reading_of, has_head}
-use Rattle.edi_line.specs.inner.Zones.{readings_of, zones_of}
+use Rattle.edi_line.specs.inner.Zones.{readings_of}
+use Rattle.edi_line.proofs.ZonesFound.{zones_of}
 use Rattle.edi_line.proofs.KnownFiles.{first_fault, refused_as}
 use Rattle.edi_record.specs.Rows.{the_node}
 use Rattle.edi_record.specs.Texts.{pointer_text, point_text}

@@ -6,7 +6,8 @@ use Rattle.edi_line.specs.Feeding.{seen_in}
 use Rattle.edi_line.specs.Refusal.{IsUnbroken}
 use Rattle.edi_line.specs.inner.Refusal.{first_broken}
 use Rattle.edi_line.specs.Zones.{groups_of, charset_of}
-use Rattle.edi_line.specs.inner.Zones.{zones_of, readings_of}
+use Rattle.edi_line.specs.inner.Zones.{readings_of}
+use Rattle.edi_line.proofs.ZonesFound.{zones_of}
 use Rattle.edi_line.proofs.FirstBroken.{none_broken}
 use Rattle.edi_line.proofs.KnownFiles.{first_fault, unbroken_as, zones_as}
 use Rattle.edi_record.specs.Records.{States, values, has_points, is_link}

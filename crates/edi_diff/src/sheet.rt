@@ -62,7 +62,8 @@ pub fn locate_from(
     ensures all { IfOk result HasSites }
     ensures refusal { IfErr result (IsRefusal schema.now (cow_slice_items bytes.entry)) }
 {
-    let (accepted, sites) = accept_beside(alloc, schema, bytes, SiteList::new(alloc))?;
+    let room = SiteList::for_file(alloc, bytes.as_slice().len())?;
+    let (accepted, sites) = accept_beside(alloc, schema, bytes, room)?;
     Ok(LocatedSheet {
         accepted,
         sites: Sequence::from_vec(sites.list),

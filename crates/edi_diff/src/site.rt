@@ -29,14 +29,18 @@ pub(crate) struct SiteList {
     pub(crate) list: Vec<Site>,
 }
 
+/// As few bytes as a record has in most files.
+const RECORD_BYTES: usize = 100;
+
 impl SiteList {
-    /// No sites, before the first record.
-    pub(crate) fn new(alloc: Global) -> SiteList
-        ensures { result.list.items ≡ [] }
+    /// No sites, before the first record of a file of this many bytes, with room for those of most files: a list that
+    /// grew would leave the memory behind that it had before.
+    pub(crate) fn for_file(alloc: Global, length: usize) -> Result<SiteList, AllocError>
+        ensures { IfOk result (λ sites. sites.list.items ≡ []) }
     {
-        SiteList {
-            list: Vec::new(alloc),
-        }
+        Ok(SiteList {
+            list: Vec::with_capacity(alloc, length / RECORD_BYTES)?,
+        })
     }
 }
 
@@ -74,7 +78,7 @@ pub fn sites(alloc: Global, bytes: &[u8]) -> Result<Vec<Site>, LineFault>
     ensures sound { OnOk result (IsUnbroken (BreaksLineRule bytes.now)) }
     ensures least { IfErr result (IsLineRefusal (BreaksLineRule bytes.now)) }
 {
-    let mut sites = SiteList::new(alloc);
+    let mut sites = SiteList::for_file(alloc, bytes.len())?;
     read_groups(alloc, bytes, &mut sites)?;
     Ok(sites.list)
 }

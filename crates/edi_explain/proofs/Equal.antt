@@ -1,5 +1,5 @@
 -- The first object equal to another.
-use Rattle.std.proofs.Common.{◌≡◌, ◌∙◌, ◌+◌, ◌<◌, ◌≤◌, ◌⊎◌, inl, inr, ℕ, length, get_or, sym, ap, subst, arith, Contains}
+use Rattle.std.proofs.Common.{◌≡◌, ◌∙◌, ◌+◌, ◌<◌, ◌≤◌, ◌⊎◌, inl, inr, ℕ, length, get_or, [], sym, ap, subst, arith, Contains}
 use Rattle.std.proofs.lemmas.Bool.{cases_order}
 use Rattle.std.proofs.lemmas.List.{get_or-map}
 use Rattle.std.proofs.lemmas.List.Elements.{Contains-get_or}
@@ -10,11 +10,14 @@ use Rattle.edi_plan.specs.Whole.{IsWhole}
 use Rattle.edi_plan.proofs.PlaceLemmas.{place_there, place_of_kind, places_rise, has_place}
 use Rattle.edi_rank.specs.EqualObjects.{AreEqualObjects}
 use Rattle.edi_rank.specs.Keys.{object_key}
-use Rattle.edi_rank.specs.inner.Layers.{no_object}
+use Rattle.edi_rank.specs.declared.keys.ObjectKey.{ObjectKey}
 use Rattle.edi_rank.specs.Pieces.{ObjectSource, object_key_at}
 use Rattle.edi_rank.proofs.ObjectKeys.{equal_one_key, one_key_equal}
 use Rattle.edi_explain.specs.inner.Objects.{AreKeyed}
 use Rattle.edi_explain.specs.Partners.{IsEqualObject, IsLeast}
+
+abbrev pub no_object : ObjectKey
+no_object = record { class = 0; attributes = []; extras = []; pieces = [] }
 
 abbrev pub object_place : Drawing → ℕ → ℕ
 object_place p i = get_or (places_of Fea p) i 0

@@ -3,7 +3,8 @@ use Rattle.std.proofs.Common.{◌≡◌, ℕ, ◌+◌, Bool, true, false, Option
 use Rattle.std.proofs.lemmas.List.{append-nil, append_assoc, length_push}
 use Rattle.edi_line.specs.Entry.{Entry}
 use Rattle.edi_line.specs.Spelling.{Reading}
-use Rattle.edi_line.specs.inner.Zones.{readings_of, zones_of}
+use Rattle.edi_line.specs.inner.Zones.{readings_of}
+use Rattle.edi_line.proofs.ZonesFound.{zones_of}
 use Rattle.edi_line.specs.LineRules.{BreaksIn, BreaksLineRule, IsZonesOf}
 use Rattle.edi_line.specs.Refusal.{IsLeastBroken, IsUnbroken}
 use Rattle.edi_line.specs.inner.Held.{rule_of, noted}

@@ -16,6 +16,7 @@ pub mod Heads
 pub mod NumberRead
 pub mod Made
 pub mod Readings
+pub mod ZonesFound
 pub mod ZonesSaid
 pub mod Said
 pub mod Printed

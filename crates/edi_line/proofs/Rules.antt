@@ -6,7 +6,8 @@ use Rattle.std.proofs.lemmas.List.{append-nil, append_assoc, length_push}
 use Rattle.std.proofs.lemmas.List.Sums.{sum_by_push}
 use Rattle.edi_line.specs.Entry.{Entry}
 use Rattle.edi_line.specs.Spelling.{Spelling, Reading}
-use Rattle.edi_line.specs.inner.Zones.{Part, part_of, parts_after, continuation, with_more, whole_zones}
+use Rattle.edi_line.specs.inner.Zones.{Part, part_of, parts_after, with_more}
+use Rattle.edi_line.proofs.ZonesFound.{continuation, whole_zones}
 use Rattle.edi_line.specs.LineKinds.{kind_of, is_bom, is_cse, is_rty, is_eom, is_zone, starts, bears, some_bears}
 use Rattle.edi_line.specs.inner.Zones.Part.{Blank, Continues, IsRemark, Begins}
 use Rattle.edi_line.specs.LineRules.{line_tests, BreaksHere, BreaksAt, LacksEnd, BreaksIn}

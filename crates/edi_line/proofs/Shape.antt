@@ -6,7 +6,8 @@ use Rattle.std.proofs.lemmas.List.{append_assoc, append-nil}
 use Rattle.edi_line.specs.Entry.{Entry, entries}
 use Rattle.edi_line.specs.Spelling.{Spelling, Reading}
 use Rattle.edi_line.specs.Zones.{IsGroup, HasShape, begins_group, groups_of}
-use Rattle.edi_line.specs.inner.Zones.{part_by, parts_after, continuation, with_more, entry_of, whole_zones}
+use Rattle.edi_line.specs.inner.Zones.{part_by, parts_after, with_more, entry_of}
+use Rattle.edi_line.proofs.ZonesFound.{continuation, whole_zones}
 use Rattle.edi_line.specs.LineKinds.{kind_of, is_inner, is_zone, is_rty}
 use Rattle.edi_line.specs.LineRules.{BreaksAt}
 use Rattle.edi_line.specs.inner.Held.{kind_tests, rule_of, rule_of_kind, noted, noted_kind, no_zones, closed, zoned_after, zoned, Stands}

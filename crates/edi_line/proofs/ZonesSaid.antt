@@ -9,7 +9,8 @@ use Rattle.edi_line.specs.LineRules.{BreaksAt, IsZonesOf}
 use Rattle.edi_line.specs.Made.{AreMadeFrom}
 use Rattle.edi_line.specs.Spelling.{Reading}
 use Rattle.edi_line.specs.Zones.{value_in, GoesOn, zone_at, IsZoneAt, IsZonesIn}
-use Rattle.edi_line.specs.inner.Zones.{part_by, parts_after, continuation, whole_zones, zones_in, readings_of, AreZonesRead}
+use Rattle.edi_line.specs.inner.Zones.{part_by, parts_after, readings_of}
+use Rattle.edi_line.proofs.ZonesFound.{continuation, whole_zones, zones_in, AreZonesRead}
 use Rattle.edi_line.specs.declared.order.ZoneKind.{ZoneKind}
 use Rattle.edi_line.specs.declared.order.ZoneKind.TheVariants.{Bom, Cse, Rty, Eom, Other, Next, Remark}
 use Rattle.edi_line.proofs.Made.{made_one}

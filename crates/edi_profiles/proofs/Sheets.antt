@@ -7,7 +7,7 @@ use Rattle.edi_line.specs.LineRules.{IsZonesOf}
 use Rattle.edi_line.specs.Zones.{groups_of}
 use Rattle.edi_line.specs.inner.Spelling.{reading_of, has_head}
 use Rattle.edi_line.specs.inner.Number.{whole_number, fraction_number, number}
-use Rattle.edi_line.specs.inner.Zones.{zones_of}
+use Rattle.edi_line.proofs.ZonesFound.{zones_of}
 use Rattle.edi_line.proofs.KnownFiles.{unbroken_as, zones_as}
 use Rattle.edi_line.proofs.ZonesSaid.{zones_of_one}
 use Rattle.edi_record.specs.Records.{States}

@@ -12,7 +12,7 @@ use Rattle.edi_line.specs.inner.Number.{number}
 use Rattle.edi_line.specs.Printing.{IsOneLine, IsPrintable}
 use Rattle.edi_line.specs.Refusal.{IsUnbroken, BreaksTest}
 use Rattle.edi_line.specs.Zones.{groups_of, charset_of}
-use Rattle.edi_line.specs.inner.Zones.{zones_of}
+use Rattle.edi_line.proofs.ZonesFound.{zones_of}
 use Rattle.edi_line.proofs.Numbers.{number_in_range}
 use Rattle.edi_line.proofs.NumberRead.{number_is}
 use Rattle.edi_record.specs.Texts.{PointerText}

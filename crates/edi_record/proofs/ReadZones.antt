@@ -13,7 +13,8 @@ use Rattle.edi_line.specs.inner.Lines.{lines_of, contents_of}
 use Rattle.edi_line.specs.Spelling.{Spelling, Reading, is_code_byte, is_printable}
 use Rattle.edi_line.specs.inner.Spelling.{reading_of, is_space, is_digit, code_of, has_head, spelling_of, stated_length}
 use Rattle.edi_line.specs.Zones.{begins_group, ends_group, before_end, groups_of}
-use Rattle.edi_line.specs.inner.Zones.{readings_of, Part, part_by, part_of, parts_after, continuation, whole_zones, zones_of}
+use Rattle.edi_line.specs.inner.Zones.{readings_of, Part, part_by, part_of, parts_after}
+use Rattle.edi_line.proofs.ZonesFound.{continuation, whole_zones, zones_of}
 use Rattle.edi_line.specs.LineKinds.{kind_of, is_bom, is_cse, is_rty, is_zone, bears, some_bears}
 use Rattle.edi_line.specs.inner.Zones.Part.{Blank, Continues, IsRemark, Begins}
 use Rattle.edi_line.specs.LineRules.{BreaksAt, BreaksLineRule}

@@ -7,7 +7,7 @@ use Rattle.edi_line.specs.inner.Refusal.{first_broken}
 use Rattle.edi_line.specs.Zones.{groups_of}
 use Rattle.edi_line.specs.inner.Number.{number, whole_number, fraction_number}
 use Rattle.edi_line.specs.inner.Spelling.{reading_of, has_head}
-use Rattle.edi_line.specs.inner.Zones.{zones_of}
+use Rattle.edi_line.proofs.ZonesFound.{zones_of}
 use Rattle.edi_line.proofs.FirstBroken.{none_broken, first_is_least}
 use Rattle.edi_line.proofs.KnownFiles.{zones_as}
 use Rattle.edi_record.specs.RecordRules.{BreaksRecordRule}

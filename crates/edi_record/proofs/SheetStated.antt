@@ -4,7 +4,7 @@ use Rattle.std.specs.List.{AllByRecursion, AllZip}
 use Rattle.std.proofs.lemmas.Bool.{not-true, or_from}
 use Rattle.edi_line.specs.Entry.{Entry, has_code, first}
 use Rattle.edi_line.specs.Zones.{ends_group, groups_of, charset_of}
-use Rattle.edi_line.specs.inner.Zones.{zones_of, zones_in}
+use Rattle.edi_line.proofs.ZonesFound.{zones_of, zones_in}
 use Rattle.edi_line.specs.Printing.{zone_text, line_numbered, IsPrintable, lines_of_zone}
 use Rattle.edi_line.proofs.Printed.{printed_again}
 use Rattle.edi_record.specs.Shapes.{kind_code}

@@ -7,7 +7,7 @@ use Rattle.edi_line.specs.Entry.{Entry}
 use Rattle.edi_line.specs.Refusal.{IsUnbroken}
 use Rattle.edi_line.specs.inner.Refusal.{first_broken}
 use Rattle.edi_line.specs.Zones.{IsGroup, IsFileOf, groups_of}
-use Rattle.edi_line.specs.inner.Zones.{zones_of}
+use Rattle.edi_line.proofs.ZonesFound.{zones_of}
 use Rattle.edi_line.specs.LineKinds.{kind_of, is_inner}
 use Rattle.edi_line.specs.Printing.{zone_text, line_numbered, IsOneLine}
 use Rattle.edi_line.proofs.FirstBroken.{none_broken}

@@ -5,7 +5,8 @@ use Rattle.edi_line.specs.Entry.{Entry}
 use Rattle.edi_line.specs.Spelling.{Spelling, Reading}
 use Rattle.edi_line.specs.LineRules.{IsZonesOf, BreaksLineRule, BreaksAt}
 use Rattle.edi_line.specs.Zones.{groups_of}
-use Rattle.edi_line.specs.inner.Zones.{Part, part_by, parts_after, whole_zones, zones_of, readings_of}
+use Rattle.edi_line.specs.inner.Zones.{Part, part_by, parts_after, readings_of}
+use Rattle.edi_line.proofs.ZonesFound.{whole_zones, zones_of}
 use Rattle.edi_line.specs.LineKinds.{kind_of, is_rty, bears}
 use Rattle.edi_line.specs.Refusal.{IsUnbroken}
 use Rattle.edi_line.proofs.Readings.{unbroken_read}

@@ -19,7 +19,7 @@ use Rattle.edi_record.proofs.StatesSaid.{states_unique, all_said}
 use Rattle.edi_plan.proofs.Built.{value_found}
 use Rattle.edi_write.specs.Laws.{LayoutHasPlan, LayoutPreservesReferences, LayoutIsSound}
 use Rattle.edi_line.specs.Entry.{Entry}
-use Rattle.edi_line.specs.inner.Zones.{zones_of, zones_in}
+use Rattle.edi_line.proofs.ZonesFound.{zones_of, zones_in}
 use Rattle.edi_line.specs.inner.Number.{number}
 use Rattle.edi_line.specs.Printing.{IsOneLine}
 use Rattle.edi_line.specs.Refusal.{IsUnbroken}

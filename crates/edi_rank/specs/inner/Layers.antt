@@ -11,11 +11,7 @@ use Rattle.edi_rank.specs.Keys.{link_key, face_key_cmp, link_key_cmp}
 use Rattle.edi_rank.specs.Labelling.{turned_at}
 use Rattle.edi_rank.specs.Turned.{turned_record}
 use Rattle.edi_rank.specs.declared.keys.LinkKey.{LinkKey}
-use Rattle.edi_rank.specs.declared.keys.ObjectKey.{ObjectKey}
 use Rattle.edi_rank.specs.Layers.{no_side, face_keys}
-
-abbrev pub no_object : ObjectKey
-no_object = record { class = 0; attributes = []; extras = []; pieces = [] }
 
 -- the numbers of the faces by their keys, where the arcs have these numbers
 abbrev pub IsFaceRanking : Drawing → List ℕ → List ℕ → Type 0
