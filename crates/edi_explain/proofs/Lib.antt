@@ -4,7 +4,6 @@ pub mod Phases
 pub mod PlaceCounts
 pub mod RuleTexts
 pub mod RowGroups
-pub mod Spans
 pub mod RuleWords
 pub mod InTurn
 pub mod OneArc

@@ -12,15 +12,15 @@ use Rattle.edi_schema.specs.declared.fault.SchemaFault.{SchemaFault}
 use Rattle.edi_schema.specs.declared.fault.SchemaFault.TheVariants as schema
 use Rattle.edi_compare.specs.declared.fault.Fault.{Fault}
 use Rattle.edi_compare.specs.declared.fault.Fault.TheVariants.{Memory, Line, Entry}
-use Rattle.edi_explain.specs.Extents.{IsExtentIfAny, points_of}
+use Rattle.edi_plan.specs.Extents.{IsExtentIfAny, points_of}
 use Rattle.edi_explain.specs.Lengths.{CountsCharacters, length_hint}
 use Rattle.edi_explain.specs.Lines.{file_line, lines_of_line, lines_of_sites, sentence_of}
 use Rattle.edi_explain.specs.Barring.{IsBarredBy}
 use Rattle.edi_explain.specs.Partners.{IsLeastIfAny}
 use Rattle.edi_explain.specs.Refusals.{IsRefusedAt, IsRowRefusedAt}
 use Rattle.edi_explain.specs.Rules.{IsTextIfAny, is_among, rules}
-use Rattle.edi_explain.specs.declared.extent.Extent.{Extent}
-use Rattle.edi_explain.specs.declared.extent.Span.{Span}
+use Rattle.edi_plan.specs.declared.extent.Extent.{Extent}
+use Rattle.edi_plan.specs.declared.extent.Span.{Span}
 use Rattle.edi_explain.specs.declared.refused.Refused.{Refused}
 use Rattle.edi_explain.specs.declared.text.RuleText.{RuleText}
 

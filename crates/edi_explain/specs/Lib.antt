@@ -1,7 +1,6 @@
 pub mod Sites
 pub mod Rules
 pub mod Partners
-pub mod Extents
 pub mod RowPartners
 pub mod Refusals
 pub mod Found

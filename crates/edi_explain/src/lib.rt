@@ -6,7 +6,6 @@ mod contents;
 pub mod counts;
 pub mod examined;
 pub mod explained;
-pub mod extent;
 pub mod hints;
 mod lengths;
 mod lines;
@@ -28,7 +27,6 @@ pub use examined::{Found, examine};
 pub use explained::{
     NamedFile, describe_plan, explain_schema, explain_sheet, page_of, rule_of_word,
 };
-pub use extent::{Extent, Span, extent_of};
 pub use hints::{Part, hints_of, hints_on, part_of, part_of_type};
 pub use links::same_side;
 pub use objects::equal_object;

@@ -1,4 +1,3 @@
-pub mod Spans
 pub mod Joined
 pub mod Beside
 pub mod Counted

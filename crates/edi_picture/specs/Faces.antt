@@ -12,12 +12,12 @@ use Rattle.edi_record.specs.Records.{is_link}
 use Rattle.edi_plan.specs.Plans.{Drawing, is_arc, record_at}
 use Rattle.edi_plan.specs.Sides.{targets}
 use Rattle.edi_plan.specs.declared.record.PlanRecord.{PlanRecord}
+use Rattle.edi_plan.specs.declared.extent.Extent.{Extent}
 use Rattle.edi_picture.specs.Elements.{spot_text, spots_text}
 use Rattle.edi_picture.specs.Frames.{distance}
 use Rattle.edi_picture.specs.Marks.{colour, is_hidden}
 use Rattle.edi_picture.specs.Sheets.{Sheet, mark_at}
 use Rattle.edi_picture.specs.Titles.{title_text}
-use Rattle.edi_picture.specs.declared.frame.Frame.{Frame}
 
 -- ---- the arcs round a face
 
@@ -66,25 +66,25 @@ closes ends = list_all (λ q. count_by (same_spot q) ends % 2 == 0) ends
 
 -- An arc, with lines from its end to the base and from there to its begin. Of some arcs that close, what is inside of an odd
 -- number of these is what is inside of their rings: there are two or another even number of lines from each end to the base.
-abbrev pub fan_text : Frame → Sheet → Point → ℕ → List ℕ
+abbrev pub fan_text : Extent → Sheet → Point → ℕ → List ℕ
 fan_text f sheet base a = codes "M" ++ spots_text f sheet a ++ spot_text f base ++ codes "Z"
 
 -- the face with these arcs round it
-abbrev pub face_element : Classes → Frame → Sheet → ℕ → Point → List ℕ → List ℕ
+abbrev pub face_element : Classes → Extent → Sheet → ℕ → Point → List ℕ → List ℕ
 face_element s f sheet k base arcs = codes "<path fill='" ++ colour (mark_at sheet k) ++ codes "' d='" ++ flat_map (fan_text f sheet base) arcs ++ codes "'>"
     ++ title_text s sheet k ++ codes "</path>\n"
 
 -- that face by the ends of the arcs, the first of which is the base: nothing where there is no arc, or where they don't close
-abbrev pub closed_face : Classes → Frame → Sheet → ℕ → List ℕ → List Point → List ℕ
+abbrev pub closed_face : Classes → Extent → Sheet → ℕ → List ℕ → List Point → List ℕ
 closed_face s f sheet k arcs [] = []
 closed_face s f sheet k arcs (base ∷ ends) = if closes (base ∷ ends) then face_element s f sheet k base arcs else []
 
 -- what is drawn of a face: nothing where its mark hides it
-abbrev pub face_text : Classes → Frame → Sheet → ℕ → List ℕ
+abbrev pub face_text : Classes → Extent → Sheet → ℕ → List ℕ
 face_text s f sheet k =
     if is_hidden (mark_at sheet k) then []
     else closed_face s f sheet k (arcs_round sheet.plan k) (ends_of sheet.plan (arcs_round sheet.plan k))
 
 -- the faces of a sheet, in file order
-abbrev pub faces_of : Classes → Frame → Sheet → List ℕ
+abbrev pub faces_of : Classes → Extent → Sheet → List ℕ
 faces_of s f sheet = flat_map (face_text s f sheet) (places_of Pfe sheet.plan)

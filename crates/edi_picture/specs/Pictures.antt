@@ -3,12 +3,13 @@ use Rattle.std.specs.Prelude.{◌≡◌, ℕ, nat_lt, List, [], ◌++◌, length
 use Rattle.std.specs.List.{flat_map}
 use Rattle.edi_line.specs.Number.{size_text}
 use Rattle.edi_schema.specs.Classes.{Classes}
+use Rattle.edi_plan.specs.Extents.{IsExtentIfAny}
+use Rattle.edi_plan.specs.declared.extent.Extent.{Extent}
 use Rattle.edi_picture.specs.Elements.{arcs_of, nodes_of}
 use Rattle.edi_picture.specs.Faces.{faces_of}
-use Rattle.edi_picture.specs.Frames.{IsBar, IsFrameIfAny, side_of}
+use Rattle.edi_picture.specs.Frames.{IsBar, side_of}
 use Rattle.edi_picture.specs.Marks.{colour}
 use Rattle.edi_picture.specs.Sheets.{Sheet, all_points}
-use Rattle.edi_picture.specs.declared.frame.Frame.{Frame}
 use Rattle.edi_picture.specs.declared.mark.Mark.{Mark}
 use Rattle.edi_picture.specs.declared.mark.Mark.TheVariants.{Plain, OnlyFirst, OnlySecond, Changed}
 
@@ -37,39 +38,39 @@ legend_text sheets = if nat_lt 1 (length sheets) then legend_entries else []
 -- ---- the plan
 
 -- an inner picture of the size of the frame, in units of the file, so far below the top
-abbrev pub inset_text : Frame → List ℕ → List ℕ
+abbrev pub inset_text : Extent → List ℕ → List ℕ
 inset_text f top = codes "<svg x='20' y='" ++ top ++ codes "' width='960' height='960' overflow='visible' preserveAspectRatio='xMinYMin' viewBox='0 0 "
     ++ (size_text (side_of f.x) ++ codes " " ++ size_text (side_of f.y) ++ codes "'>\n")
 
 -- a bar of this length, with the number of units that it is long
-abbrev pub bar_text : Frame → ℕ → List ℕ
+abbrev pub bar_text : Extent → ℕ → List ℕ
 bar_text f bar = inset_text f (codes "56") ++ codes "<path stroke='black' stroke-width='3' d='M0,0h" ++ size_text bar ++ codes "'/>\n</svg>\n"
     ++ (codes "<text x='20' y='50'>" ++ size_text bar ++ codes " unit(s)</text>\n")
 
 -- all faces, then all arcs, and then all nodes, each of the sheets in their order
-abbrev pub faces_text : Classes → Frame → List Sheet → List ℕ
+abbrev pub faces_text : Classes → Extent → List Sheet → List ℕ
 faces_text s f sheets = codes "<g fill-rule='evenodd' fill-opacity='0.2'>\n" ++ flat_map (faces_of s f) sheets ++ codes "</g>\n"
 
-abbrev pub arcs_text : Classes → Frame → List Sheet → List ℕ
+abbrev pub arcs_text : Classes → Extent → List Sheet → List ℕ
 arcs_text s f sheets = codes "<g fill='none' stroke-width='1.5' stroke-linejoin='round'>\n" ++ flat_map (arcs_of s f) sheets ++ codes "</g>\n"
 
-abbrev pub nodes_text : Classes → Frame → List Sheet → List ℕ
+abbrev pub nodes_text : Classes → Extent → List Sheet → List ℕ
 nodes_text s f sheets = codes "<g fill='none' stroke-width='5' stroke-linecap='round'>\n" ++ flat_map (nodes_of s f) sheets ++ codes "</g>\n"
 
-abbrev pub plan_text : Classes → Frame → List Sheet → List ℕ
+abbrev pub plan_text : Classes → Extent → List Sheet → List ℕ
 plan_text s f sheets = inset_text f (codes "70") ++ faces_text s f sheets ++ arcs_text s f sheets ++ nodes_text s f sheets ++ tail_text
 
 -- ---- the whole
 
 -- what is drawn in a frame: the bar, which is as the width of the frame says, and the plan
-abbrev pub IsDrawnIn : Classes → List Sheet → Option Frame → List ℕ → Type 0
+abbrev pub IsDrawnIn : Classes → List Sheet → Option Extent → List ℕ → Type 0
 IsDrawnIn s sheets None drawn = drawn ≡ []
 IsDrawnIn s sheets (Some f) drawn = (bar : ℕ) × IsBar (side_of f.x) bar × (drawn ≡ bar_text f bar ++ plan_text s f sheets)
 
 -- The picture of some sheets: the head, the legend, what is drawn in the frame of all their points, and the end.
 pub record IsPicture (s : Classes) (sheets : List Sheet) (text : List ℕ) : Type 0 where
-  pub frame : Option Frame
+  pub frame : Option Extent
   pub drawn : List ℕ
-  pub is_frame : IsFrameIfAny (all_points sheets) frame
+  pub is_frame : IsExtentIfAny (all_points sheets) frame
   pub is_drawn : IsDrawnIn s sheets frame drawn
   pub is_text : text ≡ head_text ++ legend_text sheets ++ drawn ++ tail_text

@@ -4,6 +4,7 @@ use Rattle.std.specs.List.{AllByRecursion, flat_map}
 use Rattle.edi_record.specs.declared.record.Point.{Point}
 use Rattle.edi_record.specs.declared.name.Name.{Name}
 use Rattle.edi_schema.specs.Classes.{Classes, class_name_at}
+use Rattle.edi_plan.specs.Extents.{points_of}
 use Rattle.edi_plan.specs.Plans.{Drawing}
 use Rattle.edi_picture.specs.declared.mark.Mark.{Mark}
 use Rattle.edi_picture.specs.declared.mark.Mark.TheVariants.{Hidden}
@@ -25,10 +26,7 @@ mark_at sheet k = slice_index_or sheet.marks k Hidden
 abbrev pub class_name : Classes → ℕ → Name
 class_name s class = unwrap_or (class_name_at s class) (record { rty = []; rid = [] })
 
--- the points of a plan, and those of all plans
-abbrev pub points_of : Drawing → List Point
-points_of p = flat_map (λ r. r.points) p.list
-
+-- the points of all plans
 abbrev pub all_points : List Sheet → List Point
 all_points sheets = flat_map (λ sheet. points_of sheet.plan) sheets
 

@@ -4,16 +4,17 @@ ghost use Rattle.std.specs.Prelude.{◌≡◌, ◌++◌, OnOk};
 ghost use Rattle.edi_picture.specs.Elements.{spot_text};
 
 use crate::distance::push_length;
-use crate::frame::{Frame, distance_between};
+use crate::frame::distance_between;
 use crate::shown::Shown;
 use crate::titles::push_title;
 use crate::writing::put;
+use edi_plan::Extent;
 use edi_record::{Kind, Point};
 use edi_schema::Schema;
 use std::alloc::AllocError;
 
 /// Appends a space and a point.
-pub(crate) fn push_spot(text: &mut Vec<u8>, frame: &Frame, point: &Point) -> Result<(), AllocError>
+pub(crate) fn push_spot(text: &mut Vec<u8>, frame: &Extent, point: &Point) -> Result<(), AllocError>
     ensures { OnOk result (text.new.items ≡ text.old.items ++ spot_text frame.now point.now) }
 {
     text.push(b' ')?;
@@ -26,7 +27,7 @@ pub(crate) fn push_spot(text: &mut Vec<u8>, frame: &Frame, point: &Point) -> Res
 #[derive(Drop)]
 pub(crate) struct Canvas<'a> {
     pub(crate) schema: &'a Schema,
-    pub(crate) frame: Frame,
+    pub(crate) frame: Extent,
 }
 
 impl<'a> Canvas<'a> {

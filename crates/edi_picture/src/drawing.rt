@@ -8,11 +8,12 @@ ghost use Rattle.edi_picture.specs.Pictures.{IsDrawnIn, IsPicture, arcs_text, le
 ghost use Rattle.edi_picture.specs.Sheets.{AllHaveClasses};
 
 use crate::canvas::Canvas;
-use crate::frame::{Frame, bar_within, frame_of};
+use crate::frame::{bar_within, frame_of, side_length};
 use crate::layers::push_plan;
 use crate::legend::{push_bar, push_head, push_legend};
 use crate::shown::Shown;
 use crate::writing::put;
+use edi_plan::Extent;
 use edi_schema::Schema;
 use std::alloc::{AllocError, Global};
 
@@ -21,7 +22,7 @@ fn push_drawn(
     alloc: Global,
     text: &mut Vec<u8>,
     schema: &Schema,
-    frame: Option<Frame>,
+    frame: Option<Extent>,
     sheets: &[Shown<'_>],
 ) -> Result<(), AllocError>
     requires { AllHaveClasses schema.now sheets.now }
@@ -30,7 +31,7 @@ fn push_drawn(
     let Some(frame) = frame else {
         return Ok(());
     };
-    push_bar(text, &frame, bar_within(frame.x.side()))?;
+    push_bar(text, &frame, bar_within(side_length(frame.x)))?;
     let canvas = Canvas { schema, frame };
     push_plan(alloc, &canvas, text, sheets)
 }

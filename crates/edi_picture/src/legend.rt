@@ -6,9 +6,10 @@ ghost use Rattle.edi_picture.specs.Frames.{side_of};
 ghost use Rattle.edi_picture.specs.Pictures.{bar_text, head_text, inset_text, legend_entries, legend_entry};
 
 use crate::distance::push_length;
-use crate::frame::Frame;
+use crate::frame::side_length;
 use crate::mark::Mark;
 use crate::writing::put;
+use edi_plan::Extent;
 use std::alloc::AllocError;
 
 /// Appends the head of the file.
@@ -66,17 +67,17 @@ pub(crate) fn push_legend(text: &mut Vec<u8>) -> Result<(), AllocError>
 }
 
 /// Appends the size of an inner picture.
-fn push_size(text: &mut Vec<u8>, frame: &Frame) -> Result<(), AllocError>
+fn push_size(text: &mut Vec<u8>, frame: &Extent) -> Result<(), AllocError>
     ensures { OnOk result (text.new.items ≡ text.old.items ++ (size_text (side_of frame.now.x) ++ codes " " ++ size_text (side_of frame.now.y) ++ codes "'>\n")) }
 {
-    push_length(text, frame.x.side())?;
+    push_length(text, side_length(frame.x))?;
     text.push(b' ')?;
-    push_length(text, frame.y.side())?;
+    push_length(text, side_length(frame.y))?;
     put(text, b"'>\n")
 }
 
 /// Appends the begin of an inner picture, so far below the top.
-pub(crate) fn push_inset(text: &mut Vec<u8>, frame: &Frame, top: &[u8]) -> Result<(), AllocError>
+pub(crate) fn push_inset(text: &mut Vec<u8>, frame: &Extent, top: &[u8]) -> Result<(), AllocError>
     ensures { OnOk result (text.new.items ≡ text.old.items ++ inset_text frame.now top.now) }
 {
     put(text, b"<svg x='20' y='")?;
@@ -98,7 +99,7 @@ fn push_bar_length(text: &mut Vec<u8>, bar: u64) -> Result<(), AllocError>
 }
 
 /// Appends a bar of this length, in millionths of the file's unit.
-pub(crate) fn push_bar(text: &mut Vec<u8>, frame: &Frame, bar: u64) -> Result<(), AllocError>
+pub(crate) fn push_bar(text: &mut Vec<u8>, frame: &Extent, bar: u64) -> Result<(), AllocError>
     ensures { OnOk result (text.new.items ≡ text.old.items ++ bar_text frame.now bar) }
 {
     push_inset(text, frame, b"56")?;

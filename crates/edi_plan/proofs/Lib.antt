@@ -15,3 +15,4 @@ pub mod StepLemmas
 pub mod RecordLemmas
 pub mod PlanLemmas
 pub mod JoinedLemmas
+pub mod Spans

@@ -8,4 +8,5 @@ pub mod ReferenceRules
 pub mod Laws
 pub mod Orders
 pub mod Places
+pub mod Extents
 pub mod inner

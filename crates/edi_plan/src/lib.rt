@@ -2,6 +2,7 @@
 #![tactic(auto)]
 
 pub mod attributes;
+pub mod extent;
 pub mod fault;
 pub mod laws;
 mod names;
@@ -16,6 +17,7 @@ mod sides;
 mod targets;
 
 pub use attributes::sorted_attributes;
+pub use extent::{Extent, Span, extent_of, extent_with};
 pub use fault::RefFault;
 pub use plan::Plan;
 pub use record::{PlanAttribute, PlanEnd, PlanRecord};

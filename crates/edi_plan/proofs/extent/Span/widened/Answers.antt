@@ -1,5 +1,5 @@
-use Rattle.edi_picture.proofs.Spans.{more_numbers}
-use Rattle.edi_picture.proofs.frame.Span.widened.Goals as goal
+use Rattle.edi_plan.proofs.Spans.{more_numbers}
+use Rattle.edi_plan.proofs.extent.Span.widened.Goals as goal
 
 pub returns : goal.returns
 returns c = λ numbers h.

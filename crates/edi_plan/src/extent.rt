@@ -1,12 +1,12 @@
-//! The least and the greatest coordinates of a plan.
+//! The least and the greatest coordinates of plans.
 
 ghost use Rattle.std.specs.Prelude.{◌≡◌, ◌⊎◌, ◌++◌, ◌∷◌, [], List, ℤ};
 ghost use Rattle.std.specs.Int.Signed.{◌≤ℤ◌};
 ghost use Rattle.edi_record.specs.declared.record.Point.{Point as Points};
-ghost use Rattle.edi_explain.specs.Extents.{IsExtent, IsExtentIfAny, IsSpan, points_of};
+ghost use Rattle.edi_plan.specs.Extents.{IsExtent, IsExtentIfAny, IsSpan, points_of};
 
+use crate::plan::Plan;
 use edi_line::Num;
-use edi_plan::Plan;
 use edi_record::Point;
 
 /// The least and the greatest of some numbers, in millionths of the file's unit.
@@ -49,7 +49,7 @@ fn greater(first: Num, second: Num) -> Num
 
 impl Span {
     ghost use Rattle.std.specs.Prelude.{◌++◌, ◌∷◌, [], List, ℤ};
-    ghost use Rattle.edi_explain.specs.Extents.{IsSpan};
+    ghost use Rattle.edi_plan.specs.Extents.{IsSpan};
 
     /// The span of one number.
     fn at(number: Num) -> Span
@@ -99,13 +99,20 @@ fn with_points(found: Option<Extent>, points: &[Point]) -> Option<Extent>
     found
 }
 
-/// The least and the greatest x and y of all nodes and arcs, or `None` where there are none.
-pub fn extent_of(plan: &Plan) -> Option<Extent>
-    ensures { IsExtentIfAny (points_of plan.now) result }
+/// The extent of some points and those of a plan.
+pub fn extent_with(found: Option<Extent>, plan: &Plan) -> Option<Extent>
+    ensures { (before : List Points) → IsExtentIfAny before found → IsExtentIfAny (before ++ points_of plan.now) result }
 {
-    let mut found = None;
+    let mut found = found;
     for place in 0..plan.len() {
         found = with_points(found, plan.points(place));
     }
     found
+}
+
+/// The least and the greatest x and y of all nodes and arcs, or `None` where there are none.
+pub fn extent_of(plan: &Plan) -> Option<Extent>
+    ensures { IsExtentIfAny (points_of plan.now) result }
+{
+    extent_with(None, plan)
 }

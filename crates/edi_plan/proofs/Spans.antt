@@ -5,9 +5,9 @@ use Rattle.std.proofs.lemmas.Int.{ints}
 use Rattle.std.proofs.lemmas.List.{map-append}
 use Rattle.std.proofs.lemmas.List.Elements.{Contains-append_left, Contains-push, Contains-push_cases}
 use Rattle.edi_record.specs.declared.record.Point.{Point}
-use Rattle.edi_explain.specs.Extents.{IsSpan, IsExtent, IsExtentIfAny, all_x, all_y}
-use Rattle.edi_explain.specs.declared.extent.Span.{Span}
-use Rattle.edi_explain.specs.declared.extent.Extent.{Extent}
+use Rattle.edi_plan.specs.Extents.{IsSpan, IsExtent, IsExtentIfAny, all_x, all_y}
+use Rattle.edi_plan.specs.declared.extent.Span.{Span}
+use Rattle.edi_plan.specs.declared.extent.Extent.{Extent}
 
 one_of : (numbers : List ℤ) (old n new : ℤ) → Contains numbers old → (new ≡ old) ⊎ (new ≡ n) → Contains (numbers ++ n ∷ []) new
 one_of numbers old n new h (inl e) = Contains-append_left numbers (n ∷ []) new (subst (Contains numbers) (sym e) h)

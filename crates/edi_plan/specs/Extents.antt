@@ -3,8 +3,8 @@ use Rattle.std.specs.Prelude.{◌≡◌, List, [], map, flat_map, Option, MatchO
 use Rattle.std.specs.Int.Signed.{◌≤ℤ◌}
 use Rattle.edi_record.specs.declared.record.Point.{Point}
 use Rattle.edi_plan.specs.Plans.{Drawing}
-use Rattle.edi_explain.specs.declared.extent.Span.{Span}
-use Rattle.edi_explain.specs.declared.extent.Extent.{Extent}
+use Rattle.edi_plan.specs.declared.extent.Span.{Span}
+use Rattle.edi_plan.specs.declared.extent.Extent.{Extent}
 
 -- the least and the greatest of these numbers
 pub record IsSpan (numbers : List ℤ) (s : Span) : Type 0 where
