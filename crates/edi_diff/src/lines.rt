@@ -1,37 +1,14 @@
 //! The lines of a text of differences.
 
-ghost use Rattle.std.specs.Prelude.{◌≡◌, ◌++◌, ◌<◌, OnOk, codes, decimal, length, option_copied};
+ghost use Rattle.std.specs.Prelude.{◌≡◌, ◌++◌, ◌<◌, OnOk, codes, length, option_copied};
 ghost use Rattle.edi_plan.specs.Plans.{IsPlace};
-ghost use Rattle.edi_record.specs.Shapes.{kind_code};
 ghost use Rattle.edi_diff.specs.Lines.{both_lines, charset_change, charset_line, counted, lone_line, name_text, parts_text, some_differ, word_if, words_text};
 ghost use Rattle.edi_diff.specs.Reports.{HasSites};
 
 use crate::parts::Parts;
 use crate::sheet::LocatedSheet;
-use edi_record::Kind;
-use itoa::Buffer;
+use edi_line::push_number;
 use std::alloc::AllocError;
-
-/// The type of a record, as its zone spells it.
-fn code_of(kind: Kind) -> &'static [u8]
-    ensures { result.now ≡ kind_code kind }
-{
-    match kind {
-        Kind::Pno => b"PNO",
-        Kind::Par => b"PAR",
-        Kind::Pfe => b"PFE",
-        Kind::Fea => b"FEA",
-        Kind::Lnk => b"LNK",
-    }
-}
-
-/// Appends the decimal digits of a number.
-pub(crate) fn push_number(text: &mut Vec<u8>, number: u64) -> Result<(), AllocError>
-    ensures { OnOk result (text.new.items ≡ text.old.items ++ decimal number) }
-{
-    let mut digits = Buffer::new();
-    text.extend_from_slice(digits.format(number).as_bytes())
-}
 
 /// Appends the type and the identifier of a record.
 pub(crate) fn push_name(
@@ -45,7 +22,7 @@ pub(crate) fn push_name(
 {
     let kind = sheet.accepted.sound().plan().kind(place);
     let site = &sheet.sites.as_slice()[place as usize];
-    text.extend_from_slice(code_of(kind))?;
+    text.extend_from_slice(kind.code())?;
     text.push(b' ')?;
     text.extend_from_slice(site.rid.as_slice())
 }

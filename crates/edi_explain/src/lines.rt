@@ -1,20 +1,12 @@
 //! Lines that say where something is refused and why.
 
-ghost use Rattle.std.specs.Prelude.{◌≡◌, ◌++◌, IfOk, OnOk, decimal};
+ghost use Rattle.std.specs.Prelude.{◌≡◌, ◌++◌, IfOk, OnOk};
 ghost use Rattle.edi_explain.specs.Lines.{barring_text, earlier_sentence, file_line, identifier_text, line_line, line_of_site, lines_of_line, lines_of_sites, position_text, record_line, rule_mark};
 
 use crate::refused::Refused;
 use crate::site::RecordSite;
-use itoa::Buffer;
+use edi_line::push_number;
 use std::alloc::{AllocError, Global};
-
-/// Appends the decimal digits of a number.
-pub(crate) fn push_number(text: &mut Vec<u8>, number: u64) -> Result<(), AllocError>
-    ensures { OnOk result (text.new.items ≡ text.old.items ++ decimal number) }
-{
-    let mut digits = Buffer::new();
-    text.extend_from_slice(digits.format(number).as_bytes())
-}
 
 /// Appends a file's name and a line's number.
 fn push_position(text: &mut Vec<u8>, name: &[u8], line: u64) -> Result<(), AllocError>

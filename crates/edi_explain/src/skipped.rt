@@ -8,8 +8,7 @@ ghost use Rattle.edi_line.specs.Refusal.{IsLineRefusal, IsUnbroken};
 ghost use Rattle.edi_explain.specs.Skipped.{DescribesSkipped, HasQuality, HasRemarks, is_quality, left_out_line, quality_count};
 
 use crate::contents::{content, first_line};
-use crate::lines::push_number;
-use edi_line::{GroupOut, LineFault, Zone, read_groups};
+use edi_line::{GroupOut, LineFault, Zone, push_number, read_groups};
 use std::alloc::{AllocError, Global};
 
 /// How many zones of quality have come.

@@ -1,6 +1,6 @@
 //! Decimal numbers, stored as whole millionths.
 
-ghost use Rattle.std.specs.Prelude.{◌≡◌, ℕ, List, ◌+◌, ◌*◌, ◌/◌, ◌%◌, ◌^◌, ◌<◌, ◌≤◌, ◌↔◌, [], ◌∷◌, ◌++◌, length, IsTrue, IfOk, OnOk, OnErr, MatchOption, Some, All, ℤ, pos, ◌==◌, position};
+ghost use Rattle.std.specs.Prelude.{◌≡◌, ℕ, List, ◌+◌, ◌*◌, ◌/◌, ◌%◌, ◌^◌, ◌<◌, ◌≤◌, ◌↔◌, [], ◌∷◌, ◌++◌, length, IsTrue, IfOk, OnOk, OnErr, MatchOption, Some, All, ℤ, pos, ◌==◌, decimal, position};
 ghost use Rattle.std.specs.Str.Parse.{AllDigits, digits_value};
 ghost use Rattle.edi_line.specs.Number.{IsNumberText, IsWhole, IsFraction, signed_by, size_of, MOST, signed_text, plain_text, size_text, fraction_text, fraction_digits};
 ghost use Rattle.edi_line.specs.inner.Number.{number, sign_of, body_of, whole_of, fraction_of};
@@ -195,13 +195,20 @@ fn power_of_ten(exponent: usize) -> u64
     }
 }
 
+/// Appends the decimal digits of a whole number.
+pub fn push_number(text: &mut Vec<u8>, number: u64) -> Result<(), AllocError>
+    ensures { OnOk result (text.new.items ≡ text.old.items ++ decimal number) }
+{
+    let mut digits = Buffer::new();
+    text.extend_from_slice(digits.format(number).as_bytes())
+}
+
 /// Whole units, and the fraction if there is one.
 #[tactic(auto, unfolding(crate::specs::Number::size_text))]
 fn push_size(text: &mut Vec<u8>, size: u64) -> Result<(), AllocError>
     ensures { OnOk result (text.new.items ≡ text.old.items ++ size_text size) }
 {
-    let mut units = Buffer::new();
-    text.extend_from_slice(units.format(size / 1_000_000).as_bytes())?;
+    push_number(text, size / 1_000_000)?;
     push_point_text(text, size % 1_000_000)
 }
 

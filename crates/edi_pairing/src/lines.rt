@@ -1,14 +1,12 @@
 //! The lines of a pairing, as they are read.
 
 ghost use Rattle.std.specs.Prelude.{◌≡◌, ◌≢◌, ℕ, List, ◌∷◌, ◌++◌, Bool, MatchOption, true};
-ghost use Rattle.edi_record.specs.Shapes.{kind_code};
 ghost use Rattle.edi_pairing.specs.Names.{is_mark};
 ghost use Rattle.edi_pairing.specs.PairingText.{front_of, line_end};
 ghost use Rattle.edi_pairing.specs.inner.Reading.{BeginsWith, IsCutAtMark};
 
 use crate::names::RecordName;
 use crate::places::Places;
-use edi_record::Kind;
 use memchr::memchr2;
 
 /// Where a record goes, whether it is turned, and what comes behind its line.
@@ -26,24 +24,11 @@ pub(crate) fn behind<'f>(text: &'f [u8], front: &[u8]) -> Option<&'f [u8]>
     text.strip_prefix(front)
 }
 
-/// The type of a record, as its line spells it.
-pub(crate) fn code_of(kind: Kind) -> &'static [u8]
-    ensures { result.now ≡ kind_code kind }
-{
-    match kind {
-        Kind::Pno => b"PNO",
-        Kind::Par => b"PAR",
-        Kind::Pfe => b"PFE",
-        Kind::Fea => b"FEA",
-        Kind::Lnk => b"LNK",
-    }
-}
-
 /// What comes behind the type and the identifier of a record and their semicolons.
 fn behind_name<'f>(text: &'f [u8], name: &RecordName) -> Option<&'f [u8]>
     ensures { MatchOption result ((rest : List ℕ) → text.now ≢ front_of name.now ++ rest) (λ r. text.now ≡ front_of name.now ++ r.now) }
 {
-    let text = behind(text, code_of(name.kind))?;
+    let text = behind(text, name.kind.code())?;
     let text = behind(text, b";")?;
     let text = behind(text, name.rid.as_slice())?;
     behind(text, b";")

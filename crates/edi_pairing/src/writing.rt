@@ -7,7 +7,6 @@ ghost use Rattle.edi_compare.specs.Refused.{IsPairRefusal};
 ghost use Rattle.edi_compare.specs.Rules.{IsAccepted};
 ghost use Rattle.edi_schema.specs.Classes.{Classes};
 
-use crate::lines::code_of;
 use crate::names::{Names, RecordName};
 use crate::sheets::names_of_accepted;
 use edi_compare::{CompareFault, Pairing, Verdict, compare};
@@ -40,7 +39,7 @@ fn put_line(
 ) -> Result<(), AllocError>
     ensures { OnOk result (text.new.items ≡ text.old.items ++ line_of name.now other.now.rid turned) }
 {
-    text.extend_from_slice(code_of(name.kind))?;
+    text.extend_from_slice(name.kind.code())?;
     text.push(b';')?;
     text.extend_from_slice(name.rid.as_slice())?;
     text.push(b';')?;

@@ -2,37 +2,22 @@
 
 ghost use Rattle.std.specs.Prelude.{◌≡◌, ◌++◌, ◌<◌, OnOk, codes, decimal};
 ghost use Rattle.edi_plan.specs.Plans.{IsPlace, record_at};
-ghost use Rattle.edi_record.specs.Shapes.{kind_code};
 ghost use Rattle.edi_picture.specs.Sheets.{HasClasses, class_name};
 ghost use Rattle.edi_picture.specs.Titles.{class_text, escaped, escaped_text, name_text, title_text};
 
 use crate::shown::Shown;
 use crate::writing::put;
-use edi_record::{Kind, Name};
+use edi_line::push_number;
+use edi_record::Name;
 use edi_schema::Schema;
-use itoa::Buffer;
 use std::alloc::AllocError;
-
-/// The type of a record, as its zone spells it.
-fn code_of(kind: Kind) -> &'static [u8]
-    ensures { result.now ≡ kind_code kind }
-{
-    match kind {
-        Kind::Pno => b"PNO",
-        Kind::Par => b"PAR",
-        Kind::Pfe => b"PFE",
-        Kind::Fea => b"FEA",
-        Kind::Lnk => b"LNK",
-    }
-}
 
 /// Appends the character of Latin-1 with this number.
 fn push_character(text: &mut Vec<u8>, byte: u8) -> Result<(), AllocError>
     ensures { OnOk result (text.new.items ≡ text.old.items ++ (codes "&#" ++ decimal byte ++ codes ";")) }
 {
-    let mut digits = Buffer::new();
     put(text, b"&#")?;
-    put(text, digits.format(byte).as_bytes())?;
+    push_number(text, u64::from(byte))?;
     put(text, b";")
 }
 
@@ -81,7 +66,7 @@ fn push_name(
     ensures { OnOk result (text.new.items ≡ text.old.items ++ name_text schema.now sheet.now place) }
 {
     let plan = sheet.plan();
-    put(text, code_of(plan.kind(place)))?;
+    put(text, plan.kind(place).code())?;
     text.push(b' ')?;
     push_escaped_text(text, sheet.identifier(place))?;
     text.push(b' ')?;

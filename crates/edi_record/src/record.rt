@@ -3,7 +3,7 @@
 ghost use Rattle.std.specs.Prelude.{◌≡◌, ◌||◌};
 ghost use Rattle.edi_record.specs.Records.{has_points as kind_has_points, is_link as kind_is_link};
 ghost use Rattle.edi_record.specs.inner.RecordRules.{is_arc};
-ghost use Rattle.edi_record.specs.Shapes.{may_have_points as may_have_so_many};
+ghost use Rattle.edi_record.specs.Shapes.{kind_code, may_have_points as may_have_so_many};
 
 use crate::name::Name;
 use edi_line::{Num, Sequence, Text};
@@ -24,6 +24,19 @@ pub enum Kind {
 }
 
 impl Kind {
+    /// The type, as the RTY of its records spells it (docs/FORMAT.md, "Records").
+    pub fn code(self) -> &'static [u8]
+        ensures { result.now ≡ kind_code self }
+    {
+        match self {
+            Kind::Pno => b"PNO",
+            Kind::Par => b"PAR",
+            Kind::Pfe => b"PFE",
+            Kind::Fea => b"FEA",
+            Kind::Lnk => b"LNK",
+        }
+    }
+
     /// Whether records of this type have points.
     pub(crate) fn has_points(self) -> bool
         ensures { result ≡ kind_has_points self }

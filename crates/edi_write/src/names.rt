@@ -1,14 +1,14 @@
 //! The names of records: types and identifiers.
 
-ghost use Rattle.std.specs.Prelude.{◌≡◌, ◌∷◌, ◌++◌, [], OnOk, codes, decimal};
+ghost use Rattle.std.specs.Prelude.{◌≡◌, ◌∷◌, ◌++◌, [], OnOk, codes};
 ghost use Rattle.edi_line.specs.Printing.{printed_zone, zone_headed};
 ghost use Rattle.edi_record.specs.CanonicalZones.{end_text};
 ghost use Rattle.edi_record.specs.Shapes.{kind_code as code_of_kind};
 ghost use Rattle.edi_write.specs.Layout.{identifier, kind_letter as letter_of_kind};
 ghost use Rattle.edi_write.specs.inner.Numbered.{numbered_name};
 
+use edi_line::push_number;
 use edi_record::Kind;
-use itoa::Buffer;
 use std::alloc::AllocError;
 
 /// The zone of a record's type.
@@ -51,21 +51,13 @@ fn kind_letter(kind: Kind) -> u8
     }
 }
 
-/// Appends a number.
-fn push_number(text: &mut Vec<u8>, number: u32) -> Result<(), AllocError>
-    ensures { OnOk result (text.new.items ≡ text.old.items ++ decimal number) }
-{
-    let mut digits = Buffer::new();
-    text.extend_from_slice(digits.format(number).as_bytes())
-}
-
 /// Makes the text the identifier of a record: the letter of its type, and its number.
 pub(crate) fn put_identifier(text: &mut Vec<u8>, kind: Kind, number: u32) -> Result<(), AllocError>
     ensures { OnOk result (text.new.items ≡ identifier kind number) }
 {
     text.clear();
     text.push(kind_letter(kind))?;
-    push_number(text, number)
+    push_number(text, u64::from(number))
 }
 
 /// Makes the text the pointer of an end to a record.
@@ -75,5 +67,5 @@ pub(crate) fn put_end_pointer(text: &mut Vec<u8>, kind: Kind, number: u32) -> Re
 {
     text.clear();
     text.extend_from_slice(pointer_front(kind))?;
-    push_number(text, number)
+    push_number(text, u64::from(number))
 }
