@@ -73,7 +73,7 @@ impl Num {
         if self.millionths < 0 {
             text.push(b'-')?;
         }
-        push_size(text, self.millionths.unsigned_abs())
+        push_millionths(text, self.millionths.unsigned_abs())
     }
 
     /// The plain spelling with a `+` where there is no `-`; zero is `+0`.
@@ -90,7 +90,7 @@ impl Num {
         ensures { OnOk result (text.new.items ≡ text.old.items ++ signed_text self) }
     {
         text.push(if self.millionths < 0 { b'-' } else { b'+' })?;
-        push_size(text, self.millionths.unsigned_abs())
+        push_millionths(text, self.millionths.unsigned_abs())
     }
 
     /// The whole count of millionths.
@@ -203,13 +203,13 @@ pub fn push_number(text: &mut Vec<u8>, number: u64) -> Result<(), AllocError>
     text.extend_from_slice(digits.format(number).as_bytes())
 }
 
-/// Whole units, and the fraction if there is one.
+/// Appends so many millionths as a decimal: whole units, and the fraction if there is one.
 #[tactic(auto, unfolding(crate::specs::Number::size_text))]
-fn push_size(text: &mut Vec<u8>, size: u64) -> Result<(), AllocError>
-    ensures { OnOk result (text.new.items ≡ text.old.items ++ size_text size) }
+pub fn push_millionths(text: &mut Vec<u8>, millionths: u64) -> Result<(), AllocError>
+    ensures { OnOk result (text.new.items ≡ text.old.items ++ size_text millionths) }
 {
-    push_number(text, size / 1_000_000)?;
-    push_point_text(text, size % 1_000_000)
+    push_number(text, millionths / 1_000_000)?;
+    push_point_text(text, millionths % 1_000_000)
 }
 
 /// The point and the digits behind it, or nothing for 0.

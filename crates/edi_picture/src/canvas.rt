@@ -3,11 +3,11 @@
 ghost use Rattle.std.specs.Prelude.{◌≡◌, ◌++◌, OnOk};
 ghost use Rattle.edi_picture.specs.Elements.{spot_text};
 
-use crate::distance::push_length;
 use crate::frame::distance_between;
 use crate::shown::Shown;
 use crate::titles::push_title;
 use crate::writing::put;
+use edi_line::push_millionths;
 use edi_plan::Extent;
 use edi_record::{Kind, Point};
 use edi_schema::Schema;
@@ -18,9 +18,9 @@ pub(crate) fn push_spot(text: &mut Vec<u8>, frame: &Extent, point: &Point) -> Re
     ensures { OnOk result (text.new.items ≡ text.old.items ++ spot_text frame.now point.now) }
 {
     text.push(b' ')?;
-    push_length(text, distance_between(point.x, frame.x.least))?;
+    push_millionths(text, distance_between(point.x, frame.x.least))?;
     text.push(b',')?;
-    push_length(text, distance_between(frame.y.greatest, point.y))
+    push_millionths(text, distance_between(frame.y.greatest, point.y))
 }
 
 /// What is drawn stands in this frame, and its classes are of this schema.

@@ -5,10 +5,10 @@ ghost use Rattle.edi_line.specs.Number.{size_text};
 ghost use Rattle.edi_picture.specs.Frames.{side_of};
 ghost use Rattle.edi_picture.specs.Pictures.{bar_text, head_text, inset_text, legend_entries, legend_entry};
 
-use crate::distance::push_length;
 use crate::frame::side_length;
 use crate::mark::Mark;
 use crate::writing::put;
+use edi_line::push_millionths;
 use edi_plan::Extent;
 use std::alloc::AllocError;
 
@@ -70,9 +70,9 @@ pub(crate) fn push_legend(text: &mut Vec<u8>) -> Result<(), AllocError>
 fn push_size(text: &mut Vec<u8>, frame: &Extent) -> Result<(), AllocError>
     ensures { OnOk result (text.new.items ≡ text.old.items ++ (size_text (side_of frame.now.x) ++ codes " " ++ size_text (side_of frame.now.y) ++ codes "'>\n")) }
 {
-    push_length(text, side_length(frame.x))?;
+    push_millionths(text, side_length(frame.x))?;
     text.push(b' ')?;
-    push_length(text, side_length(frame.y))?;
+    push_millionths(text, side_length(frame.y))?;
     put(text, b"'>\n")
 }
 
@@ -94,7 +94,7 @@ fn push_bar_length(text: &mut Vec<u8>, bar: u64) -> Result<(), AllocError>
     ensures { OnOk result (text.new.items ≡ text.old.items ++ (codes "<text x='20' y='50'>" ++ size_text bar ++ codes " unit(s)</text>\n")) }
 {
     put(text, b"<text x='20' y='50'>")?;
-    push_length(text, bar)?;
+    push_millionths(text, bar)?;
     put(text, b" unit(s)</text>\n")
 }
 
@@ -104,7 +104,7 @@ pub(crate) fn push_bar(text: &mut Vec<u8>, frame: &Extent, bar: u64) -> Result<(
 {
     push_inset(text, frame, b"56")?;
     put(text, b"<path stroke='black' stroke-width='3' d='M0,0h")?;
-    push_length(text, bar)?;
+    push_millionths(text, bar)?;
     put(text, b"'/>\n</svg>\n")?;
     push_bar_length(text, bar)
 }

@@ -2,7 +2,6 @@
 #![tactic(auto)]
 
 mod canvas;
-mod distance;
 pub mod drawing;
 mod ends;
 mod faces;

@@ -6,6 +6,6 @@ use Rattle.edi_picture.proofs.legend.push_bar_length.Goals as goal
 
 pub returns : goal.returns
 returns c = on_ok_weaker c.put-2.result
-    (joined3 c.args.text.now.items (codes "<text x='20' y='50'>") (size_text c.args.bar) (codes " unit(s)</text>\n") c.put.new.text.items c.push_length.new.text.items c.put-2.new.text.items
-    c.in_ok-put.ensures c.in_ok-push_length.ensures)
+    (joined3 c.args.text.now.items (codes "<text x='20' y='50'>") (size_text c.args.bar) (codes " unit(s)</text>\n") c.put.new.text.items c.push_millionths.new.text.items c.put-2.new.text.items
+    c.in_ok-put.ensures c.in_ok-push_millionths.ensures)
     c.put-2.ensures
