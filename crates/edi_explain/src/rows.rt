@@ -9,6 +9,7 @@ ghost use Rattle.edi_explain.specs.inner.RowPartners.{AreOne};
 
 use crate::site::group_of;
 use edi_line::Zone;
+use edi_line::codes::{RID, RTY};
 use edi_record::{first_value, group_here};
 
 /// Whether two texts are there and equal.
@@ -25,8 +26,8 @@ fn are_one(text: Option<&[u8]>, other: Option<&[u8]>) -> bool
 fn have_one_name(group: &[Zone<'_>], other: &[Zone<'_>]) -> bool
     ensures { IsTrue result ↔ ShareName (entries group.now) (entries other.now) }
 {
-    are_one(first_value(group, *b"RTY"), first_value(other, *b"RTY"))
-        && are_one(first_value(group, *b"RID"), first_value(other, *b"RID"))
+    are_one(first_value(group, RTY), first_value(other, RTY))
+        && are_one(first_value(group, RID), first_value(other, RID))
 }
 
 /// The first record with the type and the identifier of the one at a place, if it comes before that

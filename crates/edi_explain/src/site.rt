@@ -9,13 +9,10 @@ ghost use Rattle.edi_explain.specs.Sites.{IsSiteIfAny};
 ghost use Rattle.edi_explain.specs.inner.Sites.{IsGroupSite};
 
 use crate::seeking::sites_in;
+use edi_line::codes::{RID, RTY};
 use edi_line::{LineFault, Text, Zone};
 use edi_record::{first_value, group_here};
 use std::alloc::{AllocError, Global};
-
-const TYPE: [u8; 3] = *b"RTY";
-
-const IDENTIFIER: [u8; 3] = *b"RID";
 
 /// Where a record of a file stands, and what it calls itself.
 #[derive(Debug, Drop)]
@@ -35,7 +32,7 @@ pub(crate) fn group_of<'a, 'b>(zones: &'b [Zone<'a>], place: u64) -> Option<&'b 
     let mut left = place;
     let mut rest = zones;
     while let [zone, behind @ ..] = rest {
-        if zone.code == TYPE {
+        if zone.code == RTY {
             if left == 0 {
                 return group_here(rest);
             }
@@ -53,7 +50,7 @@ pub(crate) fn site_of(alloc: Global, group: &[Zone<'_>]) -> Result<Option<Record
     let [head, ..] = group else {
         return Ok(None);
     };
-    let rid = match first_value(group, IDENTIFIER) {
+    let rid = match first_value(group, RID) {
         Some(value) => Some(Text::from_slice(alloc, value)?),
         None => None,
     };

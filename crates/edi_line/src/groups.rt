@@ -9,18 +9,13 @@ ghost use Rattle.edi_line.specs.Refusal.{IsUnbroken, IsLineRefusal};
 ghost use Rattle.edi_line.specs.Zones.{ends_group, groups_of};
 ghost use Rattle.edi_line.specs.inner.Groups.{charset_behind, charset_in};
 
+use crate::codes::{CSE, EOM, RTY};
 use crate::fault::LineFault;
 use crate::lines;
 use crate::reading::Reader;
 use crate::text::Text;
 use crate::zone::Zone;
 use std::alloc::{AllocError, Global};
-
-const RECORD: [u8; 3] = *b"RTY";
-
-const END: [u8; 3] = *b"EOM";
-
-const CHARSET: [u8; 3] = *b"CSE";
 
 /// What takes the zones of a file's records, one record after the other.
 pub trait GroupOut {
@@ -76,8 +71,8 @@ fn hand_on<O: GroupOut>(
     ensures groups { OnOk result ((groups : List (List Entry)) → O.Holds out.old groups → O.Holds out.new (groups ++ groups_of (entries zones.now))) }
 {
     match zones {
-        [head, ..] if head.code == RECORD => out.take(alloc, zones),
-        [head, ..] if head.code == END => Ok(()),
+        [head, ..] if head.code == RTY => out.take(alloc, zones),
+        [head, ..] if head.code == EOM => Ok(()),
         [] => Ok(()),
         _ => {
             *charset = charset_of(alloc, zones)?;
@@ -92,7 +87,7 @@ fn charset_of(alloc: Global, zones: &[Zone<'_>]) -> Result<Option<Text>, AllocEr
 {
     let mut rest = zones;
     while let [zone, after @ ..] = rest {
-        if zone.code == CHARSET {
+        if zone.code == CSE {
             return Ok(Some(Text::from_slice(alloc, zone.value.as_slice())?));
         }
         rest = after;

@@ -2,6 +2,7 @@
 #![tactic(auto)]
 
 pub mod borrowed;
+pub mod codes;
 pub mod device;
 pub mod fault;
 pub mod feed;

@@ -9,19 +9,14 @@ ghost use Rattle.edi_record.specs.inner.Records.{only};
 ghost use Rattle.edi_record.specs.RecordRules.{is_identifier as is_identifier_text, has_no_identifier};
 
 use edi_line::Zone;
-
-const TYPE: [u8; 3] = *b"RTY";
-
-const END: [u8; 3] = *b"EOM";
-
-const IDENTIFIER: [u8; 3] = *b"RID";
+use edi_line::codes::{EOM, RID, RTY};
 
 fn end_in(zones: &[Zone<'_>]) -> Option<usize>
     ensures { result ≡ position (λ z. ends_group (entry z)) zones.now }
 {
     zones
         .iter()
-        .position(|zone| zone.code == TYPE || zone.code == END)
+        .position(|zone| zone.code == RTY || zone.code == EOM)
 }
 
 /// How many zones come before the next record or the end.
@@ -40,7 +35,7 @@ pub fn group_here<'a, 'b>(zones: &'b [Zone<'a>]) -> Option<&'b [Zone<'a>]>
     ensures { option_map (λ g. entries g.now) result ≡ group_in (entries zones.now) }
 {
     match zones {
-        [head, behind @ ..] if head.code == TYPE => Some(&zones[..1 + count_to_end(behind)]),
+        [head, behind @ ..] if head.code == RTY => Some(&zones[..1 + count_to_end(behind)]),
         _ => None,
     }
 }
@@ -93,7 +88,7 @@ pub(crate) fn is_identifier(text: &[u8]) -> bool
 pub fn lacks_identifier(group: &[Zone<'_>]) -> bool
     ensures { result ≡ has_no_identifier (entries group.now) }
 {
-    match only_value(group, IDENTIFIER) {
+    match only_value(group, RID) {
         Some(text) => !is_identifier(text),
         None => true,
     }

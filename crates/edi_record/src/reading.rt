@@ -26,18 +26,15 @@ use crate::groups::first_value;
 use crate::record::Record;
 use crate::sheet::Sheet;
 use crate::stating::record_of;
+use edi_line::codes::{CSE, RTY};
 use edi_line::{Sequence, Text, Zone};
 use std::alloc::{AllocError, Global};
-
-const TYPE: [u8; 3] = *b"RTY";
-
-const CHARSET: [u8; 3] = *b"CSE";
 
 /// The value of the first CSE, or none.
 fn charset_of(alloc: Global, zones: &[Zone<'_>]) -> Result<Option<Text>, AllocError>
     ensures { IfOk result (λ cse. cse ≡ option_map (λ e. e.value) (charset_in (entries zones.now))) }
 {
-    copied(alloc, first_value(zones, CHARSET))
+    copied(alloc, first_value(zones, CSE))
 }
 
 /// The zone at this place and the zones behind it.
@@ -67,7 +64,7 @@ fn list_of(alloc: Global, zones: &[Zone<'_>]) -> Result<Vec<Record>, RecordFault
     let mut at = 0;
     while let Some((zone, behind)) = zone_at(zones, at) {
         at += 1;
-        if zone.code == TYPE {
+        if zone.code == RTY {
             match record_of(alloc, zone, behind) {
                 Ok((record, own)) => {
                     list.push(record)?;

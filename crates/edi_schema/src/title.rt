@@ -7,11 +7,8 @@ ghost use Rattle.edi_schema.specs.inner.Drafts.{name_in, named, name_parts};
 
 use edi_hash::KeyNames;
 use edi_line::Zone;
+use edi_line::codes::{RID, RTY};
 use edi_record::first_value;
-
-const TYPE: [u8; 3] = *b"RTY";
-
-const IDENTIFIER: [u8; 3] = *b"RID";
 
 /// The type and the identifier of a record, borrowed from its zones.
 #[derive(Clone, Copy, Debug, PartialEq, Eq, PartialOrd, Ord, Hash)]
@@ -26,8 +23,8 @@ impl<'a> Title<'a> {
         ensures { named result ≡ name_in (entries group.now) }
     {
         Title {
-            rty: first_value(group, TYPE).unwrap_or(&[]),
-            rid: first_value(group, IDENTIFIER).unwrap_or(&[]),
+            rty: first_value(group, RTY).unwrap_or(&[]),
+            rid: first_value(group, RID).unwrap_or(&[]),
         }
     }
 
