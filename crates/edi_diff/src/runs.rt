@@ -6,7 +6,7 @@ ghost use Rattle.edi_compare.specs.inner.Runs.{PairFault};
 ghost use Rattle.edi_diff.specs.Runs.{IsDifferenceUnder};
 
 use crate::differing::{Difference, diff_from};
-use edi_compare::{CompareFault, RunFault, load_or_fault, read_input};
+use edi_compare::{RunFault, load_or_fault, read_input};
 use edi_line::ByteIn;
 use edi_schema::Kinds;
 use std::alloc::Global;
@@ -63,10 +63,6 @@ fn diff_or_fault(
     ensures err { IfErr result (PairFault kinds.now scd.now dic.now (cow_slice_items first.entry) (cow_slice_items second.entry)) }
 {
     let schema = load_or_fault(alloc, kinds, scd, dic)?;
-    match diff_from(alloc, &schema, first, second, brief) {
-        Ok(difference) => Ok(difference),
-        Err(CompareFault::Memory(error)) => Err(RunFault::Memory(error)),
-        Err(CompareFault::First(fault)) => Err(RunFault::First(fault)),
-        Err(CompareFault::Second(fault)) => Err(RunFault::Second(fault)),
-    }
+    let difference = diff_from(alloc, &schema, first, second, brief)?;
+    Ok(difference)
 }

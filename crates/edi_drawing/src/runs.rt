@@ -7,7 +7,7 @@ ghost use Rattle.edi_drawing.specs.Runs.{IsDrawnDifferenceUnder, IsPictureUnder}
 
 use crate::drawing::{draw_difference_from, draw_from};
 use crate::drawn::DrawnDifference;
-use edi_compare::{CompareFault, Fault, RunFault, load_or_fault, read_input};
+use edi_compare::{Fault, RunFault, load_or_fault, read_input};
 use edi_line::ByteIn;
 use edi_schema::Kinds;
 use std::alloc::Global;
@@ -106,10 +106,6 @@ fn draw_difference_or_fault(
     ensures err { IfErr result (PairFault kinds.now scd.now dic.now (cow_slice_items first.entry) (cow_slice_items second.entry)) }
 {
     let schema = load_or_fault(alloc, kinds, scd, dic)?;
-    match draw_difference_from(alloc, &schema, first, second, brief) {
-        Ok(drawn) => Ok(drawn),
-        Err(CompareFault::Memory(error)) => Err(RunFault::Memory(error)),
-        Err(CompareFault::First(fault)) => Err(RunFault::First(fault)),
-        Err(CompareFault::Second(fault)) => Err(RunFault::Second(fault)),
-    }
+    let drawn = draw_difference_from(alloc, &schema, first, second, brief)?;
+    Ok(drawn)
 }

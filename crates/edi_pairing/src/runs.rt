@@ -9,7 +9,7 @@ ghost use Rattle.edi_pairing.specs.inner.VerifyRuns.{FilesFault};
 use crate::fault::{VerifyFault, VerifyRunFault};
 use crate::verifying::verify;
 use crate::writing::{Compared, compare_to_file};
-use edi_compare::{CompareFault, RunFault, load_or_fault, read_input};
+use edi_compare::{RunFault, load_or_fault, read_input};
 use edi_line::ByteIn;
 use edi_schema::Kinds;
 use std::alloc::Global;
@@ -99,12 +99,8 @@ fn compare_or_fault(
     ensures err { IfErr result (PairFault kinds.now scd.now dic.now first.now second.now) }
 {
     let schema = load_or_fault(alloc, kinds, scd, dic)?;
-    match compare_to_file(alloc, &schema, first, second) {
-        Ok(compared) => Ok(compared),
-        Err(CompareFault::Memory(error)) => Err(RunFault::Memory(error)),
-        Err(CompareFault::First(fault)) => Err(RunFault::First(fault)),
-        Err(CompareFault::Second(fault)) => Err(RunFault::Second(fault)),
-    }
+    let compared = compare_to_file(alloc, &schema, first, second)?;
+    Ok(compared)
 }
 
 // Whether the file states a pairing that carries, of two sheets under the schema of the two files.
