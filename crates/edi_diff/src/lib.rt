@@ -18,4 +18,4 @@ pub use differing::{Difference, Findings, diff, difference_text, find_difference
 pub use parts::Parts;
 pub use runs::run_diff;
 pub use sheet::{LocatedSheet, locate, locate_from};
-pub use site::{Site, sites};
+pub use site::Site;

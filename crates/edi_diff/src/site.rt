@@ -1,18 +1,15 @@
 //! Where the records of a file stand.
 
-ghost use Rattle.std.specs.Prelude.{◌≡◌, [], IfErr, IfOk, OnOk, codes, unwrap_or};
+ghost use Rattle.std.specs.Prelude.{◌≡◌, [], IfOk, codes, unwrap_or};
 ghost use Rattle.std.specs.List.{AllZip};
-ghost use Rattle.edi_line.specs.LineRules.{BreaksLineRule};
-ghost use Rattle.edi_line.specs.Refusal.{IsLineRefusal, IsUnbroken};
 ghost use Rattle.edi_line.specs.Entry.{entries, first};
 ghost use Rattle.edi_record.specs.Records.{values};
-ghost use Rattle.edi_diff.specs.Sites.{AreSitesOf, IsSite};
+ghost use Rattle.edi_diff.specs.Sites.{IsSite};
 
-use edi_line::{GroupOut, LineFault, Text, Zone, read_groups};
+use edi_line::codes::RID;
+use edi_line::{GroupOut, Text, Zone};
 use edi_record::first_value;
 use std::alloc::{AllocError, Global};
-
-const IDENTIFIER: [u8; 3] = *b"RID";
 
 /// Where a record of a file stands, and what it calls itself.
 #[derive(Debug, Drop)]
@@ -64,21 +61,8 @@ impl GroupOut for SiteList {
 fn identifier_of<'b>(group: &'b [Zone<'_>]) -> &'b [u8]
     ensures { result.now ≡ unwrap_or (first (values (codes "RID") (entries group.now))) [] }
 {
-    match first_value(group, IDENTIFIER) {
+    match first_value(group, RID) {
         Some(value) => value,
         None => b"",
     }
-}
-
-/// The sites of the records of a file, in file order, read in one pass with the zones of one record in memory at a time.
-/// The fault is that of the file's lines (docs/FORMAT.md, "The rules of a sheet"): the least line that breaks one of the
-/// rules 101 to 110.
-pub fn sites(alloc: Global, bytes: &[u8]) -> Result<Vec<Site>, LineFault>
-    ensures sites { IfOk result (λ sites. AreSitesOf bytes.now sites.items) }
-    ensures sound { OnOk result (IsUnbroken (BreaksLineRule bytes.now)) }
-    ensures least { IfErr result (IsLineRefusal (BreaksLineRule bytes.now)) }
-{
-    let mut sites = SiteList::for_file(alloc, bytes.len())?;
-    read_groups(alloc, bytes, &mut sites)?;
-    Ok(sites.list)
 }
