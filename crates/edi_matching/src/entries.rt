@@ -5,10 +5,9 @@ ghost use Rattle.edi_plan.specs.Plans.{IsPlace};
 ghost use Rattle.edi_compare.specs.Pairings.{HasClasses};
 
 use crate::added::target_of;
-use crate::plain_links::is_plain;
 use edi_line::{BorrowedList, ListOfBorrowed, Sequence};
 use edi_plan::{Plan, PlanAttribute, PlanEnd, sorted_attributes};
-use edi_rank::{LinkKey, NumberedEnd, class_turned};
+use edi_rank::{LinkKey, NumberedEnd, class_turned, plain_ends};
 use edi_record::{Extra, Kind};
 use edi_schema::{ClassRef, Schema};
 use std::alloc::{AllocError, Global};
@@ -41,7 +40,7 @@ pub(crate) fn links_by_key<'a>(
 {
     let mut links = Vec::new(alloc);
     for place in plan.places(Kind::Lnk) {
-        if *place < plan.len() && !is_plain(plan, *place) {
+        if *place < plan.len() && plain_ends(plan, *place).is_none() {
             let class = class_turned(schema, plan, turned, *place);
             if let Some(ends) = ends_there(alloc, plan, to, plan.ends(*place))? {
                 links.push((link_key(alloc, plan, *place, class, ends)?, *place))?;

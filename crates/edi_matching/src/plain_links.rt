@@ -6,7 +6,7 @@ ghost use Rattle.edi_compare.specs.Pairings.{HasClasses};
 
 use crate::added::target_of;
 use edi_plan::Plan;
-use edi_rank::class_turned;
+use edi_rank::{class_turned, plain_ends};
 use edi_record::Kind;
 use edi_schema::{ClassRef, Schema};
 use std::alloc::{AllocError, Global};
@@ -18,21 +18,6 @@ pub(crate) struct PlainLink {
     class: ClassRef,
     origin: u32,
     other: u32,
-}
-
-/// Whether a record is a link with two ends without SNS, and has neither attributes nor extra zones. Nearly each link is.
-pub(crate) fn is_plain(plan: &Plan, place: u32) -> bool
-    requires { IsPlace plan.now place }
-{
-    match plan.ends(place) {
-        [origin, other] => {
-            origin.sns.is_none()
-                && other.sns.is_none()
-                && plan.attributes(place).is_empty()
-                && plan.extras(place).is_empty()
-        }
-        _ => false,
-    }
 }
 
 /// The plain links whose ends are both matched, in the order of their keys.
@@ -50,7 +35,6 @@ pub(crate) fn plain_links(
     let mut links = Vec::with_capacity(alloc, places.len())?;
     for place in places {
         if *place < plan.len()
-            && is_plain(plan, *place)
             && let Some(link) = plain_link(schema, plan, to, turned, *place)
         {
             links.push((link, *place))?;
@@ -60,7 +44,7 @@ pub(crate) fn plain_links(
     Ok(links)
 }
 
-/// The key of a plain link, if both of its ends are matched.
+/// The key of a record, if it is a plain link whose ends are both matched.
 fn plain_link(
     schema: &Schema,
     plan: &Plan,
@@ -72,9 +56,7 @@ fn plain_link(
     requires class { (record_at plan.now place).class < length schema.now }
     requires long { length turned.now ≡ length plan.now.list }
 {
-    let [origin, other] = plan.ends(place) else {
-        return None;
-    };
+    let (origin, other) = plain_ends(plan, place)?;
     Some(PlainLink {
         class: class_turned(schema, plan, turned, place),
         origin: target_of(to, origin.target)?,

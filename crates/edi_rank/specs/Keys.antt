@@ -1,5 +1,5 @@
 -- The keys by which the records of a plan are put in order, and their orders. They speak of other records by their numbers alone.
-use Rattle.std.specs.Prelude.{ℕ, ◌==◌, ◌&&◌, Bool, List, [], ◌∷◌, Option, Some, None, map, option_map, option_and_then, if◌then◌else◌, count_by}
+use Rattle.std.specs.Prelude.{◌≡◌, ℕ, ◌==◌, ◌&&◌, Bool, List, [], ◌∷◌, Option, Some, None, map, option_map, option_and_then, if◌then◌else◌, count_by}
 use Rattle.std.specs.List.{list_any, filter_map}
 use Rattle.std.specs.Ordering.{ordering_then, nat_cmp}
 use Rattle.std.specs.Cmp.Lexicographic.{slice_cmp}
@@ -38,6 +38,14 @@ abbrev pub face_key_cmp : FaceKey → FaceKey → Ordering
 face_key_cmp a b = ordering_then (nat_cmp a.arc b.arc) (nat_cmp (role_rank a.side) (role_rank b.side))
 
 -- links
+
+-- a record with these two ends and no others, which have no SNS, and with neither attributes nor extra zones
+pub record IsPlainLink (r : PlanRecord) (origin other : PlanEnd) : Type 0 where
+  pub ends : r.ends ≡ origin ∷ other ∷ []
+  pub origin_bare : origin.sns ≡ None
+  pub other_bare : other.sns ≡ None
+  pub attributes : r.attributes ≡ []
+  pub extras : r.extras ≡ []
 
 -- an end, with the number of what it names
 abbrev pub numbered : Drawing → (ℕ → ℕ) → PlanEnd → NumberedEnd

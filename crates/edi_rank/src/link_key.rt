@@ -7,7 +7,7 @@ ghost use Rattle.edi_schema.specs.Classes.{partner_of};
 ghost use Rattle.edi_schema.specs.Sorted.{sort_by};
 ghost use Rattle.edi_plan.specs.Orders.{attribute_cmp};
 ghost use Rattle.edi_rank.specs.EndOrder.{GivesEach, PutsInOrder, ends_at};
-ghost use Rattle.edi_rank.specs.Keys.{ends_key, numbered};
+ghost use Rattle.edi_rank.specs.Keys.{IsPlainLink, ends_key, numbered};
 ghost use Rattle.edi_rank.specs.Labelling.{turned_at};
 ghost use Rattle.edi_rank.specs.Same.{class_after};
 ghost use Rattle.edi_rank.specs.inner.PlacedLinks.{end_of, is_empty, pair_key};
@@ -119,23 +119,32 @@ pub(crate) fn is_bare(plan: &Plan, place: u32) -> bool
     plan.attributes(place).is_empty() && plan.extras(place).is_empty()
 }
 
-/// The two ends of a link that has no others, no SNS, no attributes and no extra zones.
+/// The two ends of a link that has no others, no SNS, no attributes and no extra zones. Nearly each link is such a one.
+pub fn plain_ends(plan: &Plan, place: u32) -> Option<(&PlanEnd, &PlanEnd)>
+    requires { IsPlace plan.now place }
+    ensures { IfSome result (λ ends. IsPlainLink (record_at plan.now place) ends.0.now ends.1.now) }
+{
+    if !is_bare(plan, place) {
+        return None;
+    }
+    match plan.ends(place) {
+        [origin, other] if origin.sns.is_none() && other.sns.is_none() => Some((origin, other)),
+        _ => None,
+    }
+}
+
+/// The two ends of a plain link, with the numbers of what they name.
 pub(crate) fn plain_pair(plan: &Plan, numbers: &[u32], place: u32) -> Option<PlainPair>
     requires place { IsPlace plan.now place }
     requires numbers { length numbers.now ≡ length plan.now.list }
     ensures { IfSome result (λ pair. (class : ℕ) → pair_key class pair ≡ record { class = class; ends = ends_key plan.now (slice_index numbers.now) (record_at plan.now place).ends; attributes = sort_by attribute_cmp (record_at plan.now place).attributes; extras = (record_at plan.now place).extras }) }
 {
     plan.keeps();
-    if !is_bare(plan, place) {
-        return None;
-    }
-    match plan.ends(place) {
-        [origin, other] if origin.sns.is_none() && other.sns.is_none() => Some(PlainPair {
-            origin: plain_end(plan, numbers, origin),
-            other: plain_end(plan, numbers, other),
-        }),
-        _ => None,
-    }
+    let (origin, other) = plain_ends(plan, place)?;
+    Some(PlainPair {
+        origin: plain_end(plan, numbers, origin),
+        other: plain_end(plan, numbers, other),
+    })
 }
 
 /// The key of a link with this class, by the positions of its other ends in their order.
