@@ -1,7 +1,7 @@
 //! Reading pairings.
 
 ghost use Rattle.std.specs.Prelude.{◌≡◌, IfOk, IfErr};
-ghost use Rattle.edi_pairing.specs.PairingText.{IsPairingRefusal, States};
+ghost use Rattle.edi_pairing.specs.PairingText.{IsPairingRefusal, StatesPairing};
 
 use crate::fault::PairingFault;
 use crate::lines::{behind, read_line};
@@ -21,7 +21,7 @@ pub fn read_pairing(
     second: &Names,
     file: &[u8],
 ) -> Result<Pairing, PairingFault>
-    ensures states { IfOk result (λ pairing. States first.now second.now pairing file.now) }
+    ensures states { IfOk result (λ pairing. StatesPairing first.now second.now pairing file.now) }
     ensures refusal { IfErr result (IsPairingRefusal first.now second.now file.now) }
 {
     let Some(mut text) = behind(file, b"edicad pairing 1\n") else {

@@ -1,7 +1,7 @@
 //! Accepted sheets, with the names of their records.
 
 ghost use Rattle.std.specs.Prelude.{◌≡◌, ◌<◌, ◌^◌, length, OnOk, IfOk, IfErr};
-ghost use Rattle.edi_compare.specs.Pairings.{HasClasses};
+ghost use Rattle.edi_plan.specs.Agreeing.{HasClasses};
 ghost use Rattle.edi_compare.specs.PlanOfFile.{IsPlanOfFile};
 ghost use Rattle.edi_compare.specs.Refused.{IsRefusal};
 ghost use Rattle.edi_compare.specs.Rules.{IsAccepted, RecordsHold};

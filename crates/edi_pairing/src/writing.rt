@@ -2,7 +2,7 @@
 
 ghost use Rattle.std.specs.Prelude.{◌≡◌, ◌++◌, IfErr, IfOk, OnOk};
 ghost use Rattle.edi_pairing.specs.PairingText.{IsPairing, line_end, line_of, text_of};
-ghost use Rattle.edi_pairing.specs.Verified.{IsComparedTo, IsFound, StatesOf};
+ghost use Rattle.edi_pairing.specs.Verified.{IsComparedTo, IsFoundPairing, StatesOf};
 ghost use Rattle.edi_compare.specs.Refused.{IsPairRefusal};
 ghost use Rattle.edi_compare.specs.Rules.{IsAccepted};
 ghost use Rattle.edi_schema.specs.Classes.{Classes};
@@ -77,7 +77,7 @@ pub fn pairing_file(
     b: &[u8],
     pairing: &Pairing,
 ) -> Result<Vec<u8>, AllocError>
-    requires { (s : Classes) × IsFound s a.now b.now pairing.now }
+    requires { (s : Classes) × IsFoundPairing s a.now b.now pairing.now }
     ensures { IfOk result (λ file. StatesOf a.now b.now file.items pairing.now) }
 {
     let first = names_of_accepted(alloc, a)?;

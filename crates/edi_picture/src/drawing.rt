@@ -3,7 +3,7 @@
 ghost use Rattle.std.specs.Prelude.{◌≡◌, ◌++◌, IfOk, List, OnOk, ℕ};
 ghost use Rattle.std.specs.List.{flat_map};
 ghost use Rattle.edi_picture.specs.Elements.{arcs_of, nodes_of};
-ghost use Rattle.edi_picture.specs.Frames.{IsBar, side_of};
+ghost use Rattle.edi_picture.specs.Frames.{IsBar, side_length};
 ghost use Rattle.edi_picture.specs.Pictures.{IsDrawnIn, IsPicture, arcs_text, legend_text, nodes_text, plan_text};
 ghost use Rattle.edi_picture.specs.Sheets.{AllHaveClasses};
 

@@ -3,7 +3,7 @@
 ghost use Rattle.std.specs.Prelude.{◌≡◌, ◌⊎◌, ◌++◌, ◌∷◌, ◌<◌, [], List, ℤ};
 ghost use Rattle.std.specs.Int.Signed.{◌≤ℤ◌};
 ghost use Rattle.edi_record.specs.declared.record.Point.{Point as Points};
-ghost use Rattle.edi_picture.specs.Frames.{IsBar, IsFrame, IsFrameIfAny, distance, side_of};
+ghost use Rattle.edi_picture.specs.Frames.{IsBar, IsFrame, IsFrameIfAny, distance, side_length};
 ghost use Rattle.edi_picture.specs.Sheets.{all_points, points_of};
 
 use crate::shown::Shown;
@@ -58,7 +58,7 @@ fn greater(first: Num, second: Num) -> Num
 
 impl Span {
     ghost use Rattle.std.specs.Prelude.{◌<◌, ◌++◌, ◌∷◌, [], List, ℤ};
-    ghost use Rattle.edi_picture.specs.Frames.{IsSpan, side_of};
+    ghost use Rattle.edi_picture.specs.Frames.{IsSpan, side_length};
 
     /// The span of one number.
     fn at(number: Num) -> Span
@@ -82,7 +82,7 @@ impl Span {
 
     /// The length of a side of a frame with this span, in millionths of the file's unit.
     pub(crate) fn side(self) -> u64
-        ensures side { result ≡ side_of self }
+        ensures side { result ≡ side_length self }
         ensures some { 0 < result }
     {
         match distance_between(self.greatest, self.least) {

@@ -2,7 +2,7 @@
 
 ghost use Rattle.std.specs.Prelude.{◌≡◌, ◌++◌, OnOk, codes};
 ghost use Rattle.edi_line.specs.Number.{size_text};
-ghost use Rattle.edi_picture.specs.Frames.{side_of};
+ghost use Rattle.edi_picture.specs.Frames.{side_length};
 ghost use Rattle.edi_picture.specs.Pictures.{bar_text, head_text, inset_text, legend_entries, legend_entry};
 
 use crate::distance::push_length;
@@ -67,7 +67,7 @@ pub(crate) fn push_legend(text: &mut Vec<u8>) -> Result<(), AllocError>
 
 /// Appends the size of an inner picture.
 fn push_size(text: &mut Vec<u8>, frame: &Frame) -> Result<(), AllocError>
-    ensures { OnOk result (text.new.items ≡ text.old.items ++ (size_text (side_of frame.now.x) ++ codes " " ++ size_text (side_of frame.now.y) ++ codes "'>\n")) }
+    ensures { OnOk result (text.new.items ≡ text.old.items ++ (size_text (side_length frame.now.x) ++ codes " " ++ size_text (side_length frame.now.y) ++ codes "'>\n")) }
 {
     push_length(text, frame.x.side())?;
     text.push(b' ')?;

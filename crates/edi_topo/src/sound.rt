@@ -37,7 +37,7 @@ impl Model for Sound {
 impl Sound {
     ghost use Rattle.edi_topo.specs.TopologyRules.{BreaksTopologyRule};
     ghost use Rattle.edi_plan.specs.Joined.{IsJoined};
-    ghost use Rattle.edi_plan.specs.Whole.{IsWhole};
+    ghost use Rattle.edi_plan.specs.Whole.{IsWholePlan};
     ghost use Rattle.edi_record.specs.RecordRefusal.{IsRecordRefusal};
 
     /// The plan, if it breaks no rule of topology; or the least record that breaks one (401 to 406), and
@@ -75,7 +75,7 @@ impl Sound {
     pub fn plan(&self) -> &Plan
         ensures plan { result.now ≡ self.now }
         ensures sound { IsUnbroken (BreaksTopologyRule self.now) }
-        ensures whole { IsWhole self.now }
+        ensures whole { IsWholePlan self.now }
         ensures joined { IsJoined self.now }
     {
         self.plan.keeps();
