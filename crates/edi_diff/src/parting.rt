@@ -38,7 +38,7 @@ pub(crate) fn parts_of(
     ensures { IfOk result (λ parts. ArePartsOfEach schema.now plan.now other.now unchanged.now became.now parts.items) }
 {
     let targets = targets_of(alloc, became.to.as_slice())?;
-    let compared = Compared {
+    let compared = PlanComparison {
         schema,
         plan,
         other,
@@ -52,7 +52,7 @@ pub(crate) fn parts_of(
 
 /// Two plans, what is unchanged of the first and what became of it. The targets have 0 for a record that became nothing.
 #[derive(Drop)]
-struct Compared<'a> {
+struct PlanComparison<'a> {
     schema: &'a Schema,
     plan: &'a Plan,
     other: &'a Plan,
@@ -62,7 +62,7 @@ struct Compared<'a> {
     turned: &'a [bool],
 }
 
-impl<'a> Model for Compared<'a> {
+impl<'a> Model for PlanComparison<'a> {
     ghost use Rattle.edi_diff.specs.inner.Comparisons.{Comparison, IsComparable};
 
     ghost Value = { Comparison };
@@ -72,7 +72,7 @@ impl<'a> Model for Compared<'a> {
     ghost invariant = { λ p. IsComparable (record { classes = p.schema.now; plan = p.plan.now; other = p.other.now; unchanged = p.unchanged.now; to = p.to.now; targets = p.targets.now; turned = p.turned.now }) };
 }
 
-impl<'a> Compared<'a> {
+impl<'a> PlanComparison<'a> {
     /// The parts of each record, none for one that is unchanged or became nothing.
     fn all_parts(&self, alloc: Global) -> Result<Vec<Parts>, AllocError>
         ensures { IfOk result (λ parts. (i j : ℕ) → ¬ (IsMatched self.now.unchanged i) → GoesTo self.now.to i j

@@ -7,7 +7,7 @@ ghost use Rattle.edi_pairing.specs.PairingText.{front_of, line_end};
 ghost use Rattle.edi_pairing.specs.inner.Reading.{BeginsWith, IsCutAtMark};
 
 use crate::names::RecordName;
-use crate::places::Places;
+use crate::places::PlacesByName;
 use edi_record::Kind;
 use memchr::memchr2;
 
@@ -75,7 +75,7 @@ fn behind_end(text: &[u8]) -> Option<(bool, &[u8])>
 
 /// The line of a record, if the text begins with one.
 pub(crate) fn read_line<'f>(
-    places: &Places<'_>,
+    places: &PlacesByName<'_>,
     name: &RecordName,
     text: &'f [u8],
 ) -> Option<Line<'f>>

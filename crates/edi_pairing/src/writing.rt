@@ -8,7 +8,7 @@ ghost use Rattle.edi_compare.specs.Rules.{IsAccepted};
 ghost use Rattle.edi_schema.specs.Classes.{Classes};
 
 use crate::lines::code_of;
-use crate::names::{Names, RecordName};
+use crate::names::{RecordName, RecordNames};
 use crate::sheets::names_of_accepted;
 use edi_compare::{CompareFault, Pairing, Verdict, compare};
 use edi_schema::Schema;
@@ -52,8 +52,8 @@ fn put_line(
 /// The text of a pairing (docs/FORMAT.md, "Pairings"). `read_pairing` reads it again as the same pairing.
 pub fn pairing_text(
     alloc: Global,
-    first: &Names,
-    second: &Names,
+    first: &RecordNames,
+    second: &RecordNames,
     pairing: &Pairing,
 ) -> Result<Vec<u8>, AllocError>
     requires { IsPairing first.now second.now pairing.now }

@@ -4,7 +4,7 @@ ghost use Rattle.edi_topo.specs.Arcs.{IsForwardRanking};
 ghost use Rattle.edi_topo.specs.inner.AtRecord.{AreFindings};
 ghost use Rattle.edi_topo.specs.NodeKeys.{IsNodeRanking};
 
-use crate::at_record::{Findings, first_broken};
+use crate::at_record::{RecordFindings, first_broken};
 use crate::fault::TopoFault;
 use crate::numbers::Ranks;
 use edi_plan::Plan;
@@ -48,7 +48,7 @@ impl Sound {
         ensures least { IfErr result (IsRecordRefusal (BreaksTopologyRule plan)) }
     {
         plan.keeps();
-        let findings = Findings::of(alloc, &plan)?;
+        let findings = RecordFindings::of(alloc, &plan)?;
         match first_broken(&plan, &findings) {
             Some((rule, place)) => Err(TopoFault::Broken {
                 rule,
@@ -59,7 +59,7 @@ impl Sound {
     }
 
     /// The plan with the numbers that were found, where no record repeats an earlier one.
-    fn of(plan: Plan, findings: Findings) -> Sound
+    fn of(plan: Plan, findings: RecordFindings) -> Sound
         requires sound { IsUnbroken (BreaksTopologyRule plan) }
         requires findings { AreFindings plan findings }
         ensures { result ≡ plan }
