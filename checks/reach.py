@@ -22,7 +22,7 @@ CLAIMS = [
     ("compare", "a pairing of two sheets, or the first line that differs",
      [("edi_compare", "Verdicts", "IsVerdict"), ("edi_compare", "Refused", "IsPairRefusal")]),
     ("check_pairing", "whether a pairing carries one plan onto another",
-     [("edi_compare", "Pairings", "PairingCarries"), ("edi_compare", "Pairings", "HasClasses")]),
+     [("edi_compare", "Pairings", "PairingCarries"), ("edi_plan", "Agreeing", "HasClasses")]),
     ("verify", "whether a file states a pairing that carries one sheet's plan onto another's",
      [("edi_pairing", "Verified", "IsVerified"), ("edi_pairing", "Verified", "IsVerifyRefusal")]),
 ]

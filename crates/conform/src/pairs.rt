@@ -1,7 +1,7 @@
 //! Two sheets compared, and pairings checked.
 
 ghost use Rattle.std.specs.Prelude.{IfOk};
-ghost use Rattle.edi_compare.specs.Pairings.{HasClasses};
+ghost use Rattle.edi_plan.specs.Agreeing.{HasClasses};
 
 use crate::case::Case;
 use crate::refusals;

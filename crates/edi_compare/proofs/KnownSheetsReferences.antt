@@ -18,7 +18,7 @@ use Rattle.edi_schema.specs.declared.role.Role.TheVariants.{Initial, Final, Left
 use Rattle.edi_record.specs.Records.{is_link}
 use Rattle.edi_plan.specs.Plans.{same_kind, kind_rank, first_of}
 use Rattle.edi_plan.specs.PlanOf.{own_name, place_named}
-use Rattle.edi_plan.specs.ReferenceRules.{BreaksReferenceRule, IsRecordAt, Names, HasRole, JoinsArcTo}
+use Rattle.edi_plan.specs.ReferenceRules.{BreaksReferenceRule, IsRecordAt, Names, IsLinkOfRole, JoinsArcTo}
 use Rattle.edi_plan.specs.ReferenceRules.BreaksReferenceRule.{repeats_name, lacks_class, lacks_attribute_class, leaves_subset, names_nothing, joins_wrong, repeats_side}
 use Rattle.edi_plan.specs.inner.Resolving.{LacksClass, lacks_class as lacks_class_of, leaves, first_subset, is_elsewhere}
 use Rattle.edi_plan.proofs.Built.{both_true}
@@ -146,7 +146,7 @@ module _ (s : Classes) (list : List Record) where
   abbrev joins_right : Record → Bool
   joins_right r = cond (is_link r.kind) (joins_by (role_named s r.scp) r.ends) true
 
-  by_role : (r : Record) (role : Role) → HasRole s list r role → joins_right r ≡ true → joins_by (Some role) r.ends ≡ true
+  by_role : (r : Record) (role : Role) → IsLinkOfRole s list r role → joins_right r ≡ true → joins_by (Some role) r.ends ≡ true
   by_role r role has h =
       ap (λ o. joins_by o r.ends) (sym has.1)
       ∙ (ap (λ k. cond (is_link k) (joins_by (role_named s r.scp) r.ends) true) (sym has.0) ∙ h)
@@ -161,7 +161,7 @@ module _ (s : Classes) (list : List Record) where
   abbrev side_rank : Record → ℕ
   side_rank r = cond (is_link r.kind) (rank_of (role_named s r.scp)) 4
 
-  rank_is : (r : Record) (role : Role) → HasRole s list r role → side_rank r ≡ role_rank role
+  rank_is : (r : Record) (role : Role) → IsLinkOfRole s list r role → side_rank r ≡ role_rank role
   rank_is r role has = ap (λ k. cond (is_link k) (rank_of (role_named s r.scp)) 4) has.0 ∙ ap rank_of has.1
 
   abbrev share_kind : ℕ → ℕ → Bool
@@ -206,8 +206,8 @@ module _ (s : Classes) (list : List Record) where
       ap (λ xs. leaves (option_map (λ (x : End). record { lot = x.lot; subset = x.subset }) (first_of xs)) r.ends) is
       ∙ any_true (λ (x : End). (x.lot ≢ d.lot) ⊎ (x.subset ≢ d.subset)) (is_elsewhere (record { lot = d.lot; subset = d.subset })) (elsewhere_true d) r.ends some
 
-  wrong_join : (r : Record) → joins_right r ≡ true → ((HasRole s list r Initial ⊎ HasRole s list r Final) × ¬ (JoinsArcTo s list Pno r))
-      ⊎ ((HasRole s list r Left ⊎ HasRole s list r Right) × ¬ (JoinsArcTo s list Pfe r)) → ⊥
+  wrong_join : (r : Record) → joins_right r ≡ true → ((IsLinkOfRole s list r Initial ⊎ IsLinkOfRole s list r Final) × ¬ (JoinsArcTo s list Pno r))
+      ⊎ ((IsLinkOfRole s list r Left ⊎ IsLinkOfRole s list r Right) × ¬ (JoinsArcTo s list Pfe r)) → ⊥
   wrong_join r right (inl (inl has, wrong)) = wrong (joined Pno r (by_role r Initial has right))
   wrong_join r right (inl (inr has, wrong)) = wrong (joined Pno r (by_role r Final has right))
   wrong_join r right (inr (inl has, wrong)) = wrong (joined Pfe r (by_role r Left has right))

@@ -28,12 +28,12 @@ node_plan = record {
   list = (record { kind = Pno; class = 0; role = Plain; points = (record { x = pos 10500000; y = pos 20000000; z = None }) ∷ []; attributes = []; extras = []; ends = [] }) ∷ [];
 }
 
-abbrev pub ended : List (List ℕ) → List ℕ
-ended lines = flat_map (λ line. line ++ 13 ∷ 10 ∷ []) lines
+abbrev pub file_of_lines : List (List ℕ) → List ℕ
+file_of_lines lines = flat_map (λ line. line ++ 13 ∷ 10 ∷ []) lines
 
 -- its canonical file
 abbrev pub node_file : List ℕ
-node_file = ended (codes "BOMT 09:CANON.VEC" ∷ codes "CSET 03:IRV" ∷ codes "RTYSA03:PNO" ∷ codes "RIDSA02:N1"
+node_file = file_of_lines (codes "BOMT 09:CANON.VEC" ∷ codes "CSET 03:IRV" ∷ codes "RTYSA03:PNO" ∷ codes "RIDSA02:N1"
     ∷ codes "SCPCP19:CANON;SD;PGE;NOD_id" ∷ codes "CORCC10:+10.5;+20;" ∷ codes "ATCSN01:0" ∷ codes "EOMT 00:" ∷ [])
 
 -- a sheet without records, and its canonical file
@@ -41,7 +41,7 @@ abbrev pub empty_sheet : List ℕ
 empty_sheet = codes "BOMT 12:EDAB01T1.VEC\nEOMT 00:"
 
 abbrev pub empty_file : List ℕ
-empty_file = ended (codes "BOMT 09:CANON.VEC" ∷ codes "EOMT 00:" ∷ [])
+empty_file = file_of_lines (codes "BOMT 09:CANON.VEC" ∷ codes "EOMT 00:" ∷ [])
 
 -- ---- an arc between two nodes, with a face on each side
 
@@ -75,16 +75,16 @@ arc_lines to_f to_g = codes "BOMT 00:"
 
 -- the face f is on the left of the arc, and g on its right
 abbrev pub turned_arc_sheet : List ℕ
-turned_arc_sheet = ended (arc_lines (codes "GCH_id") (codes "DRT_id"))
+turned_arc_sheet = file_of_lines (arc_lines (codes "GCH_id") (codes "DRT_id"))
 
 -- the same with the sides exchanged
 abbrev pub exchanged_sheet : List ℕ
-exchanged_sheet = ended (arc_lines (codes "DRT_id") (codes "GCH_id"))
+exchanged_sheet = file_of_lines (arc_lines (codes "DRT_id") (codes "GCH_id"))
 
 -- another presentation of the first: the arc runs from n to m, its ends and its sides are exchanged, and the records stand in
 -- another order
 abbrev pub reversed_arc_sheet : List ℕ
-reversed_arc_sheet = ended (codes "BOMT 09:ABCD1.VEC"
+reversed_arc_sheet = file_of_lines (codes "BOMT 09:ABCD1.VEC"
     ∷ codes "RTYSA03:LNK" ∷ codes "RIDSA01:1" ∷ codes "SCPCP12:;;REL;LIE_id" ∷ codes "FTPCP08:;;PFE;f2" ∷ codes "FTPCP08:;;PNO;n2"
     ∷ codes "RTYSA03:LNK" ∷ codes "RIDSA01:2" ∷ codes "SCPCP12:;;REL;LIE_id" ∷ codes "FTPCP08:;;FEA;o1" ∷ codes "FTPCP08:;;PFE;f1"
     ∷ codes "RTYSA03:FEA" ∷ codes "RIDSA02:o1" ∷ codes "SCPCP12:;;OBJ;BAT_id"
@@ -161,10 +161,10 @@ canonical_lines f g = codes "BOMT 09:CANON.VEC"
 
 -- the canonical file of the first and of the third, and that of the second
 abbrev pub turned_arc_file : List ℕ
-turned_arc_file = ended (canonical_lines (codes "F2") (codes "F1"))
+turned_arc_file = file_of_lines (canonical_lines (codes "F2") (codes "F1"))
 
 abbrev pub exchanged_file : List ℕ
-exchanged_file = ended (canonical_lines (codes "F1") (codes "F2"))
+exchanged_file = file_of_lines (canonical_lines (codes "F1") (codes "F2"))
 
 -- ---- refused sheets
 
@@ -178,9 +178,9 @@ wrong_count_sheet = one_node (line (codes "ATCSN01:1") [])
 
 -- a face alone
 abbrev pub lone_face_sheet : List ℕ
-lone_face_sheet = ended (codes "BOMT 00:" ∷ codes "RTYSA03:PFE" ∷ codes "RIDSA01:f" ∷ codes "SCPCP12:;;PGE;FAC_id" ∷ codes "EOMT 00:" ∷ [])
+lone_face_sheet = file_of_lines (codes "BOMT 00:" ∷ codes "RTYSA03:PFE" ∷ codes "RIDSA01:f" ∷ codes "SCPCP12:;;PGE;FAC_id" ∷ codes "EOMT 00:" ∷ [])
 
 -- two objects without attributes and pieces
 abbrev pub equal_objects_sheet : List ℕ
-equal_objects_sheet = ended (codes "BOMT 00:" ∷ codes "RTYSA03:FEA" ∷ codes "RIDSA01:o" ∷ codes "SCPCP12:;;OBJ;BAT_id"
+equal_objects_sheet = file_of_lines (codes "BOMT 00:" ∷ codes "RTYSA03:FEA" ∷ codes "RIDSA01:o" ∷ codes "SCPCP12:;;OBJ;BAT_id"
     ∷ codes "RTYSA03:FEA" ∷ codes "RIDSA01:p" ∷ codes "SCPCP12:;;OBJ;BAT_id" ∷ codes "EOMT 00:" ∷ [])

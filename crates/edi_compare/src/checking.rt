@@ -5,7 +5,8 @@ ghost use Rattle.edi_record.specs.declared.record.Kind.TheVariants.{Par};
 ghost use Rattle.edi_plan.specs.Plans.{IsPlace, record_at};
 ghost use Rattle.edi_rank.specs.Labelling.{turned_at};
 ghost use Rattle.edi_compare.specs.inner.Checking.{HasSameBody, IsCarried, IsFitting};
-ghost use Rattle.edi_compare.specs.Pairings.{HasClasses, PairingCarries};
+ghost use Rattle.edi_plan.specs.Agreeing.{HasClasses};
+ghost use Rattle.edi_compare.specs.Pairings.{PairingCarries};
 
 use crate::accepted::Accepted;
 use crate::contents::{same_attributes, same_extras, same_points, same_texts};

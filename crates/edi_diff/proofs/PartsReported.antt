@@ -6,13 +6,13 @@ use Rattle.std.proofs.lemmas.List.{get_or_append_left}
 use Rattle.std.specs.List.{AllByRecursion}
 use Rattle.std.specs.Prelude.{IsPermutation, map, option_map, slice_index}
 use Rattle.edi_plan.specs.Plans.{Drawing, IsPlace, first_of, record_at, rest_of}
-use Rattle.edi_plan.specs.Whole.{IsWhole}
+use Rattle.edi_plan.specs.Whole.{IsWholePlan}
 use Rattle.edi_plan.specs.declared.record.PlanEnd.{PlanEnd}
 use Rattle.edi_rank.specs.Same.{moved}
 use Rattle.edi_matching.specs.Matchings.{GoesTo, IsMatched, targets_of}
 use Rattle.edi_matching.specs.declared.matching.Matching.{Matching}
 use Rattle.edi_schema.specs.Classes.{Classes}
-use Rattle.edi_diff.specs.Changes.{AreParts, ArePartsOfEach, HasEndsOf}
+use Rattle.edi_diff.specs.Changes.{AreChangedParts, ArePartsOfEach, HasEndsOf}
 use Rattle.edi_diff.specs.Reports.{parts_at}
 use Rattle.edi_diff.specs.declared.parts.Parts.{Parts}
 use Rattle.edi_diff.specs.inner.Comparisons.{Comparison, became}
@@ -23,7 +23,7 @@ not_so false reporter = ((λ e p. true≢false (sym (reporter.1 p))), (λ none. 
 
 -- the parts of the record at one place
 abbrev pub ArePartsAt : Comparison → ℕ → ℕ → Parts → Type 0
-ArePartsAt m i j parts = AreParts m.classes (became m) i (record_at m.plan i) (record_at m.other j) parts
+ArePartsAt m i j parts = AreChangedParts m.classes (became m) i (record_at m.plan i) (record_at m.other j) parts
 
 -- the parts of the first n records
 abbrev pub ArePartsUpTo : Comparison → List Parts → ℕ → Type 0
@@ -81,7 +81,7 @@ pub ends_left : (m : Comparison) (i j : ℕ) (ends : List PlanEnd) → ends ≡ 
 ends_left m i j ends is_ends b none reporter =
     ((λ t. absurd (true≢false (sym t))), (λ h. absurd (true≢false (sym (reporter.1 (subst (AllMatched m.to) (sym is_ends) h.all)) ∙ none))))
 
-pub targets_there : (p : Drawing) (targets : List ℕ) (i : ℕ) (ends : List PlanEnd) → IsWhole p → IsPlace p i → ends ≡ (record_at p i).ends → length targets ≡ length p.list
+pub targets_there : (p : Drawing) (targets : List ℕ) (i : ℕ) (ends : List PlanEnd) → IsWholePlan p → IsPlace p i → ends ≡ (record_at p i).ends → length targets ≡ length p.list
     → AllByRecursion (λ e. e.target < length targets) ends
 targets_there p targets i ends whole here is_ends long =
     subst (λ (n : ℕ). AllByRecursion (λ e. e.target < n) ends) (sym long)
@@ -91,7 +91,7 @@ targets_there p targets i ends whole here is_ends long =
 
 pub parts_reported : {X E : Type 0} (s : Classes) (p q : Drawing) (unchanged became : Matching) (of_unchanged to : List (Option ℕ)) (turned : List Bool)
     → of_unchanged ≡ unchanged.to → to ≡ became.to → turned ≡ became.turned → (r : Result X E) (items : X → List Parts)
-    → IfOk r (λ parts. (i j : ℕ) → ¬ (IsMatched of_unchanged i) → GoesTo to i j → AreParts s (record { to = to; turned = turned }) i (record_at p i) (record_at q j) (parts_at (items parts) i))
+    → IfOk r (λ parts. (i j : ℕ) → ¬ (IsMatched of_unchanged i) → GoesTo to i j → AreChangedParts s (record { to = to; turned = turned }) i (record_at p i) (record_at q j) (parts_at (items parts) i))
     → IfOk r (λ parts. ArePartsOfEach s p q unchanged became (items parts))
 parts_reported s p q unchanged became of_unchanged to turned is_kept is_to is_turned (Err e) items reporter = tt
 parts_reported s p q unchanged became of_unchanged to turned is_kept is_to is_turned (Ok parts) items reporter =
@@ -99,4 +99,4 @@ parts_reported s p q unchanged became of_unchanged to turned is_kept is_to is_tu
     (subst (λ (t : List (Option ℕ)). Reporter unchanged.to t turned) is_to (subst (λ (k : List (Option ℕ)). Reporter k to turned) is_kept reporter))
   where
     Reporter : List (Option ℕ) → List (Option ℕ) → List Bool → Type 0
-    Reporter k t d = (i j : ℕ) → ¬ (IsMatched k i) → GoesTo t i j → AreParts s (record { to = t; turned = d }) i (record_at p i) (record_at q j) (parts_at (items parts) i)
+    Reporter k t d = (i j : ℕ) → ¬ (IsMatched k i) → GoesTo t i j → AreChangedParts s (record { to = t; turned = d }) i (record_at p i) (record_at q j) (parts_at (items parts) i)

@@ -11,7 +11,7 @@ use Rattle.edi_plan.specs.Plans.{Drawing, IsPlace}
 use Rattle.edi_plan.proofs.PlaceLemmas.{place_there}
 use Rattle.edi_rank.proofs.KeysPreserved.{count_by-map}
 use Rattle.edi_line.specs.Bytes.{line_feed}
-use Rattle.edi_diff.specs.Lines.{added_count, changed_count, count_line, counted, gone_count, is_reached, went_to}
+use Rattle.edi_diff.specs.Lines.{added_count, changed_count, counted, gone_count, is_reached, totals_line, went_to}
 use Rattle.edi_diff.specs.Reports.{Report}
 use Rattle.edi_diff.specs.inner.Tables.{AreMarks}
 
@@ -57,7 +57,7 @@ added_counted became n marks are = ap (count_by not) (marks_are became n marks a
 
 pub counts_joined : (r : Report) (old t u v : List ℕ) (gone added changed : ℕ) → gone ≡ gone_count r → added ≡ added_count r → changed ≡ changed_count r
     → t ≡ old ++ counted gone (codes " only in A, ") → u ≡ t ++ counted added (codes " only in B, ") → v ≡ u ++ counted changed (codes " changed" ++ line_feed ∷ [])
-    → v ≡ old ++ count_line r
+    → v ≡ old ++ totals_line r
 counts_joined r old t u v gone added changed is_gone is_added is_changed first second third =
     let a = counted (gone_count r) (codes " only in A, ") in
     let b = counted (added_count r) (codes " only in B, ") in

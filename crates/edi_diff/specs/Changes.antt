@@ -31,7 +31,7 @@ pub record HasEndsOf (became : Matching) (a b : PlanRecord) : Type 0 where
   pub others : IsPermutation (map (moved (slice_index (targets_of became.to))) (others_of a)) (others_of b)
 
 -- the parts in which the record a at the place i and the record b that it became differ, after the reversals
-pub record AreParts (s : Classes) (became : Matching) (i : ℕ) (a b : PlanRecord) (parts : Parts) : Type 0 where
+pub record AreChangedParts (s : Classes) (became : Matching) (i : ℕ) (a b : PlanRecord) (parts : Parts) : Type 0 where
   pub class : IsTrue parts.class ↔ ¬ (b.class ≡ class_after (partner_of s) (turned_at became.turned) a)
   pub attributes : IsTrue parts.attributes ↔ ¬ (IsPermutation a.attributes b.attributes)
   pub extras : IsTrue parts.extras ↔ ¬ (b.extras ≡ a.extras)
@@ -40,4 +40,4 @@ pub record AreParts (s : Classes) (became : Matching) (i : ℕ) (a b : PlanRecor
 
 -- the parts of each record that changed
 abbrev pub ArePartsOfEach : Classes → Drawing → Drawing → Matching → Matching → List Parts → Type 0
-ArePartsOfEach s p q unchanged became parts = (i j : ℕ) → ¬ (IsMatched unchanged.to i) → GoesTo became.to i j → AreParts s became i (record_at p i) (record_at q j) (parts_at parts i)
+ArePartsOfEach s p q unchanged became parts = (i j : ℕ) → ¬ (IsMatched unchanged.to i) → GoesTo became.to i j → AreChangedParts s became i (record_at p i) (record_at q j) (parts_at parts i)

@@ -12,12 +12,12 @@ use Rattle.edi_diff.specs.declared.parts.Parts.{Parts}
 use Rattle.edi_diff.specs.declared.sheet.LocatedSheet.{LocatedSheet}
 
 -- TYPE IDENTIFIER
-abbrev pub name_text : LocatedSheet → ℕ → List ℕ
-name_text sheet k = kind_code (record_at sheet.accepted k).kind ++ codes " " ++ (site_at sheet k).rid
+abbrev pub record_name_text : LocatedSheet → ℕ → List ℕ
+record_name_text sheet k = kind_code (record_at sheet.accepted k).kind ++ codes " " ++ (site_at sheet k).rid
 
 -- a sign, TYPE IDENTIFIER (line LINE)
 abbrev pub lone_line : List ℕ → LocatedSheet → ℕ → List ℕ
-lone_line sign sheet k = sign ++ name_text sheet k ++ codes " (line " ++ decimal (site_at sheet k).line ++ codes ")" ++ line_feed ∷ []
+lone_line sign sheet k = sign ++ record_name_text sheet k ++ codes " (line " ++ decimal (site_at sheet k).line ++ codes ")" ++ line_feed ∷ []
 
 -- a word, if it is said
 abbrev pub word_if : Bool → List ℕ → List ℕ
@@ -39,7 +39,7 @@ both_lines line other = codes " (lines " ++ decimal line ++ codes " and " ++ dec
 
 -- ~ TYPE IDENTIFIER IDENTIFIER (lines LINE and LINE): and the parts
 abbrev pub changed_line : Report → ℕ → ℕ → List ℕ
-changed_line r i j = codes "~ " ++ name_text r.first i ++ (codes " " ++ (site_at r.second j).rid) ++ both_lines (site_at r.first i).line (site_at r.second j).line
+changed_line r i j = codes "~ " ++ record_name_text r.first i ++ (codes " " ++ (site_at r.second j).rid) ++ both_lines (site_at r.first i).line (site_at r.second j).line
     ++ parts_text (parts_at r.parts i) ++ line_feed ∷ []
 
 -- the line of a record of the first sheet, by the one that it is and the one that it became: none if it is one of the second
@@ -71,11 +71,11 @@ abbrev pub charset_change : List ℕ → List ℕ → List ℕ
 charset_change one other = codes "~ CSE " ++ one ++ codes " " ++ other ++ line_feed ∷ []
 
 -- the line of the character sets, where they differ
-abbrev pub charset_line : Option (List ℕ) → Option (List ℕ) → List ℕ
-charset_line None None = []
-charset_line (Some a) None = charset_change a (codes "none")
-charset_line None (Some b) = charset_change (codes "none") b
-charset_line (Some a) (Some b) = if bytes_eq a b then [] else charset_change a b
+abbrev pub charset_change_line : Option (List ℕ) → Option (List ℕ) → List ℕ
+charset_change_line None None = []
+charset_change_line (Some a) None = charset_change a (codes "none")
+charset_change_line None (Some b) = charset_change (codes "none") b
+charset_change_line (Some a) (Some b) = if bytes_eq a b then [] else charset_change a b
 
 -- ---- counts
 
@@ -99,13 +99,13 @@ changed_count r = count_by (λ went. is_none went.0 && not (is_none went.1)) (zi
 abbrev pub counted : ℕ → List ℕ → List ℕ
 counted count words = decimal count ++ words
 
-abbrev pub count_line : Report → List ℕ
-count_line r = counted (gone_count r) (codes " only in A, ") ++ counted (added_count r) (codes " only in B, ") ++ counted (changed_count r) (codes " changed" ++ line_feed ∷ [])
+abbrev pub totals_line : Report → List ℕ
+totals_line r = counted (gone_count r) (codes " only in A, ") ++ counted (added_count r) (codes " only in B, ") ++ counted (changed_count r) (codes " changed" ++ line_feed ∷ [])
 
 -- The text: the character sets, the objects, the faces, the arcs, the nodes and the links that differ, and how many records do.
 abbrev pub report_text : Report → List ℕ
-report_text r = charset_line r.first.accepted.cse r.second.accepted.cse ++ lines_of r Fea ++ lines_of r Pfe ++ lines_of r Par ++ lines_of r Pno ++ lines_of r Lnk ++ count_line r
+report_text r = charset_change_line r.first.accepted.cse r.second.accepted.cse ++ lines_of r Fea ++ lines_of r Pfe ++ lines_of r Par ++ lines_of r Pno ++ lines_of r Lnk ++ totals_line r
 
 -- that text, or its last line alone
 abbrev pub text_of_report : Bool → Report → List ℕ
-text_of_report brief r = if brief then count_line r else report_text r
+text_of_report brief r = if brief then totals_line r else report_text r

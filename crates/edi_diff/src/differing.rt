@@ -2,7 +2,7 @@
 
 ghost use Rattle.std.specs.Prelude.{◌≡◌, IfErr, IfOk, OnOk};
 ghost use Rattle.std.specs.Cow.{cow_slice_items};
-ghost use Rattle.edi_compare.specs.Pairings.{HasClasses};
+ghost use Rattle.edi_plan.specs.Agreeing.{HasClasses};
 ghost use Rattle.edi_compare.specs.Refused.{IsPairRefusal};
 ghost use Rattle.edi_compare.specs.Rules.{IsAccepted};
 ghost use Rattle.edi_matching.specs.Matchings.{MatchingHolds};

@@ -2,7 +2,7 @@
 
 ghost use Rattle.std.specs.Prelude.{◌≡◌, ◌++◌, ◌<◌, OnOk, codes, length, option_copied};
 ghost use Rattle.edi_plan.specs.Plans.{IsPlace};
-ghost use Rattle.edi_diff.specs.Lines.{both_lines, charset_change, charset_line, counted, lone_line, name_text, parts_text, some_differ, word_if, words_text};
+ghost use Rattle.edi_diff.specs.Lines.{both_lines, charset_change, charset_change_line, counted, lone_line, parts_text, record_name_text, some_differ, word_if, words_text};
 ghost use Rattle.edi_diff.specs.Reports.{HasSites};
 
 use crate::parts::Parts;
@@ -18,7 +18,7 @@ pub(crate) fn push_name(
 ) -> Result<(), AllocError>
     requires all { HasSites sheet.now }
     requires place { IsPlace sheet.now.accepted place }
-    ensures { OnOk result (text.new.items ≡ text.old.items ++ name_text sheet.now place) }
+    ensures { OnOk result (text.new.items ≡ text.old.items ++ record_name_text sheet.now place) }
 {
     let kind = sheet.accepted.sound().plan().kind(place);
     let site = &sheet.sites.as_slice()[place as usize];
@@ -129,7 +129,7 @@ pub(crate) fn push_charset(
     first: Option<&[u8]>,
     second: Option<&[u8]>,
 ) -> Result<(), AllocError>
-    ensures { OnOk result (text.new.items ≡ text.old.items ++ charset_line (option_copied first.entry) (option_copied second.entry)) }
+    ensures { OnOk result (text.new.items ≡ text.old.items ++ charset_change_line (option_copied first.entry) (option_copied second.entry)) }
 {
     match (first, second) {
         (None, None) => Ok(()),

@@ -5,9 +5,9 @@ ghost use Rattle.edi_schema.specs.Classes.{partner_of};
 ghost use Rattle.edi_plan.specs.Plans.{IsPlace, record_at};
 ghost use Rattle.edi_rank.specs.Labelling.{turned_at};
 ghost use Rattle.edi_rank.specs.Same.{class_after, directed};
-ghost use Rattle.edi_compare.specs.Pairings.{HasClasses};
+ghost use Rattle.edi_plan.specs.Agreeing.{HasClasses};
 ghost use Rattle.edi_matching.specs.Matchings.{GoesTo, IsMatched};
-ghost use Rattle.edi_diff.specs.Changes.{AreChanges, AreParts, ArePartsOfEach, HasEndsOf};
+ghost use Rattle.edi_diff.specs.Changes.{AreChangedParts, AreChanges, ArePartsOfEach, HasEndsOf};
 ghost use Rattle.edi_diff.specs.Reports.{parts_at};
 ghost use Rattle.edi_diff.specs.inner.Comparisons.{became};
 
@@ -38,7 +38,7 @@ pub(crate) fn parts_of(
     ensures { IfOk result (λ parts. ArePartsOfEach schema.now plan.now other.now unchanged.now became.now parts.items) }
 {
     let targets = targets_of(alloc, became.to.as_slice())?;
-    let compared = Compared {
+    let compared = PlanComparison {
         schema,
         plan,
         other,
@@ -52,7 +52,7 @@ pub(crate) fn parts_of(
 
 /// Two plans, what is unchanged of the first and what became of it. The targets have 0 for a record that became nothing.
 #[derive(Drop)]
-struct Compared<'a> {
+struct PlanComparison<'a> {
     schema: &'a Schema,
     plan: &'a Plan,
     other: &'a Plan,
@@ -62,7 +62,7 @@ struct Compared<'a> {
     turned: &'a [bool],
 }
 
-impl<'a> Model for Compared<'a> {
+impl<'a> Model for PlanComparison<'a> {
     ghost use Rattle.edi_diff.specs.inner.Comparisons.{Comparison, IsComparable};
 
     ghost Value = { Comparison };
@@ -72,11 +72,11 @@ impl<'a> Model for Compared<'a> {
     ghost invariant = { λ p. IsComparable (record { classes = p.schema.now; plan = p.plan.now; other = p.other.now; unchanged = p.unchanged.now; to = p.to.now; targets = p.targets.now; turned = p.turned.now }) };
 }
 
-impl<'a> Compared<'a> {
+impl<'a> PlanComparison<'a> {
     /// The parts of each record, none for one that is unchanged or became nothing.
     fn all_parts(&self, alloc: Global) -> Result<Vec<Parts>, AllocError>
         ensures { IfOk result (λ parts. (i j : ℕ) → ¬ (IsMatched self.now.unchanged i) → GoesTo self.now.to i j
-            → AreParts self.now.classes (became self.now) i (record_at self.now.plan i) (record_at self.now.other j) (parts_at parts.items i)) }
+            → AreChangedParts self.now.classes (became self.now) i (record_at self.now.plan i) (record_at self.now.other j) (parts_at parts.items i)) }
     {
         let mut parts = Vec::with_capacity(alloc, self.plan.len() as usize)?;
         for place in 0..self.plan.len() {
@@ -89,7 +89,7 @@ impl<'a> Compared<'a> {
     fn parts_at(&self, alloc: Global, place: u32) -> Result<Parts, AllocError>
         requires { IsPlace self.now.plan place }
         ensures { IfOk result (λ parts. (j : ℕ) → ¬ (IsMatched self.now.unchanged place) → GoesTo self.now.to place j
-            → AreParts self.now.classes (became self.now) place (record_at self.now.plan place) (record_at self.now.other j) parts) }
+            → AreChangedParts self.now.classes (became self.now) place (record_at self.now.plan place) (record_at self.now.other j) parts) }
     {
         if self.unchanged[place as usize].is_some() {
             return Ok(NO_PARTS);
@@ -104,7 +104,7 @@ impl<'a> Compared<'a> {
     fn parts_between(&self, alloc: Global, place: u32, target: u32) -> Result<Parts, AllocError>
         requires place { IsPlace self.now.plan place }
         requires target { IsPlace self.now.other target }
-        ensures { IfOk result (AreParts self.now.classes (became self.now) place (record_at self.now.plan place) (record_at self.now.other target)) }
+        ensures { IfOk result (AreChangedParts self.now.classes (became self.now) place (record_at self.now.plan place) (record_at self.now.other target)) }
     {
         let attributes = self.has_same_attributes(alloc, place, target)?;
         let ends = self.has_same_ends(alloc, place, target)?;

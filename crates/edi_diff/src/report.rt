@@ -2,7 +2,7 @@
 
 ghost use Rattle.std.specs.Prelude.{◌≡◌, ◌++◌, ◌<◌, IfOk, OnOk, count_by, length, not};
 ghost use Rattle.edi_plan.specs.Plans.{IsPlace};
-ghost use Rattle.edi_diff.specs.Lines.{added_count, changed_count, changed_line, count_line, first_line, gone_count, lines_of, report_text, second_line, text_of_report};
+ghost use Rattle.edi_diff.specs.Lines.{added_count, changed_count, changed_line, first_line, gone_count, lines_of, report_text, second_line, text_of_report, totals_line};
 ghost use Rattle.edi_diff.specs.Reports.{parts_at};
 ghost use Rattle.edi_plan.specs.Places.{places_of};
 ghost use Rattle.std.specs.List.{flat_map};
@@ -58,7 +58,7 @@ impl<'a> Reporter<'a> {
 
     /// The last line.
     fn counts(&self, alloc: Global) -> Result<Vec<u8>, AllocError>
-        ensures { IfOk result (λ text. text.items ≡ count_line self.now) }
+        ensures { IfOk result (λ text. text.items ≡ totals_line self.now) }
     {
         let mut text = Vec::new(alloc);
         self.push_counts(&mut text)?;
@@ -164,7 +164,7 @@ impl<'a> Reporter<'a> {
 
     /// Appends the last line.
     fn push_counts(&self, text: &mut Vec<u8>) -> Result<(), AllocError>
-        ensures { OnOk result (text.new.items ≡ text.old.items ++ count_line self.now) }
+        ensures { OnOk result (text.new.items ≡ text.old.items ++ totals_line self.now) }
     {
         push_counted(text, self.gone_count(), b" only in A, ")?;
         push_counted(text, self.added_count(), b" only in B, ")?;

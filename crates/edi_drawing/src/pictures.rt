@@ -1,7 +1,7 @@
 //! Pictures of accepted sheets.
 
 ghost use Rattle.std.specs.Prelude.{◌∷◌, [], IfOk};
-ghost use Rattle.edi_compare.specs.Pairings.{HasClasses};
+ghost use Rattle.edi_plan.specs.Agreeing.{HasClasses};
 ghost use Rattle.edi_picture.specs.Pictures.{IsPicture};
 ghost use Rattle.edi_drawing.specs.Marked.{marked_sheets, plain_sheet};
 

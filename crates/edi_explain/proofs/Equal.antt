@@ -6,7 +6,7 @@ use Rattle.std.proofs.lemmas.List.Elements.{Contains-get_or}
 use Rattle.edi_record.specs.declared.record.Kind.TheVariants.{Fea}
 use Rattle.edi_plan.specs.Places.{places_of}
 use Rattle.edi_plan.specs.Plans.{Drawing}
-use Rattle.edi_plan.specs.Whole.{IsWhole}
+use Rattle.edi_plan.specs.Whole.{IsWholePlan}
 use Rattle.edi_plan.proofs.PlaceLemmas.{place_there, place_of_kind, places_rise, has_place}
 use Rattle.edi_rank.specs.EqualObjects.{AreEqualObjects}
 use Rattle.edi_rank.specs.Keys.{object_key}
@@ -28,7 +28,7 @@ no_such_object p place none k h =
     let at = has_place Fea p place h.1.second h.1.second_object in
     none (subst (Contains (places_of Fea p)) at.2 (Contains-get_or (places_of Fea p) at.0 0 at.1))
 
-module _ (p : Drawing) (whole : IsWhole p) (l : ObjectSource) (keyed : AreKeyed p l) (member : ℕ) (there : member < length (places_of Fea p)) where
+module _ (p : Drawing) (whole : IsWholePlan p) (l : ObjectSource) (keyed : AreKeyed p l) (member : ℕ) (there : member < length (places_of Fea p)) where
   key_is : (i : ℕ) → i < length (places_of Fea p) → object_key_at l (object_place p i) ≡ object_key p keyed.number (object_place p i)
   key_is i h = sym (get_or-map (object_key_at l) (places_of Fea p) i 0 no_object h) ∙ (ap (λ ks. get_or ks i no_object) keyed.keys ∙ get_or-map (object_key p keyed.number) (places_of Fea p) i 0 no_object h)
 

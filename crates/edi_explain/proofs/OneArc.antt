@@ -19,7 +19,7 @@ use Rattle.edi_schema.specs.declared.role.Role.TheVariants.{Plain}
 use Rattle.edi_plan.proofs.Built.{named_at}
 use Rattle.edi_plan.proofs.NameLemmas.{has_name}
 use Rattle.edi_plan.specs.PlanOf.{own_name, place_named}
-use Rattle.edi_plan.specs.ReferenceRules.{HasRole, Names}
+use Rattle.edi_plan.specs.ReferenceRules.{IsLinkOfRole, Names}
 use Rattle.edi_schema.proofs.Names.{name_itself}
 use Rattle.edi_explain.proofs.Names.{same_some}
 use Rattle.edi_explain.specs.inner.Arcs.{IsArcNamed}
@@ -132,19 +132,19 @@ module _ (s : Classes) (list : List Record) where
 
 -- ---- links
 
-module _ (s : Classes) (list : List Record) (place m : ℕ) (q r : Record) (role : Role) (less : m < place) (there : slice_get list m ≡ Some q) (here : slice_get list place ≡ Some r) (proper : role ≢ Plain) (is : HasRole s list r role) where
-  pub side_shared : HasRole s list q role → ShareArc s list q r → SharesSide s list place m
+module _ (s : Classes) (list : List Record) (place m : ℕ) (q r : Record) (role : Role) (less : m < place) (there : slice_get list m ≡ Some q) (here : slice_get list place ≡ Some r) (proper : role ≢ Plain) (is : IsLinkOfRole s list r role) where
+  pub side_shared : IsLinkOfRole s list q role → ShareArc s list q r → SharesSide s list place m
   side_shared h arc = (q, r, role, less, there, here, proper, h, is, arc)
 
-  pub share_side : SharesSide s list place m → HasRole s list q role × ShareArc s list q r
+  pub share_side : SharesSide s list place m → IsLinkOfRole s list q role × ShareArc s list q r
   share_side h =
       let first : h.0 ≡ q = same_some (sym h.4 ∙ there) in
       let second : h.1 ≡ r = same_some (sym h.5 ∙ here) in
       let own : h.2 ≡ role = same_some (sym h.8.1 ∙ (ap (λ (x : Record). role_named s x.scp) second ∙ is.1)) in (
-        subst (λ o. HasRole s list q o) own (subst (λ x. HasRole s list x h.2) first h.7),
+        subst (λ o. IsLinkOfRole s list q o) own (subst (λ x. IsLinkOfRole s list x h.2) first h.7),
         subst (λ x. ShareArc s list x r) first (subst (λ x. ShareArc s list h.0 x) second h.9),
       )
 
 -- a record that is no link of the four kinds is of no side
-pub no_side : (s : Classes) (list : List Record) (place : ℕ) (r : Record) → slice_get list place ≡ Some r → ((role : Role) → role ≢ Plain → ¬ (HasRole s list r role)) → (m : ℕ) → ¬ (SharesSide s list place m)
-no_side s list place r here none m h = none h.2 h.6 (subst (λ x. HasRole s list x h.2) (same_some (sym h.5 ∙ here)) h.8)
+pub no_side : (s : Classes) (list : List Record) (place : ℕ) (r : Record) → slice_get list place ≡ Some r → ((role : Role) → role ≢ Plain → ¬ (IsLinkOfRole s list r role)) → (m : ℕ) → ¬ (SharesSide s list place m)
+no_side s list place r here none m h = none h.2 h.6 (subst (λ x. IsLinkOfRole s list x h.2) (same_some (sym h.5 ∙ here)) h.8)

@@ -5,7 +5,7 @@ use Rattle.edi_record.specs.declared.record.Point.{Point}
 use Rattle.edi_record.specs.declared.record.Record.{Record}
 use Rattle.edi_plan.specs.PlanOf.{own_name}
 use Rattle.edi_plan.specs.Plans.{Drawing}
-use Rattle.edi_plan.specs.ReferenceRules.{HasRole, Names}
+use Rattle.edi_plan.specs.ReferenceRules.{IsLinkOfRole, Names}
 use Rattle.edi_schema.specs.Classes.{Classes}
 use Rattle.edi_schema.specs.declared.role.Role.{Role}
 use Rattle.edi_schema.specs.declared.role.Role.TheVariants.{Plain}
@@ -36,7 +36,7 @@ ShareArc s list q r = (a : ℕ) × Any (λ e. Names s list e a Par) q.ends × An
 -- of rule 307: an earlier link of the kind of the one at this place, and of an arc of that one
 abbrev pub SharesSide : Classes → List Record → ℕ → ℕ → Type 0
 SharesSide s list place m = (q r : Record) × (role : Role) × (m < place) × (slice_get list m ≡ Some q) × (slice_get list place ≡ Some r)
-    × (role ≢ Plain) × HasRole s list q role × HasRole s list r role × ShareArc s list q r
+    × (role ≢ Plain) × IsLinkOfRole s list q role × IsLinkOfRole s list r role × ShareArc s list q r
 
 -- of rule 403: an earlier node equal to the one at this place
 abbrev pub IsEqualNode : Drawing → ℕ → ℕ → Type 0

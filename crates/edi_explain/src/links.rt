@@ -7,7 +7,7 @@ ghost use Rattle.edi_schema.specs.Classes.{Classes};
 ghost use Rattle.edi_schema.specs.declared.role.Role.{Role as Roles};
 ghost use Rattle.edi_schema.specs.declared.role.Role.TheVariants.{Plain};
 ghost use Rattle.edi_plan.specs.PlanOf.{own_name};
-ghost use Rattle.edi_plan.specs.ReferenceRules.{HasRole};
+ghost use Rattle.edi_plan.specs.ReferenceRules.{IsLinkOfRole};
 ghost use Rattle.edi_explain.specs.Partners.{IsLeastIfAny, ShareArc, SharesSide};
 ghost use Rattle.edi_explain.specs.inner.Arcs.{IsArcNamed};
 
@@ -16,7 +16,7 @@ use edi_schema::{Role, Schema};
 
 /// The kind of a link, if it is one of the four.
 fn kind_of_link(schema: &Schema, record: &Record) -> Option<Role>
-    ensures { (list : List Records) → MatchOption result ((role : Roles) → role ≢ Plain → ¬ (HasRole schema.now list «record».now role)) (λ role. (role ≢ Plain) × HasRole schema.now list «record».now role) }
+    ensures { (list : List Records) → MatchOption result ((role : Roles) → role ≢ Plain → ¬ (IsLinkOfRole schema.now list «record».now role)) (λ role. (role ≢ Plain) × IsLinkOfRole schema.now list «record».now role) }
 {
     if record.kind != Kind::Lnk {
         return None;
@@ -74,7 +74,7 @@ fn share_arc(records: &[Record], earlier: &Record, record: &Record) -> bool
 /// Whether a record is a link of this kind, which is one of the four.
 fn is_of_kind(schema: &Schema, record: &Record, role: Role) -> bool
     requires { role ≢ Plain }
-    ensures { (list : List Records) → IsTrue result ↔ HasRole schema.now list «record».now role }
+    ensures { (list : List Records) → IsTrue result ↔ IsLinkOfRole schema.now list «record».now role }
 {
     match kind_of_link(schema, record) {
         Some(own) => own == role,
@@ -91,7 +91,7 @@ fn is_of_side(
     record: &Record,
 ) -> bool
     requires { role ≢ Plain }
-    ensures { IsTrue result ↔ (HasRole schema.now records.now earlier.now role × ShareArc schema.now records.now earlier.now «record».now) }
+    ensures { IsTrue result ↔ (IsLinkOfRole schema.now records.now earlier.now role × ShareArc schema.now records.now earlier.now «record».now) }
 {
     is_of_kind(schema, earlier, role) && share_arc(records, earlier, record)
 }

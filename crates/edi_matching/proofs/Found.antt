@@ -17,7 +17,7 @@ use Rattle.edi_schema.proofs.SortedLists.{sort_by-same, counts_from_permutation}
 use Rattle.edi_plan.specs.Orders.{attribute_cmp}
 use Rattle.edi_plan.specs.Places.{places_of}
 use Rattle.edi_plan.specs.Plans.{Drawing, IsPlace, record_at}
-use Rattle.edi_plan.specs.Whole.{IsWhole}
+use Rattle.edi_plan.specs.Whole.{IsWholePlan}
 use Rattle.edi_plan.specs.declared.record.PlanRecord.{PlanRecord}
 use Rattle.edi_plan.proofs.Orders.{attribute_total, attribute_exact, points_total, point_exact, exact_lists}
 use Rattle.edi_plan.proofs.PlaceLemmas.{has_place, place_there, place_of_kind}
@@ -83,7 +83,7 @@ arc_keys_same a b turned same = sym (one_direction a.points b.points (either tur
 
 -- so a partner is where its key is found
 
-module _ (p q : Drawing) (whole : IsWhole q) (sound : IsUnbroken (BreaksTopologyRule q)) (i : ℕ) where
+module _ (p q : Drawing) (whole : IsWholePlan q) (sound : IsUnbroken (BreaksTopologyRule q)) (i : ℕ) where
   abbrev two : TwoPlans
   two = record { plan = p; other = q }
 
@@ -182,7 +182,7 @@ missing ord xs i both k d h tie = go (cases_lt k i)
     go (inl less) = let e : Less ≡ Equal = sym (both.0 k d (omega arith) less) ∙ tie in cc
     go (inr more) = let e : Greater ≡ Equal = sym (both.1 k d more h) ∙ tie in cc
 
-module _ (t : TwoPlans) (p q : Drawing) (is : record { plan = p; other = q } ≡ t) (whole : IsWhole q) (sound : IsUnbroken (BreaksTopologyRule q)) (i : ℕ) where
+module _ (t : TwoPlans) (p q : Drawing) (is : record { plan = p; other = q } ≡ t) (whole : IsWholePlan q) (sound : IsUnbroken (BreaksTopologyRule q)) (i : ℕ) where
   kind_there : (kind : Kind) → (record_at t.plan i).kind ≡ kind → (record_at p i).kind ≡ kind
   kind_there kind e = subst (λ (x : TwoPlans). (record_at x.plan i).kind ≡ kind) (sym is) e
 

@@ -10,7 +10,7 @@ use Rattle.edi_record.specs.declared.record.Kind.{Kind}
 use Rattle.edi_record.specs.declared.record.Kind.TheVariants.{Pno, Par}
 use Rattle.edi_schema.specs.Classes.{Classes, partner_of}
 use Rattle.edi_plan.specs.Plans.{Drawing, IsPlace, record_at, first_of, rest_of, others_of}
-use Rattle.edi_plan.specs.Whole.{IsWhole}
+use Rattle.edi_plan.specs.Whole.{IsWholePlan}
 use Rattle.edi_plan.specs.declared.record.PlanEnd.{PlanEnd}
 use Rattle.edi_plan.specs.declared.record.PlanRecord.{PlanRecord}
 use Rattle.edi_topo.specs.TopologyRules.{BreaksTopologyRule}
@@ -54,7 +54,7 @@ none_carried s to turned i a b none none' same = record {
       (subst (λ (ends : List PlanEnd). IsPermutation [] (rest_of ends)) (sym none') (IsPermutation-refl []));
 }
 
-module _ (p q : Drawing) (whole : IsWhole p) (whole' : IsWhole q) (sound : IsUnbroken (BreaksTopologyRule p)) (m : Matching) (entered : length m.to ≡ length p.list) (directed : length m.turned ≡ length p.list)
+module _ (p q : Drawing) (whole : IsWholePlan p) (whole' : IsWholePlan q) (sound : IsUnbroken (BreaksTopologyRule p)) (m : Matching) (entered : length m.to ≡ length p.list) (directed : length m.turned ≡ length p.list)
     (each : (i : ℕ) → IsPlace p i → GoesToPartner (record { plan = p; other = q }) i (get_or m.to i None) (turned_at m.turned i)) where
   place : (i j : ℕ) → GoesTo m.to i j → IsPlace p i
   place i j e = let less = goes_within m.to i j e in omega (arith, less, entered)
@@ -118,7 +118,7 @@ one_goes_more two to to' ts ts' x t n e f long long' each more = below_more (λ 
     along k o b g h goes = subst (λ (c : Bool). GoesToPartner two k (get_or to' k None) c) h (subst (λ (r : Option ℕ). GoesToPartner two k r b) g goes)
 
 -- the same of the lists that the code has when each record has been looked at
-pub partners_known : (two : TwoPlans) → IsWhole two.plan → IsWhole two.other → IsUnbroken (BreaksTopologyRule two.plan) → (to : List (Option ℕ)) (ts : List Bool) (to' : List (Option ℕ)) (ts' : List Bool) → to' ≡ to → ts' ≡ ts
+pub partners_known : (two : TwoPlans) → IsWholePlan two.plan → IsWholePlan two.other → IsUnbroken (BreaksTopologyRule two.plan) → (to : List (Option ℕ)) (ts : List Bool) (to' : List (Option ℕ)) (ts' : List Bool) → to' ≡ to → ts' ≡ ts
     → (n : ℕ) → n ≡ length two.plan.list → length to ≡ n → length ts ≡ n → ((k : ℕ) → k < n → GoesToPartner two k (get_or to k None) (get_or ts k false))
     → ((s : Classes) → MatchingHolds s two.plan two.other (record { to = to'; turned = ts' })) × MatchesPartners two.plan two.other (record { to = to'; turned = ts' })
 partners_known two whole whole' sound to ts to' ts' e f n all long long' each =
@@ -130,7 +130,7 @@ partners_known two whole whole' sound to ts to' ts' e f n all long long' each =
 
 -- a matching is total exactly if the plans are the same
 
-pub pairing_known : {E : Type 0} (s : Classes) (p q : Drawing) (pairing : Pairing) → IsWhole p → PairingCarries s p q pairing → (r : Result Matching E) → IfOk r (λ m. m ≡ matching_of pairing)
+pub pairing_known : {E : Type 0} (s : Classes) (p q : Drawing) (pairing : Pairing) → IsWholePlan p → PairingCarries s p q pairing → (r : Result Matching E) → IfOk r (λ m. m ≡ matching_of pairing)
     → IfOk r (MatchingHolds s p q) × IfOk r (IsTotalIfSame s p q) × IfOk r (MatchesPartners p q)
 pairing_known s p q pairing whole c (Err e) is = (tt, tt, tt)
 pairing_known s p q pairing whole c (Ok m) is = (

@@ -5,7 +5,7 @@ use Rattle.edi_line.specs.Refusal.{IsUnbroken}
 use Rattle.edi_record.specs.declared.record.Kind.{Kind}
 use Rattle.edi_record.specs.declared.record.Kind.TheVariants.{Pno, Par, Pfe, Fea, Lnk}
 use Rattle.edi_schema.specs.Classes.{Classes, IsSchema}
-use Rattle.edi_plan.specs.Agreeing.{Agrees}
+use Rattle.edi_plan.specs.Agreeing.{Agrees, HasClasses}
 use Rattle.edi_plan.specs.Plans.{Drawing, record_at}
 use Rattle.edi_topo.specs.TopologyRules.{BreaksTopologyRule}
 use Rattle.edi_rank.specs.EqualObjects.{BreaksObjectRule}
@@ -21,7 +21,7 @@ use Rattle.edi_rank.proofs.SameLaws.{same_sym, same_trans}
 use Rattle.edi_rank.proofs.Unique.{same_plan}
 use Rattle.edi_compare.specs.Laws.{IsAcceptedPlan}
 use Rattle.edi_compare.specs.Namesakes.{HasNamesakes, IsNumbered, PairsByNumber}
-use Rattle.edi_compare.specs.Pairings.{HasClasses, PairingCarries}
+use Rattle.edi_compare.specs.Pairings.{PairingCarries}
 use Rattle.edi_compare.specs.declared.numbered.NumberedRecords.{NumberedRecords}
 use Rattle.edi_compare.specs.declared.pairing.Pairing.{Pairing}
 use Rattle.edi_compare.proofs.Classed.{classed}

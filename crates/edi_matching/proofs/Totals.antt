@@ -3,7 +3,7 @@ use Rattle.std.proofs.Common.{◌≡◌, ℕ, zero, suc, ◌<◌, List, [], ◌�
 use Rattle.std.proofs.lemmas.List.{get_or-map, length-map}
 use Rattle.edi_schema.specs.Classes.{Classes}
 use Rattle.edi_plan.specs.Plans.{Drawing, IsPlace, record_at}
-use Rattle.edi_plan.specs.Whole.{IsWhole}
+use Rattle.edi_plan.specs.Whole.{IsWholePlan}
 use Rattle.edi_plan.specs.declared.record.PlanEnd.{PlanEnd}
 use Rattle.edi_rank.specs.Labelling.{turned_at}
 use Rattle.edi_rank.specs.Same.{CarriesRecord}
@@ -70,7 +70,7 @@ targets_back to = map-map target Some to ∙ map-id to
 goes_there : (to : List ℕ) (i : ℕ) → i < length to → GoesTo (map Some to) i (slice_index to i)
 goes_there to i h = get_or-map Some to i 0 None h
 
-module _ (s : Classes) (p q : Drawing) (pairing : Pairing) (whole : IsWhole p) (c : PairingCarries s p q pairing) where
+module _ (s : Classes) (p q : Drawing) (pairing : Pairing) (whole : IsWholePlan p) (c : PairingCarries s p q pairing) where
   abbrev to : List (Option ℕ)
   to = map Some pairing.to
 

@@ -2,7 +2,7 @@
 use Rattle.std.specs.Prelude.{◌≡◌, map, Some}
 use Rattle.edi_schema.specs.Classes.{Classes}
 use Rattle.edi_plan.specs.Plans.{Drawing}
-use Rattle.edi_plan.specs.Whole.{IsWhole}
+use Rattle.edi_plan.specs.Whole.{IsWholePlan}
 use Rattle.edi_compare.specs.Pairings.{PairingCarries}
 use Rattle.edi_compare.specs.declared.pairing.Pairing.{Pairing}
 use Rattle.edi_matching.specs.Matchings.{MatchingHolds, IsTotal, targets_of}
@@ -22,5 +22,5 @@ TotalIsPairing = (s : Classes) (p q : Drawing) (m : Matching) → MatchingHolds 
 
 -- and a pairing that carries is such a matching
 abbrev pub PairingIsTotal : Type 0
-PairingIsTotal = (s : Classes) (p q : Drawing) (pairing : Pairing) → IsWhole p → PairingCarries s p q pairing
+PairingIsTotal = (s : Classes) (p q : Drawing) (pairing : Pairing) → IsWholePlan p → PairingCarries s p q pairing
     → MatchingHolds s p q (matching_of pairing) × IsTotal p q (matching_of pairing) × (q.cse ≡ p.cse) × (pairing_of (matching_of pairing) ≡ pairing)

@@ -1,7 +1,7 @@
 //! Checking matchings.
 
 ghost use Rattle.std.specs.Prelude.{◌↔◌, IfOk, IsTrue};
-ghost use Rattle.edi_compare.specs.Pairings.{HasClasses};
+ghost use Rattle.edi_plan.specs.Agreeing.{HasClasses};
 ghost use Rattle.edi_matching.specs.Matchings.{MatchingHolds};
 
 use crate::matching::Matching;

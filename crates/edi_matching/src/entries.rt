@@ -2,7 +2,7 @@
 
 ghost use Rattle.std.specs.Prelude.{◌≡◌, length};
 ghost use Rattle.edi_plan.specs.Plans.{IsPlace};
-ghost use Rattle.edi_compare.specs.Pairings.{HasClasses};
+ghost use Rattle.edi_plan.specs.Agreeing.{HasClasses};
 
 use crate::added::target_of;
 use edi_line::{BorrowedList, ListOfBorrowed, Sequence};
@@ -14,14 +14,14 @@ use std::alloc::{AllocError, Global};
 
 /// What an object is found by: the class of a link that names it, and a matched record that this link names too.
 #[derive(Debug, Drop, PartialEq, Eq, PartialOrd, Ord)]
-pub(crate) struct Beside<'a> {
+pub(crate) struct NeighbourKey<'a> {
     class: ClassRef,
     end: NumberedEnd<'a>,
 }
 
 /// What a record holds beside its points and its ends.
 #[derive(Debug, Drop, PartialEq, Eq, PartialOrd, Ord)]
-pub(crate) struct Contents<'a> {
+pub(crate) struct ContentKey<'a> {
     class: ClassRef,
     attributes: ListOfBorrowed<'a, PlanAttribute>,
     extras: BorrowedList<'a, Extra>,
@@ -58,7 +58,7 @@ pub(crate) fn objects_beside<'a>(
     plan: &'a Plan,
     to: &[Option<u32>],
     done: &[bool],
-) -> Result<Vec<(Beside<'a>, u32)>, AllocError> {
+) -> Result<Vec<(NeighbourKey<'a>, u32)>, AllocError> {
     let mut objects = Vec::new(alloc);
     for place in plan.places(Kind::Lnk) {
         if *place < plan.len()
@@ -74,7 +74,7 @@ pub(crate) fn objects_beside<'a>(
 
 /// Appends an object with each matched record that this link names.
 fn push_beside<'a>(
-    objects: &mut Vec<(Beside<'a>, u32)>,
+    objects: &mut Vec<(NeighbourKey<'a>, u32)>,
     plan: &'a Plan,
     to: &[Option<u32>],
     object: u32,
@@ -85,7 +85,7 @@ fn push_beside<'a>(
     let class = plan.scp(link);
     for end in plan.ends(link) {
         if let Some(end) = end_there(plan, to, end) {
-            objects.push((Beside { class, end }, object))?;
+            objects.push((NeighbourKey { class, end }, object))?;
         }
     }
     Ok(())
@@ -96,7 +96,7 @@ pub(crate) fn objects_by_contents<'a>(
     alloc: Global,
     plan: &'a Plan,
     done: &[bool],
-) -> Result<Vec<(Contents<'a>, u32)>, AllocError> {
+) -> Result<Vec<(ContentKey<'a>, u32)>, AllocError> {
     let mut objects = Vec::new(alloc);
     for place in plan.places(Kind::Fea) {
         if *place < plan.len() && !is_done(done, *place) {
@@ -112,7 +112,7 @@ pub(crate) fn by_contents<'a, K>(
     alloc: Global,
     plan: &'a Plan,
     entries: &[(K, u32)],
-) -> Result<Vec<(Contents<'a>, u32)>, AllocError> {
+) -> Result<Vec<(ContentKey<'a>, u32)>, AllocError> {
     let mut records = Vec::with_capacity(alloc, entries.len())?;
     for entry in entries {
         let place = entry.1;
@@ -125,11 +125,11 @@ pub(crate) fn by_contents<'a, K>(
 }
 
 /// What a record holds beside its points and its ends.
-fn contents_at(alloc: Global, plan: &Plan, place: u32) -> Result<Contents<'_>, AllocError>
+fn contents_at(alloc: Global, plan: &Plan, place: u32) -> Result<ContentKey<'_>, AllocError>
     requires { IsPlace plan.now place }
 {
     let attributes = sorted_attributes(alloc, plan.attributes(place))?;
-    Ok(Contents {
+    Ok(ContentKey {
         class: plan.scp(place),
         attributes: ListOfBorrowed::from_vec(attributes),
         extras: BorrowedList::of(plan.extras(place)),

@@ -2,7 +2,7 @@
 
 ghost use Rattle.std.specs.Prelude.{◌≡◌, ◌<◌, length};
 ghost use Rattle.edi_plan.specs.Plans.{IsPlace, record_at};
-ghost use Rattle.edi_compare.specs.Pairings.{HasClasses};
+ghost use Rattle.edi_plan.specs.Agreeing.{HasClasses};
 
 use crate::added::target_of;
 use edi_plan::Plan;

@@ -4,7 +4,7 @@ use Rattle.std.proofs.lemmas.Bool.{cases_lt}
 use Rattle.std.proofs.lemmas.List.{append_cancel_left, append-nil, ext_get_or, get_or_append_left, get_or_default, get_or_push}
 use Rattle.edi_rank.specs.Labelling.{turned_at}
 use Rattle.edi_pairing.specs.Names.{AreNames, name_at}
-use Rattle.edi_pairing.specs.PairingText.{head, line_at, line_of, first_lines, Pairs, States, Begins, IsFirstWrong}
+use Rattle.edi_pairing.specs.PairingText.{head, line_at, line_of, first_lines, Pairs, StatesPairing, Begins, IsFirstWrong}
 use Rattle.edi_pairing.specs.Laws.{TextsAreUnique}
 use Rattle.edi_pairing.specs.inner.Reading.{BeginsWith}
 use Rattle.edi_pairing.specs.declared.names.RecordName.{RecordName}
@@ -87,7 +87,7 @@ module _ (a b : List RecordName) where
   -- ---- files as they are read
 
   -- a file that states a pairing begins with each number of its lines
-  begun : (p : Pairing) (file : List ℕ) (lines : ℕ) → States a b p file → lines ≤ length a + 1 → Begins a b file lines
+  begun : (p : Pairing) (file : List ℕ) (lines : ℕ) → StatesPairing a b p file → lines ≤ length a + 1 → Begins a b file lines
   begun p file lines h le =
       let rest = lines_split p lines (suc (length a)) (omega arith) in
       record { pairing = p; behind = rest.0; few = le; pairs = fewer p (length a) (lines - 1) (omega arith) h.is_pairing.pairs; cut = h.is_text ∙ rest.1 }
@@ -186,7 +186,7 @@ module _ (a b : List RecordName) where
           (sym h.cut ∙ (s.is_text ∙ (ap (λ m. first_lines a b p (suc m)) (sym long) ∙ sym (append-nil (first_lines a b p (suc n))))))).1);
     }
 
-  pub all_read : (file to : List ℕ) (turned : List Bool) (text : List ℕ) (n : ℕ) → n ≡ length a → IsReadTo a b file to turned text n → text ≡ [] → States a b (record { to = to; turned = turned }) file
+  pub all_read : (file to : List ℕ) (turned : List Bool) (text : List ℕ) (n : ℕ) → n ≡ length a → IsReadTo a b file to turned text n → text ≡ [] → StatesPairing a b (record { to = to; turned = turned }) file
   all_read file to turned text n long h none = record {
     is_pairing = record { all_paired = h.paired ∙ long; all_directed = h.directed ∙ long; pairs = fewer (record { to = to; turned = turned }) n (length a) (omega arith) h.pairs };
     is_text = h.cut ∙ (ap (λ t. first_lines a b (record { to = to; turned = turned }) (suc n) ++ t) none

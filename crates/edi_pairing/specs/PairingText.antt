@@ -54,7 +54,7 @@ module _ (a b : List RecordName) where
       pub pairs : Pairs (length a)
 
     -- the file is the text of the pairing
-    pub record States (file : List ℕ) : Type 0 where
+    pub record StatesPairing (file : List ℕ) : Type 0 where
       pub is_pairing : IsPairing
       pub is_text : file ≡ text_of
 
@@ -73,7 +73,7 @@ module _ (a b : List RecordName) where
     pub from_one : 1 ≤ line
     pub before : Begins file (line - 1)
     pub here : ¬ (Begins file line)
-    pub none : (pairing : Pairing) → ¬ (States pairing file)
+    pub none : (pairing : Pairing) → ¬ (StatesPairing pairing file)
 
   -- a fault other than want of memory names that line
   abbrev pub IsPairingRefusal : List ℕ → PairingFault → Type 0

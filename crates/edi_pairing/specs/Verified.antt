@@ -10,7 +10,7 @@ use Rattle.edi_compare.specs.Verdicts.{IsVerdict}
 use Rattle.edi_compare.specs.declared.pairing.Pairing.{Pairing}
 use Rattle.edi_compare.specs.declared.pairing.Verdict.TheVariants.{Different, Same}
 use Rattle.edi_pairing.specs.Names.{AreNamesOf}
-use Rattle.edi_pairing.specs.PairingText.{IsFirstWrong, States}
+use Rattle.edi_pairing.specs.PairingText.{IsFirstWrong, StatesPairing}
 use Rattle.edi_pairing.specs.declared.names.RecordName.{RecordName}
 use Rattle.edi_pairing.specs.declared.writing.Compared.{Compared}
 use Rattle.edi_pairing.specs.declared.writing.Compared.TheVariants.{Same as SameBy, Different as DifferentAt}
@@ -25,11 +25,11 @@ pub record StatesOf (a b file : List ℕ) (pairing : Pairing) : Type 0 where
   pub others : List RecordName
   pub are_names : AreNamesOf a names
   pub are_others : AreNamesOf b others
-  pub stated : States names others pairing file
+  pub stated : StatesPairing names others pairing file
 
 -- both sheets are accepted, and comparing them found the pairing
-abbrev pub IsFound : Classes → List ℕ → List ℕ → Pairing → Type 0
-IsFound s a b pairing = IsAccepted s a × IsAccepted s b × IsVerdict s a b (Same pairing)
+abbrev pub IsFoundPairing : Classes → List ℕ → List ℕ → Pairing → Type 0
+IsFoundPairing s a b pairing = IsAccepted s a × IsAccepted s b × IsVerdict s a b (Same pairing)
 
 -- a file that states a pairing which carries the one plan onto the other; or the line at which the canonical files differ
 abbrev pub IsComparedTo : Classes → List ℕ → List ℕ → Compared → Type 0

@@ -24,7 +24,7 @@ MatchRun (Run f) P Q = P f
 MatchRun (OfPairing at) P Q = Q at
 
 -- the five inputs over a run: the files of the schema, the two sheets and the pairing's file
-pub record Inputs : Type 0 where
+pub record VerifyInputs : Type 0 where
   pub scd : Seen
   pub dic : Seen
   pub first : Seen
@@ -32,19 +32,19 @@ pub record Inputs : Type 0 where
   pub file : Seen
 
 -- all five were read whole
-abbrev pub AreAllRead : Inputs → Type 0
+abbrev pub AreAllRead : VerifyInputs → Type 0
 AreAllRead i = IsRead i.scd × IsRead i.dic × IsRead i.first × IsRead i.second × IsRead i.file
 
 -- what a run leaves of the inputs behind one that fails: whether each from the second on is as it was
-pub record Untouched : Type 1 where
+pub record UntouchedByVerify : Type 1 where
   pub dic : Type 0
   pub first : Type 0
   pub second : Type 0
   pub file : Type 0
 
 -- a fact of the input of this number: those before it were read whole, and those after it are as they were
-abbrev pub OfInput : Inputs → Untouched → (Seen → Type 0) → ℕ → Type 0
-OfInput i untouched P n = (1 ≤ n) × (n ≤ 5)
+abbrev pub OfVerifyInput : VerifyInputs → UntouchedByVerify → (Seen → Type 0) → ℕ → Type 0
+OfVerifyInput i untouched P n = (1 ≤ n) × (n ≤ 5)
     × (n ≡ 1 → P i.scd × untouched.dic × untouched.first × untouched.second × untouched.file)
     × (n ≡ 2 → IsRead i.scd × P i.dic × untouched.first × untouched.second × untouched.file)
     × (n ≡ 3 → IsRead i.scd × IsRead i.dic × P i.first × untouched.second × untouched.file)
@@ -55,16 +55,16 @@ OfInput i untouched P n = (1 ≤ n) × (n ≤ 5)
 abbrev pub IfFiveKnown : Option (List ℕ) → Option (List ℕ) → Option (List ℕ) → Option (List ℕ) → Option (List ℕ) → (List ℕ → List ℕ → List ℕ → List ℕ → List ℕ → Type 0) → Type 0
 IfFiveKnown a b c d e P = IfSome e (λ v. IfFourKnown a b c d (λ x y z w. P x y z w v))
 
-abbrev pub IfAllKnown : Inputs → (List ℕ → List ℕ → List ℕ → List ℕ → List ℕ → Type 0) → Type 0
+abbrev pub IfAllKnown : VerifyInputs → (List ℕ → List ℕ → List ℕ → List ℕ → List ℕ → Type 0) → Type 0
 IfAllKnown i P = IfFiveKnown i.scd.before i.dic.before i.first.before i.second.before i.file.before P
 
 -- Why there is no answer: the first input that can't be read or is too long, the refusal of the schema, that of the first
 -- sheet, that of the second where the first is accepted, or that of the file where both are.
-abbrev pub VerifyingFault : KindCodes → Inputs → Untouched → VerifyRunFault → Type 0
+abbrev pub VerifyingFault : KindCodes → VerifyInputs → UntouchedByVerify → VerifyRunFault → Type 0
 VerifyingFault kinds i untouched e = MatchRun e
     (λ f. MatchFault f
-    (OfInput i untouched (λ input. IsTrue input.failed))
-    (OfInput i untouched (λ input. IsTooLong input.before))
+    (OfVerifyInput i untouched (λ input. IsTrue input.failed))
+    (OfVerifyInput i untouched (λ input. IsTooLong input.before))
     (λ r. IfBothKnown i.scd.before i.dic.before (λ s d. RefusesSchema kinds s d r))
     (λ r. IfThreeKnown i.scd.before i.dic.before i.first.before (λ s d a. RefusesSheet kinds s d a r))
     (λ r. IfFourKnown i.scd.before i.dic.before i.first.before i.second.before (λ s d a b. RefusesSecond kinds s d a b r))

@@ -14,7 +14,7 @@ pub mod writing;
 
 pub use fault::{PairingFault, VerifyFault, VerifyRunFault};
 pub use laws::texts_are_unique;
-pub use names::{Names, RecordName};
+pub use names::{RecordName, RecordNames};
 pub use reading::read_pairing;
 pub use runs::{run_compare_to_file, run_verify};
 pub use sheets::{NamedSheet, name_sheet};

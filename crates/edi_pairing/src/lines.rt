@@ -6,7 +6,7 @@ ghost use Rattle.edi_pairing.specs.PairingText.{front_of, line_end};
 ghost use Rattle.edi_pairing.specs.inner.Reading.{BeginsWith, IsCutAtMark};
 
 use crate::names::RecordName;
-use crate::places::Places;
+use crate::places::PlacesByName;
 use memchr::memchr2;
 
 /// Where a record goes, whether it is turned, and what comes behind its line.
@@ -60,7 +60,7 @@ fn behind_end(text: &[u8]) -> Option<(bool, &[u8])>
 
 /// The line of a record, if the text begins with one.
 pub(crate) fn read_line<'f>(
-    places: &Places<'_>,
+    places: &PlacesByName<'_>,
     name: &RecordName,
     text: &'f [u8],
 ) -> Option<Line<'f>>

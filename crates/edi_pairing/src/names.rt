@@ -15,11 +15,11 @@ pub struct RecordName {
 
 /// The names of the records of an accepted sheet, in file order.
 #[derive(Drop)]
-pub struct Names {
+pub struct RecordNames {
     list: Sequence<RecordName>,
 }
 
-impl Model for Names {
+impl Model for RecordNames {
     ghost use Rattle.std.specs.Prelude.{List};
     ghost use Rattle.edi_pairing.specs.Names.{AreNames};
     ghost use Rattle.edi_pairing.specs.declared.names.RecordName.{RecordName};
@@ -31,15 +31,15 @@ impl Model for Names {
     ghost invariant = { λ n. AreNames n.list };
 }
 
-impl Names {
+impl RecordNames {
     ghost use Rattle.edi_pairing.specs.Names.{AreNames};
 
     /// The names of an accepted sheet.
-    pub(crate) fn of(list: Vec<RecordName>) -> Names
+    pub(crate) fn of(list: Vec<RecordName>) -> RecordNames
         requires { AreNames list.items }
         ensures { result ≡ list.items }
     {
-        Names {
+        RecordNames {
             list: Sequence::from_vec(list),
         }
     }

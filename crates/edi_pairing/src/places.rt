@@ -8,7 +8,7 @@ ghost use Rattle.edi_record.specs.contracts.record.KindHash.TheImpl.{ghosts as k
 ghost use Rattle.edi_pairing.specs.Names.{AreNames};
 ghost use Rattle.edi_pairing.specs.inner.Places.{name_of, IsPlaceIfAny};
 
-use crate::names::{Names, RecordName};
+use crate::names::{RecordName, RecordNames};
 use edi_hash::{KeyNames, NameHash};
 use edi_record::Kind;
 use indexmap::IndexSet;
@@ -36,11 +36,11 @@ impl<'a> Hash for BorrowedName<'a> {
 
 /// The places of the records of a sheet by their names.
 #[derive(Drop)]
-pub(crate) struct Places<'a> {
+pub(crate) struct PlacesByName<'a> {
     names: IndexSet<BorrowedName<'a>, NameHash>,
 }
 
-impl<'a> Model for Places<'a> {
+impl<'a> Model for PlacesByName<'a> {
     ghost use Rattle.std.specs.Prelude.{List, map};
     ghost use Rattle.edi_pairing.specs.Names.{AreNames};
     ghost use Rattle.edi_pairing.specs.inner.Places.{name_of};
@@ -74,9 +74,12 @@ fn borrowed(name: &RecordName) -> BorrowedName<'_>
     }
 }
 
-impl<'a> Places<'a> {
+impl<'a> PlacesByName<'a> {
     /// The places of these names, from 0.
-    pub(crate) fn among(alloc: Global, names: &'a Names) -> Result<Places<'a>, AllocError>
+    pub(crate) fn among(
+        alloc: Global,
+        names: &'a RecordNames,
+    ) -> Result<PlacesByName<'a>, AllocError>
         ensures { IfOk result (λ places. places ≡ names.now) }
     {
         let list = names.as_slice();
@@ -84,7 +87,7 @@ impl<'a> Places<'a> {
         for name in list {
             set.insert(borrowed(name))?;
         }
-        Ok(Places { names: set })
+        Ok(PlacesByName { names: set })
     }
 
     /// The place of the record of a type with an identifier.

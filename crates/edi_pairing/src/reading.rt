@@ -1,12 +1,12 @@
 //! Reading pairings.
 
 ghost use Rattle.std.specs.Prelude.{◌≡◌, IfOk, IfErr};
-ghost use Rattle.edi_pairing.specs.PairingText.{IsPairingRefusal, States};
+ghost use Rattle.edi_pairing.specs.PairingText.{IsPairingRefusal, StatesPairing};
 
 use crate::fault::PairingFault;
 use crate::lines::{behind, read_line};
-use crate::names::Names;
-use crate::places::Places;
+use crate::names::RecordNames;
+use crate::places::PlacesByName;
 use edi_compare::Pairing;
 use edi_line::Sequence;
 use std::alloc::Global;
@@ -17,17 +17,17 @@ use std::alloc::Global;
 /// names no record of its type in the second; one past the last where lines are missing.
 pub fn read_pairing(
     alloc: Global,
-    first: &Names,
-    second: &Names,
+    first: &RecordNames,
+    second: &RecordNames,
     file: &[u8],
 ) -> Result<Pairing, PairingFault>
-    ensures states { IfOk result (λ pairing. States first.now second.now pairing file.now) }
+    ensures states { IfOk result (λ pairing. StatesPairing first.now second.now pairing file.now) }
     ensures refusal { IfErr result (IsPairingRefusal first.now second.now file.now) }
 {
     let Some(mut text) = behind(file, b"edicad pairing 1\n") else {
         return Err(PairingFault::Line { at: 1 });
     };
-    let places = Places::among(alloc, second)?;
+    let places = PlacesByName::among(alloc, second)?;
     let names = first.as_slice();
     let mut to = Vec::with_capacity(alloc, names.len())?;
     let mut turned = Vec::with_capacity(alloc, names.len())?;

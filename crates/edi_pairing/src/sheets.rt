@@ -1,14 +1,14 @@
 //! Accepted sheets, with the names of their records.
 
 ghost use Rattle.std.specs.Prelude.{◌≡◌, ◌<◌, ◌^◌, length, OnOk, IfOk, IfErr};
-ghost use Rattle.edi_compare.specs.Pairings.{HasClasses};
+ghost use Rattle.edi_plan.specs.Agreeing.{HasClasses};
 ghost use Rattle.edi_compare.specs.PlanOfFile.{IsPlanOfFile};
 ghost use Rattle.edi_compare.specs.Refused.{IsRefusal};
 ghost use Rattle.edi_compare.specs.Rules.{IsAccepted, RecordsHold};
 ghost use Rattle.edi_pairing.specs.Names.{AreNames, AreNamesOf, names_of};
 ghost use Rattle.edi_schema.specs.Classes.{Classes};
 
-use crate::names::{Names, RecordName};
+use crate::names::{RecordName, RecordNames};
 use edi_compare::{Accepted, Fault, accept};
 use edi_record::{Record, Sheet, read_sheet};
 use edi_schema::Schema;
@@ -18,7 +18,7 @@ use std::alloc::{AllocError, Global};
 #[derive(Drop)]
 pub struct NamedSheet {
     pub accepted: Accepted,
-    pub names: Names,
+    pub names: RecordNames,
 }
 
 fn name_of(record: Record) -> RecordName
@@ -61,12 +61,12 @@ fn names_in(alloc: Global, bytes: &[u8]) -> Result<Vec<RecordName>, Fault>
 }
 
 /// The names of the records of a sheet that is accepted under some schema.
-pub(crate) fn names_of_accepted(alloc: Global, bytes: &[u8]) -> Result<Names, AllocError>
+pub(crate) fn names_of_accepted(alloc: Global, bytes: &[u8]) -> Result<RecordNames, AllocError>
     requires { (s : Classes) × IsAccepted s bytes.now }
     ensures { IfOk result (AreNamesOf bytes.now) }
 {
     match names_in(alloc, bytes) {
-        Ok(names) => Ok(Names::of(names)),
+        Ok(names) => Ok(RecordNames::of(names)),
         Err(Fault::Memory(error)) => Err(error),
         Err(Fault::Line { .. }) => unreachable!(),
         Err(Fault::Entry { .. }) => unreachable!(),
@@ -87,6 +87,6 @@ pub fn name_sheet(alloc: Global, schema: &Schema, bytes: &[u8]) -> Result<NamedS
     let accepted = accept(alloc, schema, bytes)?;
     Ok(NamedSheet {
         accepted,
-        names: Names::of(names),
+        names: RecordNames::of(names),
     })
 }

@@ -2,12 +2,12 @@
 
 ghost use Rattle.std.specs.Prelude.{◌≡◌, ◌++◌, IfErr, IfOk, OnOk};
 ghost use Rattle.edi_pairing.specs.PairingText.{IsPairing, line_end, line_of, text_of};
-ghost use Rattle.edi_pairing.specs.Verified.{IsComparedTo, IsFound, StatesOf};
+ghost use Rattle.edi_pairing.specs.Verified.{IsComparedTo, IsFoundPairing, StatesOf};
 ghost use Rattle.edi_compare.specs.Refused.{IsPairRefusal};
 ghost use Rattle.edi_compare.specs.Rules.{IsAccepted};
 ghost use Rattle.edi_schema.specs.Classes.{Classes};
 
-use crate::names::{Names, RecordName};
+use crate::names::{RecordName, RecordNames};
 use crate::sheets::names_of_accepted;
 use edi_compare::{CompareFault, Pairing, Verdict, compare};
 use edi_schema::Schema;
@@ -51,8 +51,8 @@ fn put_line(
 /// The text of a pairing (docs/FORMAT.md, "Pairings"). `read_pairing` reads it again as the same pairing.
 pub fn pairing_text(
     alloc: Global,
-    first: &Names,
-    second: &Names,
+    first: &RecordNames,
+    second: &RecordNames,
     pairing: &Pairing,
 ) -> Result<Vec<u8>, AllocError>
     requires { IsPairing first.now second.now pairing.now }
@@ -76,7 +76,7 @@ pub fn pairing_file(
     b: &[u8],
     pairing: &Pairing,
 ) -> Result<Vec<u8>, AllocError>
-    requires { (s : Classes) × IsFound s a.now b.now pairing.now }
+    requires { (s : Classes) × IsFoundPairing s a.now b.now pairing.now }
     ensures { IfOk result (λ file. StatesOf a.now b.now file.items pairing.now) }
 {
     let first = names_of_accepted(alloc, a)?;

@@ -15,7 +15,7 @@ use Rattle.std.specs.BTreeSet.{BTreeSet, btree_set_len, contains}
 use Rattle.std.specs.declared.cmp.Ordering.{Ordering}
 use Rattle.std.specs.declared.cmp.Ordering.TheVariants.{Less, Equal, Greater}
 use Rattle.edi_record.specs.declared.record.Point.{Point}
-use Rattle.edi_picture.specs.Faces.{closes, same_spot}
+use Rattle.edi_picture.specs.Faces.{form_rings, same_spot}
 use Rattle.edi_picture.specs.Frames.{distance}
 use Rattle.edi_picture.specs.inner.Odd.{HasOdd, is_odd, spot_cmp}
 
@@ -168,10 +168,10 @@ not_all p f h (x ∷ xs) some = go (f x) refl (not_all p f h xs)
     go true e later = ap (λ t. t && list_all p xs) (h x e)
     go false e later = and_false (p x) (list_all p xs) (later (λ none. some (count_first f x xs ∙ (ap (λ t. cond t 1 0 + count_by f xs) e ∙ (nothing_more (count_by f xs) ∙ none)))))
 
-pub closed : (odd : BTreeSet (ℤ × ℤ)) (ends : List Point) (b : Bool) → IsTrue b ↔ (btree_set_len odd ≡ 0) → HasOdd odd ends → b ≡ closes ends
+pub closed : (odd : BTreeSet (ℤ × ℤ)) (ends : List Point) (b : Bool) → IsTrue b ↔ (btree_set_len odd ≡ 0) → HasOdd odd ends → b ≡ form_rings ends
 closed odd ends b is h = go odd.keys refl
   where
-    go : (ks : List (ℤ × ℤ)) → odd.keys ≡ ks → b ≡ closes ends
+    go : (ks : List (ℤ × ℤ)) → odd.keys ≡ ks → b ≡ form_rings ends
     go [] none =
         is.1 (ap length none)
         ∙ sym (every (λ q. count_by (same_spot q) ends % 2 == 0)

@@ -59,8 +59,8 @@ abbrev pub same_spot : Point → Point → Bool
 same_spot a b = (distance a.x b.x == 0) && (distance a.y b.y == 0)
 
 -- At each end an even number of arcs ends, so that the arcs go round in rings, each arc in one of them.
-abbrev pub closes : List Point → Bool
-closes ends = list_all (λ q. count_by (same_spot q) ends % 2 == 0) ends
+abbrev pub form_rings : List Point → Bool
+form_rings ends = list_all (λ q. count_by (same_spot q) ends % 2 == 0) ends
 
 -- ---- what is drawn
 
@@ -77,7 +77,7 @@ face_element s f sheet k base arcs = codes "<path fill='" ++ colour (mark_at she
 -- that face by the ends of the arcs, the first of which is the base: nothing where there is no arc, or where they don't close
 abbrev pub closed_face : Classes → Extent → Sheet → ℕ → List ℕ → List Point → List ℕ
 closed_face s f sheet k arcs [] = []
-closed_face s f sheet k arcs (base ∷ ends) = if closes (base ∷ ends) then face_element s f sheet k base arcs else []
+closed_face s f sheet k arcs (base ∷ ends) = if form_rings (base ∷ ends) then face_element s f sheet k base arcs else []
 
 -- what is drawn of a face: nothing where its mark hides it
 abbrev pub face_text : Classes → Extent → Sheet → ℕ → List ℕ

@@ -8,8 +8,8 @@ abbrev pub distance : ℤ → ℤ → ℕ
 distance a b = unsigned_abs (a -ℤ b)
 
 -- the length of a side of the frame: that of its span, or one unit where this is nothing
-abbrev pub side_of : Span → ℕ
-side_of s = if distance s.greatest s.least == 0 then UNIT else distance s.greatest s.least
+abbrev pub side_length : Span → ℕ
+side_length s = if distance s.greatest s.least == 0 then UNIT else distance s.greatest s.least
 
 -- the bar of the scale: the greatest power of ten that isn't longer than the frame is wide
 pub record IsBar (width bar : ℕ) : Type 0 where

@@ -7,7 +7,7 @@ use Rattle.edi_plan.specs.Extents.{IsExtentIfAny}
 use Rattle.edi_plan.specs.declared.extent.Extent.{Extent}
 use Rattle.edi_picture.specs.Elements.{arcs_of, nodes_of}
 use Rattle.edi_picture.specs.Faces.{faces_of}
-use Rattle.edi_picture.specs.Frames.{IsBar, side_of}
+use Rattle.edi_picture.specs.Frames.{IsBar, side_length}
 use Rattle.edi_picture.specs.Marks.{colour}
 use Rattle.edi_picture.specs.Sheets.{Sheet, all_points}
 use Rattle.edi_picture.specs.declared.mark.Mark.{Mark}
@@ -40,7 +40,7 @@ legend_text sheets = if nat_lt 1 (length sheets) then legend_entries else []
 -- an inner picture of the size of the frame, in units of the file, so far below the top
 abbrev pub inset_text : Extent → List ℕ → List ℕ
 inset_text f top = codes "<svg x='20' y='" ++ top ++ codes "' width='960' height='960' overflow='visible' preserveAspectRatio='xMinYMin' viewBox='0 0 "
-    ++ (size_text (side_of f.x) ++ codes " " ++ size_text (side_of f.y) ++ codes "'>\n")
+    ++ (size_text (side_length f.x) ++ codes " " ++ size_text (side_length f.y) ++ codes "'>\n")
 
 -- a bar of this length, with the number of units that it is long
 abbrev pub bar_text : Extent → ℕ → List ℕ
@@ -65,7 +65,7 @@ plan_text s f sheets = inset_text f (codes "70") ++ faces_text s f sheets ++ arc
 -- what is drawn in a frame: the bar, which is as the width of the frame says, and the plan
 abbrev pub IsDrawnIn : Classes → List Sheet → Option Extent → List ℕ → Type 0
 IsDrawnIn s sheets None drawn = drawn ≡ []
-IsDrawnIn s sheets (Some f) drawn = (bar : ℕ) × IsBar (side_of f.x) bar × (drawn ≡ bar_text f bar ++ plan_text s f sheets)
+IsDrawnIn s sheets (Some f) drawn = (bar : ℕ) × IsBar (side_length f.x) bar × (drawn ≡ bar_text f bar ++ plan_text s f sheets)
 
 -- The picture of some sheets: the head, the legend, what is drawn in the frame of all their points, and the end.
 pub record IsPicture (s : Classes) (sheets : List Sheet) (text : List ℕ) : Type 0 where

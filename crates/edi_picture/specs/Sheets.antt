@@ -1,9 +1,10 @@
 -- Sheets that are drawn.
-use Rattle.std.specs.Prelude.{ℕ, ◌<◌, List, [], length, slice_index_or, unwrap_or}
+use Rattle.std.specs.Prelude.{ℕ, List, [], slice_index_or, unwrap_or}
 use Rattle.std.specs.List.{AllByRecursion, flat_map}
 use Rattle.edi_record.specs.declared.record.Point.{Point}
 use Rattle.edi_record.specs.declared.name.Name.{Name}
 use Rattle.edi_schema.specs.Classes.{Classes, class_name_at}
+use Rattle.edi_plan.specs.Agreeing.{HasClasses}
 use Rattle.edi_plan.specs.Extents.{points_of}
 use Rattle.edi_plan.specs.Plans.{Drawing}
 use Rattle.edi_picture.specs.declared.mark.Mark.{Mark}
@@ -29,10 +30,6 @@ class_name s class = unwrap_or (class_name_at s class) (record { rty = []; rid =
 -- the points of all plans
 abbrev pub all_points : List Sheet → List Point
 all_points sheets = flat_map (λ sheet. points_of sheet.plan) sheets
-
--- the classes of the records are of the schema, as they are of a plan that was built under it
-abbrev pub HasClasses : Classes → Drawing → Type 0
-HasClasses s p = AllByRecursion (λ r. r.class < length s) p.list
 
 abbrev pub AllHaveClasses : Classes → List Sheet → Type 0
 AllHaveClasses s sheets = AllByRecursion (λ sheet. HasClasses s sheet.plan) sheets

@@ -37,13 +37,13 @@ abbrev pub escaped_text : List ℕ → List ℕ
 escaped_text text = flat_map escaped text
 
 -- TYPE;IDENTIFIER of a class
-abbrev pub class_text : Name → List ℕ
-class_text class = escaped_text class.rty ++ codes ";" ++ escaped_text class.rid
+abbrev pub class_title : Name → List ℕ
+class_title class = escaped_text class.rty ++ codes ";" ++ escaped_text class.rid
 
 -- TYPE IDENTIFIER CLASS
-abbrev pub name_text : Classes → Sheet → ℕ → List ℕ
-name_text s sheet k = kind_code (record_at sheet.plan k).kind ++ codes " " ++ escaped_text (identifier_at sheet k) ++ codes " "
-    ++ class_text (class_name s (record_at sheet.plan k).class)
+abbrev pub record_title : Classes → Sheet → ℕ → List ℕ
+record_title s sheet k = kind_code (record_at sheet.plan k).kind ++ codes " " ++ escaped_text (identifier_at sheet k) ++ codes " "
+    ++ class_title (class_name s (record_at sheet.plan k).class)
 
 abbrev pub title_text : Classes → Sheet → ℕ → List ℕ
-title_text s sheet k = codes "<title>" ++ name_text s sheet k ++ codes "</title>"
+title_text s sheet k = codes "<title>" ++ record_title s sheet k ++ codes "</title>"

@@ -33,7 +33,7 @@ pub(crate) struct Canvas<'a> {
 impl<'a> Canvas<'a> {
     ghost use Rattle.std.specs.Prelude.{◌≡◌, ◌++◌, OnOk};
     ghost use Rattle.std.specs.List.{flat_map};
-    ghost use Rattle.edi_picture.specs.Sheets.{HasClasses};
+    ghost use Rattle.edi_plan.specs.Agreeing.{HasClasses};
     ghost use Rattle.edi_plan.specs.Plans.{IsPlace, record_at};
     ghost use Rattle.edi_picture.specs.Elements.{arc_element, arc_text, arcs_of, node_element, node_text, nodes_of, said_text, spots_text};
 

@@ -3,12 +3,12 @@
 ghost use Rattle.std.specs.Prelude.{◌≡◌, ◌++◌, IfOk, List, OnOk, ℕ};
 ghost use Rattle.std.specs.List.{flat_map};
 ghost use Rattle.edi_picture.specs.Elements.{arcs_of, nodes_of};
-ghost use Rattle.edi_picture.specs.Frames.{IsBar, side_of};
+ghost use Rattle.edi_picture.specs.Frames.{IsBar, side_length};
 ghost use Rattle.edi_picture.specs.Pictures.{IsDrawnIn, IsPicture, arcs_text, legend_text, nodes_text, plan_text};
 ghost use Rattle.edi_picture.specs.Sheets.{AllHaveClasses};
 
 use crate::canvas::Canvas;
-use crate::frame::{bar_within, frame_of, side_length};
+use crate::frame::{bar_within, frame_of, side};
 use crate::layers::push_plan;
 use crate::legend::{push_bar, push_head, push_legend};
 use crate::shown::Shown;
@@ -31,7 +31,7 @@ fn push_drawn(
     let Some(frame) = frame else {
         return Ok(());
     };
-    push_bar(text, &frame, bar_within(side_length(frame.x)))?;
+    push_bar(text, &frame, bar_within(side(frame.x)))?;
     let canvas = Canvas { schema, frame };
     push_plan(alloc, &canvas, text, sheets)
 }

@@ -4,7 +4,7 @@ ghost use Rattle.std.specs.Prelude.{◌≡◌, ◌++◌, ◌∷◌, [], IfOk, Li
 ghost use Rattle.std.specs.List.{All};
 ghost use Rattle.edi_record.specs.declared.record.Point.{Point as Points};
 ghost use Rattle.edi_plan.specs.Plans.{IsPlace};
-ghost use Rattle.edi_picture.specs.Faces.{closes as close, ends_of, tips};
+ghost use Rattle.edi_picture.specs.Faces.{ends_of, form_rings, tips};
 ghost use Rattle.edi_picture.specs.inner.Odd.{HasOdd};
 
 use edi_plan::Plan;
@@ -54,7 +54,7 @@ fn add_end(odd: &mut BTreeSet<(i64, i64)>, end: &Point) -> Result<(), AllocError
 
 /// Whether an even number of ends is at each.
 pub(crate) fn closes(alloc: Global, ends: &[Point]) -> Result<bool, AllocError>
-    ensures { IfOk result (λ answer. answer ≡ close ends.now) }
+    ensures { IfOk result (λ answer. answer ≡ form_rings ends.now) }
 {
     let mut odd = BTreeSet::new(alloc);
     for end in ends {

@@ -2,7 +2,7 @@
 
 ghost use Rattle.std.specs.Prelude.{◌≡◌, ◌++◌, OnOk};
 ghost use Rattle.std.specs.List.{All, flat_map};
-ghost use Rattle.edi_picture.specs.Sheets.{HasClasses};
+ghost use Rattle.edi_plan.specs.Agreeing.{HasClasses};
 ghost use Rattle.edi_plan.specs.Plans.{IsPlace};
 ghost use Rattle.edi_picture.specs.inner.Rounds.{AreRounds};
 ghost use Rattle.edi_picture.specs.Faces.{arcs_round, closed_face, face_element, face_text, faces_of, fan_text};

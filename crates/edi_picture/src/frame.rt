@@ -2,7 +2,7 @@
 
 ghost use Rattle.std.specs.Prelude.{◌≡◌, ◌<◌};
 ghost use Rattle.edi_plan.specs.Extents.{IsExtentIfAny};
-ghost use Rattle.edi_picture.specs.Frames.{IsBar, distance, side_of};
+ghost use Rattle.edi_picture.specs.Frames.{IsBar, distance, side_length};
 ghost use Rattle.edi_picture.specs.Sheets.{all_points};
 
 use crate::shown::Shown;
@@ -17,8 +17,8 @@ pub(crate) fn distance_between(one: Num, other: Num) -> u64
 }
 
 /// The length of a side of a frame with this span, in millionths of the file's unit.
-pub(crate) fn side_length(span: Span) -> u64
-    ensures side { result ≡ side_of span }
+pub(crate) fn side(span: Span) -> u64
+    ensures side { result ≡ side_length span }
     ensures some { 0 < result }
 {
     match distance_between(span.greatest, span.least) {

@@ -2,10 +2,10 @@
 
 ghost use Rattle.std.specs.Prelude.{◌≡◌, ◌++◌, OnOk, codes};
 ghost use Rattle.edi_line.specs.Number.{size_text};
-ghost use Rattle.edi_picture.specs.Frames.{side_of};
+ghost use Rattle.edi_picture.specs.Frames.{side_length};
 ghost use Rattle.edi_picture.specs.Pictures.{bar_text, head_text, inset_text, legend_entries, legend_entry};
 
-use crate::frame::side_length;
+use crate::frame::side;
 use crate::mark::Mark;
 use crate::writing::put;
 use edi_line::push_millionths;
@@ -68,11 +68,11 @@ pub(crate) fn push_legend(text: &mut Vec<u8>) -> Result<(), AllocError>
 
 /// Appends the size of an inner picture.
 fn push_size(text: &mut Vec<u8>, frame: &Extent) -> Result<(), AllocError>
-    ensures { OnOk result (text.new.items ≡ text.old.items ++ (size_text (side_of frame.now.x) ++ codes " " ++ size_text (side_of frame.now.y) ++ codes "'>\n")) }
+    ensures { OnOk result (text.new.items ≡ text.old.items ++ (size_text (side_length frame.now.x) ++ codes " " ++ size_text (side_length frame.now.y) ++ codes "'>\n")) }
 {
-    push_millionths(text, side_length(frame.x))?;
+    push_millionths(text, side(frame.x))?;
     text.push(b' ')?;
-    push_millionths(text, side_length(frame.y))?;
+    push_millionths(text, side(frame.y))?;
     put(text, b"'>\n")
 }
 

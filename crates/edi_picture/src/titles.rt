@@ -2,8 +2,9 @@
 
 ghost use Rattle.std.specs.Prelude.{◌≡◌, ◌++◌, ◌<◌, OnOk, codes, decimal};
 ghost use Rattle.edi_plan.specs.Plans.{IsPlace, record_at};
-ghost use Rattle.edi_picture.specs.Sheets.{HasClasses, class_name};
-ghost use Rattle.edi_picture.specs.Titles.{class_text, escaped, escaped_text, name_text, title_text};
+ghost use Rattle.edi_plan.specs.Agreeing.{HasClasses};
+ghost use Rattle.edi_picture.specs.Sheets.{class_name};
+ghost use Rattle.edi_picture.specs.Titles.{class_title, escaped, escaped_text, record_title, title_text};
 
 use crate::shown::Shown;
 use crate::writing::put;
@@ -47,7 +48,7 @@ fn push_escaped_text(text: &mut Vec<u8>, bytes: &[u8]) -> Result<(), AllocError>
 
 /// Appends the type and the identifier of a class.
 fn push_class(text: &mut Vec<u8>, class: &Name) -> Result<(), AllocError>
-    ensures { OnOk result (text.new.items ≡ text.old.items ++ class_text class.now) }
+    ensures { OnOk result (text.new.items ≡ text.old.items ++ class_title class.now) }
 {
     push_escaped_text(text, class.rty.as_slice())?;
     text.push(b';')?;
@@ -63,7 +64,7 @@ fn push_name(
 ) -> Result<(), AllocError>
     requires classes { HasClasses schema.now sheet.now.plan }
     requires place { IsPlace sheet.now.plan place }
-    ensures { OnOk result (text.new.items ≡ text.old.items ++ name_text schema.now sheet.now place) }
+    ensures { OnOk result (text.new.items ≡ text.old.items ++ record_title schema.now sheet.now place) }
 {
     let plan = sheet.plan();
     put(text, plan.kind(place).code())?;

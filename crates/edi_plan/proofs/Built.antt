@@ -29,7 +29,7 @@ use Rattle.edi_schema.specs.declared.role.Role.{Role}
 use Rattle.edi_schema.specs.declared.role.Role.TheVariants.{Initial, Final, Left, Right, Plain}
 use Rattle.edi_schema.specs.declared.class.Class.{Class}
 use Rattle.edi_plan.specs.Plans.{Drawing, IsPlace, record_at, blank, is_arc}
-use Rattle.edi_plan.specs.Whole.{IsWhole}
+use Rattle.edi_plan.specs.Whole.{IsWholePlan}
 use Rattle.edi_plan.specs.PlanOf.{place_named, StatesPlanAttribute, StatesPlanEnd, StatesPlanRecord, IsPlanOf}
 use Rattle.edi_plan.specs.ReferenceRules.{BreaksReferenceRule, Names, JoinsArcTo}
 use Rattle.edi_plan.specs.declared.record.PlanRecord.{PlanRecord}
@@ -340,5 +340,5 @@ module _ (s : Classes) (sheet : Sheet) (p : Drawing) (is : IsPlanOf s sheet p) w
         go (inl link) = joined (record_at p k).role refl kind link (dec_le few 1)
         go (inr none) = omega (arith, none, Rattle.std.proofs.lemmas.List.Sums.count_by-le-length (λ (e : PlanEnd). is_arc (record_at p e.target).kind) (record_at p k).ends)
 
-    pub plans_whole : IsWhole p
+    pub plans_whole : IsWholePlan p
     plans_whole = record { few = omega (arith, sheet.few, long); there = there; no_link = no_link; points = points; ends = ends; one_arc = one_arc }

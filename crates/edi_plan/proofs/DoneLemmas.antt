@@ -17,7 +17,7 @@ use Rattle.edi_plan.specs.inner.Done.{JoinsIn, IsLinkAt, JoinsBefore, IsJoinIfAn
 use Rattle.edi_plan.specs.Joined.{beside}
 use Rattle.edi_plan.specs.inner.Names.{RepeatsAt}
 use Rattle.edi_plan.specs.Plans.{first_of}
-use Rattle.edi_plan.specs.ReferenceRules.{IsRecordAt, Names, HasRole, JoinsArcTo, JoinsWrong, RepeatsSide, LeavesSubset, BreaksReferenceRule}
+use Rattle.edi_plan.specs.ReferenceRules.{IsRecordAt, Names, IsLinkOfRole, JoinsArcTo, JoinsWrong, RepeatsSide, LeavesSubset, BreaksReferenceRule}
 use Rattle.edi_plan.specs.ReferenceRules.BreaksReferenceRule.{repeats_name, lacks_class, lacks_attribute_class, leaves_subset, names_nothing, joins_wrong, repeats_side}
 use Rattle.edi_plan.specs.inner.Resolving.{LacksClass, is_elsewhere, leaves, first_subset, role_of_link, reference_tests}
 use Rattle.edi_plan.specs.inner.Resolving as resolving
@@ -152,14 +152,14 @@ module _ (s : Classes) (list : List Record) (place : ℕ) (r : Record) (here : s
       let kind = not_true (is_plain role) both.0 in
       go role kind (link_has_role s list r kind) (none_is (link_join role own) both.1)
     where
-      go : (o : Role) → is_plain o ≡ false → HasRole s list r o → link_join o own ≡ None → JoinsWrong s list (suc place)
+      go : (o : Role) → is_plain o ≡ false → IsLinkOfRole s list r o → link_join o own ≡ None → JoinsWrong s list (suc place)
       go Initial h has none = (r, is_at, inl (inl has, no_join Initial h none))
       go Final h has none = (r, is_at, inl (inr has, no_join Final h none))
       go Left h has none = (r, is_at, inr (inl has, no_join Left h none))
       go Right h has none = (r, is_at, inr (inr has, no_join Right h none))
       go Plain h has none = cc
 
-  wrong : (o : Role) → is_plain o ≡ false → HasRole s list r o → ¬ (JoinsArcTo s list (beside o) r) → not (is_plain role) && is_none (link_join role own) ≡ true
+  wrong : (o : Role) → is_plain o ≡ false → IsLinkOfRole s list r o → ¬ (JoinsArcTo s list (beside o) r) → not (is_plain role) && is_none (link_join role own) ≡ true
   wrong o h has other =
       let same = role_is s list r o has in
       ap (λ p. not (is_plain p) && is_none (link_join p own)) same ∙ (ap (λ b. not b && is_none (link_join o own)) h ∙ go (link_join o own) refl)
@@ -171,12 +171,12 @@ module _ (s : Classes) (list : List Record) (place : ℕ) (r : Record) (here : s
   from_306 : JoinsWrong s list (suc place) → not (is_plain role) && is_none (link_join role own) ≡ true
   from_306 d = go d.0 (one_record d.0 d.1) d.2
     where
-      go : (q : Record) → q ≡ r → (((HasRole s list q Initial ⊎ HasRole s list q Final) × ¬ (JoinsArcTo s list Pno q)) ⊎ ((HasRole s list q Left ⊎ HasRole s list q Right) × ¬ (JoinsArcTo s list Pfe q)))
+      go : (q : Record) → q ≡ r → (((IsLinkOfRole s list q Initial ⊎ IsLinkOfRole s list q Final) × ¬ (JoinsArcTo s list Pno q)) ⊎ ((IsLinkOfRole s list q Left ⊎ IsLinkOfRole s list q Right) × ¬ (JoinsArcTo s list Pfe q)))
           → not (is_plain role) && is_none (link_join role own) ≡ true
-      go q e (inl (inl has, other)) = wrong Initial refl (subst (λ t. HasRole s list t Initial) e has) (subst (λ t. ¬ (JoinsArcTo s list Pno t)) e other)
-      go q e (inl (inr has, other)) = wrong Final refl (subst (λ t. HasRole s list t Final) e has) (subst (λ t. ¬ (JoinsArcTo s list Pno t)) e other)
-      go q e (inr (inl has, other)) = wrong Left refl (subst (λ t. HasRole s list t Left) e has) (subst (λ t. ¬ (JoinsArcTo s list Pfe t)) e other)
-      go q e (inr (inr has, other)) = wrong Right refl (subst (λ t. HasRole s list t Right) e has) (subst (λ t. ¬ (JoinsArcTo s list Pfe t)) e other)
+      go q e (inl (inl has, other)) = wrong Initial refl (subst (λ t. IsLinkOfRole s list t Initial) e has) (subst (λ t. ¬ (JoinsArcTo s list Pno t)) e other)
+      go q e (inl (inr has, other)) = wrong Final refl (subst (λ t. IsLinkOfRole s list t Final) e has) (subst (λ t. ¬ (JoinsArcTo s list Pno t)) e other)
+      go q e (inr (inl has, other)) = wrong Left refl (subst (λ t. IsLinkOfRole s list t Left) e has) (subst (λ t. ¬ (JoinsArcTo s list Pfe t)) e other)
+      go q e (inr (inr has, other)) = wrong Right refl (subst (λ t. IsLinkOfRole s list t Right) e has) (subst (λ t. ¬ (JoinsArcTo s list Pfe t)) e other)
 
   join_kind : (j : Join) → link_join role own ≡ Some j → is_plain role ≡ false
   join_kind j e = go role e
@@ -220,10 +220,10 @@ module _ (s : Classes) (list : List Record) (place : ℕ) (r : Record) (here : s
   taken : RepeatsSide s list (suc place) → (j : Join) → link_join role own ≡ Some j → is_taken table role (link_join role own) ≡ true
   taken d j e =
       let kind = join_kind j e in
-      let has = subst (λ t. HasRole s list t d.4) (one_record d.3 d.7) d.10 in
+      let has = subst (λ t. IsLinkOfRole s list t d.4) (one_record d.3 d.7) d.10 in
       let same : role ≡ d.4 = role_is s list r d.4 has in
       let arc : d.1 ≡ j.arc = one_arc r role j.arc j.other d.1 kind (join_names s list r role own j aimed kind e) (subst (λ (t : Record). Any (λ e. Names s list e d.1 Par) t.ends) (one_record d.3 d.7) d.12) in
-      let q_at : IsLinkAt s list (d.0 - 1) d.2 role = record { here = d.6.1; has_role = subst (HasRole s list d.2) (sym same) d.9; not_plain = kind } in
+      let q_at : IsLinkAt s list (d.0 - 1) d.2 role = record { here = d.6.1; has_role = subst (IsLinkOfRole s list d.2) (sym same) d.9; not_plain = kind } in
       let low : d.0 - 1 < place = omega (arith, d.5, d.6.0) in
       let q_joins = before.joined (d.0 - 1) d.2 role low q_at in
       let q_arc : d.1 ≡ q_joins.0 = one_arc d.2 role q_joins.0 q_joins.1 d.1 kind q_joins.2 d.11 in
@@ -260,7 +260,7 @@ module _ (s : Classes) (list : List Record) (place : ℕ) (r : Record) (here : s
       go : (o : Option Join) → link_join role own ≡ o → BreaksTest (reference_tests s (first_subset list) own table r) rule ⊎ ((rule ≡ 307) × BreaksTest (reference_tests s (first_subset list) own table r) 306)
       go (Some j) h = inl (inr (inr (inr (inr (inr (inl (sym e, taken d j h)))))))
       go None h =
-          let has = subst (λ t. HasRole s list t d.4) (one_record d.3 d.7) d.10 in
+          let has = subst (λ t. IsLinkOfRole s list t d.4) (one_record d.3 d.7) d.10 in
           let kind : is_plain role ≡ false = ap is_plain (role_is s list r d.4 has) ∙ is_plain_not d.4 d.8 in
           inr (e, inr (inr (inr (inr (inl (refl, ap (λ b. not b && is_none (link_join role own)) kind ∙ ap is_none h))))))
 
@@ -292,8 +292,8 @@ module _ (s : Classes) (list : List Record) (place : ℕ) (r : Record) (here : s
       same : q ≡ r
       same = same_some (sym d.here ∙ here)
 
-      has : HasRole s list r o
-      has = subst (λ t. HasRole s list t o) same d.has_role
+      has : IsLinkOfRole s list r o
+      has = subst (λ t. IsLinkOfRole s list t o) same d.has_role
 
       go : (j : Option Join) → link_join o own ≡ j → (a : ℕ) × (x : ℕ) × JoinsIn s list q o a x
       go (Some j) e = (j.arc, j.other, subst (λ t. JoinsIn s list t o j.arc j.other) (sym same) (join_names s list r o own j aimed d.not_plain e))
@@ -306,7 +306,7 @@ module _ (s : Classes) (list : List Record) (place : ℕ) (r : Record) (here : s
   here_joins : (q : Record) (o : Role) (a x : ℕ) → IsLinkAt s list place q o → JoinsIn s list q o a x → (role ≡ o) × (link_join role own ≡ Some (record { arc = a; other = x }))
   here_joins q o a x d joins =
       let same : q ≡ r = same_some (sym d.here ∙ here) in
-      let is : role ≡ o = role_is s list r o (subst (λ t. HasRole s list t o) same d.has_role) in
+      let is : role ≡ o = role_is s list r o (subst (λ t. IsLinkOfRole s list t o) same d.has_role) in
       (is, ap (λ p. link_join p own) is ∙ names_join s list r o own a x aimed d.not_plain (subst (λ t. JoinsIn s list t o a x) same joins))
 
   more_joins : (a : ℕ) (o : Role) (x : ℕ) → JoinsBefore s list place a o x → JoinsBefore s list (suc place) a o x

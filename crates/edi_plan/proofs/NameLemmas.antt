@@ -18,8 +18,8 @@ use Rattle.edi_record.specs.Records.{is_link}
 use Rattle.edi_plan.specs.inner.LinkNames.{LinksDiffer}
 use Rattle.edi_plan.specs.inner.Names.{named, place_in, is_tabled, IsPut, RepeatsAt, IsFirstRepeat, IsFirstRepeatIfAny}
 use Rattle.edi_plan.specs.PlanOf.{own_name, place_named}
-use Rattle.edi_plan.specs.declared.names.RecordName.{RecordName}
-use Rattle.edi_plan.specs.contracts.names.RecordNamePartialEq.TheImpl.{ghosts as names}
+use Rattle.edi_plan.specs.declared.names.RecordNameRef.{RecordNameRef}
+use Rattle.edi_plan.specs.contracts.names.RecordNameRefPartialEq.TheImpl.{ghosts as names}
 use Rattle.edi_plan.proofs.Built.{position_some}
 
 kind_apart : (a b : Kind) → kinds.eq a b ≡ bytes_eq (kind_code a) (kind_code b)
@@ -49,7 +49,7 @@ kind_apart Lnk Pfe = refl
 kind_apart Lnk Fea = refl
 kind_apart Lnk Lnk = refl
 
-pub name_apart : (a b : RecordName) → names.eq a b ≡ is_name (named a) (named b)
+pub name_apart : (a b : RecordNameRef) → names.eq a b ≡ is_name (named a) (named b)
 name_apart a b = ap (λ k. k && bytes_eq a.rid.now b.rid.now) (kind_apart a.kind b.kind)
 
 link_code : (k : Kind) → is_link k ≡ bytes_eq (kind_code k) (codes "LNK")
@@ -213,7 +213,7 @@ module _ (list : List Record) (n : ℕ) (r : Record) (here : slice_get list n �
           differ d.0 n d.1 d.2 d.3 d.4 d.5 (coded_link d.1.kind d.2.kind (ap (λ (m : Name). m.rty) d.6) ∙ is) is (ap (λ (m : Name). m.rid) d.6)
   repeat_apart differ link (Some m) h = (omega (arith, h.0), h.1)
 
-  pub first_apart : (q : RecordName) → is_link q.kind ≡ false → is_link r.kind ≡ true → (found : Option ℕ) → FirstTo list n (named q) found → FirstTo list (n + 1) (named q) found
+  pub first_apart : (q : RecordNameRef) → is_link q.kind ≡ false → is_link r.kind ≡ true → (found : Option ℕ) → FirstTo list n (named q) found → FirstTo list (n + 1) (named q) found
   first_apart q other link found h = kept_first (named q) found h (λ is none. let e : is_link r.kind ≡ is_link q.kind = coded_link r.kind q.kind (ap (λ (m : Name). m.rty) is) in cc)
 
 -- a name has another place than a new one exactly if an earlier record has the name
@@ -235,13 +235,13 @@ first_all list n name (Some k) past h = (slice_get_within list k h.1.there h.1.h
 
 -- ---- the table of names, one record on
 
-pub by_eq : (q : RecordName) (table : List (RecordName × ℕ)) → lookup (names.eq q) table ≡ place_in table q
-by_eq q table i = lookup (λ (t : RecordName). name_apart q t i) table
+pub by_eq : (q : RecordNameRef) (table : List (RecordNameRef × ℕ)) → lookup (names.eq q) table ≡ place_in table q
+by_eq q table i = lookup (λ (t : RecordNameRef). name_apart q t i) table
 
-same_place : (q t : RecordName) → named q ≡ named t → (table : List (RecordName × ℕ)) → place_in table q ≡ place_in table t
-same_place q t e table i = lookup (λ (b : RecordName). is_name (e i) (named b)) table
+same_place : (q t : RecordNameRef) → named q ≡ named t → (table : List (RecordNameRef × ℕ)) → place_in table q ≡ place_in table t
+same_place q t e table i = lookup (λ (b : RecordNameRef). is_name (e i) (named b)) table
 
-module _ (old new : List (RecordName × ℕ)) (name : RecordName) (place : ℕ) where
+module _ (old new : List (RecordNameRef × ℕ)) (name : RecordNameRef) (place : ℕ) where
   or_none : (o : Option ℕ) → o ≡ option_or o None
   or_none None = refl
   or_none (Some k) = refl
@@ -251,7 +251,7 @@ module _ (old new : List (RecordName × ℕ)) (name : RecordName) (place : ℕ) 
   or_some (Some k) = refl
 
   -- writing the place that a name has, or else this one, puts this one
-  pub put_or : (first : ℕ) → first ≡ unwrap_or (lookup (names.eq name) old) place → ((q : RecordName) → lookup (names.eq q) new ≡ cond (names.eq name q) (Some first) (lookup (names.eq q) old)) → IsPut old name place new
+  pub put_or : (first : ℕ) → first ≡ unwrap_or (lookup (names.eq name) old) place → ((q : RecordNameRef) → lookup (names.eq q) new ≡ cond (names.eq name q) (Some first) (lookup (names.eq q) old)) → IsPut old name place new
   put_or first is updates other =
       sym (by_eq other new) ∙ (updates other ∙ (ap (λ b. cond b (Some first) (lookup (names.eq other) old)) (name_apart name other)
       ∙ (ap (cond (is_name (named name) (named other)) (Some first)) (by_eq other old) ∙ go (is_name (named name) (named other)) refl)))
@@ -263,14 +263,14 @@ module _ (old new : List (RecordName × ℕ)) (name : RecordName) (place : ℕ) 
           ap Some (is ∙ ap (λ o. unwrap_or o place) alike) ∙ or_some (place_in old other)
 
 module _ (list : List Record) (n : ℕ) (r : Record) (here : slice_get list n ≡ Some r) (rise : Bool) (in_table : is_tabled rise r.kind ≡ true)
-    (name : RecordName) (e : named name ≡ own_name r) (old new : List (RecordName × ℕ))
-    (put : IsPut old name n new) (first : (q : RecordName) → is_tabled rise q.kind ≡ true → FirstTo list n (named q) (place_in old q)) where
+    (name : RecordNameRef) (e : named name ≡ own_name r) (old new : List (RecordNameRef × ℕ))
+    (put : IsPut old name n new) (first : (q : RecordNameRef) → is_tabled rise q.kind ≡ true → FirstTo list n (named q) (place_in old q)) where
   pub first_own : FirstTo list n (own_name r) (place_in old name)
   first_own =
       let tabled = ap (λ b. not (rise && b)) (coded_link name.kind r.kind (ap (λ (m : Name). m.rty) e)) ∙ in_table in
       subst (λ m. FirstTo list n m (place_in old name)) e (first name tabled)
 
-  pub first_put : (q : RecordName) → is_tabled rise q.kind ≡ true → FirstTo list (n + 1) (named q) (place_in new q)
+  pub first_put : (q : RecordNameRef) → is_tabled rise q.kind ≡ true → FirstTo list (n + 1) (named q) (place_in new q)
   first_put q tabled = subst (FirstTo list (n + 1) (named q)) (sym (put q)) (go (is_name (named name) (named q)) refl (place_in old q) (first q tabled))
     where
       go : (b : Bool) → is_name (named name) (named q) ≡ b → (found : Option ℕ) → FirstTo list n (named q) found → FirstTo list (n + 1) (named q) (option_or found (if b then Some n else None))
@@ -278,15 +278,15 @@ module _ (list : List Record) (n : ℕ) (r : Record) (here : slice_get list n �
       go true t None h = put_first list n r here (named q) (sym e ∙ same_name (named name) (named q) t) h
       go false t None h = kept_first list n r here (named q) None h (λ is none. let no : true ≡ false = sym (subst (λ m. is_name (named name) m ≡ true) (e ∙ is) (name_itself (named name))) ∙ t in cc)
 
-pub names_of : (list : List Record) (n : ℕ) → length list ≤ n → (rise : Bool) (table : List (RecordName × ℕ)) → ((q : RecordName) → is_tabled rise q.kind ≡ true → FirstTo list n (named q) (place_in table q))
-    → (name : RecordName) → is_link name.kind ≡ false → place_in table name ≡ place_named list (named name)
+pub names_of : (list : List Record) (n : ℕ) → length list ≤ n → (rise : Bool) (table : List (RecordNameRef × ℕ)) → ((q : RecordNameRef) → is_tabled rise q.kind ≡ true → FirstTo list n (named q) (place_in table q))
+    → (name : RecordNameRef) → is_link name.kind ≡ false → place_in table name ≡ place_named list (named name)
 names_of list n past rise table first name no_link = named_from list (named name) (place_in table name) (first_all list n (named name) (place_in table name) past (first name (looked_up rise name.kind no_link)))
 
-pub no_names : (list : List Record) (q : RecordName) → FirstTo list 0 (named q) None
+pub no_names : (list : List Record) (q : RecordNameRef) → FirstTo list 0 (named q) None
 no_names list q = λ j r less. absurd (omega arith)
 
-pub found_at : (list : List Record) (es : List (RecordName × ℕ)) (name : RecordName) → lookup (λ t. is_name (named name) (named t)) es ≡ place_named list (named name)
+pub found_at : (list : List Record) (es : List (RecordNameRef × ℕ)) (name : RecordNameRef) → lookup (λ t. is_name (named name) (named t)) es ≡ place_named list (named name)
     → (target : Name) → named name ≡ target → (o : Option ℕ) → o ≡ lookup (names.eq name) es → place_named list target ≡ o
 found_at list es name are target is o e =
-    let known = (λ i. lookup (λ (t : RecordName). name_apart name t i) es) ∙ are in
+    let known = (λ i. lookup (λ (t : RecordNameRef). name_apart name t i) es) ∙ are in
     sym (e ∙ (known ∙ ap (place_named list) is))

@@ -7,15 +7,15 @@ use Rattle.edi_plan.specs.Plans.{blank}
 use Rattle.edi_plan.specs.declared.record.PlanRecord.{PlanRecord}
 use Rattle.edi_plan.specs.declared.record_block.Head.{Head}
 use Rattle.edi_plan.specs.declared.record_block.RecordBlock.{RecordBlock}
-use Rattle.edi_plan.specs.declared.record_block.Span.{Span}
+use Rattle.edi_plan.specs.declared.record_block.ListPart.{ListPart}
 use Rattle.edi_plan.specs.inner.RecordBlocks.{part_of, record_of, records_in, IsWithin, HasParts, ArePartsWithin}
 
 -- where the elements lie that were put behind those of a list
-pub record Lies (at long : ℕ) (s : Span) : Type 0 where
+pub record Lies (at long : ℕ) (s : ListPart) : Type 0 where
   pub from : s.from ≡ at
   pub to : s.to ≡ at + long
 
-module _ {X : Type 0} (xs ys zs : List X) (grown : zs ≡ xs ++ ys) (s : Span) where
+module _ {X : Type 0} (xs ys zs : List X) (grown : zs ≡ xs ++ ys) (s : ListPart) where
   longer : length zs ≡ length xs + length ys
   longer = ap length grown ∙ length-append xs ys
 

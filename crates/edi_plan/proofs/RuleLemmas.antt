@@ -20,7 +20,7 @@ use Rattle.edi_plan.specs.inner.Done.{JoinsIn}
 use Rattle.edi_plan.specs.Joined.{beside}
 use Rattle.edi_record.specs.Records.{is_link}
 use Rattle.edi_plan.specs.Plans.{same_kind, kind_rank}
-use Rattle.edi_plan.specs.ReferenceRules.{Names, HasRole}
+use Rattle.edi_plan.specs.ReferenceRules.{Names, IsLinkOfRole}
 use Rattle.edi_plan.specs.inner.Resolving.{AreGiven, Gives, LacksClass, lacks_class, is_elsewhere, role_of_link}
 use Rattle.edi_plan.specs.inner.SideTable.{join_of_two, join_in, link_join}
 use Rattle.edi_plan.specs.inner.Targets.{Leads, IsTargetIfAny}
@@ -273,7 +273,7 @@ module _ (s : Classes) (list : List Record) where
       by (x ∷ y ∷ []) (Some t ∷ Some u ∷ []) e all made = both x y t u e all.0 all.1.0 made
 
   -- the role of a link
-  pub link_has_role : (r : Record) → is_plain (role_of_link s r) ≡ false → HasRole s list r (role_of_link s r)
+  pub link_has_role : (r : Record) → is_plain (role_of_link s r) ≡ false → IsLinkOfRole s list r (role_of_link s r)
   link_has_role r h = go (is_link r.kind) refl (role_named s r.scp) refl h
     where
       go : (b : Bool) → is_link r.kind ≡ b → (o : Option Role) → role_named s r.scp ≡ o → is_plain (cond b (unwrap_or o Plain) Plain) ≡ false
@@ -282,7 +282,7 @@ module _ (s : Classes) (list : List Record) where
       go true t None e plain = cc
       go true t (Some role) e plain = (link_is r.kind t, e ∙ ap Some (sym (ap (λ b. cond b (unwrap_or (role_named s r.scp) Plain) Plain) t ∙ ap (λ o. unwrap_or o Plain) e)))
 
-  pub role_is : (r : Record) (role : Role) → HasRole s list r role → role_of_link s r ≡ role
+  pub role_is : (r : Record) (role : Role) → IsLinkOfRole s list r role → role_of_link s r ≡ role
   role_is r role has = ap (λ k. cond (is_link k) (unwrap_or (role_named s r.scp) Plain) Plain) has.0 ∙ ap (λ o. unwrap_or o Plain) has.1
 
 pub any_two : {X : Type 0} (P : X → Type 0) (x y : X) → Any P (x ∷ y ∷ []) → P x ⊎ P y

@@ -15,7 +15,7 @@ use Rattle.edi_plan.specs.inner.Names.{named, IsFirstRepeatIfAny}
 use Rattle.edi_plan.specs.PlanOf.{place_named}
 use Rattle.edi_record.specs.Records.{is_link}
 use Rattle.edi_plan.specs.inner.Targets.{target_kind, HasNameAt, Leads, IsTargetIfAny}
-use Rattle.edi_plan.specs.declared.names.RecordName.{RecordName}
+use Rattle.edi_plan.specs.declared.names.RecordNameRef.{RecordNameRef}
 use Rattle.edi_plan.specs.declared.targets.Target.{Target}
 use Rattle.edi_plan.proofs.NameLemmas.{first_named, has_name}
 
@@ -83,7 +83,7 @@ module _ (list : List Record) (e : End) where
           whole Fea = refl
           whole Lnk = refl
 
-pub named_target : (name : RecordName) (target : Name) → target.rty ≡ kind_code name.kind → name.rid.now ≡ target.rid → named name ≡ target
+pub named_target : (name : RecordNameRef) (target : Name) → target.rty ≡ kind_code name.kind → name.rid.now ≡ target.rid → named name ≡ target
 named_target name target rty rid = λ i. record { rty = sym rty i; rid = rid i }
 
 -- lists side by side

@@ -17,13 +17,13 @@ use std::hash::{Hash, Hasher};
 
 /// The type and the identifier of a record, borrowed from it.
 #[derive(Clone, Copy, Debug, PartialEq, Eq)]
-pub(crate) struct RecordName<'a> {
+pub(crate) struct RecordNameRef<'a> {
     pub(crate) kind: Kind,
     pub(crate) rid: &'a [u8],
 }
 
 // The type is left out: an identifier makes five names at most.
-impl<'a> Hash for RecordName<'a> {
+impl<'a> Hash for RecordNameRef<'a> {
     ghost hash_input = { λ n. n.rid.now ∷ [] };
 
     ghost respects_eq = { Prim.search (hashing, rules) };
@@ -36,15 +36,15 @@ impl<'a> Hash for RecordName<'a> {
 /// The place of the first record of each name, and that of the first record with the name of an earlier one.
 #[derive(Drop)]
 pub(crate) struct Names<'a> {
-    pub(crate) places: IndexMap<RecordName<'a>, u32, NameHash>,
+    pub(crate) places: IndexMap<RecordNameRef<'a>, u32, NameHash>,
     pub(crate) repeat: Option<usize>,
 }
 
 /// The name of a record.
-pub(crate) fn name_of(stated: &Record) -> RecordName<'_>
+pub(crate) fn name_of(stated: &Record) -> RecordNameRef<'_>
     ensures { named result ≡ own_name stated.now }
 {
-    RecordName {
+    RecordNameRef {
         kind: stated.kind,
         rid: stated.rid.as_slice(),
     }
@@ -127,8 +127,8 @@ fn count_tabled(links_rise: bool, records: &[Record]) -> usize
 
 /// The place of a name, which is this one if it had none.
 fn place_or<'a>(
-    places: &mut IndexMap<RecordName<'a>, u32, NameHash>,
-    name: RecordName<'a>,
+    places: &mut IndexMap<RecordNameRef<'a>, u32, NameHash>,
+    name: RecordNameRef<'a>,
     place: u32,
 ) -> Result<u32, AllocError>
     ensures first { IfOk result (λ first. first ≡ unwrap_or (place_in places.old.entries name.entry) place) }

@@ -42,7 +42,7 @@ impl Plan {
     ghost use Rattle.edi_plan.specs.Places.{places_of};
     ghost use Rattle.edi_plan.specs.Sides.{IsSideIfAny};
     ghost use Rattle.edi_plan.specs.Joined.{IsJoined};
-    ghost use Rattle.edi_plan.specs.Whole.{IsWhole};
+    ghost use Rattle.edi_plan.specs.Whole.{IsWholePlan};
     ghost use Rattle.edi_plan.specs.ReferenceRules.{BreaksReferenceRule};
     ghost use Rattle.edi_record.specs.RecordRefusal.{IsRecordRefusal};
 
@@ -156,7 +156,7 @@ impl Plan {
 
     /// What each plan keeps.
     pub fn keeps(&self)
-        ensures whole { IsWhole self.now }
+        ensures whole { IsWholePlan self.now }
         ensures joined { IsJoined self.now }
     {
         let _ = &self.list;

@@ -13,7 +13,7 @@ use std::alloc::{AllocError, Global};
 
 /// A part of a list, from one place up to another.
 #[derive(Clone, Copy)]
-pub(crate) struct Span {
+pub(crate) struct ListPart {
     pub(crate) from: u32,
     pub(crate) to: u32,
 }
@@ -24,10 +24,10 @@ pub(crate) struct Head {
     pub(crate) kind: Kind,
     pub(crate) class: ClassRef,
     pub(crate) role: Role,
-    pub(crate) points: Span,
-    pub(crate) attributes: Span,
-    pub(crate) extras: Span,
-    pub(crate) ends: Span,
+    pub(crate) points: ListPart,
+    pub(crate) attributes: ListPart,
+    pub(crate) extras: ListPart,
+    pub(crate) ends: ListPart,
 }
 
 /// The records by their places, with the lists of what they have.
@@ -51,7 +51,7 @@ fn place_of(len: usize) -> Result<u32, AllocError>
 }
 
 /// Moves the elements of a part behind those of a list. Where they lie is the answer.
-fn append<T: Drop>(list: &mut Vec<T>, part: Sequence<T>) -> Result<Span, AllocError>
+fn append<T: Drop>(list: &mut Vec<T>, part: Sequence<T>) -> Result<ListPart, AllocError>
     ensures items { OnOk result (list.new.items ≡ list.old.items ++ part) }
     ensures from { IfOk result (λ span. span.from ≡ length list.old.items) }
     ensures to { IfOk result (λ span. span.to ≡ length list.old.items + length part) }
@@ -60,7 +60,7 @@ fn append<T: Drop>(list: &mut Vec<T>, part: Sequence<T>) -> Result<Span, AllocEr
     let mut items = part.into_vec();
     list.append(&mut items)?;
     let to = place_of(list.len())?;
-    Ok(Span { from, to })
+    Ok(ListPart { from, to })
 }
 
 /// A list with no room for more.
@@ -72,7 +72,7 @@ fn shrunk<T>(mut list: Vec<T>) -> Vec<T>
 }
 
 /// A part of a list, borrowed.
-fn part<T>(list: &Vec<T>, span: Span) -> &[T]
+fn part<T>(list: &Vec<T>, span: ListPart) -> &[T]
     requires { IsWithin (length list.now.items) span }
     ensures { result.now ≡ part_of list.now.items span }
 {

@@ -8,7 +8,7 @@ ghost use Rattle.edi_plan.specs.PlanOf.{place_named};
 ghost use Rattle.edi_record.specs.Records.{is_link};
 ghost use Rattle.edi_plan.specs.inner.Targets.{target_kind, HasNameAt, IsTargetIfAny, AreTargets};
 
-use crate::names::{Names, RecordName, name_of};
+use crate::names::{Names, RecordNameRef, name_of};
 use edi_record::{End, Kind, Record};
 use std::alloc::{AllocError, Global};
 
@@ -77,7 +77,7 @@ impl LastNamed {
 }
 
 /// Whether the record at a place has this name.
-fn has_name(records: &[Record], place: u32, name: &RecordName<'_>) -> bool
+fn has_name(records: &[Record], place: u32, name: &RecordNameRef<'_>) -> bool
     ensures { result ≡ true → HasNameAt records.now (named name.now) place }
 {
     let place = place as usize;
@@ -85,7 +85,7 @@ fn has_name(records: &[Record], place: u32, name: &RecordName<'_>) -> bool
 }
 
 /// The place of a record of this name, if it is this one or the next.
-fn place_near(records: &[Record], last: u32, name: &RecordName<'_>) -> Option<u32>
+fn place_near(records: &[Record], last: u32, name: &RecordNameRef<'_>) -> Option<u32>
     ensures { IfSome result (HasNameAt records.now (named name.now)) }
 {
     if has_name(records, last, name) {
@@ -100,7 +100,12 @@ fn place_near(records: &[Record], last: u32, name: &RecordName<'_>) -> Option<u3
 }
 
 /// The place of the first record of a name. Where no two records have one name, any of that name is the first.
-fn place_of(records: &[Record], names: &Names<'_>, last: u32, name: &RecordName<'_>) -> Option<u32>
+fn place_of(
+    records: &[Record],
+    names: &Names<'_>,
+    last: u32,
+    name: &RecordNameRef<'_>,
+) -> Option<u32>
     requires no_link { is_link name.now.kind ≡ false }
     requires names { AreNamesOf records.now names.now }
     requires repeat { IsFirstRepeatIfAny records.now names.now.repeat }
@@ -121,7 +126,7 @@ fn target_of(records: &[Record], names: &Names<'_>, last: LastNamed, end: &End) 
     ensures { IsTargetIfAny records.now end.now result }
 {
     let kind = kind_coded(end.target.rty.as_slice())?;
-    let name = RecordName {
+    let name = RecordNameRef {
         kind,
         rid: end.target.rid.as_slice(),
     };

@@ -16,7 +16,7 @@ use Rattle.edi_plan.specs.Agreeing.{AttributeAgrees, RecordAgrees, Agrees}
 use Rattle.edi_plan.specs.Orders.{attribute_cmp}
 use Rattle.edi_record.specs.Records.{is_link}
 use Rattle.edi_plan.specs.Plans.{Drawing, IsPlace, record_at, blank, is_arc}
-use Rattle.edi_plan.specs.Whole.{IsWhole}
+use Rattle.edi_plan.specs.Whole.{IsWholePlan}
 use Rattle.edi_plan.specs.declared.record.PlanRecord.{PlanRecord}
 use Rattle.edi_plan.specs.declared.record.PlanEnd.{PlanEnd}
 use Rattle.edi_plan.proofs.Orders.{attribute_total}
@@ -131,7 +131,7 @@ module _ (s : Classes) (p : Drawing) (l : Labelling) (labels : AreLabels s p l) 
             attributes = all_along (AttributeAgrees s) (record_at p k).attributes _ (IsPermutation-sym _ _ (IsPermutation-sort_by attribute_cmp attribute_total (record_at p k).attributes)) r.attributes;
           }
 
-  module _ (whole : IsWhole p) where
+  module _ (whole : IsWholePlan p) where
     moved_ends : (k : ℕ) → IsPlace p k → IsPermutation (map (moved (new_place l p)) (record_at p k).ends) (record_at (arranged s l p) (new_place l p k)).ends
     moved_ends k h = ends_moved s (new_place l p) (turned_at l.turned) k (record_at p k) (record_at (arranged s l p) (new_place l p k)) (c.each k h)
 
@@ -147,7 +147,7 @@ module _ (s : Classes) (p : Drawing) (l : Labelling) (labels : AreLabels s p l) 
     kind_kept : (t : ℕ) → IsPlace p t → (record_at (arranged s l p) (new_place l p t)).kind ≡ (record_at p t).kind
     kind_kept t h = (c.each t h).kind
 
-    pub whole_arranged : IsWhole (arranged s l p)
+    pub whole_arranged : IsWholePlan (arranged s l p)
     whole_arranged = record {
       few = omega (arith, arranged_long, whole.few);
       there = at_new (λ j. AllByRecursion (λ e. IsPlace (arranged s l p) e.target) (record_at (arranged s l p) j).ends) there;

@@ -3,7 +3,7 @@ use Rattle.std.proofs.Common.{◌≡◌, ℕ, ◌<◌, Bool, List, [], ◌∷◌
 use Rattle.std.specs.List.{AllByRecursion}
 use Rattle.edi_schema.specs.Classes.{Classes}
 use Rattle.edi_plan.specs.Plans.{Drawing, IsPlace, record_at, first_of, others_of}
-use Rattle.edi_plan.specs.Whole.{IsWhole}
+use Rattle.edi_plan.specs.Whole.{IsWholePlan}
 use Rattle.edi_plan.specs.declared.record.PlanRecord.{PlanRecord}
 use Rattle.edi_plan.specs.declared.record.PlanEnd.{PlanEnd}
 use Rattle.edi_rank.specs.Laws.{IsPlanUnder}
@@ -35,7 +35,7 @@ record_alike s to on turned turned' n same same' i a b there here c = record {
     tests = passes_alike (λ (x : PlanEnd). x.target < n) (λ x. turned x.target) (λ x. turned' x.target) (λ x h. same' x.target h) a.ends there
 
 -- maps with the same values carry the same
-pub carries_alike : (s : Classes) (p q : Drawing) → IsWhole p → (to on : ℕ → ℕ) (turned turned' : ℕ → Bool)
+pub carries_alike : (s : Classes) (p q : Drawing) → IsWholePlan p → (to on : ℕ → ℕ) (turned turned' : ℕ → Bool)
     → ((i : ℕ) → IsPlace p i → to i ≡ on i) → ((i : ℕ) → IsPlace p i → turned i ≡ turned' i) → Carries s to turned p q → Carries s on turned' p q
 carries_alike s p q whole to on turned turned' same same' c = record {
   places = record {

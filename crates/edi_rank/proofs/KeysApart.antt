@@ -6,7 +6,7 @@ use Rattle.edi_line.specs.Refusal.{IsUnbroken}
 use Rattle.edi_record.specs.declared.record.Kind.{Kind}
 use Rattle.edi_record.specs.declared.record.Kind.TheVariants.{Pno, Par, Fea}
 use Rattle.edi_plan.specs.Plans.{Drawing, IsPlace, record_at}
-use Rattle.edi_plan.specs.Whole.{IsWhole}
+use Rattle.edi_plan.specs.Whole.{IsWholePlan}
 use Rattle.edi_topo.specs.Directions.{forward}
 use Rattle.edi_topo.specs.NodeKeys.{node_key, node_key_cmp}
 use Rattle.edi_topo.specs.TopologyRules.BreaksTopologyRule.{repeats_node, repeats_arc}
@@ -29,7 +29,7 @@ from_earlier p kind key none m n h g is other e = go (cases_order m n)
     go (inr (inl less)) = absurd (none m n less h g is other e)
     go (inr (inr more)) = absurd (none n m more g h other is (sym e))
 
-pub one_node : (p : Drawing) → IsWhole p → IsNowhereBroken p 403 → TellsTypeApart p Pno (λ n. node_key (record_at p n))
+pub one_node : (p : Drawing) → IsWholePlan p → IsNowhereBroken p 403 → TellsTypeApart p Pno (λ n. node_key (record_at p n))
 one_node p whole none = from_earlier p Pno (λ n. node_key (record_at p n)) (λ m n less h g is other e. none (suc n) (repeats_node refl (
   m,
   n,
@@ -42,6 +42,6 @@ pub one_arc : (p : Drawing) → IsNowhereBroken p 405 → TellsTypeApart p Par (
 one_arc p none = from_earlier p Par (λ a. forward (record_at p a).points) (λ m n less h g is other e. none (suc n) (repeats_arc refl
     (m, n, (record_at p m).points, (record_at p n).points, refl, less, (h, is, refl), (g, other, refl), in_one_direction (record_at p m).points (record_at p n).points e)))
 
-pub one_object : (p : Drawing) → IsWhole p → IsUnbroken (BreaksObjectRule p) → (number : ℕ → ℕ) → TellsApart p number → TellsTypeApart p Fea (object_key p number)
+pub one_object : (p : Drawing) → IsWholePlan p → IsUnbroken (BreaksObjectRule p) → (number : ℕ → ℕ) → TellsApart p number → TellsTypeApart p Fea (object_key p number)
 one_object p whole none number apart = from_earlier p Fea (object_key p number) (λ m n less h g is other e. none 501 (suc n) (repeats_object {m = m} {n = n} refl refl less
     (one_key_equal p number whole apart m n h g is other e)))

@@ -11,7 +11,7 @@ use Rattle.edi_schema.specs.declared.role.Role.{Role}
 use Rattle.edi_plan.specs.Joined.{IsJoined}
 use Rattle.edi_plan.specs.Places.{places_of}
 use Rattle.edi_plan.specs.Plans.{Drawing, IsPlace, record_at, kind_rank, is_arc, is_object, first_of}
-use Rattle.edi_plan.specs.Whole.{IsWhole}
+use Rattle.edi_plan.specs.Whole.{IsWholePlan}
 use Rattle.edi_plan.proofs.PlaceLemmas.{place_there, place_of_kind}
 use Rattle.edi_plan.specs.declared.record.PlanRecord.{PlanRecord}
 use Rattle.edi_plan.specs.declared.record.PlanEnd.{PlanEnd}
@@ -134,7 +134,7 @@ module _ (s : Classes) (p q : Drawing) (under : IsPlanUnder s p) (under' : IsPla
 
 -- objects
 
-pub object_carried : (s : Classes) (p q : Drawing) → IsWhole p → IsJoined p → (to : ℕ → ℕ) (turned : ℕ → Bool) → Carries s to turned p q
+pub object_carried : (s : Classes) (p q : Drawing) → IsWholePlan p → IsJoined p → (to : ℕ → ℕ) (turned : ℕ → Bool) → Carries s to turned p q
     → (number number' : ℕ → ℕ) → IsPreserved p Pno to number number' → IsPreserved p Par to number number' → IsPreserved p Pfe to number number' → IsPreserved p Fea to (object_key p number) (object_key q number')
 object_carried s p q whole joined to turned c number number' nodes arcs faces m h is =
     object_key_preserved p q whole to c.places (λ i l. kept_from s to turned i (record_at p i) (record_at q (to i)) (c.each i l)) number number' (λ t l. below t l (record_at p t).kind refl) m h (ap is_object is)
@@ -148,7 +148,7 @@ object_carried s p q whole joined to turned c number number' nodes arcs faces m 
     below t l Lnk e less = absurd (omega (arith, less))
 
 -- the keys of the objects are one where the numbers of the records are one
-pub object_keys_alike : (p : Drawing) → IsWhole p → IsJoined p → (number number' : ℕ → ℕ) → ((k : ℕ) → IsPlace p k → number' k ≡ number k) → map (object_key p number') (places_of Fea p) ≡ map (object_key p number) (places_of Fea p)
+pub object_keys_alike : (p : Drawing) → IsWholePlan p → IsJoined p → (number number' : ℕ → ℕ) → ((k : ℕ) → IsPlace p k → number' k ≡ number k) → map (object_key p number') (places_of Fea p) ≡ map (object_key p number) (places_of Fea p)
 object_keys_alike p whole joined number number' same =
     map_alike (λ k. IsPlace p k × ((record_at p k).kind ≡ Fea)) (object_key p number') (object_key p number)
     (λ k h. object_carried [] p p whole joined (λ i. i) (λ _. false) (carries_itself [] p) number number' (λ i l _. same i l) (λ i l _. same i l) (λ i l _. same i l) k h.0 h.1)

@@ -10,7 +10,7 @@ use Rattle.edi_schema.specs.Classes.{Classes}
 use Rattle.edi_schema.specs.Sorted.{sort_by}
 use Rattle.edi_record.specs.Records.{is_link}
 use Rattle.edi_plan.specs.Plans.{Drawing, record_at, blank, kind_rank, is_arc, is_object, first_of, rest_of, origin_of, others_of}
-use Rattle.edi_plan.specs.Whole.{IsWhole}
+use Rattle.edi_plan.specs.Whole.{IsWholePlan}
 use Rattle.edi_plan.specs.declared.record.PlanRecord.{PlanRecord}
 use Rattle.edi_plan.specs.declared.record.PlanEnd.{PlanEnd}
 use Rattle.edi_rank.specs.Same.{OneToOne, moved, CarriesRecord}
@@ -177,7 +177,7 @@ below_object Pfe h g = omega arith
 below_object Fea h g = absurd (true≢false g)
 below_object Lnk h g = absurd (true≢false h)
 
-module _ (p q : Drawing) (whole : IsWhole p) (to : ℕ → ℕ) (places : OneToOne to (length p.list) (length q.list))
+module _ (p q : Drawing) (whole : IsWholePlan p) (to : ℕ → ℕ) (places : OneToOne to (length p.list) (length q.list))
     (kept : (i : ℕ) → i < length p.list → Kept to (record_at p i) (record_at q (to i)))
     (np nq : ℕ → ℕ) (below : (t : ℕ) → t < length p.list → kind_rank (record_at p t).kind < 3 → nq (to t) ≡ np t)
     (object : ℕ) (there : object < length p.list) (is : is_object (record_at p object).kind ≡ true)

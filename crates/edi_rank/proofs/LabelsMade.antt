@@ -17,7 +17,7 @@ use Rattle.edi_plan.specs.Joined.{IsJoined}
 use Rattle.edi_plan.specs.Places.{places_of, member_of}
 use Rattle.edi_record.specs.Records.{is_link}
 use Rattle.edi_plan.specs.Plans.{Drawing, IsPlace, record_at, is_arc, others_of}
-use Rattle.edi_plan.specs.Whole.{IsWhole}
+use Rattle.edi_plan.specs.Whole.{IsWholePlan}
 use Rattle.edi_plan.specs.declared.record.PlanRecord.{PlanRecord}
 use Rattle.edi_plan.specs.declared.record.PlanEnd.{PlanEnd}
 use Rattle.edi_plan.proofs.Orders.{points_total}
@@ -107,7 +107,7 @@ ranks_of r Pfe = r.faces
 ranks_of r Fea = r.objects
 ranks_of r Lnk = r.links
 
-module _ (s : Classes) (p : Drawing) (whole : IsWhole p) (joined : IsJoined p) (sound : IsUnbroken (BreaksTopologyRule p)) (l : Labelling) (r : Ranked) (unlinked : List ℕ)
+module _ (s : Classes) (p : Drawing) (whole : IsWholePlan p) (joined : IsJoined p) (sound : IsUnbroken (BreaksTopologyRule p)) (l : Labelling) (r : Ranked) (unlinked : List ℕ)
     (all_numbered : length l.numbers ≡ length p.list) (all_directed : length l.turned ≡ length p.list) (directions : (k : ℕ) → IsPlace p k → turned_at l.turned k ≡ is_backward p k)
     (kinds : (kind : Kind) → KindLabels p kind (ranks_of r kind) (order_of l kind))
     (numbers : (k : ℕ) → IsPlace p k → number_of l k ≡ get_or (ranks_of r (record_at p k).kind) (member_of p k) 0)

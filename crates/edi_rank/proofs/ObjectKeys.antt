@@ -10,7 +10,7 @@ use Rattle.edi_schema.proofs.SortedLists.{sort_by-same, IsPermutation-sort_by, c
 use Rattle.edi_plan.specs.Orders.{attribute_cmp}
 use Rattle.edi_record.specs.Records.{is_link}
 use Rattle.edi_plan.specs.Plans.{Drawing, IsPlace, record_at, blank, kind_rank, is_object, first_of, rest_of}
-use Rattle.edi_plan.specs.Whole.{IsWhole}
+use Rattle.edi_plan.specs.Whole.{IsWholePlan}
 use Rattle.edi_plan.specs.declared.record.PlanRecord.{PlanRecord}
 use Rattle.edi_plan.specs.declared.record.PlanEnd.{PlanEnd}
 use Rattle.edi_plan.proofs.Orders.{attribute_total, attribute_exact}
@@ -216,7 +216,7 @@ module _ (p : Drawing) (number : ℕ → ℕ) where
   abbrev KnownPiece : Piece → Type 0
   KnownPiece a = IsOrigin a.origin a.others × AllByRecursion Known a.others
 
-  module _ (whole : IsWhole p) (apart : TellsApart p number) where
+  module _ (whole : IsWholePlan p) (apart : TellsApart p number) where
     one_target : (x y : Option ℕ) → IsLower x → IsLower y → target_kind p x ≡ target_kind p y → target_number number x ≡ target_number number y → x ≡ y
     one_target None None h g k n = refl
     one_target None (Some t) h g k n = absurd (omega (arith, ap kind_rank k, g.1))

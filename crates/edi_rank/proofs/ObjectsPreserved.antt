@@ -17,7 +17,7 @@ use Rattle.edi_schema.specs.declared.role.Role.TheVariants.{Initial, Final, Left
 use Rattle.edi_schema.proofs.SortedLists.{sort_by-same, IsPermutation-sort_by, counts_from_permutation, SameCounts}
 use Rattle.edi_record.specs.Records.{is_link}
 use Rattle.edi_plan.specs.Plans.{Drawing, IsPlace, record_at, blank, is_object, first_of, others_of}
-use Rattle.edi_plan.specs.Whole.{IsWhole}
+use Rattle.edi_plan.specs.Whole.{IsWholePlan}
 use Rattle.edi_plan.specs.declared.record.PlanRecord.{PlanRecord}
 use Rattle.edi_plan.specs.declared.record.PlanEnd.{PlanEnd}
 use Rattle.edi_rank.specs.EqualObjects.{Mark, mark, Piece, piece, pieces, SamePiece, SameUpTo, AreEqualObjects, BreaksObjectRule}
@@ -184,7 +184,7 @@ equal_back p m n a = record {
   pieces = up_to_sym SamePiece piece_sym (pieces p m) (pieces p n) a.pieces;
 }
 
-module _ (s : Classes) (p q : Drawing) (whole : IsWhole p) (joined : IsJoined p) (to : ℕ → ℕ) (turned : ℕ → Bool) (c : Carries s to turned p q) where
+module _ (s : Classes) (p q : Drawing) (whole : IsWholePlan p) (joined : IsJoined p) (to : ℕ → ℕ) (turned : ℕ → Bool) (c : Carries s to turned p q) where
   abbrev IsThere : PlanEnd → Type 0
   IsThere e = IsPlace p e.target
 

@@ -6,7 +6,7 @@ use Rattle.edi_plan.specs.Joined.{IsJoined}
 use Rattle.edi_plan.specs.Places.{places_of, member_of}
 use Rattle.edi_record.specs.Records.{is_link}
 use Rattle.edi_plan.specs.Plans.{Drawing, IsPlace, record_at, is_object}
-use Rattle.edi_plan.specs.Whole.{IsWhole}
+use Rattle.edi_plan.specs.Whole.{IsWholePlan}
 use Rattle.edi_plan.specs.declared.record.PlanRecord.{PlanRecord}
 use Rattle.edi_rank.specs.InOrder.{Both}
 use Rattle.edi_rank.specs.Keys.{object_key, object_key_cmp}
@@ -18,7 +18,7 @@ use Rattle.edi_rank.proofs.Orders.{object_key_total}
 use Rattle.edi_rank.proofs.Rankings.{keys_rise}
 use Rattle.edi_rank.proofs.TurnedRecords.{record_turned, turned_place}
 
-module _ (s : Classes) (p : Drawing) (whole : IsWhole p) (joined : IsJoined p) (l : Labelling) (ranks order unnamed : List ℕ)
+module _ (s : Classes) (p : Drawing) (whole : IsWholePlan p) (joined : IsJoined p) (l : Labelling) (ranks order unnamed : List ℕ)
     (same : (k : ℕ) → IsPlace p k → is_link (record_at p k).kind ≡ false → is_object (record_at p k).kind ≡ false → number_of l k ≡ get_or unnamed k 0)
     (of : KindLabels p Fea ranks order) (numbers : (k : ℕ) → IsPlace p k → (record_at p k).kind ≡ Fea → number_of l k ≡ get_or ranks (member_of p k) 0)
     (ranking : IsObjectRanking (record { plan = p; numbers = unnamed }) ranks) where

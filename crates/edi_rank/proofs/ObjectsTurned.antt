@@ -10,7 +10,7 @@ use Rattle.edi_schema.proofs.SortedLists.{count_by-cons}
 use Rattle.edi_plan.specs.Joined.{IsJoined, JoinsArc}
 use Rattle.edi_record.specs.Records.{is_link}
 use Rattle.edi_plan.specs.Plans.{Drawing, IsPlace, record_at, blank, is_object}
-use Rattle.edi_plan.specs.Whole.{IsWhole}
+use Rattle.edi_plan.specs.Whole.{IsWholePlan}
 use Rattle.edi_plan.specs.declared.record.PlanRecord.{PlanRecord}
 use Rattle.edi_plan.specs.declared.record.PlanEnd.{PlanEnd}
 use Rattle.edi_rank.specs.Keys.{end_cmp, numbered, ends_key, link_key, link_key_cmp, is_piece, marked, piece_by, object_key}
@@ -24,7 +24,7 @@ use Rattle.edi_rank.proofs.ObjectsPreserved.{all_three, link_then, no_object_bes
 use Rattle.edi_rank.proofs.SameLaws.{map_alike}
 use Rattle.edi_rank.proofs.TurnedRecords.{record_turned, turned_long}
 
-module _ (s : Classes) (p : Drawing) (whole : IsWhole p) (joined : IsJoined p) (l : Labelling) (number was : ℕ → ℕ)
+module _ (s : Classes) (p : Drawing) (whole : IsWholePlan p) (joined : IsJoined p) (l : Labelling) (number was : ℕ → ℕ)
     (same : (k : ℕ) → IsPlace p k → is_link (record_at p k).kind ≡ false → is_object (record_at p k).kind ≡ false → number k ≡ was k) where
   abbrev made : Drawing
   made = turned_by s l p

@@ -17,7 +17,7 @@ use Rattle.edi_schema.specs.declared.role.Role.{Role}
 use Rattle.edi_schema.specs.declared.role.Role.TheVariants.{Initial, Final, Left, Right, Plain}
 use Rattle.edi_plan.specs.Plans.{Drawing, IsPlace, record_at, is_arc, first_of, rest_of}
 use Rattle.edi_plan.specs.Sides.{Side, targets}
-use Rattle.edi_plan.specs.Whole.{IsWhole}
+use Rattle.edi_plan.specs.Whole.{IsWholePlan}
 use Rattle.edi_plan.specs.Orders.{attribute_cmp}
 use Rattle.edi_plan.proofs.Orders.{attribute_total, attribute_exact}
 use Rattle.edi_topo.specs.NodeKeys.{no_point, node_key}
@@ -151,7 +151,7 @@ palindrome_turned true a e = ap reverse e
 abbrev pub Broken : Drawing → Type 0
 Broken p = (rule at : ℕ) × BreaksTopologyRule p rule at
 
-module _ (s : Classes) (p q : Drawing) (whole : IsWhole p) (to : ℕ → ℕ) (turned : ℕ → Bool) (c : Carries s to turned p q) where
+module _ (s : Classes) (p q : Drawing) (whole : IsWholePlan p) (to : ℕ → ℕ) (turned : ℕ → Bool) (c : Carries s to turned p q) where
   straight : (i : ℕ) → IsPlace p i → (kind : Kind) → (record_at p i).kind ≡ kind → is_arc kind ≡ false → turned i ≡ false
   straight i h kind is plain = not_true (turned i) (λ t. true≢false (ap is_arc (sym (c.arcs i h t)) ∙ (ap is_arc is ∙ plain)))
 

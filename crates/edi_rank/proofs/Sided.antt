@@ -10,7 +10,7 @@ use Rattle.edi_schema.specs.declared.role.Role.TheVariants.{Initial, Final, Left
 use Rattle.edi_plan.specs.Joined.{beside, IsJoined, HasEnds}
 use Rattle.edi_plan.specs.Plans.{Drawing, IsPlace, record_at, blank, is_arc}
 use Rattle.edi_plan.specs.Sides.{Side}
-use Rattle.edi_plan.specs.Whole.{IsWhole}
+use Rattle.edi_plan.specs.Whole.{IsWholePlan}
 use Rattle.edi_plan.specs.declared.record.PlanRecord.{PlanRecord}
 use Rattle.edi_plan.specs.declared.record.PlanEnd.{PlanEnd}
 use Rattle.edi_topo.proofs.ArcEnds.{kind_beside, side_there}
@@ -181,7 +181,7 @@ parts (Some s) (Some a) key e =
     let is : record { arc = a; side = s } ≡ key = cc in
     (ap (λ (k : FaceKey). Some k.side) is, ap (λ (k : FaceKey). Some k.arc) is)
 
-module _ (p : Drawing) (whole : IsWhole p) (joined : IsJoined p) where
+module _ (p : Drawing) (whole : IsWholePlan p) (joined : IsJoined p) where
   -- what has two ends is a link
   joins_two : (j a x : ℕ) → IsPlace p j → HasEnds p j a x → (record_at p j).kind ≡ Lnk
   joins_two j a x h ends = link ends

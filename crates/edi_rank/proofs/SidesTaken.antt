@@ -9,7 +9,7 @@ use Rattle.edi_plan.specs.Joined.{IsJoined}
 use Rattle.edi_plan.specs.Places.{places_of}
 use Rattle.edi_plan.specs.Plans.{Drawing, IsPlace}
 use Rattle.edi_plan.specs.Sides.{Side}
-use Rattle.edi_plan.specs.Whole.{IsWhole}
+use Rattle.edi_plan.specs.Whole.{IsWholePlan}
 use Rattle.edi_plan.proofs.PlaceLemmas.{has_place}
 use Rattle.edi_topo.proofs.ArcEnds.{one_side}
 use Rattle.edi_rank.specs.Keys.{least_side}
@@ -97,7 +97,7 @@ module _ (p : Drawing) (number : ℕ → ℕ) where
   arc_taken n before between after left right least face h = both_taken face n (get_or before face None) (get_or between face None) (get_or after face None) (left face) (right face) (least face h)
 
   -- all arcs
-  pub all_taken : IsWhole p → IsJoined p → (n : ℕ) (sides : List (Option FaceKey)) → length (places_of Par p) ≤ n → AreLeastBelow n sides → (k : ℕ) → IsPlace p k → get_or sides k None ≡ least_side (forward_plan p) number k
+  pub all_taken : IsWholePlan p → IsJoined p → (n : ℕ) (sides : List (Option FaceKey)) → length (places_of Par p) ≤ n → AreLeastBelow n sides → (k : ℕ) → IsPlace p k → get_or sides k None ≡ least_side (forward_plan p) number k
   all_taken whole joined n sides all least k h =
       one_least (OnSide p number k) (get_or sides k None) (least_side (forward_plan p) number k)
       (least_of_same (OnSideBelow n k) (OnSide p number k) (get_or sides k None) (least k h) (λ key d. d.0) back) (least_is_of p whole joined (λ c. c) (is_backward p) (λ k h. refl) k number)

@@ -6,7 +6,7 @@ use Rattle.edi_record.specs.declared.record.Kind.TheVariants.{Pno, Par, Pfe, Fea
 use Rattle.edi_schema.specs.Classes.{Classes}
 use Rattle.edi_plan.specs.Plans.{Drawing, IsPlace, record_at}
 use Rattle.edi_plan.specs.Joined.{IsJoined}
-use Rattle.edi_plan.specs.Whole.{IsWhole}
+use Rattle.edi_plan.specs.Whole.{IsWholePlan}
 use Rattle.edi_topo.specs.Directions.{forward}
 use Rattle.edi_topo.specs.NodeKeys.{node_key}
 use Rattle.edi_topo.specs.TopologyRules.{BreaksTopologyRule}
@@ -30,7 +30,7 @@ TellsTypeApart p kind key = (i k : ℕ) → IsPlace p i → IsPlace p k → (rec
 
 -- what carries one plan onto another preserves the keys of its nodes
 abbrev pub NodeKeysArePreserved : Type 0
-NodeKeysArePreserved = (s : Classes) (p q : Drawing) → IsWhole p → (to : ℕ → ℕ) (turned : ℕ → Bool) → Carries s to turned p q
+NodeKeysArePreserved = (s : Classes) (p q : Drawing) → IsWholePlan p → (to : ℕ → ℕ) (turned : ℕ → Bool) → Carries s to turned p q
     → IsPreserved p Pno to (λ n. node_key (record_at p n)) (λ n. node_key (record_at q n))
 
 -- and the points of its arcs in the forward direction
@@ -45,13 +45,13 @@ FaceKeysArePreserved = (s : Classes) (p q : Drawing) → IsPlanUnder s p → IsP
 
 -- and the keys of its objects, where it preserves the numbers of nodes, arcs and faces, and the links of the four kinds are joins
 abbrev pub ObjectKeysArePreserved : Type 0
-ObjectKeysArePreserved = (s : Classes) (p q : Drawing) → IsWhole p → IsJoined p → (to : ℕ → ℕ) (turned : ℕ → Bool) → Carries s to turned p q
+ObjectKeysArePreserved = (s : Classes) (p q : Drawing) → IsWholePlan p → IsJoined p → (to : ℕ → ℕ) (turned : ℕ → Bool) → Carries s to turned p q
     → (number number_there : ℕ → ℕ) → IsPreserved p Pno to number number_there → IsPreserved p Par to number number_there → IsPreserved p Pfe to number number_there
     → IsPreserved p Fea to (object_key p number) (object_key q number_there)
 
 -- two nodes with one key are one, where none repeats an earlier one
 abbrev pub NodeKeysTellApart : Type 0
-NodeKeysTellApart = (p : Drawing) → IsWhole p → IsNowhereBroken p 403 → TellsTypeApart p Pno (λ n. node_key (record_at p n))
+NodeKeysTellApart = (p : Drawing) → IsWholePlan p → IsNowhereBroken p 403 → TellsTypeApart p Pno (λ n. node_key (record_at p n))
 
 -- two arcs with the same points in the forward direction are one, where none repeats an earlier one
 abbrev pub ArcKeysTellApart : Type 0
@@ -59,8 +59,8 @@ ArcKeysTellApart = (p : Drawing) → IsNowhereBroken p 405 → TellsTypeApart p 
 
 -- two faces with one least side are one, where the numbers tell arcs apart, the links of the four kinds are joins, and each face is on a side
 abbrev pub FaceKeysTellApart : Type 0
-FaceKeysTellApart = (p : Drawing) → IsWhole p → IsJoined p → IsNowhereBroken p 406 → (number : ℕ → ℕ) → TellsTypeApart p Par number → TellsTypeApart p Pfe (least_side (forward_plan p) number)
+FaceKeysTellApart = (p : Drawing) → IsWholePlan p → IsJoined p → IsNowhereBroken p 406 → (number : ℕ → ℕ) → TellsTypeApart p Par number → TellsTypeApart p Pfe (least_side (forward_plan p) number)
 
 -- two objects with one key are one, where the numbers tell nodes, arcs and faces apart, and no two objects are equal
 abbrev pub ObjectKeysTellApart : Type 0
-ObjectKeysTellApart = (p : Drawing) → IsWhole p → IsUnbroken (BreaksObjectRule p) → (number : ℕ → ℕ) → TellsApart p number → TellsTypeApart p Fea (object_key p number)
+ObjectKeysTellApart = (p : Drawing) → IsWholePlan p → IsUnbroken (BreaksObjectRule p) → (number : ℕ → ℕ) → TellsApart p number → TellsTypeApart p Fea (object_key p number)

@@ -12,7 +12,7 @@ use Rattle.edi_record.specs.declared.only.Only.{Only}
 use Rattle.edi_record.specs.declared.attributes.Attributes.{Attributes}
 use Rattle.edi_record.specs.declared.extras.Extras.{Extras}
 use Rattle.edi_record.specs.declared.draft.Draft.{Draft}
-use Rattle.edi_record.specs.declared.role.Role.TheVariants.{BodyCount, Skipped, Unknown}
+use Rattle.edi_record.specs.declared.role.ZoneRole.TheVariants.{BodyCount, Skipped, Unknown}
 use Rattle.edi_record.specs.declared.record.Kind.{Kind}
 use Rattle.edi_record.specs.declared.record.Kind.TheVariants.{Pno, Par, Pfe, Fea, Lnk}
 use Rattle.edi_record.proofs.AttributesStored.{attributes_pass}

@@ -8,11 +8,11 @@ use Rattle.edi_record.specs.inner.Stored.{role_in, body_role_in}
 use Rattle.edi_record.proofs.Stated.{any_apart}
 use Rattle.edi_record.specs.declared.record.Kind.{Kind}
 use Rattle.edi_record.specs.declared.record.Kind.TheVariants.{Pno, Par, Pfe, Fea, Lnk}
-use Rattle.edi_record.specs.declared.role.Role.{Role}
-use Rattle.edi_record.specs.declared.role.Role.TheVariants.{Identifier, Class, AttributeCount, AttributeClass, AttributeSet, AttributeValue, BodyCount, Position, EndPointer, EndSense, Skipped, Unknown}
+use Rattle.edi_record.specs.declared.role.ZoneRole.{ZoneRole}
+use Rattle.edi_record.specs.declared.role.ZoneRole.TheVariants.{Identifier, Class, AttributeCount, AttributeClass, AttributeSet, AttributeValue, BodyCount, Position, EndPointer, EndSense, Skipped, Unknown}
 
 -- a code that has the role
-abbrev pub CodeIs : Kind → List ℕ → Role → Type 0
+abbrev pub CodeIs : Kind → List ℕ → ZoneRole → Type 0
 CodeIs kind code Identifier = code ≡ codes "RID"
 CodeIs kind code Class = code ≡ codes "SCP"
 CodeIs kind code AttributeCount = code ≡ codes "ATC"
@@ -70,7 +70,7 @@ role_code kind code =
     go false p false q false r false s false t false u false v false w true x = inr (inr (is code (codes "QAP") x))
     go false p false q false r false s false t false u false v false w false x = body_code kind code (rw (v, p, q, r, s, u, w, x) refl) t
 
-pub code_of : (kind : Kind) (code : List ℕ) (r : Role) → r ≡ role_in kind code → CodeIs kind code r
+pub code_of : (kind : Kind) (code : List ℕ) (r : ZoneRole) → r ≡ role_in kind code → CodeIs kind code r
 code_of kind code r e = rw e (role_code kind code)
 
 -- ---- known codes

@@ -22,7 +22,7 @@ use crate::only::Only;
 use crate::pointer::Pointer;
 use crate::points::Points;
 use crate::record::{Kind, Record};
-use crate::role::{Role, role_of};
+use crate::role::{ZoneRole, role_of};
 use edi_line::{Sequence, Text, Zone};
 use std::alloc::{AllocError, Global};
 
@@ -76,25 +76,25 @@ impl<'a> Draft<'a> {
     {
         let text = zone.value.as_slice();
         match role_of(self.kind, zone.code) {
-            Role::Identifier => self.identifier.take(text),
-            Role::Class => self.class.take(text),
-            Role::AttributeCount => self.attribute_count.take(text),
-            Role::AttributeClass => self.attributes.take_class(alloc, text)?,
-            Role::AttributeSet if self.attributes.is_open() => self.attributes.take_set(text),
-            Role::AttributeSet => self.extras.take(alloc, zone)?,
-            Role::AttributeValue => self.attributes.take_value(alloc, text)?,
-            Role::BodyCount => self.body_count.take(text),
-            Role::Position => {
+            ZoneRole::Identifier => self.identifier.take(text),
+            ZoneRole::Class => self.class.take(text),
+            ZoneRole::AttributeCount => self.attribute_count.take(text),
+            ZoneRole::AttributeClass => self.attributes.take_class(alloc, text)?,
+            ZoneRole::AttributeSet if self.attributes.is_open() => self.attributes.take_set(text),
+            ZoneRole::AttributeSet => self.extras.take(alloc, zone)?,
+            ZoneRole::AttributeValue => self.attributes.take_value(alloc, text)?,
+            ZoneRole::BodyCount => self.body_count.take(text),
+            ZoneRole::Position => {
                 self.counted += 1;
                 self.points.take(text)?;
             }
-            Role::EndPointer => {
+            ZoneRole::EndPointer => {
                 self.counted += 1;
                 self.ends.take_pointer(alloc, text)?;
             }
-            Role::EndSense => self.ends.take_sense(text),
-            Role::Skipped => {}
-            Role::Unknown => self.extras.take(alloc, zone)?,
+            ZoneRole::EndSense => self.ends.take_sense(text),
+            ZoneRole::Skipped => {}
+            ZoneRole::Unknown => self.extras.take(alloc, zone)?,
         }
         Ok(())
     }

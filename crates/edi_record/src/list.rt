@@ -19,12 +19,12 @@ use std::alloc::{AllocError, Global};
 
 /// The records of the zones that have come, until one breaks a rule, which is then the fault.
 #[derive(Drop)]
-struct RecordList {
+struct RecordsUntilFault {
     list: Vec<Record>,
     fault: Option<RecordFault>,
 }
 
-impl GroupOut for RecordList {
+impl GroupOut for RecordsUntilFault {
     ghost Holds = { λ records groups. IsMadeOf groups records.list.items records.fault };
 
     fn take(&mut self, alloc: Global, group: &[Zone<'_>]) -> Result<(), AllocError> {
@@ -48,12 +48,12 @@ impl GroupOut for RecordList {
 
 /// A list of records, and what is given the same zones.
 #[derive(Drop)]
-struct Beside<O> {
-    records: RecordList,
+struct RecordsAndOther<O> {
+    records: RecordsUntilFault,
     other: O,
 }
 
-impl<O: GroupOut> GroupOut for Beside<O> {
+impl<O: GroupOut> GroupOut for RecordsAndOther<O> {
     ghost Holds = { λ both groups. IsMadeOf groups both.records.list.items both.records.fault × O.Holds both.other groups };
 
     fn take(&mut self, alloc: Global, group: &[Zone<'_>]) -> Result<(), AllocError> {
@@ -103,16 +103,16 @@ pub fn read_sheet_beside<O: GroupOut + Drop>(
     ensures records { OnOk result ((zones : List Entry) → IsZonesOf bytes.now zones → IsUnbroken (BreaksRecordRule zones)) }
     ensures refusal { IfErr result (IsSheetRefusal bytes.now) }
 {
-    let mut both = Beside {
-        records: RecordList {
+    let mut both = RecordsAndOther {
+        records: RecordsUntilFault {
             list: Vec::new(alloc),
             fault: None,
         },
         other,
     };
     let cse = read_groups(alloc, bytes, &mut both)?;
-    let Beside { records, other } = both;
-    let RecordList { list, fault } = records;
+    let RecordsAndOther { records, other } = both;
+    let RecordsUntilFault { list, fault } = records;
     match fault {
         Some(fault) => Err(SheetFault::Record(fault)),
         None => {

@@ -7,7 +7,7 @@ use crate::record::Kind;
 
 /// What a zone is to a record, by its code: the one table of the codes that are known.
 #[derive(Clone, Copy)]
-pub(crate) enum Role {
+pub(crate) enum ZoneRole {
     Identifier,
     Class,
     AttributeCount,
@@ -23,34 +23,34 @@ pub(crate) enum Role {
 }
 
 /// The role of a code in records of a type.
-pub(crate) fn role_of(kind: Kind, code: [u8; 3]) -> Role
+pub(crate) fn role_of(kind: Kind, code: [u8; 3]) -> ZoneRole
     ensures { result ≡ role_in kind code }
 {
     match &code {
-        b"RID" => Role::Identifier,
-        b"SCP" => Role::Class,
-        b"ATC" => Role::AttributeCount,
-        b"ATP" => Role::AttributeClass,
-        b"TEX" => Role::AttributeSet,
-        b"ATV" => Role::AttributeValue,
-        b"RTY" => Role::Skipped,
-        b"QAC" => Role::Skipped,
-        b"QAP" => Role::Skipped,
+        b"RID" => ZoneRole::Identifier,
+        b"SCP" => ZoneRole::Class,
+        b"ATC" => ZoneRole::AttributeCount,
+        b"ATP" => ZoneRole::AttributeClass,
+        b"TEX" => ZoneRole::AttributeSet,
+        b"ATV" => ZoneRole::AttributeValue,
+        b"RTY" => ZoneRole::Skipped,
+        b"QAC" => ZoneRole::Skipped,
+        b"QAP" => ZoneRole::Skipped,
         _ => body_role(kind, code),
     }
 }
 
 /// The role of a code that isn't known in every record.
-fn body_role(kind: Kind, code: [u8; 3]) -> Role
+fn body_role(kind: Kind, code: [u8; 3]) -> ZoneRole
     ensures { result ≡ body_role_in kind code }
 {
     match (kind, &code) {
-        (Kind::Pno, b"COR") => Role::Position,
-        (Kind::Par, b"COR") => Role::Position,
-        (Kind::Par, b"PTC") => Role::BodyCount,
-        (Kind::Lnk, b"FTC") => Role::BodyCount,
-        (Kind::Lnk, b"FTP") => Role::EndPointer,
-        (Kind::Lnk, b"SNS") => Role::EndSense,
-        _ => Role::Unknown,
+        (Kind::Pno, b"COR") => ZoneRole::Position,
+        (Kind::Par, b"COR") => ZoneRole::Position,
+        (Kind::Par, b"PTC") => ZoneRole::BodyCount,
+        (Kind::Lnk, b"FTC") => ZoneRole::BodyCount,
+        (Kind::Lnk, b"FTP") => ZoneRole::EndPointer,
+        (Kind::Lnk, b"SNS") => ZoneRole::EndSense,
+        _ => ZoneRole::Unknown,
     }
 }

@@ -5,7 +5,7 @@ use Rattle.std.proofs.lemmas.List.{length-map}
 use Rattle.edi_line.specs.Entry.{Entry as Zone, entries}
 use Rattle.edi_line.specs.declared.zone.Zone.{Zone as ZoneOf}
 use Rattle.edi_schema.specs.declared.definition.Definition.{Definition}
-use Rattle.edi_schema.specs.declared.draft.Draft.{Draft}
+use Rattle.edi_schema.specs.declared.draft.ClassDraft.{ClassDraft}
 use Rattle.edi_line.specs.LineRules.{IsZonesOf, BreaksLineRule}
 use Rattle.edi_line.specs.Zones.{HasShape, IsFileOf, groups_of}
 use Rattle.edi_line.specs.Refusal.{IsUnbroken}
@@ -40,10 +40,10 @@ is_read b borrowed zones same is shape sound = subst (λ zs. IsRead b (entries z
 pub all_said : (ds items : List Definition) (ss : List Said) → ds ≡ items → map said items ≡ ss → map said ds ≡ ss
 all_said ds items ss same are = ap (map said) same ∙ are
 
-pub few_drafts : (ds items : List Draft) (n : ℕ) → ds ≡ items → length (map drafted items) ≤ n → length ds ≤ n
+pub few_drafts : (ds items : List ClassDraft) (n : ℕ) → ds ≡ items → length (map drafted items) ≤ n → length ds ≤ n
 few_drafts ds items n same few = omega (arith, ap length same, length-map items drafted, few)
 
-pub stated_borrowed : (cs ws : List Said) (kinds : KindCodes) (ds items : List Draft) → ds ≡ items → AreStated cs ws kinds (map drafted items) → AreStated cs ws kinds (map drafted ds)
+pub stated_borrowed : (cs ws : List Said) (kinds : KindCodes) (ds items : List ClassDraft) → ds ≡ items → AreStated cs ws kinds (map drafted items) → AreStated cs ws kinds (map drafted ds)
 stated_borrowed cs ws kinds ds items same are = subst (λ xs. AreStated cs ws kinds (map drafted xs)) (sym same) are
 
 pub ok_good : {S E : Type 0} (r : Result S E) (x : S) (M : Type 0) (G : S → Type 0) → IfOk r (λ s. s ≡ x) → OnOk r M → (M → G x) → IfOk r G

@@ -9,7 +9,7 @@ use Rattle.edi_schema.specs.declared.role.Role.{Role}
 use Rattle.edi_schema.specs.declared.role.Role.TheVariants.{Initial, Final, Left, Right, Plain}
 use Rattle.edi_schema.specs.declared.class.Class.{Class}
 use Rattle.edi_schema.specs.declared.by_role.ByRole.{ByRole}
-use Rattle.edi_schema.specs.declared.draft.Draft.{Draft}
+use Rattle.edi_schema.specs.declared.draft.ClassDraft.{ClassDraft}
 use Rattle.edi_schema.specs.inner.Drafts.{drafted}
 use Rattle.edi_schema.specs.Roles.{is_plain, same_role, exchanged}
 use Rattle.edi_schema.specs.Classes.{Classes, has_role}
@@ -192,21 +192,21 @@ module _ (s : Classes) (p : ByRole (Option ℕ)) (noted : AreNoted s p) where
 
 -- ---- over drafts
 
-abbrev Front : List Draft → ℕ → Classes
+abbrev Front : List ClassDraft → ℕ → Classes
 Front ds i = map drafted (take i ds)
 
-pub draft_noted : (ds : List Draft) (i : ℕ) (d : Draft) (old new : ByRole (Option ℕ)) → i < length ds → AreNoted (Front ds i) old → is_some (of_role old (get_or ds i d).class.role) ≡ false
+pub draft_noted : (ds : List ClassDraft) (i : ℕ) (d : ClassDraft) (old new : ByRole (Option ℕ)) → i < length ds → AreNoted (Front ds i) old → is_some (of_role old (get_or ds i d).class.role) ≡ false
     → IsWith old (get_or ds i d).class.role i new → AreNoted (Front ds (i + 1)) new
 draft_noted ds i d old new below noted free write =
     let count : length (Front ds i) ≡ i = length-map (take i ds) drafted ∙ length-take-le i ds (omega (arith, below)) in
     subst (λ s. AreNoted s new) (sym (map_more drafted ds i d below)) (noted_more (Front ds i) (drafted (get_or ds i d)) old new noted (subst (λ k. IsWith old (get_or ds i d).class.role k new) (sym count) write) free)
 
-pub draft_repeats : (ds : List Draft) (i : ℕ) (d : Draft) (p : ByRole (Option ℕ)) → i < length ds → AreNoted (Front ds i) p → is_some (of_role p (get_or ds i d).class.role) ≡ true → AreUnpaired (map drafted ds)
+pub draft_repeats : (ds : List ClassDraft) (i : ℕ) (d : ClassDraft) (p : ByRole (Option ℕ)) → i < length ds → AreNoted (Front ds i) p → is_some (of_role p (get_or ds i d).class.role) ≡ true → AreUnpaired (map drafted ds)
 draft_repeats ds i d p below noted taken =
     let found = second_found (Front ds i) (map drafted (drop (i + 1) ds)) (drafted (get_or ds i d)) p noted taken in
     let whole : map drafted ds ≡ (Front ds i ++ drafted (get_or ds i d) ∷ []) ++ map drafted (drop (i + 1) ds) =
     ap (map drafted) (sym (take-append-drop (i + 1) ds)) ∙ (map-append drafted (take (i + 1) ds) (drop (i + 1) ds) ∙ ap (λ t. t ++ map drafted (drop (i + 1) ds)) (map_more drafted ds i d below)) in
     subst AreUnpaired (sym whole) found
 
-pub all_noted : (ds : List Draft) (i : ℕ) (p : ByRole (Option ℕ)) → length ds ≤ i → AreNoted (Front ds i) p → AreNoted (map drafted ds) p
+pub all_noted : (ds : List ClassDraft) (i : ℕ) (p : ByRole (Option ℕ)) → length ds ≤ i → AreNoted (Front ds i) p → AreNoted (map drafted ds) p
 all_noted ds i p past noted = subst (λ l. AreNoted (map drafted l) p) (take_all i ds past) noted

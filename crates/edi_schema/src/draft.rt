@@ -19,7 +19,7 @@ use std::alloc::Global;
 
 /// A class, with its name borrowed from its file.
 #[derive(Clone, Copy, Debug)]
-pub(crate) struct Draft<'a> {
+pub(crate) struct ClassDraft<'a> {
     pub(crate) title: Title<'a>,
     pub(crate) class: Class,
 }
@@ -46,13 +46,13 @@ fn is_number(word_type: Option<&[u8]>) -> bool
 
 /// The records of the dictionary and their names.
 #[derive(Clone, Copy)]
-pub(crate) struct Words<'w, 'a> {
+pub(crate) struct Dictionary<'w, 'a> {
     pub(crate) titles: &'w IndexSet<Title<'a>, NameHash>,
     pub(crate) records: &'w [Definition<'a>],
 }
 
 /// The first TYP of the record that a pointer names.
-fn type_named<'a>(words: Words<'_, 'a>, text: &[u8]) -> Option<Option<&'a [u8]>>
+fn type_named<'a>(words: Dictionary<'_, 'a>, text: &[u8]) -> Option<Option<&'a [u8]>>
     requires { map named words.titles.now.keys ≡ map (λ d. (said d).name) words.records.now }
     ensures { option_map (option_map (λ t. t.now)) result ≡ option_map (λ word. word.word_type) (word_in (map said words.entry.records.now) text.now) }
 {
@@ -66,7 +66,7 @@ fn type_named<'a>(words: Words<'_, 'a>, text: &[u8]) -> Option<Option<&'a [u8]>>
 }
 
 /// The first TYP of the record that the DIP of this one names; there is none where it has no DIP.
-fn type_of<'a>(words: Words<'_, 'a>, definition: &Definition<'_>) -> Option<Option<&'a [u8]>>
+fn type_of<'a>(words: Dictionary<'_, 'a>, definition: &Definition<'_>) -> Option<Option<&'a [u8]>>
     requires { map named words.titles.now.keys ≡ map (λ d. (said d).name) words.records.now }
     ensures { option_map (option_map (λ t. t.now)) result ≡ type_by (map said words.entry.records.now) (said definition.now).word }
 {
@@ -79,14 +79,14 @@ fn type_of<'a>(words: Words<'_, 'a>, definition: &Definition<'_>) -> Option<Opti
 /// The class that a record states, where its DIP names a record of the dictionary.
 fn draft_of<'a>(
     kinds: &Kinds<'_>,
-    words: Words<'_, '_>,
+    words: Dictionary<'_, '_>,
     definition: &Definition<'a>,
-) -> Option<Draft<'a>>
+) -> Option<ClassDraft<'a>>
     requires { map named words.titles.now.keys ≡ map (λ d. (said d).name) words.records.now }
     ensures { option_map drafted result ≡ class_in kinds.now (map said words.entry.records.now) (said definition.now) }
 {
     let word_type = type_of(words, definition)?;
-    Some(Draft {
+    Some(ClassDraft {
         title: definition.title,
         class: Class {
             role: kinds.role(definition.kind, definition.title.rid),
@@ -100,9 +100,9 @@ fn draft_of<'a>(
 pub(crate) fn drafts<'a>(
     alloc: Global,
     kinds: &Kinds<'_>,
-    words: Words<'_, '_>,
+    words: Dictionary<'_, '_>,
     records: &[Definition<'a>],
-) -> Result<Vec<Draft<'a>>, SchemaFault>
+) -> Result<Vec<ClassDraft<'a>>, SchemaFault>
     requires { map named words.titles.now.keys ≡ map (λ d. (said d).name) words.records.now }
     ensures drafts { IfOk result (λ drafts. map (class_in kinds.now (map said words.entry.records.now)) (map said records.now) ≡ map Some (map drafted drafts.items)) }
     ensures lacking { IfErr result (IfEntry (λ source rule at. (source ≡ Scd) × (rule ≡ 603)

@@ -9,7 +9,7 @@ ghost use Rattle.edi_schema.specs.inner.Places.{are_equal as equal_places, are_p
 ghost use Rattle.edi_schema.specs.declared.role.Role.{Role};
 
 use crate::by_role::ByRole;
-use crate::draft::Draft;
+use crate::draft::ClassDraft;
 use crate::role::Role;
 
 /// Whether there are both places or none.
@@ -24,21 +24,21 @@ fn are_equal(one: Option<u32>, other: Option<u32>) -> bool
 }
 
 /// Whether a class has a role, and a type without a semicolon.
-fn is_pointable(class: &Draft<'_>, role: Role) -> bool
+fn is_pointable(class: &ClassDraft<'_>, role: Role) -> bool
     ensures { result ≡ pointable role (drafted class.now) }
 {
     class.class.role == role && !class.title.rty.contains(&b';')
 }
 
 /// Whether a pointer can name a class of a role.
-fn is_named(classes: &[Draft<'_>], role: Role) -> bool
+fn is_named(classes: &[ClassDraft<'_>], role: Role) -> bool
     ensures { result ≡ list_any (pointable role) (map drafted classes.now) }
 {
     classes.iter().any(|class| is_pointable(class, role))
 }
 
 /// Whether, of each kind, a pointer can name a class if one can name a class of its partner's kind.
-pub(crate) fn are_pointable(classes: &[Draft<'_>]) -> bool
+pub(crate) fn are_pointable(classes: &[ClassDraft<'_>]) -> bool
     ensures { MatchBool result (ArePointable (map drafted classes.now)) (AreUnpointable (map drafted classes.now)) }
 {
     is_named(classes, Role::Initial) == is_named(classes, Role::Final)
@@ -54,7 +54,7 @@ fn is_paired(places: &ByRole<Option<u32>>) -> bool
 
 /// The places of the classes of the four kinds, where no kind has two
 /// and each has one if the kind that it is exchanged with has.
-pub(crate) fn kind_places(classes: &[Draft<'_>]) -> Option<ByRole<Option<u32>>>
+pub(crate) fn kind_places(classes: &[ClassDraft<'_>]) -> Option<ByRole<Option<u32>>>
     requires { length classes.now < 2 ^ 32 }
     ensures { MatchOption result (AreUnpaired (map drafted classes.now)) (ArePlaces (map drafted classes.now)) }
 {

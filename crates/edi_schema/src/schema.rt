@@ -10,7 +10,7 @@ ghost use Rattle.edi_schema.specs.inner.Steps.{IfLine, IfEntry, IfKinds, AreStat
 use crate::by_role::ByRole;
 use crate::class::{Class, ClassRef};
 use crate::definition::{Definition, definitions};
-use crate::draft::{Draft, Words, drafts};
+use crate::draft::{ClassDraft, Dictionary, drafts};
 use crate::fault::{SchemaFault, Source};
 use crate::kinds::Kinds;
 use crate::places::{are_pointable, kind_places};
@@ -62,7 +62,7 @@ fn stated<'a>(
     kinds: &Kinds<'_>,
     classes: &[Definition<'a>],
     words: &[Definition<'_>],
-) -> Result<Vec<Draft<'a>>, SchemaFault>
+) -> Result<Vec<ClassDraft<'a>>, SchemaFault>
     ensures stated { IfOk result (λ drafts. AreStated (map said classes.now) (map said words.now) kinds.now (map drafted drafts.items)) }
     ensures stopped { IfErr result (IfEntry (StopsAt (map said classes.now) (map said words.now) kinds.now)) }
 {
@@ -70,7 +70,7 @@ fn stated<'a>(
     identified(Source::Dic, words)?;
     titles(alloc, Source::Scd, classes)?;
     let names = titles(alloc, Source::Dic, words)?;
-    let words = Words {
+    let words = Dictionary {
         titles: &names,
         records: words,
     };
@@ -113,7 +113,7 @@ impl Schema {
     }
 
     /// The schema of classes in the order of their names.
-    fn of_classes(alloc: Global, classes: &[Draft<'_>]) -> Result<Schema, SchemaFault>
+    fn of_classes(alloc: Global, classes: &[ClassDraft<'_>]) -> Result<Schema, SchemaFault>
         requires few { length classes.now ≤ most_records }
         requires rises { AlwaysRises name_cmp (keys_of (map drafted classes.now)) }
         requires letters { AllByRecursion (λ e. IsLetter e.1.letter) (map drafted classes.now) }

@@ -9,7 +9,7 @@ ghost use Rattle.edi_schema.specs.inner.Drafts.{drafted, name_parts};
 ghost use Rattle.edi_schema.specs.Sorted.{AlwaysRises};
 
 use crate::class::Class;
-use crate::draft::Draft;
+use crate::draft::ClassDraft;
 use edi_hash::{KeyNames, NameHash};
 use edi_line::Text;
 use edi_record::Name;
@@ -17,7 +17,7 @@ use indexmap::IndexMap;
 use std::alloc::{AllocError, Global};
 
 /// Classes with distinct names, in the order of the names.
-pub(crate) fn sorted_by_name<'a>(mut drafts: Vec<Draft<'a>>) -> Vec<Draft<'a>>
+pub(crate) fn sorted_by_name<'a>(mut drafts: Vec<ClassDraft<'a>>) -> Vec<ClassDraft<'a>>
     requires { IsDistinct is_name (keys_of (map drafted drafts.items)) }
     ensures permutation { IsPermutation (map drafted drafts.entry.items) (map drafted result.items) }
     ensures rises { AlwaysRises name_cmp (keys_of (map drafted result.items)) }
@@ -26,7 +26,7 @@ pub(crate) fn sorted_by_name<'a>(mut drafts: Vec<Draft<'a>>) -> Vec<Draft<'a>>
     drafts
 }
 
-fn name(alloc: Global, draft: &Draft<'_>) -> Result<Name, AllocError>
+fn name(alloc: Global, draft: &ClassDraft<'_>) -> Result<Name, AllocError>
     ensures { IfOk result (λ name. name ≡ (drafted draft.now).0) }
 {
     Ok(Name {
@@ -36,7 +36,7 @@ fn name(alloc: Global, draft: &Draft<'_>) -> Result<Name, AllocError>
 }
 
 /// The hash for the names of these classes.
-fn hash_of(drafts: &[Draft<'_>]) -> NameHash
+fn hash_of(drafts: &[ClassDraft<'_>]) -> NameHash
     ensures { result ≡ keyed_by (flat_map (λ d. name_parts (drafted d).0) drafts.now) }
 {
     let mut names = KeyNames::new();
@@ -49,7 +49,7 @@ fn hash_of(drafts: &[Draft<'_>]) -> NameHash
 /// The classes by their names, in the same order.
 pub(crate) fn by_name(
     alloc: Global,
-    drafts: &[Draft<'_>],
+    drafts: &[ClassDraft<'_>],
 ) -> Result<IndexMap<Name, Class, NameHash>, AllocError>
     requires { AlwaysRises name_cmp (keys_of (map drafted drafts.now)) }
     ensures { IfOk result (λ classes. classes.entries ≡ map drafted drafts.now) }

@@ -14,7 +14,7 @@ use Rattle.edi_schema.specs.declared.role.Role.TheVariants.{Initial, Final, Left
 use Rattle.edi_plan.specs.Joined.{beside, HasEnds, JoinsArc, IsJoin, IsJoined}
 use Rattle.edi_plan.specs.Plans.{Drawing, IsPlace, record_at}
 use Rattle.edi_plan.specs.Sides.{Side, targets}
-use Rattle.edi_plan.specs.Whole.{IsWhole}
+use Rattle.edi_plan.specs.Whole.{IsWholePlan}
 use Rattle.edi_plan.specs.declared.record.PlanEnd.{PlanEnd}
 use Rattle.edi_plan.proofs.Orders.{point_exact}
 use Rattle.edi_topo.specs.NodeKeys.{no_point}
@@ -123,7 +123,7 @@ module _ (p : Drawing) (joined : IsJoined p) where
           along xs (inr e) (inl f) = let same : j.other ≡ a = cc in turned same
           along xs (inr e) (inr f) = let same : j.other ≡ x = cc in this same
 
-  module _ (whole : IsWhole p) where
+  module _ (whole : IsWholePlan p) where
     abbrev pub points : ℕ → List Point
     points k = (record_at p k).points
 

@@ -5,7 +5,7 @@ use Rattle.std.proofs.lemmas.Bool.{cases_order}
 use Rattle.edi_record.specs.declared.record.Kind.TheVariants.{Pno}
 use Rattle.edi_plan.specs.Places.{places_of}
 use Rattle.edi_plan.specs.Plans.{Drawing, record_at}
-use Rattle.edi_plan.specs.Whole.{IsWhole}
+use Rattle.edi_plan.specs.Whole.{IsWholePlan}
 use Rattle.edi_plan.proofs.PlaceLemmas.{place_there, place_of_kind, places_rise, has_place}
 use Rattle.edi_topo.specs.NodeKeys.{node_key, node_keys, node_key_cmp, no_node, IsNodeRanking}
 use Rattle.edi_topo.specs.inner.Nodes.{RepeatsAnEarlier}
@@ -23,7 +23,7 @@ count_of p = length (places_of Pno p)
 abbrev pub key_of : Drawing → ℕ → NodeKey
 key_of p m = get_or (node_keys p) m no_node
 
-module _ (p : Drawing) (whole : IsWhole p) where
+module _ (p : Drawing) (whole : IsWholePlan p) where
   abbrev pub place : ℕ → ℕ
   place m = get_or (places_of Pno p) m 0
 

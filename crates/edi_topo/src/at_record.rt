@@ -24,18 +24,18 @@ use std::alloc::{AllocError, Global};
 /// What is looked up at each record: the numbers of the nodes and of the arcs, or the place of the first
 /// that repeats an earlier one; and which records are on a side of an arc.
 #[derive(Drop)]
-pub(crate) struct Findings {
+pub(crate) struct RecordFindings {
     pub(crate) nodes: Result<Ranks, u32>,
     pub(crate) arcs: Result<Ranks, u32>,
     faced: Vec<bool>,
 }
 
-impl Findings {
-    pub(crate) fn of(alloc: Global, plan: &Plan) -> Result<Findings, AllocError>
+impl RecordFindings {
+    pub(crate) fn of(alloc: Global, plan: &Plan) -> Result<RecordFindings, AllocError>
         requires { IsJoined plan.now }
         ensures { IfOk result (AreFindings plan.now) }
     {
-        Ok(Findings {
+        Ok(RecordFindings {
             nodes: nodes::ranks_or_repeat(alloc, plan)?,
             arcs: arcs::ranks_or_repeat(alloc, plan)?,
             faced: faced(alloc, plan)?,
@@ -114,7 +114,7 @@ fn rule_of_face(plan: &Plan, faced: &[bool], place: u32) -> Option<u16>
 }
 
 /// The least rule that the record at a place breaks.
-fn rule_at(plan: &Plan, findings: &Findings, place: u32) -> Option<u16>
+fn rule_at(plan: &Plan, findings: &RecordFindings, place: u32) -> Option<u16>
     requires joined { IsJoined plan.now }
     requires place { IsPlace plan.now place }
     requires findings { AreFindings plan.now findings.now }
@@ -130,7 +130,7 @@ fn rule_at(plan: &Plan, findings: &Findings, place: u32) -> Option<u16>
 }
 
 /// The first record that breaks a rule of topology, by its place, and the least rule there.
-pub(crate) fn first_broken(plan: &Plan, findings: &Findings) -> Option<(u16, u32)>
+pub(crate) fn first_broken(plan: &Plan, findings: &RecordFindings) -> Option<(u16, u32)>
     requires joined { IsJoined plan.now }
     requires findings { AreFindings plan.now findings.now }
     ensures { MatchOption result (IsUnbroken (BreaksTopologyRule plan.now)) (λ found. IsLeastBroken (BreaksTopologyRule plan.now) found.0 (found.1 + 1)) }

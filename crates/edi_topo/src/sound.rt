@@ -4,7 +4,7 @@ ghost use Rattle.edi_topo.specs.Arcs.{IsForwardRanking};
 ghost use Rattle.edi_topo.specs.inner.AtRecord.{AreFindings};
 ghost use Rattle.edi_topo.specs.NodeKeys.{IsNodeRanking};
 
-use crate::at_record::{Findings, first_broken};
+use crate::at_record::{RecordFindings, first_broken};
 use crate::fault::TopoFault;
 use crate::numbers::Ranks;
 use edi_plan::Plan;
@@ -37,7 +37,7 @@ impl Model for Sound {
 impl Sound {
     ghost use Rattle.edi_topo.specs.TopologyRules.{BreaksTopologyRule};
     ghost use Rattle.edi_plan.specs.Joined.{IsJoined};
-    ghost use Rattle.edi_plan.specs.Whole.{IsWhole};
+    ghost use Rattle.edi_plan.specs.Whole.{IsWholePlan};
     ghost use Rattle.edi_record.specs.RecordRefusal.{IsRecordRefusal};
 
     /// The plan, if it breaks no rule of topology; or the least record that breaks one (401 to 406), and
@@ -48,7 +48,7 @@ impl Sound {
         ensures least { IfErr result (IsRecordRefusal (BreaksTopologyRule plan)) }
     {
         plan.keeps();
-        let findings = Findings::of(alloc, &plan)?;
+        let findings = RecordFindings::of(alloc, &plan)?;
         match first_broken(&plan, &findings) {
             Some((rule, place)) => Err(TopoFault::Broken {
                 rule,
@@ -59,7 +59,7 @@ impl Sound {
     }
 
     /// The plan with the numbers that were found, where no record repeats an earlier one.
-    fn of(plan: Plan, findings: Findings) -> Sound
+    fn of(plan: Plan, findings: RecordFindings) -> Sound
         requires sound { IsUnbroken (BreaksTopologyRule plan) }
         requires findings { AreFindings plan findings }
         ensures { result ≡ plan }
@@ -75,7 +75,7 @@ impl Sound {
     pub fn plan(&self) -> &Plan
         ensures plan { result.now ≡ self.now }
         ensures sound { IsUnbroken (BreaksTopologyRule self.now) }
-        ensures whole { IsWhole self.now }
+        ensures whole { IsWholePlan self.now }
         ensures joined { IsJoined self.now }
     {
         self.plan.keeps();

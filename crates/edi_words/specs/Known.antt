@@ -5,12 +5,12 @@ use Rattle.clap.specs.Words.{Text, first_of, one_of, subcommand_of}
 use Rattle.edi_words.specs.Requests.{edicad, values_at}
 
 -- the byte that parts words
-abbrev pub space : ℕ
-space = 32
+abbrev pub word_break : ℕ
+word_break = 32
 
 -- the words of a line, parted by spaces
 abbrev pub words_in : Text → List Text
-words_in line = slice_split (λ x. x == space) line
+words_in line = slice_split (λ x. x == word_break) line
 
 -- the subcommand of a line, with the values of the option and of the files
 abbrev pub values_of : Text → Option (Text × List (Option Text))
@@ -21,8 +21,8 @@ values_of line = option_map (λ met. (
 )) (subcommand_of edicad (words_in line))
 
 -- the values of a line's option for a pairing's file, and of its argument FILE
-abbrev pub pairing_of : Text → Option (List (Option Text))
-pairing_of line = option_map (λ met. first_of (codes "pairing") met.1 ∷ first_of (codes "FILE") met.1 ∷ []) (subcommand_of edicad (words_in line))
+abbrev pub pairing_files_of : Text → Option (List (Option Text))
+pairing_files_of line = option_map (λ met. first_of (codes "pairing") met.1 ∷ first_of (codes "FILE") met.1 ∷ []) (subcommand_of edicad (words_in line))
 
 -- the value of a line's option for a picture's file
 abbrev pub picture_of : Text → Option (Option Text)

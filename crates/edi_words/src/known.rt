@@ -2,7 +2,7 @@
 ghost use Rattle.std.specs.Prelude.{◌≡◌, [], ◌∷◌, None, Some, codes};
 ghost use Rattle.clap.specs.Words.{fault_of, subcommand_of};
 ghost use Rattle.clap.specs.declared.error.ErrorKind.TheVariants.{DisplayHelp, DisplayVersion, InvalidSubcommand, MissingRequiredArgument, UnknownArgument};
-ghost use Rattle.edi_words.specs.Known.{brief_of, pairing_of, picture_of, sheets_of, values_of, words_in};
+ghost use Rattle.edi_words.specs.Known.{brief_of, pairing_files_of, picture_of, sheets_of, values_of, words_in};
 ghost use Rattle.edi_words.specs.Requests.{edicad};
 
 /// Known words ask for what they should.
@@ -21,8 +21,8 @@ pub fn known_words_are_asked()
         ≡ Some (codes "explain", None ∷ Some (codes "403") ∷ None ∷ None ∷ None ∷ None ∷ None ∷ []) }
     ensures verify { values_of (codes "edicad verify s d a b f")
         ≡ Some (codes "verify", None ∷ Some (codes "s") ∷ Some (codes "d") ∷ None ∷ None ∷ Some (codes "a") ∷ Some (codes "b") ∷ []) }
-    ensures pairing_checked { pairing_of (codes "edicad verify s d a b f") ≡ Some (None ∷ Some (codes "f") ∷ []) }
-    ensures pairing_written { pairing_of (codes "edicad compare --pairing f s d a b") ≡ Some (Some (codes "f") ∷ None ∷ []) }
+    ensures pairing_checked { pairing_files_of (codes "edicad verify s d a b f") ≡ Some (None ∷ Some (codes "f") ∷ []) }
+    ensures pairing_written { pairing_files_of (codes "edicad compare --pairing f s d a b") ≡ Some (Some (codes "f") ∷ None ∷ []) }
     ensures diff { values_of (codes "edicad diff s d a b")
         ≡ Some (codes "diff", None ∷ Some (codes "s") ∷ Some (codes "d") ∷ None ∷ None ∷ Some (codes "a") ∷ Some (codes "b") ∷ []) }
     ensures whole { brief_of (codes "edicad diff s d a b") ≡ Some (Some (codes "false")) }

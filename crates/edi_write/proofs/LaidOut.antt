@@ -17,7 +17,7 @@ use Rattle.edi_schema.specs.Classes.{Classes}
 use Rattle.edi_schema.specs.Sorted.{sort_by}
 use Rattle.edi_schema.proofs.SortedLists.{count_by-cons, IsPermutation-sort_by}
 use Rattle.edi_plan.specs.Plans.{Drawing, IsPlace, record_at, kind_rank, same_kind, is_arc}
-use Rattle.edi_plan.specs.Whole.{IsWhole}
+use Rattle.edi_plan.specs.Whole.{IsWholePlan}
 use Rattle.edi_plan.specs.declared.record.PlanRecord.{PlanRecord}
 use Rattle.edi_plan.specs.declared.record.PlanEnd.{PlanEnd}
 use Rattle.edi_rank.specs.Arranged.{offset, new_place, old_places, arranged, arranged_record, numbered_cmp, ordered_ends}
@@ -183,7 +183,7 @@ module _ (s : Classes) (p : Drawing) (l : Labelling) (labels : AreLabels s p l) 
   ends_long (origin ∷ others) =
       ap suc (length-map (sort_by (numbered_cmp p (number_of l)) others) (moved (new_place l p)) ∙ sym (length_permutation _ _ (IsPermutation-sort_by (numbered_cmp p (number_of l)) (numbered_total p (number_of l)) others)))
 
-  module _ (whole : IsWhole p) where
+  module _ (whole : IsWholePlan p) where
     -- ---- a record
 
     body_same : (k : ℕ) → IsPlace p k → (kind : Kind) → kind_at k ≡ kind → body_zones s after kind (arranged_record s l p k) ≡ numbered_body l p k kind

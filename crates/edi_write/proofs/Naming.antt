@@ -15,7 +15,7 @@ use Rattle.edi_schema.specs.Classes.{Classes, is_name}
 use Rattle.edi_schema.proofs.Names.{same_name}
 use Rattle.edi_schema.proofs.SortedLists.{count_by-cons}
 use Rattle.edi_plan.specs.Plans.{Drawing, IsPlace, record_at, blank, kind_rank, same_kind}
-use Rattle.edi_plan.specs.Whole.{IsWhole}
+use Rattle.edi_plan.specs.Whole.{IsWholePlan}
 use Rattle.edi_plan.specs.declared.record.PlanRecord.{PlanRecord}
 use Rattle.edi_write.specs.Layout.{identifier, name_in, number_in}
 
@@ -50,7 +50,7 @@ module _ (s : Classes) (p : Drawing) where
       let counts = count_rises (λ (r : PlanRecord). same_kind (record_at p k).kind r.kind) blank p.list i k less (omega (arith, h)) (eq-eqb (kind_rank (record_at p k).kind) (kind_rank (record_at p i).kind) (ap kind_rank (sym kind))) in
       subst (λ (kind : Kind). count_by (λ (r : PlanRecord). same_kind kind r.kind) (take i p.list) + 1 < number_in s p k) (sym kind) (omega (arith, counts))
 
-  pub number_few : IsWhole p → (k : ℕ) → number_in s p k < 2 ^ 64
+  pub number_few : IsWholePlan p → (k : ℕ) → number_in s p k < 2 ^ 64
   number_few whole k =
       let counted = count_by-le-length (λ (r : PlanRecord). same_kind (record_at p k).kind r.kind) (take k p.list) in
       let long = length-take k p.list in
@@ -58,7 +58,7 @@ module _ (s : Classes) (p : Drawing) where
       omega (arith, counted, long, few)
 
   -- places with one name are one
-  pub one_place : IsWhole p → (i k : ℕ) → IsPlace p i → IsPlace p k → name_in s p i ≡ name_in s p k → i ≡ k
+  pub one_place : IsWholePlan p → (i k : ℕ) → IsPlace p i → IsPlace p k → name_in s p i ≡ name_in s p k → i ≡ k
   one_place whole i k h g e = go (cases_order i k)
     where
       kind : (record_at p i).kind ≡ (record_at p k).kind
@@ -74,7 +74,7 @@ module _ (s : Classes) (p : Drawing) where
       go (inr (inl less)) = let up = number_rises i k less g kind in absurd (omega (arith, up, number))
       go (inr (inr more)) = let up = number_rises k i more h (sym kind) in absurd (omega (arith, up, number))
 
-  pub names_apart : IsWhole p → (i k : ℕ) → IsPlace p i → IsPlace p k → i < k → is_name (name_in s p k) (name_in s p i) ≡ false
+  pub names_apart : IsWholePlan p → (i k : ℕ) → IsPlace p i → IsPlace p k → i < k → is_name (name_in s p k) (name_in s p i) ≡ false
   names_apart whole i k h g less = go (is_name (name_in s p k) (name_in s p i)) refl
     where
       go : (b : Bool) → is_name (name_in s p k) (name_in s p i) ≡ b → b ≡ false

@@ -59,7 +59,7 @@ use Rattle.edi_plan.specs.ReferenceRules.BreaksReferenceRule.{lacks_attribute_cl
 use Rattle.edi_plan.specs.PlanOf.{IsPlanOf, StatesPlanAttribute, StatesPlanEnd, StatesPlanRecord}
 use Rattle.edi_plan.specs.Joined.{IsJoined}
 use Rattle.edi_plan.specs.Plans.{Drawing, IsPlace, record_at, blank}
-use Rattle.edi_plan.specs.Whole.{IsWhole}
+use Rattle.edi_plan.specs.Whole.{IsWholePlan}
 use Rattle.edi_plan.specs.declared.record.PlanRecord.{PlanRecord}
 use Rattle.edi_plan.specs.declared.record.PlanAttribute.{PlanAttribute}
 use Rattle.edi_plan.specs.declared.record.PlanEnd.{PlanEnd}
@@ -157,13 +157,13 @@ code_lacks Lnk = (All-from_recursion (λ x. eqb x 10 ≡ false) (kind_code Lnk) 
 
 -- ---- the ends that are written
 
-end_names : (s : Classes) (q : Drawing) → IsWhole q → (es : List PlanEnd) → AllByRecursion (λ e. IsName e.target) (map (written_end s q) es)
+end_names : (s : Classes) (q : Drawing) → IsWholePlan q → (es : List PlanEnd) → AllByRecursion (λ e. IsName e.target) (map (written_end s q) es)
 end_names s q whole [] = tt
 end_names s q whole (e ∷ es) =
     let kind = (record_at q e.target).kind in
     (record { rty = (code_lacks kind).1; rid = identifier_part kind (number_in s q e.target) (number_few s q whole e.target) }, end_names s q whole es)
 
-end_lines : (s : Classes) (q : Drawing) → IsWhole q → (es : List PlanEnd) → AllByRecursion (λ e. IfSome e.sns IsOneLine) es → AllByRecursion IsLineEnd (map (written_end s q) es)
+end_lines : (s : Classes) (q : Drawing) → IsWholePlan q → (es : List PlanEnd) → AllByRecursion (λ e. IfSome e.sns IsOneLine) es → AllByRecursion IsLineEnd (map (written_end s q) es)
 end_lines s q whole [] lines = tt
 end_lines s q whole (e ∷ es) lines =
     let kind = (record_at q e.target).kind in (
@@ -249,7 +249,7 @@ no_ends s q Pfe es may none = ap (map (written_end s q)) (none_there es may)
 no_ends s q Fea es may none = ap (map (written_end s q)) (none_there es may)
 no_ends s q Lnk es may none = absurd (true≢false none)
 
-module _ (s : Classes) (kinds : HasPrintableKinds s) (q : Drawing) (whole : IsWhole q) where
+module _ (s : Classes) (kinds : HasPrintableKinds s) (q : Drawing) (whole : IsWholePlan q) where
   -- the record y is the record x, which r states, carried to the place k
   carried_printable : (list : List Record) (r : Record) (x : PlanRecord) (to : ℕ → ℕ) (turned : ℕ → Bool) (i k : ℕ) → IsRecord r → IsLineRecord r → FollowsRules r
       → StatesPlanRecord s list r x → IsPlace q k → CarriesRecord s to turned i x (record_at q k) → CanPrint (written_record s q (number_in s q k) (record_at q k))
@@ -335,7 +335,7 @@ module _ (s : Classes) (kinds : HasPrintableKinds s) (q : Drawing) (whole : IsWh
           omega (arith, a, b, d, f, h)
 
 pub record_printable : (s : Classes) (list : List Record) (r : Record) (p q : Drawing) (to : ℕ → ℕ) (turned : ℕ → Bool) (k : ℕ) → HasPrintableKinds s → IsRecord r → IsLineRecord r → FollowsRules r
-    → StatesPlanRecord s list r (record_at p k) → Carries s to turned p q → IsWhole q → IsPlace p k
+    → StatesPlanRecord s list r (record_at p k) → Carries s to turned p q → IsWholePlan q → IsPlace p k
     → IsRecord (written_record s q (number_in s q (to k)) (record_at q (to k))) × IsLineRecord (written_record s q (number_in s q (to k)) (record_at q (to k)))
     × FollowsRules (written_record s q (number_in s q (to k)) (record_at q (to k)))
 record_printable s list r p q to turned k kinds is line keeps states c whole there =
@@ -354,7 +354,7 @@ each_of : {X : Type 0} (P Q : X → Type 0) → ((x : X) → P x → Q x) → (x
 each_of P Q f [] all = tt
 each_of P Q f (x ∷ xs) all = (f x all.0, each_of P Q f xs all.1)
 
-pub written_printable : (s : Classes) (sheet : Sheet) (p q : Drawing) → HasPrintableKinds s → IsPrintableSheet sheet → IsPlanOf s sheet p → Same s p q → IsWhole q
+pub written_printable : (s : Classes) (sheet : Sheet) (p q : Drawing) → HasPrintableKinds s → IsPrintableSheet sheet → IsPlanOf s sheet p → Same s p q → IsWholePlan q
     → CanBePrinted q.cse (written_records s q)
 written_printable s sheet p q kinds printable plan same whole = record {
   set = subst (λ c. IfSome c IsOneLine) (sym (c.cse ∙ plan.set)) printable.cse;
@@ -423,7 +423,7 @@ attribute_classes s sheet p q unbroken plan same = all_places (λ r. AllByRecurs
 one_sheet : (gs : List (List Entry)) (rs qs : List Record) → AllZip States gs rs → AllZip States gs qs → rs ≡ qs
 one_sheet gs rs qs h g = zip_one States States states_unique gs rs qs h g
 
-read_list : (s : Classes) (q : Drawing) (sheet : Sheet) → IsSchema s → HasPrintableLetters (letters s) → IsWhole q → Agrees s q → CanBePrinted q.cse (written_records s q)
+read_list : (s : Classes) (q : Drawing) (sheet : Sheet) → IsSchema s → HasPrintableLetters (letters s) → IsWholePlan q → Agrees s q → CanBePrinted q.cse (written_records s q)
     → StatesSheet (zones_of (layout s q)) sheet → (sheet.cse ≡ q.cse) × (sheet.list ≡ map (settled_record (letters s)) (written_records s q))
 read_list s q sheet keeps printable whole agrees can states =
     let rs = written_records s q in

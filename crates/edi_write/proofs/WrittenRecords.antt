@@ -35,7 +35,7 @@ use Rattle.edi_schema.proofs.Ordered.{all_at}
 use Rattle.edi_plan.specs.Agreeing.{AttributeAgrees, RecordAgrees, Agrees}
 use Rattle.edi_plan.specs.PlanOf.{IsPlanOf, StatesPlanAttribute, StatesPlanEnd, StatesPlanRecord, own_name, place_named}
 use Rattle.edi_plan.specs.Plans.{Drawing, IsPlace, record_at, blank}
-use Rattle.edi_plan.specs.Whole.{IsWhole}
+use Rattle.edi_plan.specs.Whole.{IsWholePlan}
 use Rattle.edi_plan.specs.declared.record.PlanRecord.{PlanRecord}
 use Rattle.edi_plan.specs.declared.record.PlanAttribute.{PlanAttribute}
 use Rattle.edi_plan.specs.declared.record.PlanEnd.{PlanEnd}
@@ -146,10 +146,10 @@ zones_same : (s : Classes) → IsSchema s → (p : Drawing) (place : ℕ) (rs : 
 zones_same s keeps p place [] agree shaped = refl
 zones_same s keeps p place (r ∷ rs) agree shaped = ap₂ ◌++◌ (record_same s keeps p (number_in s p place) r agree.0 shaped.0) (zones_same s keeps p (place + 1) rs agree.1 shaped.1)
 
-pub all_shaped : (p : Drawing) → IsWhole p → AllByRecursion IsShaped p.list
+pub all_shaped : (p : Drawing) → IsWholePlan p → AllByRecursion IsShaped p.list
 all_shaped p whole = all_places IsShaped p.list blank (λ k h. (whole.points k h, whole.ends k h))
 
-pub written_layout : (s : Classes) (p : Drawing) → IsSchema s → IsWhole p → Agrees s p → layout s p ≡ records.records_layout (letters s) p.cse (written_records s p)
+pub written_layout : (s : Classes) (p : Drawing) → IsSchema s → IsWholePlan p → Agrees s p → layout s p ≡ records.records_layout (letters s) p.cse (written_records s p)
 unfolding layout
 written_layout s p keeps whole agrees =
     ap (λ zs. printed (begin_zone ∷ (map cse_zone (option_to_list p.cse) ++ (zs ++ end_zone ∷ [])))) (zones_same s keeps p 0 p.list agrees (all_shaped p whole))
@@ -209,7 +209,7 @@ record HasNames (s : Classes) (p : Drawing) (list : List Record) : Type 0 where
   pub long : length list ≡ length p.list
   pub at : (k : ℕ) → IsPlace p k → (r : Record) × (slice_get list k ≡ Some r) × (own_name r ≡ name_in s p k)
 
-named_place : (s : Classes) (p : Drawing) → IsWhole p → (list : List Record) → HasNames s p list → (k : ℕ) → IsPlace p k → place_named list (name_in s p k) ≡ Some k
+named_place : (s : Classes) (p : Drawing) → IsWholePlan p → (list : List Record) → HasNames s p list → (k : ℕ) → IsPlace p k → place_named list (name_in s p k) ≡ Some k
 named_place s p whole list names k h =
     let here = names.at k h in
     let long = names.long in
@@ -225,7 +225,7 @@ named_place s p whole list names k h =
         let same : y ≡ at.0 = same_Some y at.0 (sym e ∙ at.1) in
         ap (is_name (name_in s p k)) (ap own_name same ∙ at.2) ∙ names_apart s p whole i k there h less
 
-pub written_named : (s : Classes) (p : Drawing) → IsWhole p → (k : ℕ) → IsPlace p k → place_named (written_records s p) (name_in s p k) ≡ Some k
+pub written_named : (s : Classes) (p : Drawing) → IsWholePlan p → (k : ℕ) → IsPlace p k → place_named (written_records s p) (name_in s p k) ≡ Some k
 written_named s p whole = named_place s p whole (written_records s p) (record { long = written_count s p; at = λ k h. (written_record s p (number_in s p k) (record_at p k), written_at s p k h, refl) })
 
 pub read_at : (s : Classes) (p : Drawing) (k : ℕ) → IsPlace p k → slice_get (read_records s p) k ≡ Some (read_record s p k)
@@ -241,7 +241,7 @@ read_back s p k r e =
     let there : IsPlace p k = omega (arith, within, long) in
     (there, same_Some r (read_record s p k) (sym e ∙ read_at s p k there))
 
-pub read_named : (s : Classes) (p : Drawing) → IsWhole p → (k : ℕ) → IsPlace p k → place_named (read_records s p) (name_in s p k) ≡ Some k
+pub read_named : (s : Classes) (p : Drawing) → IsWholePlan p → (k : ℕ) → IsPlace p k → place_named (read_records s p) (name_in s p k) ≡ Some k
 read_named s p whole = named_place s p whole (read_records s p) (record { long = read_count s p; at = λ k h. (read_record s p k, read_at s p k h, refl) })
 
 -- ---- the records that are read
@@ -271,7 +271,7 @@ states_each : (s : Classes) → IsSchema s → (p : Drawing) (list : List Record
 states_each s keeps p list named place [] agree there = tt
 states_each s keeps p list named place (r ∷ rs) agree there = (states_record s keeps p list named (number_in s p place) r agree.0 there.0, states_each s keeps p list named (place + 1) rs agree.1 there.1)
 
-pub written_plan : (s : Classes) (p : Drawing) (sheet : Sheet) → IsSchema s → IsWhole p → Agrees s p
+pub written_plan : (s : Classes) (p : Drawing) (sheet : Sheet) → IsSchema s → IsWholePlan p → Agrees s p
     → sheet.cse ≡ p.cse → sheet.list ≡ map (settled_record (letters s)) (written_records s p) → IsPlanOf s sheet p
 written_plan s p sheet keeps whole agrees set list = record {
   set = sym set;

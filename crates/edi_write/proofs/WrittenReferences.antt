@@ -19,9 +19,9 @@ use Rattle.edi_plan.specs.Joined.{beside, HasEnds, IsJoin, IsJoined, JoinsArc}
 use Rattle.edi_plan.specs.PlanOf.{own_name, place_named}
 use Rattle.edi_record.specs.Records.{is_link}
 use Rattle.edi_plan.specs.Plans.{Drawing, IsPlace, record_at, blank}
-use Rattle.edi_plan.specs.ReferenceRules.{BreaksReferenceRule, HasRole, JoinsArcTo, Names, RepeatsName, HasUnknownClass, LacksAttributeClass, LeavesSubset, NamesNothing, JoinsWrong, RepeatsSide}
+use Rattle.edi_plan.specs.ReferenceRules.{BreaksReferenceRule, IsLinkOfRole, JoinsArcTo, Names, RepeatsRecordName, HasUnknownClass, LacksAttributeClass, LeavesSubset, NamesNothing, JoinsWrong, RepeatsSide}
 use Rattle.edi_plan.specs.ReferenceRules.BreaksReferenceRule.{repeats_name, lacks_class, lacks_attribute_class, leaves_subset, names_nothing, joins_wrong, repeats_side}
-use Rattle.edi_plan.specs.Whole.{IsWhole}
+use Rattle.edi_plan.specs.Whole.{IsWholePlan}
 use Rattle.edi_plan.specs.declared.record.PlanAttribute.{PlanAttribute}
 use Rattle.edi_plan.specs.declared.record.PlanEnd.{PlanEnd}
 use Rattle.edi_plan.proofs.Resolved.{role_there}
@@ -64,7 +64,7 @@ two_ends (x ∷ []) a b h = cc
 two_ends (x ∷ y ∷ []) a b h = (x, y, refl, cc, cc)
 two_ends (x ∷ y ∷ z ∷ es) a b h = cc
 
-module _ (s : Classes) (p : Drawing) (keeps : IsSchema s) (whole : IsWhole p) (agrees : Agrees s p) where
+module _ (s : Classes) (p : Drawing) (keeps : IsSchema s) (whole : IsWholePlan p) (agrees : Agrees s p) where
   abbrev list : List Record
   list = read_records s p
 
@@ -83,7 +83,7 @@ module _ (s : Classes) (p : Drawing) (keeps : IsSchema s) (whole : IsWhole p) (a
 
   -- ---- names
 
-  no_repeat : (at : ℕ) → RepeatsName s list at → ⊥
+  no_repeat : (at : ℕ) → RepeatsRecordName s list at → ⊥
   no_repeat at h =
       let q = at_back h.0 h.1 h.4.1 in
       let r = at_back at h.2 h.5.1 in
@@ -169,7 +169,7 @@ module _ (s : Classes) (p : Drawing) (keeps : IsSchema s) (whole : IsWhole p) (a
 
   -- ---- links of the four kinds
 
-  role_is : (at : ℕ) (r : Record) (role : Role) → IsPlace p (at - 1) → r ≡ read_record s p (at - 1) → HasRole s list r role → ((record_at p (at - 1)).kind ≡ Lnk) × ((record_at p (at - 1)).role ≡ role)
+  role_is : (at : ℕ) (r : Record) (role : Role) → IsPlace p (at - 1) → r ≡ read_record s p (at - 1) → IsLinkOfRole s list r role → ((record_at p (at - 1)).kind ≡ Lnk) × ((record_at p (at - 1)).role ≡ role)
   role_is at r role h is has =
       (ap (λ (x : Record). x.kind) (sym is) ∙ has.0, same_Some _ _ (sym (role_read (at - 1) h) ∙ (ap (λ (x : Record). role_named s x.scp) (sym is) ∙ has.1)))
 
@@ -217,7 +217,7 @@ module _ (s : Classes) (p : Drawing) (keeps : IsSchema s) (whole : IsWhole p) (a
           )
 
   module _ (joined : IsJoined p) where
-    joins_right : (at : ℕ) (r : Record) (role : Role) (kind : Kind) → IsPlace p (at - 1) → r ≡ read_record s p (at - 1) → role ≢ Plain → beside role ≡ kind → HasRole s list r role → JoinsArcTo s list kind r
+    joins_right : (at : ℕ) (r : Record) (role : Role) (kind : Kind) → IsPlace p (at - 1) → r ≡ read_record s p (at - 1) → role ≢ Plain → beside role ≡ kind → IsLinkOfRole s list r role → JoinsArcTo s list kind r
     joins_right at r role kind h is other besides has =
         let role' = role_is at r role h is has in
         let d = joined.joins (at - 1) (join_at (at - 1) role other h role'.0 role'.1) in
@@ -229,7 +229,7 @@ module _ (s : Classes) (p : Drawing) (keeps : IsSchema s) (whole : IsWhole p) (a
         r : IsPlace p (at - 1) × (h.0 ≡ read_record s p (at - 1))
         r = at_back at h.0 h.1.1
 
-        go : (((HasRole s list h.0 Initial ⊎ HasRole s list h.0 Final) × ¬ (JoinsArcTo s list Pno h.0)) ⊎ ((HasRole s list h.0 Left ⊎ HasRole s list h.0 Right) × ¬ (JoinsArcTo s list Pfe h.0))) → ⊥
+        go : (((IsLinkOfRole s list h.0 Initial ⊎ IsLinkOfRole s list h.0 Final) × ¬ (JoinsArcTo s list Pno h.0)) ⊎ ((IsLinkOfRole s list h.0 Left ⊎ IsLinkOfRole s list h.0 Right) × ¬ (JoinsArcTo s list Pfe h.0))) → ⊥
         go (inl (inl has, wrong)) = wrong (joins_right at h.0 Initial Pno r.0 r.1 (λ e. cc) refl has)
         go (inl (inr has, wrong)) = wrong (joins_right at h.0 Final Pno r.0 r.1 (λ e. cc) refl has)
         go (inr (inl has, wrong)) = wrong (joins_right at h.0 Left Pfe r.0 r.1 (λ e. cc) refl has)
@@ -297,7 +297,7 @@ module _ (s : Classes) (p : Drawing) (keeps : IsSchema s) (whole : IsWhole p) (a
         (subst (λ j. HasEnds p (m - 1) j d.other) (sym arc_before) d.ends) (subst (λ j. HasEnds p (at - 1) j e.other) (sym arc_here) e.ends) in
         omega (arith, one, h.5, h.6.0, h.7.0)
 
-pub written_references : (s : Classes) (p : Drawing) → IsSchema s → IsWhole p → Agrees s p → IsJoined p → HasAttributeClasses s p
+pub written_references : (s : Classes) (p : Drawing) → IsSchema s → IsWholePlan p → Agrees s p → IsJoined p → HasAttributeClasses s p
     → IsUnbroken (BreaksReferenceRule s (map (settled_record (letters s)) (written_records s p)))
 written_references s p keeps whole agrees joined types rule at (repeats_name e h) = no_repeat s p keeps whole agrees at h
 written_references s p keeps whole agrees joined types rule at (lacks_class e h) = no_class_lacks s p keeps whole agrees at h

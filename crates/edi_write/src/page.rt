@@ -4,7 +4,7 @@ ghost use Rattle.std.specs.Prelude.{◌≡◌, [], ◌++◌, OnOk};
 ghost use Rattle.edi_line.specs.Printing.{printed_zone};
 ghost use Rattle.edi_write.specs.inner.Heads.{headed};
 
-use crate::heads::Head;
+use crate::heads::ZoneHead;
 use crate::zones::write_zone;
 use std::alloc::{AllocError, Global};
 
@@ -28,14 +28,14 @@ impl Page {
     }
 
     /// Writes a zone with this value at the end of the file.
-    pub(crate) fn write(&mut self, head: Head, value: &[u8]) -> Result<(), AllocError>
+    pub(crate) fn write(&mut self, head: ZoneHead, value: &[u8]) -> Result<(), AllocError>
         ensures { OnOk result (self.new.file.items ≡ self.old.file.items ++ printed_zone (headed head value.now)) }
     {
         write_zone(&mut self.file, head, value)
     }
 
     /// Writes a zone with the text as its value.
-    pub(crate) fn write_text(&mut self, head: Head) -> Result<(), AllocError>
+    pub(crate) fn write_text(&mut self, head: ZoneHead) -> Result<(), AllocError>
         ensures { OnOk result (self.new.file.items ≡ self.old.file.items ++ printed_zone (headed head self.old.text.items)) }
     {
         write_zone(&mut self.file, head, &self.text)

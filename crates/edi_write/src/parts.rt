@@ -9,7 +9,7 @@ ghost use Rattle.edi_plan.specs.Agreeing.{AttributeAgrees};
 ghost use Rattle.edi_write.specs.inner.Heads.{headed};
 ghost use Rattle.edi_write.specs.Layout.{attribute_zones, class_name_of};
 
-use crate::heads::{ATTRIBUTE, COORDINATES, Head, VALUE_CHARACTER_SET, value_head};
+use crate::heads::{ATTRIBUTE, COORDINATES, VALUE_CHARACTER_SET, ZoneHead, value_head};
 use crate::page::Page;
 use edi_plan::PlanAttribute;
 use edi_record::{Extra, Name, Point, Value};
@@ -17,7 +17,7 @@ use edi_schema::Schema;
 use std::alloc::AllocError;
 
 /// Writes a pointer to a class.
-pub(crate) fn write_class(page: &mut Page, head: Head, class: &Name) -> Result<(), AllocError>
+pub(crate) fn write_class(page: &mut Page, head: ZoneHead, class: &Name) -> Result<(), AllocError>
     ensures { OnOk result (page.new.file.items ≡ page.old.file.items ++ printed_zone (headed head (class_text class.now))) }
 {
     put_class_pointer(&mut page.text, class)?;
@@ -60,7 +60,7 @@ fn put_point(text: &mut Vec<u8>, point: Point) -> Result<(), AllocError>
 }
 
 /// Writes a value: a number in its plain spelling, or bytes as they are.
-fn write_value(page: &mut Page, head: Head, value: &Value) -> Result<(), AllocError>
+fn write_value(page: &mut Page, head: ZoneHead, value: &Value) -> Result<(), AllocError>
     ensures { OnOk result (page.new.file.items ≡ page.old.file.items ++ printed_zone (headed head (value_text value.now))) }
 {
     match value {
@@ -94,7 +94,7 @@ pub(crate) fn write_attribute(
 pub(crate) fn write_extra(page: &mut Page, extra: &Extra) -> Result<(), AllocError>
     ensures { OnOk result (page.new.file.items ≡ page.old.file.items ++ printed_zone (extra_zone extra.now)) }
 {
-    let head = Head {
+    let head = ZoneHead {
         code: extra.code,
         nature: extra.nature,
         format: extra.format,

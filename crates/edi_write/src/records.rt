@@ -15,7 +15,7 @@ ghost use Rattle.edi_write.specs.Layout.{attribute_zones, head_zones};
 ghost use Rattle.edi_write.specs.inner.Numbered.{arc_body, link_body, numbered_body, numbered_zones, ordered_tail};
 
 use crate::class_line::ClassLine;
-use crate::heads::{ATTRIBUTE_COUNT, END_COUNT, Head, IDENTIFIER, POINT_COUNT};
+use crate::heads::{ATTRIBUTE_COUNT, END_COUNT, IDENTIFIER, POINT_COUNT, ZoneHead};
 use crate::links::write_ends;
 use crate::names::{put_identifier, type_zone};
 use crate::page::Page;
@@ -27,7 +27,7 @@ use edi_schema::Schema;
 use itoa::Buffer;
 use std::alloc::{AllocError, Global};
 
-fn write_number(page: &mut Page, head: Head, number: usize) -> Result<(), AllocError>
+fn write_number(page: &mut Page, head: ZoneHead, number: usize) -> Result<(), AllocError>
     ensures { OnOk result (page.new.file.items ≡ page.old.file.items ++ printed_zone (headed head (decimal number))) }
 {
     let mut digits = Buffer::new();

@@ -4,14 +4,14 @@ ghost use Rattle.std.specs.Prelude.{◌≡◌, ℕ, List, ◌+◌, ◌<◌, ◌+
 ghost use Rattle.edi_line.specs.Printing.{line_text, printed_zone, zone_text};
 ghost use Rattle.edi_write.specs.inner.Heads.{headed};
 
-use crate::heads::{Head, NEXT};
+use crate::heads::{NEXT, ZoneHead};
 use std::alloc::AllocError;
 
 /// How many bytes of a value a line has at most.
 const LINE_ROOM: usize = 72;
 
 /// Writes a line at the end.
-fn write_line(out: &mut Vec<u8>, head: Head, value: &[u8]) -> Result<(), AllocError>
+fn write_line(out: &mut Vec<u8>, head: ZoneHead, value: &[u8]) -> Result<(), AllocError>
     requires { length value.now < 100 }
     ensures { OnOk result (out.new.items ≡ out.old.items ++ line_text (headed head value.now)) }
 {
@@ -33,7 +33,7 @@ fn write_line(out: &mut Vec<u8>, head: Head, value: &[u8]) -> Result<(), AllocEr
 }
 
 /// Writes a zone at the end, in lines of at most 72 bytes of its value.
-pub(crate) fn write_zone(out: &mut Vec<u8>, head: Head, value: &[u8]) -> Result<(), AllocError>
+pub(crate) fn write_zone(out: &mut Vec<u8>, head: ZoneHead, value: &[u8]) -> Result<(), AllocError>
     ensures { OnOk result (out.new.items ≡ out.old.items ++ printed_zone (headed head value.now)) }
 {
     let mut line_head = head;

@@ -17,7 +17,7 @@ use Rattle.edicad.specs.inner.Hashes.{StepsOn, StopsAt}
 use Rattle.edicad.specs.Outcome.{ended, schema_text, status_of_fault, words_of_fault}
 use Rattle.edicad.specs.Reasons.{Why}
 use Rattle.edicad.specs.SheetRuns.{Inputs}
-use Rattle.edicad.specs.Statuses.{GoesOut, IsSheetStatus, Says}
+use Rattle.edicad.specs.Statuses.{GoesOut, IsSheetStatus, Prints}
 use Rattle.edi_words.specs.declared.words.ManyFiles.{ManyFiles}
 
 abbrev pub paths_of : List (Bor (List ℕ)) → List (List ℕ)
@@ -128,7 +128,7 @@ both_refused (Some x) (Some y) P Q f to h = (h.0, h.1, to x y h.0 h.1 h.2)
 
 -- a refused schema is said as its line
 pub schema_refused : (inputs : Inputs) (kinds : KindCodes) (files : ManyFiles) (out : Seen) (names : List (List ℕ)) (e : RunFault) → SchemaFault inputs kinds files e → status_of_fault e ≡ 2
-    → Says out (ended (words_of_fault e names)) → RefusesFiles inputs kinds files (λ f. Says out (ended (schema_text f)))
+    → Prints out (ended (words_of_fault e names)) → RefusesFiles inputs kinds files (λ f. Prints out (ended (schema_text f)))
 schema_refused inputs kinds files out names e (inl missing) two line = absurd (omega (arith, ap status_of_fault missing.2, two))
 schema_refused inputs kinds files out names (Memory e) (inr h) two line = absurd (omega (arith, two))
 schema_refused inputs kinds files out names (Read n) (inr h) two line = absurd (omega (arith, two))
@@ -139,8 +139,8 @@ schema_refused inputs kinds files out names (Schema f) (inr h) two line =
       r.1,
       r.2,
       r.3,
-      both_refused r.0 r.1 (λ a b g. RefusesSchema kinds a b g) (λ a b g. Says out (ended (schema_text g))) f
-          (λ a b g refused is. subst (λ g. Says out (ended (schema_text g))) (sym is) line) r.4,
+      both_refused r.0 r.1 (λ a b g. RefusesSchema kinds a b g) (λ a b g. Prints out (ended (schema_text g))) f
+          (λ a b g refused is. subst (λ g. Prints out (ended (schema_text g))) (sym is) line) r.4,
     )
 schema_refused inputs kinds files out names (First f) (inr h) two line = absurd h.2
 schema_refused inputs kinds files out names (Second f) (inr h) two line = absurd h.2

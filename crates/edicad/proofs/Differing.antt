@@ -12,7 +12,7 @@ use Rattle.edi_words.specs.declared.words.PairFiles.{PairFiles}
 use Rattle.edicad.specs.Outcome.{ended, status_of_fault, words_of_fault}
 use Rattle.edicad.specs.SheetRuns.{Inputs, IsPictureOfPair, OfMadePair, OfPair, PairFileFault, PutPairFault, ShowsDifference}
 use Rattle.edicad.specs.Reasons.{Why}
-use Rattle.edicad.specs.Statuses.{IsDiffStatus, IsPictureStatus, IsAnsweredAs, Says, Warns, WarnsWhy, pair_paths_of}
+use Rattle.edicad.specs.Statuses.{IsDiffStatus, IsPictureStatus, IsAnsweredAs, Prints, Warns, WarnsWhy, pair_paths_of}
 use Rattle.edicad.specs.declared.outcome.Outcome.TheVariants as outcome
 use Rattle.edicad.proofs.Refusals.{fault_status, means_fault, not_one, pair_refused, pair_tried, known_fault}
 use Rattle.edicad.proofs.Made.{pair_map, were_four}
@@ -44,7 +44,7 @@ never_five false s (inr h) five = absurd (omega (arith, h, five))
 
 module _ (inputs : Inputs) (why : Why) (out err : Seen) (kinds : KindCodes) (files : PairFiles) (brief : Bool) (s : ℕ) where
   pub put_status : (difference : Difference) → OfPair inputs files (λ scd dic a b. IsDifferenceUnder kinds scd dic a b brief difference)
-      → IsPutAs difference.same s → (s < 3 → Says out difference.text.items) → (s ≡ 4 → IsTrue out.failed) → IsDiffStatus inputs why out err kinds files brief s
+      → IsPutAs difference.same s → (s < 3 → Prints out difference.text.items) → (s ≡ 4 → IsTrue out.failed) → IsDiffStatus inputs why out err kinds files brief s
   put_status difference h status written failed = record {
     tried = inl (were_four inputs files _ h);
     different = λ one. (difference, h, other_of_one difference.same s status one, written (omega (arith, one)));
@@ -57,7 +57,7 @@ module _ (inputs : Inputs) (why : Why) (out err : Seen) (kinds : KindCodes) (fil
   }
 
   pub unanswered_status : (e : RunFault) → PairFileFault inputs kinds files (λ _. ⊥) e
-      → IsAnsweredAs (status_of_fault e) s → (s < 3 → Says out (ended (words_of_fault e (pair_paths_of files (codes "-"))))) → (status_of_fault e < 3 → s ≡ 4 → IsTrue out.failed)
+      → IsAnsweredAs (status_of_fault e) s → (s < 3 → Prints out (ended (words_of_fault e (pair_paths_of files (codes "-"))))) → (status_of_fault e < 3 → s ≡ 4 → IsTrue out.failed)
       → (3 ≤ status_of_fault e → s ≡ 4 → WarnsWhy why err (outcome.Fault e) (pair_paths_of files (codes "-"))) → (s ≡ 5 → Warns err (ended (codes "out of memory")))
       → IsDiffStatus inputs why out err kinds files brief s
   unanswered_status e h contents line stopped warned memory = record {
@@ -82,7 +82,7 @@ shown_of_some inputs kinds files brief difference bytes h = pair_map inputs file
 module _ (inputs : Inputs) (is_one : List ℕ → List ℕ → Bool → Type 0) (why : Why) (out err : Seen) (kinds : KindCodes) (files : PairFiles) (brief : Bool) (path : List ℕ)
     (Puts : List ℕ → Type 0) (Stops : ℕ → List ℕ → Type 0) (s : ℕ) where
   pub drawn_status : (difference : Difference) → OfMadePair inputs (ShowsDifference kinds brief difference) files Puts
-      → IsPutAs difference.same s → (s < 3 → Says out difference.text.items) → (s ≡ 4 → IsTrue out.failed)
+      → IsPutAs difference.same s → (s < 3 → Prints out difference.text.items) → (s ≡ 4 → IsTrue out.failed)
       → IsPictureStatus inputs is_one why out err kinds files brief path Puts Stops s
   drawn_status difference h status written failed = record {
     tried = inr (inl (were_four inputs files _ h));
@@ -96,7 +96,7 @@ module _ (inputs : Inputs) (is_one : List ℕ → List ℕ → Bool → Type 0) 
   }
 
   pub undrawn_status : (e : RunFault) → PutPairFault inputs is_one kinds files path (λ count. OfMadePair inputs (IsPictureOfPair kinds brief) files (Stops count)) e
-      → IsAnsweredAs (status_of_fault e) s → (s < 3 → Says out (ended (words_of_fault e (pair_paths_of files path)))) → (status_of_fault e < 3 → s ≡ 4 → IsTrue out.failed)
+      → IsAnsweredAs (status_of_fault e) s → (s < 3 → Prints out (ended (words_of_fault e (pair_paths_of files path)))) → (status_of_fault e < 3 → s ≡ 4 → IsTrue out.failed)
       → (3 ≤ status_of_fault e → s ≡ 4 → WarnsWhy why err (outcome.Fault e) (pair_paths_of files path)) → (s ≡ 5 → Warns err (ended (codes "out of memory")))
       → IsPictureStatus inputs is_one why out err kinds files brief path Puts Stops s
   undrawn_status e h contents line stopped warned memory = record {

@@ -7,7 +7,7 @@ use Rattle.edi_compare.specs.declared.fault.RunFault.TheVariants.{Memory, Read, 
 use Rattle.edi_compare.specs.declared.pairing.Verdict.TheVariants.{Different}
 use Rattle.edi_compare.specs.Runs.{IsTooLong, IsVerdictOf, MatchFault, Seen}
 use Rattle.edi_pairing.specs.CompareRuns.{IsPairingFileOf}
-use Rattle.edi_pairing.specs.VerifyRuns.{Inputs as Five, IsVerifiedUnder, Untouched, MatchRun, OfInput, RefusesFile, VerifyingFault}
+use Rattle.edi_pairing.specs.VerifyRuns.{VerifyInputs as Five, IsVerifiedUnder, UntouchedByVerify, MatchRun, OfVerifyInput, RefusesFile, VerifyingFault}
 use Rattle.edi_pairing.specs.declared.fault.VerifyRunFault.{VerifyRunFault}
 use Rattle.edi_pairing.specs.declared.fault.VerifyRunFault.TheVariants.{Run, Pairing as OfPairingFile}
 use Rattle.edi_words.specs.declared.words.PairFiles.{PairFiles}
@@ -17,7 +17,7 @@ use Rattle.edicad.specs.inner.Outcome.{paired_outcome, verified_outcome}
 use Rattle.edicad.specs.Outputs.{IsWholeOrNew}
 use Rattle.edicad.specs.Reasons.{Why}
 use Rattle.edicad.specs.SheetRuns.{AreFiveThere, AreFourThere, FirstOfFiveMissing, FirstOfFourMissing, Gives, HoldsTooMuch, Inputs, IsNoPairInput, IsPairInput, OfFive, OfPair, OfPairing, PairFileFault, PutPairFault, VerifyFileFault, verify_path_at}
-use Rattle.edicad.specs.Statuses.{IsPairingStatus, IsAnsweredAs, IsVerifyStatus, Says, SaysPairRefusal, SaysVerifyRefusal, Warns, WarnsWhy, pair_paths_of, verify_paths_of}
+use Rattle.edicad.specs.Statuses.{IsPairingStatus, IsAnsweredAs, IsVerifyStatus, Prints, SaysPairRefusal, SaysVerifyRefusal, Warns, WarnsWhy, pair_paths_of, verify_paths_of}
 use Rattle.edicad.proofs.Made.{pair_map, were_four}
 use Rattle.edicad.proofs.Faults.{if_err_map, both_of_four, three_of_four}
 use Rattle.edicad.proofs.Refusals.{fault_status, match_refused, means_answer, means_fault, not_one, not_one_of_zero, not_zero_of_one, pair_refused, pair_tried, known_fault}
@@ -47,7 +47,7 @@ put_pair_tried inputs is_one kinds files path W e (inl input) = inl input.0
 put_pair_tried inputs is_one kinds files path W e (inr h) = inr (pair_tried inputs kinds files W e h.1)
 
 pub put_pair_refused : (inputs : Inputs) (is_one : List ℕ → List ℕ → Bool → Type 0) (kinds : KindCodes) (files : PairFiles) (path : List ℕ) (W : ℕ → Type 0) (out : Seen) (e : RunFault)
-    → PutPairFault inputs is_one kinds files path W e → status_of_fault e ≡ 2 → Says out (ended (words_of_fault e (pair_paths_of files path)))
+    → PutPairFault inputs is_one kinds files path W e → status_of_fault e ≡ 2 → Prints out (ended (words_of_fault e (pair_paths_of files path)))
     → OfPair inputs files (SaysPairRefusal out kinds)
 put_pair_refused inputs is_one kinds files path W out e (inl input) two line = absurd (omega (arith, ap status_of_fault input.1, two))
 put_pair_refused inputs is_one kinds files path W out e (inr h) two line = pair_refused out kinds (pair_paths_of files path) refl inputs files W e h.1 two line
@@ -60,7 +60,7 @@ module _ (inputs : Inputs) (is_one : List ℕ → List ℕ → Bool → Type 0) 
       (λ at. OfPair inputs files (λ scd dic a b. IsVerdictOf kinds scd dic a b (Different at)) × Untouched))
       → IfErr r (PutPairFault inputs is_one kinds files path (λ count. OfPairing inputs kinds files (Stops count)))
       → IsAnsweredAs (status_for (paired_outcome r)) s
-      → (s < 3 → Says out (ended (words_for (paired_outcome r) (pair_paths_of files path)))) → (status_for (paired_outcome r) < 3 → s ≡ 4 → IsTrue out.failed)
+      → (s < 3 → Prints out (ended (words_for (paired_outcome r) (pair_paths_of files path)))) → (status_for (paired_outcome r) < 3 → s ≡ 4 → IsTrue out.failed)
       → (3 ≤ status_for (paired_outcome r) → s ≡ 4 → WarnsWhy why err (paired_outcome r) (pair_paths_of files path)) → (s ≡ 5 → Warns err (ended (codes "out of memory")))
       → IsPairingStatus inputs is_one why out err kinds files path Puts Stops s
   pairing_status (Ok None) h fault contents line stopped warned memory = record {
@@ -87,11 +87,11 @@ module _ (inputs : Inputs) (kinds : KindCodes) (files : PairFiles) (pairing : Li
     (gives_dic : Gives inputs files.dic.now i.dic.before) (gives_first : Gives inputs files.first.now i.first.before) (gives_second : Gives inputs files.second.now i.second.before)
     (gives_file : Gives inputs pairing i.file.before)
     (scd_failed : IsTrue i.scd.failed → inputs.failed) (dic_failed : IsTrue i.dic.failed → inputs.failed) (first_failed : IsTrue i.first.failed → inputs.failed)
-    (second_failed : IsTrue i.second.failed → inputs.failed) (file_failed : IsTrue i.file.failed → inputs.failed) (untouched : Untouched) where
+    (second_failed : IsTrue i.second.failed → inputs.failed) (file_failed : IsTrue i.file.failed → inputs.failed) (untouched : UntouchedByVerify) where
   five_there : AreFiveThere inputs files pairing
   five_there = (((i.scd.before, gives_scd), (i.dic.before, gives_dic), (i.first.before, gives_first), (i.second.before, gives_second)), (i.file.before, gives_file))
 
-  failed_of_five : (n : ℕ) → OfInput i untouched (λ input. IsTrue input.failed) n → inputs.failed
+  failed_of_five : (n : ℕ) → OfVerifyInput i untouched (λ input. IsTrue input.failed) n → inputs.failed
   failed_of_five zero h = absurd (omega (arith, h.0))
   failed_of_five (suc zero) h = scd_failed (h.2 refl).0
   failed_of_five (suc (suc zero)) h = dic_failed (h.3 refl).1
@@ -100,7 +100,7 @@ module _ (inputs : Inputs) (kinds : KindCodes) (files : PairFiles) (pairing : Li
   failed_of_five (suc (suc (suc (suc (suc zero))))) h = file_failed (h.6 refl).4
   failed_of_five (suc (suc (suc (suc (suc (suc n)))))) h = absurd (omega (arith, h.1))
 
-  five_too_long : (n : ℕ) → OfInput i untouched (λ input. IsTooLong input.before) n → HoldsTooMuch inputs (verify_path_at files pairing n)
+  five_too_long : (n : ℕ) → OfVerifyInput i untouched (λ input. IsTooLong input.before) n → HoldsTooMuch inputs (verify_path_at files pairing n)
   five_too_long zero h = absurd (omega (arith, h.0))
   five_too_long (suc zero) h = (i.scd.before, gives_scd, (h.2 refl).0)
   five_too_long (suc (suc zero)) h = (i.dic.before, gives_dic, (h.3 refl).1)
@@ -179,7 +179,7 @@ verify_tried inputs kinds files pairing e (inl missing) = inr (missing.0, missin
 verify_tried inputs kinds files pairing e (inr h) = inl h.0
 
 verify_refused : (inputs : Inputs) (kinds : KindCodes) (files : PairFiles) (pairing : List ℕ) (out : Seen) (e : RunFault) → VerifyFileFault inputs kinds files pairing e
-    → status_of_fault e ≡ 2 → Says out (ended (words_of_fault e (verify_paths_of files pairing))) → SaysVerifyRefusal inputs out kinds files pairing
+    → status_of_fault e ≡ 2 → Prints out (ended (words_of_fault e (verify_paths_of files pairing))) → SaysVerifyRefusal inputs out kinds files pairing
 verify_refused inputs kinds files pairing out e (inl missing) two line = absurd (omega (arith, ap status_of_fault missing.2, two))
 verify_refused inputs kinds files pairing out e (inr h) two line = inl (match_refused out kinds (verify_paths_of files pairing) refl inputs files _ _ (λ _. ⊥) e h.1 two line)
 
@@ -196,7 +196,7 @@ module _ (inputs : Inputs) (why : Why) (out err : Seen) (kinds : KindCodes) (fil
   pub verify_status : (r : Result Bool VerifyRunFault) → IfOk r (λ answer. OfFive inputs files pairing (λ scd dic a b f. IsVerifiedUnder kinds scd dic a b f answer))
       → IfErr r (λ e. MatchRun e (VerifyFileFault inputs kinds files pairing) (λ at. OfFive inputs files pairing (λ s d a b f. RefusesFile kinds s d a b f at)))
       → IsAnsweredAs (status_for (verified_outcome r)) s
-      → (s < 3 → Says out (ended (words_for (verified_outcome r) (verify_paths_of files pairing)))) → (status_for (verified_outcome r) < 3 → s ≡ 4 → IsTrue out.failed)
+      → (s < 3 → Prints out (ended (words_for (verified_outcome r) (verify_paths_of files pairing)))) → (status_for (verified_outcome r) < 3 → s ≡ 4 → IsTrue out.failed)
       → (3 ≤ status_for (verified_outcome r) → s ≡ 4 → WarnsWhy why err (verified_outcome r) (verify_paths_of files pairing)) → (s ≡ 5 → Warns err (ended (codes "out of memory")))
       → IsVerifyStatus inputs why out err kinds files pairing s
   verify_status (Ok true) h fault contents line stopped warned memory = record {

@@ -18,7 +18,7 @@ use Rattle.edicad.specs.inner.Outcome.{outcome_for}
 use Rattle.edicad.specs.Reasons.{Why}
 use Rattle.edicad.specs.declared.outcome.Outcome.TheVariants as outcome
 use Rattle.edicad.specs.SheetRuns.{AreFourThere, PutFault, FileFault, FirstOfFourMissing, Inputs, IsInput, MatchPairFault, OfFiles, OfPair, PairFileFault}
-use Rattle.edicad.specs.Statuses.{AreTried, IsCompareStatus, IsAnsweredAs, MeansStatus, Says, SaysPairRefusal, SaysRefusal, Warns, WarnsWhy, pair_paths_of}
+use Rattle.edicad.specs.Statuses.{AreTried, IsCompareStatus, IsAnsweredAs, MeansStatus, Prints, SaysPairRefusal, SaysRefusal, Warns, WarnsWhy, pair_paths_of}
 use Rattle.edicad.proofs.Made.{files_map, pair_map, parts_map, were_four}
 
 -- a run that ends with 2 has an outcome of status 2
@@ -29,11 +29,11 @@ answered_two status s (inr (inr e)) two = absurd (omega (arith, e.1, two))
 
 -- a refusal is said as its line
 module _ (out : Seen) (kinds : KindCodes) (names : List (List ℕ)) (alone : first_text (length names) ≡ []) where
-  says_sheet : (f : Fault) → Says out (ended (sheet_text (first_text (length names)) f)) → Says out (ended (sheet_text [] f))
-  says_sheet f line = subst (λ which. Says out (ended (sheet_text which f))) alone line
+  says_sheet : (f : Fault) → Prints out (ended (sheet_text (first_text (length names)) f)) → Prints out (ended (sheet_text [] f))
+  says_sheet f line = subst (λ which. Prints out (ended (sheet_text which f))) alone line
 
   pub file_refused : (inputs : Inputs) (files : SheetFiles) (W : ℕ → Type 0) (e : RunFault) → FileFault inputs kinds files W e → status_of_fault e ≡ 2
-      → Says out (ended (words_of_fault e names)) → OfFiles inputs files (SaysRefusal out kinds)
+      → Prints out (ended (words_of_fault e names)) → OfFiles inputs files (SaysRefusal out kinds)
   file_refused inputs files W e (inl missing) two line = absurd (omega (arith, ap status_of_fault missing.2, two))
   file_refused inputs files W (Memory e) (inr h) two line = absurd (omega (arith, two))
   file_refused inputs files W (Read n) (inr h) two line = absurd (omega (arith, two))
@@ -44,12 +44,12 @@ module _ (out : Seen) (kinds : KindCodes) (names : List (List ℕ)) (alone : fir
   file_refused inputs files W (Write w) (inr h) two line = absurd (omega (arith, two))
 
   pub put_refused : (inputs : Inputs) (is_one : List ℕ → List ℕ → Bool → Type 0) (files : SheetFiles) (path : List ℕ) (W : ℕ → Type 0) (e : RunFault)
-      → PutFault inputs is_one kinds files path W e → status_of_fault e ≡ 2 → Says out (ended (words_of_fault e names)) → OfFiles inputs files (SaysRefusal out kinds)
+      → PutFault inputs is_one kinds files path W e → status_of_fault e ≡ 2 → Prints out (ended (words_of_fault e names)) → OfFiles inputs files (SaysRefusal out kinds)
   put_refused inputs is_one files path W e (inl input) two line = absurd (omega (arith, ap status_of_fault input.1, two))
   put_refused inputs is_one files path W e (inr h) two line = file_refused inputs files W e h.1 two line
 
   pub input_refused : (contents : Option (List ℕ)) (failed : Bool) (W : ℕ → Type 0) (e : RunFault) → InputFault kinds contents failed W e → status_of_fault e ≡ 2
-      → Says out (ended (words_of_fault e names)) → IfSome contents (λ b. OfParts b (SaysRefusal out kinds))
+      → Prints out (ended (words_of_fault e names)) → IfSome contents (λ b. OfParts b (SaysRefusal out kinds))
   input_refused contents failed W (Memory e) h two line = absurd (omega (arith, two))
   input_refused contents failed W (Read n) h two line = absurd (omega (arith, two))
   input_refused contents failed W (TooLong n) h two line = absurd (omega (arith, two))
@@ -76,18 +76,18 @@ pair_tried inputs kinds files W e (inr h) = inl h.0
 -- a refusal of one of two sheets is said as its line
 module _ (out : Seen) (kinds : KindCodes) (names : List (List ℕ)) (two_sheets : first_text (length names) ≡ codes "first ") where
   pub match_refused : (inputs : Inputs) (files : PairFiles) (R T W : ℕ → Type 0) (e : RunFault) → MatchPairFault inputs kinds files R T W e → status_of_fault e ≡ 2
-      → Says out (ended (words_of_fault e names)) → OfPair inputs files (SaysPairRefusal out kinds)
+      → Prints out (ended (words_of_fault e names)) → OfPair inputs files (SaysPairRefusal out kinds)
   match_refused inputs files R T W (Memory e) h two line = absurd (omega (arith, two))
   match_refused inputs files R T W (Read n) h two line = absurd (omega (arith, two))
   match_refused inputs files R T W (TooLong n) h two line = absurd (omega (arith, two))
   match_refused inputs files R T W (Schema f) h two line = pair_map inputs files _ _ (λ s d a b r. inl (f, r, line)) h
   match_refused inputs files R T W (First f) h two line =
-      pair_map inputs files _ _ (λ s d a b r. inr (inl (f, r, subst (λ which. Says out (ended (sheet_text which f))) two_sheets line))) h
+      pair_map inputs files _ _ (λ s d a b r. inr (inl (f, r, subst (λ which. Prints out (ended (sheet_text which f))) two_sheets line))) h
   match_refused inputs files R T W (Second f) h two line = pair_map inputs files _ _ (λ s d a b r. inr (inr (f, r, line))) h
   match_refused inputs files R T W (Write w) h two line = absurd (omega (arith, two))
 
   pub pair_refused : (inputs : Inputs) (files : PairFiles) (W : ℕ → Type 0) (e : RunFault) → PairFileFault inputs kinds files W e → status_of_fault e ≡ 2
-      → Says out (ended (words_of_fault e names)) → OfPair inputs files (SaysPairRefusal out kinds)
+      → Prints out (ended (words_of_fault e names)) → OfPair inputs files (SaysPairRefusal out kinds)
   pair_refused inputs files W e (inl missing) two line = absurd (omega (arith, ap status_of_fault missing.2, two))
   pair_refused inputs files W e (inr h) two line = match_refused inputs files _ _ W e h.1 two line
 
@@ -175,7 +175,7 @@ not_one_of_zero s one (inr (inr e)) = absurd (omega (arith, e.1, one))
 -- the status of a comparison
 module _ (inputs : Inputs) (why : Why) (out err : Seen) (kinds : KindCodes) (files : PairFiles) (s : ℕ) where
   of_fault : (e : RunFault) → PairFileFault inputs kinds files (λ _. ⊥) e → IsAnsweredAs (status_of_fault e) s
-      → (s < 3 → Says out (ended (words_of_fault e (pair_paths_of files (codes "-"))))) → (status_of_fault e < 3 → s ≡ 4 → IsTrue out.failed)
+      → (s < 3 → Prints out (ended (words_of_fault e (pair_paths_of files (codes "-"))))) → (status_of_fault e < 3 → s ≡ 4 → IsTrue out.failed)
       → (3 ≤ status_of_fault e → s ≡ 4 → WarnsWhy why err (outcome.Fault e) (pair_paths_of files (codes "-"))) → (s ≡ 5 → Warns err (ended (codes "out of memory")))
       → IsCompareStatus inputs why out err kinds files s
   of_fault e h contents line stopped warned memory = record {
@@ -188,7 +188,7 @@ module _ (inputs : Inputs) (why : Why) (out err : Seen) (kinds : KindCodes) (fil
 
   pub compare_status : (r : Result Verdict RunFault) → IfOk r (λ v. OfPair inputs files (λ scd dic a b. IsVerdictOf kinds scd dic a b v))
       → IfErr r (PairFileFault inputs kinds files (λ _. ⊥)) → IsAnsweredAs (status_for (outcome_for r)) s
-      → (s < 3 → Says out (ended (words_for (outcome_for r) (pair_paths_of files (codes "-"))))) → (status_for (outcome_for r) < 3 → s ≡ 4 → IsTrue out.failed)
+      → (s < 3 → Prints out (ended (words_for (outcome_for r) (pair_paths_of files (codes "-"))))) → (status_for (outcome_for r) < 3 → s ≡ 4 → IsTrue out.failed)
       → (3 ≤ status_for (outcome_for r) → s ≡ 4 → WarnsWhy why err (outcome_for r) (pair_paths_of files (codes "-"))) → (s ≡ 5 → Warns err (ended (codes "out of memory")))
       → IsCompareStatus inputs why out err kinds files s
   compare_status (Ok (verdict.Same pairing)) h fault contents line stopped warned memory = record {

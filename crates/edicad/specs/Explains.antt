@@ -18,7 +18,7 @@ use Rattle.edi_words.specs.declared.words.SheetFiles.{SheetFiles}
 use Rattle.edicad.specs.Outcome.{ended, input_name, schema_text, sheet_text}
 use Rattle.edicad.specs.Reasons.{Why}
 use Rattle.edicad.specs.SheetRuns.{FileFault, Inputs, OfFiles}
-use Rattle.edicad.specs.Statuses.{AreTried, MeansStatus, Says, Warns, paths_of}
+use Rattle.edicad.specs.Statuses.{AreTried, MeansStatus, Prints, Warns, paths_of}
 
 -- an accepted sheet: that it is accepted, and the lines on its plan
 abbrev pub TellsPlan : KindCodes → List ℕ → List ℕ → List ℕ → List ℕ → Type 0
@@ -54,13 +54,13 @@ TellsRefusal kinds files scd dic b text = (cause hints : List ℕ) × TellsCause
 -- The status of a run that explains a sheet, as that of a check; the output gets the check's line and what explains it.
 pub record IsExplainStatus (inputs : Inputs) (why : Why) (out err : Seen) (kinds : KindCodes) (files : SheetFiles) (s : ℕ) : Type 0 where
   pub tried : AreTried inputs files
-  pub means : MeansStatus (OfFiles inputs files (λ scd dic b. (text : List ℕ) × TellsAccepted kinds scd dic b text × Says out text))
-      (OfFiles inputs files (λ scd dic b. (text : List ℕ) × TellsRefusal kinds files scd dic b text × Says out text))
+  pub means : MeansStatus (OfFiles inputs files (λ scd dic b. (text : List ℕ) × TellsAccepted kinds scd dic b text × Prints out text))
+      (OfFiles inputs files (λ scd dic b. (text : List ℕ) × TellsRefusal kinds files scd dic b text × Prints out text))
       (FileFault inputs kinds files (λ _. ⊥)) why (paths_of files (codes "-")) out err s
 
 -- The status of a run that explains a rule: 0 only where its page went out, 3 only where the word is no rule's number.
 pub record IsRuleStatus (out err : Seen) (word : List ℕ) (s : ℕ) : Type 0 where
-  pub done : s ≡ 0 → (text : RuleText) × IsRuleWord word text.rule × Says out (rule_page text)
+  pub done : s ≡ 0 → (text : RuleText) × IsRuleWord word text.rule × Prints out (rule_page text)
   pub unknown : s ≡ 3 → ((rule : ℕ) → ¬ IsRuleWord word rule) × Warns err (ended (codes "no rule has this number"))
   pub failed : s ≡ 4 → IsTrue out.failed
   pub memory : s ≡ 5 → Warns err (ended (codes "out of memory"))

@@ -20,7 +20,7 @@ use Rattle.edicad.specs.Outcome.{ended, schema_text, sheet_fault_text, status_of
 use Rattle.edicad.specs.Reasons.{IsReasonOf, Why, reason_line}
 use Rattle.edicad.specs.declared.reason.Reason.{Reason}
 use Rattle.edicad.specs.SheetRuns.{Gives, HoldsTooMuch, Inputs, IsMissing, IsThere}
-use Rattle.edicad.specs.Statuses.{MeansStatus, Says, Warns}
+use Rattle.edicad.specs.Statuses.{MeansStatus, Prints, Warns}
 use Rattle.edi_words.specs.declared.words.ManyFiles.{ManyFiles}
 
 -- the digest of the canonical file of the sheet b
@@ -56,11 +56,11 @@ IsAnswerOf inputs s path (Err e) = HashFault inputs s path e
 abbrev pub backslash : ℕ
 backslash = 92
 
-abbrev pub letter_n : ℕ
-letter_n = 110
+abbrev pub line_feed_letter : ℕ
+line_feed_letter = 110
 
-abbrev pub letter_r : ℕ
-letter_r = 114
+abbrev pub carriage_return_letter : ℕ
+carriage_return_letter = 114
 
 -- a backslash, a line feed or a carriage return, which a line shows by an escape
 abbrev pub is_escaped : ℕ → Bool
@@ -70,12 +70,12 @@ is_escaped x = (x == backslash) || ((x == line_feed) || (x == carriage_return))
 abbrev pub shown_byte : ℕ → List ℕ
 shown_byte x =
     if x == backslash then backslash ∷ backslash ∷ []
-    else if x == line_feed then backslash ∷ letter_n ∷ []
-    else if x == carriage_return then backslash ∷ letter_r ∷ []
+    else if x == line_feed then backslash ∷ line_feed_letter ∷ []
+    else if x == carriage_return then backslash ∷ carriage_return_letter ∷ []
     else x ∷ []
 
-abbrev pub shown : List ℕ → List ℕ
-shown name = flat_map shown_byte name
+abbrev pub shown_name : List ℕ → List ℕ
+shown_name name = flat_map shown_byte name
 
 -- a backslash before a line whose name has an escape
 abbrev pub mark_of : List ℕ → List ℕ
@@ -83,11 +83,11 @@ mark_of name = if list_any is_escaped name then backslash ∷ [] else []
 
 -- the digits of the digest, two spaces and the name
 abbrev pub digest_line : List ℕ → List ℕ → List ℕ
-digest_line digest name = mark_of name ++ encode_lower digest ++ codes "  " ++ shown name ++ line_feed ∷ []
+digest_line digest name = mark_of name ++ encode_lower digest ++ codes "  " ++ shown_name name ++ line_feed ∷ []
 
 -- the name, and what is wrong with its sheet
 abbrev pub fault_line : RunFault → List ℕ → List ℕ
-fault_line e name = mark_of name ++ shown name ++ codes ": " ++ ended (sheet_fault_text e)
+fault_line e name = mark_of name ++ shown_name name ++ codes ": " ++ ended (sheet_fault_text e)
 
 -- what a sheet adds to the output and to the errors, and its status
 pub record Step : Type 0 where
@@ -101,7 +101,7 @@ abbrev pub IsStep : Inputs → Why → Classes → List ℕ → Step → Type 0
 IsStep inputs why s path step =
     ((digest : List ℕ) × IsAnswerOf inputs s path (Ok digest) × (step ≡ record { out = digest_line digest path; err = []; status = 0 }))
     ⊎ (((e : RunFault) × (reason : Option Reason) × IsAnswerOf inputs s path (Err e) × IsReasonOf why e path reason
-    × (step ≡ record { out = []; err = fault_line e path ++ reason_line (shown path) reason; status = status_of_fault e }))
+    × (step ≡ record { out = []; err = fault_line e path ++ reason_line (shown_name path) reason; status = status_of_fault e }))
     ⊎ ((answer : Result (List ℕ) RunFault) × IsAnswerOf inputs s path answer × (step ≡ record { out = []; err = ended (codes "out of memory"); status = 5 })))
 
 -- the greatest status
@@ -118,14 +118,14 @@ said_err steps = flat_map (λ (step : Step). step.err) steps
 -- Each sheet was answered, in order: the streams got what the sheets add, and the status is the greatest of theirs.
 abbrev pub AreAnswered : Inputs → Why → Classes → Seen → Seen → List (List ℕ) → ℕ → Type 0
 AreAnswered inputs why s out err paths status =
-    (steps : List Step) × AllZip (IsStep inputs why s) paths steps × Says out (said_out steps) × Warns err (said_err steps) × (status ≡ worst_of steps)
+    (steps : List Step) × AllZip (IsStep inputs why s) paths steps × Prints out (said_out steps) × Warns err (said_err steps) × (status ≡ worst_of steps)
 
 -- Each sheet before that of a path was answered, and the output failed in the line of that one.
 abbrev pub IsCutOff : Inputs → Why → Classes → Seen → Seen → List (List ℕ) → ℕ → Type 0
 IsCutOff inputs why s out err paths status =
     (done : List (List ℕ)) × (path : List ℕ) × (more : List (List ℕ)) × (steps : List Step) × (digest : List ℕ) × (count : ℕ)
     × (paths ≡ done ++ path ∷ more) × AllZip (IsStep inputs why s) done steps × IsAnswerOf inputs s path (Ok digest)
-    × Says out (said_out steps ++ take count (digest_line digest path)) × IsTrue out.failed
+    × Prints out (said_out steps ++ take count (digest_line digest path)) × IsTrue out.failed
     × Warns err (said_err steps ++ ended (codes "cannot write standard output")) × (status ≡ 4)
 
 abbrev pub AnswersAll : Inputs → Why → Classes → Seen → Seen → List (List ℕ) → ℕ → Type 0
@@ -171,4 +171,4 @@ abbrev pub IsHashStatus : Inputs → Why → Seen → Seen → KindCodes → Man
 IsHashStatus inputs why out err kinds files status =
     ((s : Classes) × GivesSchema inputs kinds files s × AnswersAll inputs why s out err (map (λ p. p.now) files.sheets.items) status)
     ⊎ (TriesSchema inputs files
-    × MeansStatus ⊥ (RefusesFiles inputs kinds files (λ f. Says out (ended (schema_text f)))) (SchemaFault inputs kinds files) why (schema_paths_of files) out err status)
+    × MeansStatus ⊥ (RefusesFiles inputs kinds files (λ f. Prints out (ended (schema_text f)))) (SchemaFault inputs kinds files) why (schema_paths_of files) out err status)

@@ -62,12 +62,12 @@ abbrev pub IsStatus : ℕ → Type 0
 IsStatus s = ((words : List (List ℕ)) × HasStatus words s) ⊎ ((s ≡ 3) ⊎ (s ≡ 5))
 
 -- a stream over a run got this text and nothing else
-abbrev pub Says : Seen → List ℕ → Type 0
-Says stream text = Appends stream.before stream.after text
+abbrev pub Prints : Seen → List ℕ → Type 0
+Prints stream text = Appends stream.before stream.after text
 
 -- a stream got the first bytes of the text and nothing else
-abbrev pub SaysFirst : Seen → ℕ → List ℕ → Type 0
-SaysFirst stream count text = (count ≤ length text) × Says stream (take count text)
+abbrev pub PrintsFirst : Seen → ℕ → List ℕ → Type 0
+PrintsFirst stream count text = (count ≤ length text) × Prints stream (take count text)
 
 -- the text went out, or the writer has failed
 abbrev pub GoesOut : Option (List ℕ) → Option (List ℕ) → Bool → List ℕ → Type 0
@@ -102,8 +102,8 @@ pub record MeansStatus (Done Refused : Type 0) (IsFault : RunFault → Type 0) (
 -- the schema or the sheet is refused, and the line of the refusal went out
 abbrev pub SaysRefusal : Seen → KindCodes → List ℕ → List ℕ → List ℕ → Type 0
 SaysRefusal out kinds scd dic b =
-    ((f : SchemaFault) × RefusesSchema kinds scd dic f × Says out (ended (schema_text f)))
-    ⊎ ((f : Fault) × RefusesSheet kinds scd dic b f × Says out (ended (sheet_text [] f)))
+    ((f : SchemaFault) × RefusesSchema kinds scd dic f × Prints out (ended (schema_text f)))
+    ⊎ ((f : Fault) × RefusesSheet kinds scd dic b f × Prints out (ended (sheet_text [] f)))
 
 -- each file was opened, or one is missing
 abbrev pub AreTried : Inputs → SheetFiles → Type 0
@@ -113,7 +113,7 @@ AreTried inputs files = AreThere inputs files ⊎ ((n : ℕ) × FirstMissing inp
 -- refused one, and each is said. No status comes before the files were opened.
 pub record IsFileStatus (inputs : Inputs) (why : Why) (out err : Seen) (kinds : KindCodes) (files : SheetFiles) (s : ℕ) : Type 0 where
   pub tried : AreTried inputs files
-  pub means : MeansStatus (OfFiles inputs files (IsSheetUnder kinds) × Says out (ended (codes "accepted"))) (OfFiles inputs files (SaysRefusal out kinds))
+  pub means : MeansStatus (OfFiles inputs files (IsSheetUnder kinds) × Prints out (ended (codes "accepted"))) (OfFiles inputs files (SaysRefusal out kinds))
       (FileFault inputs kinds files (λ _. ⊥)) why (paths_of files (codes "-")) out err s
 
 -- The same of a run that puts what is made of the sheet at a path: Puts says of bytes that they are there, and Stops why
@@ -121,14 +121,14 @@ pub record IsFileStatus (inputs : Inputs) (why : Why) (out err : Seen) (kinds : 
 pub record IsPutStatus (inputs : Inputs) (is_one : List ℕ → List ℕ → Bool → Type 0) (why : Why) (out err : Seen) (product : Product) (kinds : KindCodes) (files : SheetFiles)
     (path : List ℕ) (Puts : List ℕ → Type 0) (Stops : ℕ → List ℕ → Type 0) (s : ℕ) : Type 0 where
   pub tried : IsInput is_one files path ⊎ AreTried inputs files
-  pub means : MeansStatus (OfMade inputs product kinds files Puts × Says out (ended (codes "accepted"))) (OfFiles inputs files (SaysRefusal out kinds))
+  pub means : MeansStatus (OfMade inputs product kinds files Puts × Prints out (ended (codes "accepted"))) (OfFiles inputs files (SaysRefusal out kinds))
       (PutFault inputs is_one kinds files path (λ count. OfMade inputs product kinds files (Stops count))) why (paths_of files path) out err s
 
 -- The same of a run that sends what is made of the sheet to the output, which gets nothing else.
 pub record IsSendStatus (inputs : Inputs) (why : Why) (out err : Seen) (product : Product) (kinds : KindCodes) (files : SheetFiles) (s : ℕ) : Type 0 where
   pub tried : AreTried inputs files
-  pub means : MeansStatus (OfMade inputs product kinds files (Says out)) (OfFiles inputs files (SaysRefusal out kinds))
-      (FileFault inputs kinds files (λ count. IsTrue out.failed × OfMade inputs product kinds files (SaysFirst out count)))
+  pub means : MeansStatus (OfMade inputs product kinds files (Prints out)) (OfFiles inputs files (SaysRefusal out kinds))
+      (FileFault inputs kinds files (λ count. IsTrue out.failed × OfMade inputs product kinds files (PrintsFirst out count)))
       why (paths_of files (codes "-")) out err s
 
 -- The status of a run over a bundle: 0 only where its canonical file went out, 2 only of a refused sheet.
@@ -143,18 +143,18 @@ IsBundleStatus inputs why out err s = (contents : Option (List ℕ)) × (failed 
 -- the schema, the first sheet, or the second where the first is accepted, is refused, and the line of the refusal went out
 abbrev pub SaysPairRefusal : Seen → KindCodes → List ℕ → List ℕ → List ℕ → List ℕ → Type 0
 SaysPairRefusal out kinds scd dic a b =
-    ((f : SchemaFault) × RefusesSchema kinds scd dic f × Says out (ended (schema_text f)))
-    ⊎ (((f : Fault) × RefusesSheet kinds scd dic a f × Says out (ended (sheet_text (codes "first ") f)))
-    ⊎ ((f : Fault) × RefusesSecond kinds scd dic a b f × Says out (ended (sheet_text (codes "second ") f))))
+    ((f : SchemaFault) × RefusesSchema kinds scd dic f × Prints out (ended (schema_text f)))
+    ⊎ (((f : Fault) × RefusesSheet kinds scd dic a f × Prints out (ended (sheet_text (codes "first ") f)))
+    ⊎ ((f : Fault) × RefusesSecond kinds scd dic a b f × Prints out (ended (sheet_text (codes "second ") f))))
 
 -- The status of a run over two sheets: 0 only where a pairing carries the one plan onto the other, 1 only where the plans
 -- are not the same, 2 only where a sheet is refused, and each is said.
 pub record IsCompareStatus (inputs : Inputs) (why : Why) (out err : Seen) (kinds : KindCodes) (files : PairFiles) (s : ℕ) : Type 0 where
   pub tried : AreFourThere inputs files ⊎ ((n : ℕ) × FirstOfFourMissing inputs files n)
   pub different : s ≡ 1 → (line : ℕ) × OfPair inputs files (λ scd dic a b. IsVerdictOf kinds scd dic a b (Different line))
-      × Says out (ended (codes "different at line " ++ decimal line))
+      × Prints out (ended (codes "different at line " ++ decimal line))
   pub means : MeansStatus
-      (((pairing : Pairing) × OfPair inputs files (λ scd dic a b. IsVerdictOf kinds scd dic a b (Same pairing))) × Says out (ended (codes "same")))
+      (((pairing : Pairing) × OfPair inputs files (λ scd dic a b. IsVerdictOf kinds scd dic a b (Same pairing))) × Prints out (ended (codes "same")))
       (OfPair inputs files (SaysPairRefusal out kinds)) (PairFileFault inputs kinds files (λ _. ⊥)) why (pair_paths_of files (codes "-")) out err s
 
 -- The same of a run that puts a pairing at a path where the plans are the same: Puts says of bytes that they are there, and
@@ -163,29 +163,29 @@ pub record IsPairingStatus (inputs : Inputs) (is_one : List ℕ → List ℕ →
     (Puts : List ℕ → Type 0) (Stops : ℕ → List ℕ → Type 0) (s : ℕ) : Type 0 where
   pub tried : IsPairInput is_one files path ⊎ (AreFourThere inputs files ⊎ ((n : ℕ) × FirstOfFourMissing inputs files n))
   pub different : s ≡ 1 → (line : ℕ) × OfPair inputs files (λ scd dic a b. IsVerdictOf kinds scd dic a b (Different line))
-      × Says out (ended (codes "different at line " ++ decimal line))
-  pub means : MeansStatus (OfPairing inputs kinds files Puts × Says out (ended (codes "same"))) (OfPair inputs files (SaysPairRefusal out kinds))
+      × Prints out (ended (codes "different at line " ++ decimal line))
+  pub means : MeansStatus (OfPairing inputs kinds files Puts × Prints out (ended (codes "same"))) (OfPair inputs files (SaysPairRefusal out kinds))
       (PutPairFault inputs is_one kinds files path (λ count. OfPairing inputs kinds files (Stops count))) why (pair_paths_of files path) out err s
 
 -- the schema or a sheet is refused, or the pairing's file where both sheets are accepted, and the line of the refusal went out
 abbrev pub SaysVerifyRefusal : Inputs → Seen → KindCodes → PairFiles → List ℕ → Type 0
 SaysVerifyRefusal inputs out kinds files pairing =
     OfPair inputs files (SaysPairRefusal out kinds)
-    ⊎ ((at : ℕ) × OfFive inputs files pairing (λ scd dic a b f. RefusesFile kinds scd dic a b f at) × Says out (ended (codes "refused pairing line " ++ decimal at)))
+    ⊎ ((at : ℕ) × OfFive inputs files pairing (λ scd dic a b f. RefusesFile kinds scd dic a b f at) × Prints out (ended (codes "refused pairing line " ++ decimal at)))
 
 -- The status of a run that checks a pairing's file: 0 only where it states a pairing that carries the one plan onto the other,
 -- 1 only where it states one that doesn't, 2 only where a sheet or the file is refused, and each is said.
 pub record IsVerifyStatus (inputs : Inputs) (why : Why) (out err : Seen) (kinds : KindCodes) (files : PairFiles) (pairing : List ℕ) (s : ℕ) : Type 0 where
   pub tried : AreFiveThere inputs files pairing ⊎ ((n : ℕ) × FirstOfFiveMissing inputs files pairing n)
-  pub unpaired : s ≡ 1 → OfFive inputs files pairing (λ scd dic a b f. IsVerifiedUnder kinds scd dic a b f false) × Says out (ended (codes "does not pair"))
-  pub means : MeansStatus (OfFive inputs files pairing (λ scd dic a b f. IsVerifiedUnder kinds scd dic a b f true) × Says out (ended (codes "pairs")))
+  pub unpaired : s ≡ 1 → OfFive inputs files pairing (λ scd dic a b f. IsVerifiedUnder kinds scd dic a b f false) × Prints out (ended (codes "does not pair"))
+  pub means : MeansStatus (OfFive inputs files pairing (λ scd dic a b f. IsVerifiedUnder kinds scd dic a b f true) × Prints out (ended (codes "pairs")))
       (SaysVerifyRefusal inputs out kinds files pairing) (VerifyFileFault inputs kinds files pairing) why (verify_paths_of files pairing) out err s
 
 -- this differs between the two sheets, the plans are the same or not, and the text of the difference went out
 abbrev pub TellsDifference : Inputs → Seen → KindCodes → PairFiles → Bool → Bool → Type 0
 TellsDifference inputs out kinds files brief same =
     (difference : Difference) × OfPair inputs files (λ scd dic a b. IsDifferenceUnder kinds scd dic a b brief difference) × (difference.same ≡ same)
-    × Says out difference.text.items
+    × Prints out difference.text.items
 
 -- The status of a run that reports what differs between two sheets: 0 only where the plans are the same, 1 only where they are
 -- not, and the output gets the text of the difference; 2 only where a sheet is refused, which is said.
@@ -199,7 +199,7 @@ pub record IsDiffStatus (inputs : Inputs) (why : Why) (out err : Seen) (kinds : 
 -- difference went out
 abbrev pub TellsDrawnDifference : Inputs → Seen → KindCodes → PairFiles → Bool → (List ℕ → Type 0) → Bool → Type 0
 TellsDrawnDifference inputs out kinds files brief Puts same =
-    (difference : Difference) × OfMadePair inputs (ShowsDifference kinds brief difference) files Puts × (difference.same ≡ same) × Says out difference.text.items
+    (difference : Difference) × OfMadePair inputs (ShowsDifference kinds brief difference) files Puts × (difference.same ≡ same) × Prints out difference.text.items
 
 -- The same of a run that also puts a picture of what differs at a path: Puts says of bytes that they are there, and Stops why
 -- they are not.

@@ -3,7 +3,7 @@
 //! What they hold can't be known, so nothing of it is claimed, nor of why the system refuses a step.
 ghost use Rattle.std.specs.Prelude.{[], None, ⊤};
 
-use crate::folder::{Draft, Folder, OutFault, Target};
+use crate::folder::{Destination, FileDraft, Folder, OutFault};
 use crate::reason::Reason;
 use edi_line::{ByteOut, FromRead};
 use std::alloc::AllocError;
@@ -45,18 +45,18 @@ impl<'a, R: Files> Disk<'a, R, R::File> {
 
 /// What is read: a file, or standard input.
 #[derive(Drop)]
-pub enum Source<F, I> {
+pub enum FileOrInput<F, I> {
     File(F),
     Input(I),
 }
 
-impl<F: Read, I: Read> Read for Source<F, I> {
+impl<F: Read, I: Read> Read for FileOrInput<F, I> {
     ghost remaining = { λ _. None };
 
     fn read(&mut self, buf: &mut [u8]) -> io::Result<usize> {
         match self {
-            Source::File(file) => file.read(buf),
-            Source::Input(input) => input.read(buf),
+            FileOrInput::File(file) => file.read(buf),
+            FileOrInput::Input(input) => input.read(buf),
         }
     }
 }
@@ -115,7 +115,7 @@ impl<F: Write> ByteOut for OutFile<F> {
 }
 
 impl<R: Files + Input + AllocGlobal> Folder for Disk<'_, R, R::File> {
-    type Reader = FromRead<Source<R::File, R::Reader>>;
+    type Reader = FromRead<FileOrInput<R::File, R::Reader>>;
 
     type Sink = OutFile<R::File>;
 
@@ -147,11 +147,11 @@ impl<R: Files + Input + AllocGlobal> Folder for Disk<'_, R, R::File> {
 
     ghost place = { λ _. [] };
 
-    fn open(&self, path: &str) -> Option<FromRead<Source<R::File, R::Reader>>> {
+    fn open(&self, path: &str) -> Option<FromRead<FileOrInput<R::File, R::Reader>>> {
         match fs::open(self.rt, path) {
             Ok(file) => {
                 self.why.set(None);
-                Some(FromRead::new(Source::File(file)))
+                Some(FromRead::new(FileOrInput::File(file)))
             }
             Err(error) => {
                 self.why.set(reason_of(&error));
@@ -160,8 +160,8 @@ impl<R: Files + Input + AllocGlobal> Folder for Disk<'_, R, R::File> {
         }
     }
 
-    fn input(&self) -> FromRead<Source<R::File, R::Reader>> {
-        FromRead::new(Source::Input(self.rt.reader()))
+    fn input(&self) -> FromRead<FileOrInput<R::File, R::Reader>> {
+        FromRead::new(FileOrInput::Input(self.rt.reader()))
     }
 
     fn is_one_file(&self, path: &str, other: &str) -> bool {
@@ -171,12 +171,12 @@ impl<R: Files + Input + AllocGlobal> Folder for Disk<'_, R, R::File> {
         }
     }
 
-    fn target(&self, path: &str) -> Option<Target> {
+    fn target(&self, path: &str) -> Option<Destination> {
         match fs::metadata(self.rt, path) {
-            Ok(found) if found.is_file() => Some(Target::File),
+            Ok(found) if found.is_file() => Some(Destination::File),
             Ok(found) if found.is_dir() => None,
-            Ok(_) => Some(Target::Stream),
-            Err(error) if error.kind() == io::ErrorKind::NotFound => Some(Target::File),
+            Ok(_) => Some(Destination::Stream),
+            Err(error) if error.kind() == io::ErrorKind::NotFound => Some(Destination::File),
             Err(error) => {
                 self.why.set(reason_of(&error));
                 None
@@ -194,13 +194,13 @@ impl<R: Files + Input + AllocGlobal> Folder for Disk<'_, R, R::File> {
         }
     }
 
-    fn draft(&mut self, path: &str) -> Result<Draft<OutFile<R::File>, NewName>, OutFault> {
+    fn draft(&mut self, path: &str) -> Result<FileDraft<OutFile<R::File>, NewName>, OutFault> {
         let replaced = replaced_file(self.rt, &self.why, path)?;
         let (file, name) = match &replaced {
             Some(old) => new_file(self.rt, &self.why, old.as_path())?,
             None => new_file(self.rt, &self.why, Path::new(path))?,
         };
-        Ok(Draft {
+        Ok(FileDraft {
             file: OutFile::new(file),
             name: NewName { name, replaced },
         })

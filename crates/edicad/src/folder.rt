@@ -3,7 +3,7 @@ ghost use Rattle.std.specs.Prelude.{◌≡◌, ◌≢◌, ◌⊎◌, ℕ, Bool, 
 ghost use Rattle.std.specs.Bool.{OnFalse, OnTrue};
 ghost use Rattle.std.specs.Io.KnownBytes.{IsAtEnd};
 ghost use Rattle.edicad.specs.Folders.{Goes, IsFree, Leavings, MatchOut};
-ghost use Rattle.edicad.specs.declared.folder.Target.{Target};
+ghost use Rattle.edicad.specs.declared.folder.Destination.{Destination};
 ghost use Rattle.edicad.specs.declared.reason.Reason.{Reason};
 
 use crate::reason::Reason;
@@ -12,7 +12,7 @@ use std::alloc::AllocError;
 
 /// What a path leads to.
 #[derive(Clone, Copy, Debug)]
-pub enum Target {
+pub enum Destination {
     /// A file, or nothing yet.
     File,
     /// What bytes go to as they come: a device or a pipe.
@@ -28,7 +28,7 @@ pub enum OutFault {
 
 /// A new file that is to take the place of another.
 #[derive(Drop)]
-pub struct Draft<W, N> {
+pub struct FileDraft<W, N> {
     /// What it holds.
     pub file: W,
     /// Where it is.
@@ -61,7 +61,7 @@ pub trait Folder {
     ghost is_one: { Self → List ℕ → List ℕ → Bool → Type 0 };
 
     /// What a path leads to.
-    ghost leads: { Self → List ℕ → Target → Type 0 };
+    ghost leads: { Self → List ℕ → Destination → Type 0 };
 
     /// A path can't be written to.
     ghost unwritable: { Self → List ℕ → Type 0 };
@@ -97,17 +97,17 @@ pub trait Folder {
         ensures { is_one self.now path.now other.now result };
 
     /// What a path leads to, if it can be written to.
-    fn target(&self, path: &str) -> Option<Target>
+    fn target(&self, path: &str) -> Option<Destination>
         ensures { MatchOption result (unwritable self.now path.now) (leads self.now path.now) };
 
     /// The stream of a path, to write to it.
     fn sink(&self, path: &str) -> Option<Self::Sink>
-        requires { leads self.now path.now Target.Stream }
+        requires { leads self.now path.now Destination.Stream }
         ensures { MatchOption result (unwritable self.now path.now) (sinks self.now path.now) };
 
     /// A draft of the file of a path, which is still empty.
-    fn draft(&mut self, path: &str) -> Result<Draft<Self::NewFile, Self::NewName>, OutFault>
-        requires { leads self.old path.now Target.File }
+    fn draft(&mut self, path: &str) -> Result<FileDraft<Self::NewFile, Self::NewName>, OutFault>
+        requires { leads self.old path.now Destination.File }
         ensures empty { IfOk result (λ draft. IsAtEnd (Self.NewFile.contents draft.file)) }
         ensures contents { tells self.old → IfOk result (λ draft. Self.NewFile.contents draft.file ≡ Some []) }
         ensures apart { tells self.old → IfOk result (λ draft. (place draft.name ≢ path.now)

@@ -2,7 +2,7 @@
 ghost use Rattle.std.specs.Prelude.{◌≡◌, ◌⊎◌, ◌++◌, IfErr, IfOk, IsTrue, Option, codes, map};
 ghost use Rattle.std.specs.List.{list_any};
 ghost use Rattle.edi_compare.specs.Runs.{seen};
-ghost use Rattle.edicad.specs.Hashes.{AnswersAll, GivesSchema, IsAnswerOf, IsHashStatus, SchemaFault, digest_line, fault_line, is_escaped, mark_of, shown};
+ghost use Rattle.edicad.specs.Hashes.{AnswersAll, GivesSchema, IsAnswerOf, IsHashStatus, SchemaFault, digest_line, fault_line, is_escaped, mark_of, shown_name};
 ghost use Rattle.edicad.specs.inner.Hashes.{StepsOn, StopsAt};
 ghost use Rattle.edicad.specs.Outcome.{FaultHasNames, ended, status_of_fault};
 ghost use Rattle.edicad.specs.Reasons.{IsReasonOf, reason_line};
@@ -123,7 +123,7 @@ fn known_fault_of<F: Folder, E: ByteOut>(
     err: &mut E,
 ) -> u8
     ensures contents { ((result ≡ status_of_fault fault.now) × ((reason : Option Reason) × IsReasonOf (F.why folder.now) fault.now path.now reason
-        × GoesOut (E.contents err.old) (E.contents err.new) (E.has_failed err.new) (fault_line fault.now path.now ++ reason_line (shown path.now) reason)))
+        × GoesOut (E.contents err.old) (E.contents err.new) (E.has_failed err.new) (fault_line fault.now path.now ++ reason_line (shown_name path.now) reason)))
         ⊎ ((result ≡ 5) × GoesOut (E.contents err.old) (E.contents err.new) (E.has_failed err.new) (ended (codes "out of memory"))) }
     ensures stays { IsTrue (E.has_failed err.old) → IsTrue (E.has_failed err.new) }
 {
@@ -143,7 +143,7 @@ fn lines_of_fault<F: Folder>(
     fault: &RunFault,
     path: &str,
 ) -> Result<Vec<u8>, AllocError>
-    ensures { IfOk result (λ lines. (reason : Option Reason) × IsReasonOf (F.why folder.now) fault.now path.now reason × (lines.items ≡ fault_line fault.now path.now ++ reason_line (shown path.now) reason)) }
+    ensures { IfOk result (λ lines. (reason : Option Reason) × IsReasonOf (F.why folder.now) fault.now path.now reason × (lines.items ≡ fault_line fault.now path.now ++ reason_line (shown_name path.now) reason)) }
 {
     let mut lines = line_of_fault(alloc, fault, path.as_bytes())?;
     let name = shown(alloc, path.as_bytes())?;
@@ -220,7 +220,7 @@ fn is_escaped(byte: u8) -> bool
 
 // A name with its escapes.
 fn shown(alloc: Global, name: &[u8]) -> Result<Vec<u8>, AllocError>
-    ensures { IfOk result (λ text. text.items ≡ shown name.now) }
+    ensures { IfOk result (λ text. text.items ≡ shown_name name.now) }
 {
     let mut text = Vec::with_capacity(alloc, name.len())?;
     for byte in name {

@@ -5,7 +5,7 @@ ghost use Rattle.edi_compare.specs.Runs.{BeforeWriting, MatchFault};
 ghost use Rattle.edicad.specs.Folders.{Goes};
 ghost use Rattle.edicad.specs.Outputs.{IsFilled, IsUnmade, IsWholeOrNew, Pours, Reaches, Stops};
 
-use crate::folder::{Draft, Folder, OutFault, Target};
+use crate::folder::{Destination, FileDraft, Folder, OutFault};
 use edi_compare::RunFault;
 use edi_write::{Written, put_all};
 
@@ -21,15 +21,15 @@ pub fn put<F: Folder>(folder: &mut F, path: &str, bytes: &[u8]) -> Result<(), Ru
         (IsWholeOrNew path.now (F.moment folder.old) (F.left_since folder.old) (λ c. c ≡ bytes.now)) }
 {
     match folder.target(path) {
-        Some(Target::File) => replace(folder, path, bytes),
-        Some(Target::Stream) => pour(folder, path, bytes),
+        Some(Destination::File) => replace(folder, path, bytes),
+        Some(Destination::Stream) => pour(folder, path, bytes),
         None => Err(RunFault::Write(Written { count: 0 })),
     }
 }
 
 // Replaces a file: the bytes go to a draft, which then takes the place of the file.
 fn replace<F: Folder>(folder: &mut F, path: &str, bytes: &[u8]) -> Result<(), RunFault>
-    requires { F.leads folder.old path.now Target.File }
+    requires { F.leads folder.old path.now Destination.File }
     ensures ok { OnOk result (IsFilled (F.holds folder.new path.now) bytes.now) }
     ensures err { IfErr result (λ e. MatchFault e (λ _. ⊥) (λ _. ⊥) (λ _. ⊥) (λ _. ⊥) (λ _. ⊥)
         (λ count. (count ≡ 0) × IsUnmade F.NewFile (F.unwritable folder.new path.now) F.NewFile.has_failed)) }
@@ -37,7 +37,7 @@ fn replace<F: Folder>(folder: &mut F, path: &str, bytes: &[u8]) -> Result<(), Ru
     ensures replaced { F.tells folder.old → Goes (F.moment folder.old) (F.moment folder.new) (F.left_since folder.old) (F.left_since folder.new)
         (IsWholeOrNew path.now (F.moment folder.old) (F.left_since folder.old) (λ c. c ≡ bytes.now)) }
 {
-    let Draft { mut file, name } = match folder.draft(path) {
+    let FileDraft { mut file, name } = match folder.draft(path) {
         Ok(draft) => draft,
         Err(OutFault::Memory(error)) => return Err(RunFault::Memory(error)),
         Err(OutFault::Unwritable) => return Err(RunFault::Write(Written { count: 0 })),
@@ -59,7 +59,7 @@ fn replace<F: Folder>(folder: &mut F, path: &str, bytes: &[u8]) -> Result<(), Ru
 
 // Writes to the stream of a path.
 fn pour<F: Folder>(folder: &F, path: &str, bytes: &[u8]) -> Result<(), RunFault>
-    requires { F.leads folder.now path.now Target.Stream }
+    requires { F.leads folder.now path.now Destination.Stream }
     ensures ok { OnOk result (Pours F.Sink (F.sinks folder.now path.now) F.Sink.contents bytes.now) }
     ensures err { IfErr result (λ e. MatchFault e (λ _. ⊥) (λ _. ⊥) (λ _. ⊥) (λ _. ⊥) (λ _. ⊥)
         (λ count. Stops F.Sink (F.unwritable folder.now path.now) (F.sinks folder.now path.now) F.Sink.contents F.Sink.has_failed count bytes.now)) }

@@ -6,7 +6,7 @@ use Rattle.edi_plan.specs.Plans.{Drawing, IsPlace, record_at}
 use Rattle.edi_plan.specs.declared.record.PlanEnd.{PlanEnd}
 use Rattle.edi_rank.specs.Labelling.{turned_at}
 use Rattle.edi_rank.specs.Same.{class_after, directed, CarriesRecord}
-use Rattle.edi_compare.specs.Pairings.{HasClasses}
+use Rattle.edi_plan.specs.Agreeing.{HasClasses}
 use Rattle.edi_compare.specs.declared.moved_ends.MovedEnd.{MovedEnd}
 
 -- two plans of one schema, the places that the records of the first go to, and which of them are turned

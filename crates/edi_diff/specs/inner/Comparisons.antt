@@ -2,7 +2,7 @@
 use Rattle.std.specs.Prelude.{◌≡◌, ℕ, Bool, List, Option, length}
 use Rattle.edi_schema.specs.Classes.{Classes}
 use Rattle.edi_plan.specs.Plans.{Drawing, IsPlace}
-use Rattle.edi_compare.specs.Pairings.{HasClasses}
+use Rattle.edi_plan.specs.Agreeing.{HasClasses}
 use Rattle.edi_matching.specs.Matchings.{GoesTo, targets_of}
 use Rattle.edi_matching.specs.declared.matching.Matching.{Matching}
 

@@ -6,7 +6,7 @@ use Rattle.edi_schema.specs.Classes.{Classes, partner_of}
 use Rattle.edi_plan.specs.Plans.{Drawing, IsPlace, record_at}
 use Rattle.edi_rank.specs.Labelling.{turned_at}
 use Rattle.edi_rank.specs.Same.{class_after, directed, CarriesRecord}
-use Rattle.edi_compare.specs.Pairings.{HasClasses}
+use Rattle.edi_plan.specs.Agreeing.{HasClasses}
 use Rattle.edi_matching.specs.Matchings.{GoesTo, IsMatched}
 
 -- two plans of one schema, where it is proposed that the records of the first go, if anywhere, the same as places, and which are turned

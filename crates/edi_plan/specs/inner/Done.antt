@@ -7,7 +7,7 @@ use Rattle.edi_schema.specs.Classes.{Classes}
 use Rattle.edi_schema.specs.Roles.{is_plain}
 use Rattle.edi_schema.specs.declared.role.Role.{Role}
 use Rattle.edi_plan.specs.Joined.{beside}
-use Rattle.edi_plan.specs.ReferenceRules.{BreaksReferenceRule, HasRole, Names}
+use Rattle.edi_plan.specs.ReferenceRules.{BreaksReferenceRule, IsLinkOfRole, Names}
 use Rattle.edi_plan.specs.inner.SideTable.{side_at}
 use Rattle.edi_schema.specs.declared.by_role.ByRole.{ByRole}
 
@@ -23,7 +23,7 @@ module _ (s : Classes) (list : List Record) where
   -- a link of one of the four kinds, at a place from 0
   pub record IsLinkAt (k : ℕ) (r : Record) (role : Role) : Type 0 where
     pub here : slice_get list k ≡ Some r
-    pub has_role : HasRole s list r role
+    pub has_role : IsLinkOfRole s list r role
     pub not_plain : is_plain role ≡ false
 
   -- a link before the place joins the arc with x by the role

@@ -10,24 +10,24 @@ use Rattle.edi_record.specs.declared.record.Record.{Record}
 use Rattle.edi_schema.specs.Classes.{is_name}
 use Rattle.edi_plan.specs.PlanOf.{own_name, place_named}
 use Rattle.edi_record.specs.Records.{is_link}
-use Rattle.edi_plan.specs.declared.names.RecordName.{RecordName}
+use Rattle.edi_plan.specs.declared.names.RecordNameRef.{RecordNameRef}
 use Rattle.edi_plan.specs.declared.names.Names.{Names}
 
 -- a name without where it lies in memory
-abbrev pub named : RecordName → Name
+abbrev pub named : RecordNameRef → Name
 named n = record { rty = kind_code n.kind; rid = n.rid.now }
 
 -- the place that a table has for a name
-abbrev pub place_in : List (RecordName × ℕ) → RecordName → Option ℕ
+abbrev pub place_in : List (RecordNameRef × ℕ) → RecordNameRef → Option ℕ
 place_in table name = lookup (λ n. is_name (named name) (named n)) table
 
 -- the new table has this place for the name if the old has none, and what the old has for each other
-abbrev pub IsPut : List (RecordName × ℕ) → RecordName → ℕ → List (RecordName × ℕ) → Type 0
-IsPut old name place new = (other : RecordName) → place_in new other ≡ option_or (place_in old other) (if is_name (named name) (named other) then Some place else None)
+abbrev pub IsPut : List (RecordNameRef × ℕ) → RecordNameRef → ℕ → List (RecordNameRef × ℕ) → Type 0
+IsPut old name place new = (other : RecordNameRef) → place_in new other ≡ option_or (place_in old other) (if is_name (named name) (named other) then Some place else None)
 
 -- each name of a record that is no link has the place of the first record of that name, and no other such name has one
 abbrev pub AreNamesOf : List Record → Names → Type 0
-AreNamesOf list names = (name : RecordName) → is_link name.kind ≡ false → place_in names.places.entries name ≡ place_named list (named name)
+AreNamesOf list names = (name : RecordNameRef) → is_link name.kind ≡ false → place_in names.places.entries name ≡ place_named list (named name)
 
 -- the names of such records go into a table: all, but for those of links where these rise
 abbrev pub is_tabled : Bool → Kind → Bool

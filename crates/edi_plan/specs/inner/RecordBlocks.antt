@@ -4,10 +4,10 @@ use Rattle.std.specs.List.{AllByRecursion, slice_range}
 use Rattle.edi_plan.specs.declared.record.PlanRecord.{PlanRecord}
 use Rattle.edi_plan.specs.declared.record_block.Head.{Head}
 use Rattle.edi_plan.specs.declared.record_block.RecordBlock.{RecordBlock}
-use Rattle.edi_plan.specs.declared.record_block.Span.{Span}
+use Rattle.edi_plan.specs.declared.record_block.ListPart.{ListPart}
 
 -- the part of a list from one place up to another
-abbrev pub part_of : {X : Type 0} → List X → Span → List X
+abbrev pub part_of : {X : Type 0} → List X → ListPart → List X
 part_of xs s = slice_range xs s.from s.to
 
 -- a record with its parts of the lists
@@ -27,7 +27,7 @@ abbrev pub records_in : RecordBlock → List PlanRecord
 records_in block = map (record_of block) block.heads.items
 
 -- the part ends where it begins or later, and within a list of this length
-pub record IsWithin (n : ℕ) (s : Span) : Type 0 where
+pub record IsWithin (n : ℕ) (s : ListPart) : Type 0 where
   pub rises : s.from ≤ s.to
   pub ends : s.to ≤ n
 

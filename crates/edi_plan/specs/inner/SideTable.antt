@@ -9,7 +9,7 @@ use Rattle.edi_schema.specs.declared.role.Role.{Role}
 use Rattle.edi_plan.specs.Joined.{beside, IsJoined}
 use Rattle.edi_plan.specs.Plans.{Drawing, same_kind}
 use Rattle.edi_plan.specs.Sides.{IsSideIfAny}
-use Rattle.edi_plan.specs.Whole.{IsWhole}
+use Rattle.edi_plan.specs.Whole.{IsWholePlan}
 use Rattle.edi_schema.specs.declared.by_role.ByRole.{ByRole}
 use Rattle.edi_plan.specs.declared.sides.Join.{Join}
 use Rattle.edi_plan.specs.declared.targets.Target.{Target}
@@ -25,7 +25,7 @@ pub record AreSides (p : Drawing) (table : List (ByRole (Option ℕ))) : Type 0 
 
 -- what each plan keeps, with its table
 pub record HoldsSides (p : Drawing) (table : List (ByRole (Option ℕ))) : Type 0 where
-  pub whole : IsWhole p
+  pub whole : IsWholePlan p
   pub joined : IsJoined p
   pub sides : AreSides p table
 

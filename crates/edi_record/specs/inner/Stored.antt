@@ -11,8 +11,8 @@ use Rattle.edi_record.specs.declared.record.Kind.TheVariants.{Pno, Par, Pfe, Fea
 use Rattle.edi_record.specs.declared.record.Attribute.{Attribute}
 use Rattle.edi_record.specs.declared.record.End.{End}
 use Rattle.edi_record.specs.declared.record.Extra.{Extra}
-use Rattle.edi_record.specs.declared.role.Role.{Role}
-use Rattle.edi_record.specs.declared.role.Role.TheVariants.{Identifier, Class, AttributeCount, AttributeClass, AttributeSet, AttributeValue, BodyCount, Position, EndPointer, EndSense, Skipped, Unknown}
+use Rattle.edi_record.specs.declared.role.ZoneRole.{ZoneRole}
+use Rattle.edi_record.specs.declared.role.ZoneRole.TheVariants.{Identifier, Class, AttributeCount, AttributeClass, AttributeSet, AttributeValue, BodyCount, Position, EndPointer, EndSense, Skipped, Unknown}
 use Rattle.edi_record.specs.declared.only.Only.{Only}
 use Rattle.edi_record.specs.declared.only.Only.TheVariants.{Absent, One, Repeated}
 use Rattle.edi_record.specs.declared.attributes.Attributes.{Attributes}
@@ -24,7 +24,7 @@ use Rattle.edi_record.specs.declared.extras.Extras.{Extras}
 use Rattle.edi_record.specs.declared.draft.Draft.{Draft}
 
 -- the role of a code that isn't known in every record
-abbrev pub body_role_in : Kind → List ℕ → Role
+abbrev pub body_role_in : Kind → List ℕ → ZoneRole
 body_role_in Pno code = if bytes_eq code (codes "COR") then Position else Unknown
 body_role_in Par code = if bytes_eq code (codes "COR") then Position else (if bytes_eq code (codes "PTC") then BodyCount else Unknown)
 body_role_in Pfe code = Unknown
@@ -32,7 +32,7 @@ body_role_in Fea code = Unknown
 body_role_in Lnk code = if bytes_eq code (codes "FTC") then BodyCount else (if bytes_eq code (codes "FTP") then EndPointer else (if bytes_eq code (codes "SNS") then EndSense else Unknown))
 
 -- what a zone with a code is to a record
-abbrev pub role_in : Kind → List ℕ → Role
+abbrev pub role_in : Kind → List ℕ → ZoneRole
 role_in kind code =
     if bytes_eq code (codes "RID") then Identifier
     else (if bytes_eq code (codes "SCP") then Class

@@ -11,7 +11,7 @@ use Rattle.edi_schema.specs.SchemaOf.{letter_read, is_number_type}
 use Rattle.edi_schema.specs.declared.class.Class.{Class}
 use Rattle.edi_schema.specs.declared.title.Title.{Title}
 use Rattle.edi_schema.specs.declared.definition.Definition.{Definition}
-use Rattle.edi_schema.specs.declared.draft.Draft.{Draft}
+use Rattle.edi_schema.specs.declared.draft.ClassDraft.{ClassDraft}
 
 -- the two parts of a name
 abbrev pub name_parts : Name → List (List ℕ)
@@ -78,5 +78,5 @@ abbrev pub class_in : KindCodes → List Said → Said → Option (Name × Class
 class_in kinds words s = option_map (λ word_type. (s.name, class_by kinds s word_type)) (type_by words s.word)
 
 -- the name and the class that are borrowed from a draft
-abbrev pub drafted : Draft → Name × Class
+abbrev pub drafted : ClassDraft → Name × Class
 drafted d = (named d.title, d.class)

@@ -8,7 +8,7 @@ use Rattle.edi_topo.specs.NodeKeys.{IsNodeRanking}
 use Rattle.edi_topo.specs.inner.Nodes as Nodes
 use Rattle.edi_topo.specs.Arcs.{IsForwardRanking}
 use Rattle.edi_topo.specs.inner.Arcs as Arcs
-use Rattle.edi_topo.specs.declared.at_record.Findings.{Findings}
+use Rattle.edi_topo.specs.declared.at_record.RecordFindings.{RecordFindings}
 
 -- no rule is broken at the record of this place, from 0
 abbrev pub IsUnbrokenAt : Drawing → ℕ → Type 0
@@ -28,7 +28,7 @@ abbrev pub IsUpTo : Option ℕ → ℕ → Type 0
 IsUpTo found place = (k : ℕ) → found ≡ Some k → place ≤ k
 
 -- what was found: the numbers of the nodes and of the arcs, or the first that repeats an earlier one, and which faces are on a side
-pub record AreFindings (p : Drawing) (found : Findings) : Type 0 where
+pub record AreFindings (p : Drawing) (found : RecordFindings) : Type 0 where
   pub nodes : IfOk found.nodes (IsNodeRanking p)
   pub node_repeat : Nodes.IsFirstRepeatIfAny p (result_err found.nodes)
   pub arcs : IfOk found.arcs (IsForwardRanking p)
@@ -36,6 +36,6 @@ pub record AreFindings (p : Drawing) (found : Findings) : Type 0 where
   pub faced : AreFaced p found.faced.items
 
 -- the repeats aren't before this place
-pub record AreAhead (found : Findings) (place : ℕ) : Type 0 where
+pub record AreAhead (found : RecordFindings) (place : ℕ) : Type 0 where
   pub node : IsUpTo (result_err found.nodes) place
   pub arc : IsUpTo (result_err found.arcs) place

@@ -2,7 +2,7 @@
 use Rattle.std.specs.Prelude.{ℕ, List}
 use Rattle.edi_line.specs.Entry.{Entry}
 use Rattle.edi_line.specs.Printing.{zone_text}
-use Rattle.edi_write.specs.declared.heads.Head.{Head}
+use Rattle.edi_write.specs.declared.heads.ZoneHead.{ZoneHead}
 
-abbrev pub headed : Head → List ℕ → Entry
+abbrev pub headed : ZoneHead → List ℕ → Entry
 headed head value = zone_text head.code head.nature head.format value

@@ -6,14 +6,14 @@ use Rattle.edi_compare.specs.Runs.{Seen}
 use Rattle.edicad.specs.Hashes.{IsAnswerOf, IsStep, Step, digest_line}
 use Rattle.edicad.specs.Reasons.{Why}
 use Rattle.edicad.specs.SheetRuns.{Inputs}
-use Rattle.edicad.specs.Statuses.{Says, Warns}
+use Rattle.edicad.specs.Statuses.{Prints, Warns}
 
 -- the streams got what a sheet adds, and this is its status
 abbrev pub StepsOn : Inputs → Why → Classes → List ℕ → Seen → Seen → ℕ → Type 0
 StepsOn inputs why s path out err status =
-    (step : Step) × IsStep inputs why s path step × (step.status ≡ status) × Says out step.out × Warns err step.err
+    (step : Step) × IsStep inputs why s path step × (step.status ≡ status) × Prints out step.out × Warns err step.err
 
 -- the output failed in the line of the sheet of a path, of which so many bytes went out
 abbrev pub StopsAt : Inputs → Classes → List ℕ → Seen → Type 0
 StopsAt inputs s path out = (digest : List ℕ) × IsAnswerOf inputs s path (Ok digest) × IsTrue out.failed
-    × ((count : ℕ) × Says out (take count (digest_line digest path)))
+    × ((count : ℕ) × Prints out (take count (digest_line digest path)))

@@ -1,7 +1,7 @@
 use Rattle.std.proofs.Common.{◌<◌, ◌∙◌, refl, sym, subst, arith}
 use Rattle.std.proofs.lemmas.Option.{slice_get_read}
 use Rattle.edi_record.specs.declared.record.Record.{Record}
-use Rattle.edi_plan.specs.ReferenceRules.{HasRole}
+use Rattle.edi_plan.specs.ReferenceRules.{IsLinkOfRole}
 use Rattle.edi_explain.specs.Partners.{SharesSide}
 use Rattle.edi_explain.proofs.Leasts.{least_here, none_here}
 use Rattle.edi_explain.proofs.Names.{same_some}
@@ -26,7 +26,7 @@ returns-then-is_of_side c =
     let here = slice_get_read list _ c.args.place c.index-records-place-in-loop-earlier.result refl (omega arith) c.index-records-place-in-loop-earlier.is in
     let first = slice_get_read list _ c.args.place c.index-records-place.result refl (omega arith) c.index-records-place.is in
     let own = c.in_ok-role.ensures list in
-    let role = subst (λ (r : Record). HasRole s list r c.in_ok-role.role) (same_some (sym first ∙ here)) own.1 in
+    let role = subst (λ (r : Record). IsLinkOfRole s list r c.in_ok-role.role) (same_some (sym first ∙ here)) own.1 in
     let is = c.is_of_side.ensures.0 c.if-is_of_side.true in
     least_here (SharesSide s list c.args.place) c.loop-earlier.earlier c.loop-earlier.invariant
     (side_shared s list c.args.place c.loop-earlier.earlier _ _ c.in_ok-role.role less there here own.0 role is.0 is.1)
@@ -40,7 +40,7 @@ loop-earlier-preserved c =
     let here = slice_get_read list _ c.args.place c.index-records-place-in-loop-earlier.result refl (omega arith) c.index-records-place-in-loop-earlier.is in
     let first = slice_get_read list _ c.args.place c.index-records-place.result refl (omega arith) c.index-records-place.is in
     let own = c.in_ok-role.ensures list in
-    let role = subst (λ (r : Record). HasRole s list r c.in_ok-role.role) (same_some (sym first ∙ here)) own.1 in
+    let role = subst (λ (r : Record). IsLinkOfRole s list r c.in_ok-role.role) (same_some (sym first ∙ here)) own.1 in
     none_here (SharesSide s list c.args.place) c.loop-earlier.earlier c.loop-earlier.invariant
     (λ h. let t = c.is_of_side.ensures.1 (share_side s list c.args.place c.loop-earlier.earlier _ _ c.in_ok-role.role less there here own.0 role h) in let f = c.if-is_of_side.false in cc)
 

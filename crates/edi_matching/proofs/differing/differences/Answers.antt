@@ -1,5 +1,5 @@
 use Rattle.std.proofs.Common.{◌∙◌, subst, Option, MatchOption}
-use Rattle.edi_plan.specs.Whole.{IsWhole}
+use Rattle.edi_plan.specs.Whole.{IsWholePlan}
 use Rattle.edi_rank.specs.Same.{Same}
 use Rattle.edi_compare.specs.Pairings.{PairingCarries}
 use Rattle.edi_compare.specs.declared.pairing.Pairing.{Pairing}
@@ -12,7 +12,7 @@ returns-in-Some c =
     let p = c.args.first.now in
     let q = c.args.second.now in
     let carries = subst (λ (o : Option Pairing). MatchOption o (¬ (Same s p q)) (PairingCarries s p q)) c.in-Some.is c.in_ok-pairing.ensures in
-    let contents = pairing_known s p q c.in-Some.pairing (subst IsWhole (c.plan.ensures.plan ∙ c.sound.ensures) c.keeps.ensures.whole) carries c.whole_matching.result c.whole_matching.ensures in
+    let contents = pairing_known s p q c.in-Some.pairing (subst IsWholePlan (c.plan.ensures.plan ∙ c.sound.ensures) c.keeps.ensures.whole) carries c.whole_matching.result c.whole_matching.ensures in
     record { holds = contents.0; total = contents.1; partners = contents.2 }
 
 pub returns-in-None-clause-total : goal.returns-in-None-clause-total

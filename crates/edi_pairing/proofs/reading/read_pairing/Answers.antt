@@ -1,6 +1,6 @@
 use Rattle.std.proofs.Common.{◌≡◌, ◌∙◌, ◌+◌, ℕ, Bool, List, length, sym, ap, subst, arith}
 use Rattle.edi_pairing.specs.Names.{AreNames}
-use Rattle.edi_pairing.specs.PairingText.{IsFirstWrong, States}
+use Rattle.edi_pairing.specs.PairingText.{IsFirstWrong, StatesPairing}
 use Rattle.edi_pairing.specs.inner.Reading.{BeginsWith}
 use Rattle.edi_pairing.specs.declared.names.RecordName.{RecordName}
 use Rattle.edi_pairing.proofs.TextLemmas.{name_here, one_read, wrong_head, wrong_line, wrong_end, all_read, none_left, some_left}
@@ -45,7 +45,7 @@ returns-clause-states c =
     let a = c.args.first.now in
     let b = c.args.second.now in
     let all : c.loop-place.place ≡ length a = omega (arith, ap length c.as_slice-names.ensures.is, c.loop-place-test.false, c.loop-place.auto.place-end) in
-    subst (λ to. States a b (record { to = to; turned = c.from_vec-2.result }) c.args.file.now) (sym c.from_vec.ensures)
-    (subst (λ turned. States a b (record { to = c.loop-place.to.items; turned = turned }) c.args.file.now) (sym c.from_vec-2.ensures)
+    subst (λ to. StatesPairing a b (record { to = to; turned = c.from_vec-2.result }) c.args.file.now) (sym c.from_vec.ensures)
+    (subst (λ turned. StatesPairing a b (record { to = c.loop-place.to.items; turned = turned }) c.args.file.now) (sym c.from_vec-2.ensures)
     (all_read a b c.args.file.now c.loop-place.to.items c.loop-place.turned.items c.loop-place.text.now c.loop-place.place all c.loop-place.invariant
     (none_left c.loop-place.text.now c.is_empty.result c.is_empty.ensures c.if-not-is_empty.false)))

@@ -1,7 +1,7 @@
 use Rattle.std.proofs.Common.{◌∙◌, sym, ap, subst}
 use Rattle.edi_plan.specs.inner.Targets.{target_kind, IsTargetIfAny}
 use Rattle.edi_plan.specs.PlanOf.{place_named}
-use Rattle.edi_plan.specs.declared.names.RecordName.{RecordName}
+use Rattle.edi_plan.specs.declared.names.RecordNameRef.{RecordNameRef}
 use Rattle.edi_plan.proofs.TargetLemmas.{coded, leads_nowhere, leads_to, named_target}
 use Rattle.edi_plan.proofs.targets.target_of.Goals as goal
 
@@ -13,6 +13,6 @@ pub returns : goal.returns
 returns c =
     let kind = ap target_kind (sym c.as_slice.ensures) ∙ (sym c.kind_coded.ensures ∙ c.in_ok-kind.was) in
     let code = coded c.args.end.now.target.rty c.in_ok-kind.kind kind in
-    let name : RecordName = record { kind = c.in_ok-kind.kind; rid = c.as_slice-2.result } in
+    let name : RecordNameRef = record { kind = c.in_ok-kind.kind; rid = c.as_slice-2.result } in
     leads_to c.args.records.now c.args.end.now c.in_ok-kind.kind c.in_ok-place.place kind
     (ap (place_named c.args.records.now) (sym (named_target name c.args.end.now.target code.0 c.as_slice-2.ensures)) ∙ (sym c.place_of.ensures ∙ c.in_ok-place.was))

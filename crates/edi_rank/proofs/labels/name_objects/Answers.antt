@@ -2,7 +2,7 @@ use Rattle.std.proofs.Common.{◌≡◌, ◌≢◌, ◌≤◌, ◌∙◌, ℕ, t
 use Rattle.edi_record.specs.declared.record.Kind.TheVariants.{Fea}
 use Rattle.edi_plan.specs.Places.{member_of}
 use Rattle.edi_plan.specs.Plans.{Drawing, IsPlace, record_at, others_of, is_object}
-use Rattle.edi_plan.specs.Whole.{IsWhole}
+use Rattle.edi_plan.specs.Whole.{IsWholePlan}
 use Rattle.edi_plan.specs.declared.record.PlanEnd.{PlanEnd}
 use Rattle.edi_rank.specs.EndOrder.{OthersInOrder, positions_at}
 use Rattle.edi_rank.specs.Pieces.{ObjectSource, object_count}
@@ -15,7 +15,7 @@ use Rattle.edi_rank.proofs.labels.name_objects.Goals as goal
 abbrev LowerInOrder : Drawing → List ℕ → List (List ℕ) → Type 0
 LowerInOrder q numbers orders = (k : ℕ) → IsPlace q k → object_count q (others_of (record_at q k)) ≤ 1 → OthersInOrder q (λ j. get_or numbers j 0) orders k
 
-still : (q : Drawing) → IsWhole q → (one other : List ℕ) (orders : List (List ℕ)) → ((k : ℕ) → IsPlace q k → (record_at q k).kind ≢ Fea → get_or other k 0 ≡ get_or one k 0) → LowerInOrder q one orders → LowerInOrder q other orders
+still : (q : Drawing) → IsWholePlan q → (one other : List ℕ) (orders : List (List ℕ)) → ((k : ℕ) → IsPlace q k → (record_at q k).kind ≢ Fea → get_or other k 0 ≡ get_or one k 0) → LowerInOrder q one orders → LowerInOrder q other orders
 still q whole one other orders rest lower k h few = in_order_still q (λ j. get_or one j 0) (λ j. get_or other j 0) (positions_at orders k) (others_of (record_at q k)) few
     (all_weaker (λ (e : PlanEnd). IsPlace q e.target) (Renumbered q (λ j. get_or one j 0) (λ j. get_or other j 0)) (λ e there object. sym (rest e.target there (no_object (record_at q e.target).kind object)))
     (others_of (record_at q k)) (rest_hold (λ e. IsPlace q e.target) (record_at q k).ends (whole.there k h)))
@@ -39,7 +39,7 @@ all_orders-requires-clause-lower c =
     let others : (k : ℕ) → IsPlace q k → (record_at q k).kind ≢ Fea → get_or c.number_kind-numbers.result.items k 0 ≡ get_or numbers k 0 =
     subst (λ (ns : List ℕ). (k : ℕ) → IsPlace q k → (record_at q k).kind ≢ Fea → get_or c.number_kind-numbers.result.items k 0 ≡ get_or ns k 0) same c.number_kind-numbers.ensures.others in
     subst (λ ns. LowerInOrder q ns lower) (sym c.deref-2.ensures.value)
-    (still q (subst IsWhole (sym c.plan-plan.ensures.plan) c.plan-plan.ensures.whole) numbers c.number_kind-numbers.result.items lower others here)
+    (still q (subst IsWholePlan (sym c.plan-plan.ensures.plan) c.plan-plan.ensures.whole) numbers c.number_kind-numbers.result.items lower others here)
 
 pub returns-clause-ranks : goal.returns-clause-ranks
 returns-clause-ranks c =

@@ -2,7 +2,7 @@ use Rattle.std.proofs.Common.{◌<◌, ◌≤◌, ◌≡◌, IsTrue, codes, refl
 use Rattle.edi_compare.specs.Runs.{seen}
 use Rattle.edicad.specs.Outcome.{ended, status_for, words_for}
 use Rattle.edicad.specs.SheetRuns.{inputs_of}
-use Rattle.edicad.specs.Statuses.{IsAnsweredAs, Says, WarnsWhy, pair_paths_of}
+use Rattle.edicad.specs.Statuses.{IsAnsweredAs, Prints, WarnsWhy, pair_paths_of}
 use Rattle.edicad.proofs.Refusals.{compare_names, compare_status}
 use Rattle.edicad.proofs.command.compare.Goals as goal
 
@@ -20,7 +20,7 @@ returns-clause-answer g c =
     let s = c.answer.result in
     compare_status inputs (g.F.Folder.why folder) out err c.args.kinds.now c.args.files.now s c.compare.result c.compare.ensures.ok c.compare.ensures.err
     (subst (λ o. IsAnsweredAs (status_for o) s) is c.answer.ensures.status)
-    (subst (λ o. s < 3 → Says out (ended (words_for o paths))) is (λ few. (c.answer.ensures.answer few).0))
+    (subst (λ o. s < 3 → Prints out (ended (words_for o paths))) is (λ few. (c.answer.ensures.answer few).0))
     (subst (λ o. status_for o < 3 → s ≡ 4 → IsTrue out.failed) is (λ small four. (c.answer.ensures.unwritten small four).0))
     (subst (λ o. 3 ≤ status_for o → s ≡ 4 → WarnsWhy (g.F.Folder.why folder) err o paths) is (λ big four. (c.answer.ensures.fault big four).0))
     (λ five. (c.answer.ensures.memory five).0)

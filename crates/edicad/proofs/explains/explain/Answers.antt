@@ -2,7 +2,7 @@ use Rattle.std.proofs.Common.{ℕ, List, codes, arith}
 use Rattle.edi_compare.specs.Runs.{seen}
 use Rattle.edicad.specs.Explains.{TellsRefusal}
 use Rattle.edicad.specs.SheetRuns.{FileFault, OfFiles, inputs_of}
-use Rattle.edicad.specs.Statuses.{Says, paths_of}
+use Rattle.edicad.specs.Statuses.{Prints, paths_of}
 use Rattle.edicad.proofs.Refusals.{file_tried, means_fault}
 use Rattle.edicad.proofs.explains.explain.Goals as goal
 
@@ -18,7 +18,7 @@ returns-in-Err-clause-answer g c =
     let kinds = c.args.kinds.now in
     let files = c.args.files.now in
     let paths = paths_of files (codes "-") in
-    let means = means_fault _ (OfFiles inputs files (λ scd dic b. (text : List ℕ) × TellsRefusal kinds files scd dic b text × Says out text)) (FileFault inputs kinds files (λ _. ⊥)) (g.F.Folder.why folder) paths out err s e
+    let means = means_fault _ (OfFiles inputs files (λ scd dic b. (text : List ℕ) × TellsRefusal kinds files scd dic b text × Prints out text)) (FileFault inputs kinds files (λ _. ⊥)) (g.F.Folder.why folder) paths out err s e
     (λ big four. c.in-Err.ensures.err)
     (λ is two. absurd (omega (arith, is, c.in-Err.ensures.unrefused)))
     answer.ensures.status

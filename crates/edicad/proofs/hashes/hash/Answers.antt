@@ -3,7 +3,7 @@ use Rattle.edi_compare.specs.Runs.{seen}
 use Rattle.edicad.specs.Hashes.{AnswersAll, RefusesFiles, SchemaFault, schema_paths_of}
 use Rattle.edicad.specs.Outcome.{ended, schema_text}
 use Rattle.edicad.specs.SheetRuns.{inputs_of}
-use Rattle.edicad.specs.Statuses.{Says}
+use Rattle.edicad.specs.Statuses.{Prints}
 use Rattle.edicad.proofs.Answering.{schema_refused, schema_tried}
 use Rattle.edicad.proofs.Refusals.{means_fault}
 use Rattle.edicad.proofs.hashes.hash.Goals as goal
@@ -33,7 +33,7 @@ returns-in-Err-clause-answer g c =
     let why = g.F.Folder.why c.args.folder.now in
     inr (
       schema_tried inputs kinds files e c.in-Err.ensures.err,
-      means_fault _ (RefusesFiles inputs kinds files (λ f. Says out (ended (schema_text f)))) (SchemaFault inputs kinds files) why paths out err s e (λ big four. c.in-Err.ensures.err)
+      means_fault _ (RefusesFiles inputs kinds files (λ f. Prints out (ended (schema_text f)))) (SchemaFault inputs kinds files) why paths out err s e (λ big four. c.in-Err.ensures.err)
           (λ is two. schema_refused inputs kinds files out paths e c.in-Err.ensures.err is
           (answer.ensures.answer (omega (arith, two))).0)
           answer.ensures.status

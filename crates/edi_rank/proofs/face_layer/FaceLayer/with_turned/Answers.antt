@@ -4,7 +4,7 @@ use Rattle.edi_record.specs.declared.record.Kind.TheVariants.{Pfe}
 use Rattle.edi_plan.specs.Joined.{IsJoined}
 use Rattle.edi_plan.specs.Places.{places_of, member_of}
 use Rattle.edi_plan.specs.Plans.{IsPlace, is_arc, record_at}
-use Rattle.edi_plan.specs.Whole.{IsWhole}
+use Rattle.edi_plan.specs.Whole.{IsWholePlan}
 use Rattle.edi_plan.proofs.PlaceLemmas.{places_few, place_there}
 use Rattle.edi_rank.specs.Keys.{least_side}
 use Rattle.edi_rank.specs.Layers.{forward_plan, no_side, number_by, ranked, face_keys}
@@ -17,7 +17,7 @@ use Rattle.edi_rank.proofs.face_layer.FaceLayer.with_turned.Goals as goal
 pub invariant_of-result : goal.invariant_of-result
 invariant_of-result c =
     let p = c.plan-plan.result.now in
-    let whole : IsWhole p = subst IsWhole (sym c.plan-plan.ensures.plan) c.plan-plan.ensures.whole in
+    let whole : IsWholePlan p = subst IsWholePlan (sym c.plan-plan.ensures.plan) c.plan-plan.ensures.whole in
     let long : length c.from_vec.result ≡ length (places_of Pfe p) = ap length (c.from_vec.ensures ∙ c.in_ok-keys.ensures) ∙ length-map (places_of Pfe p) (λ k. unwrap_or (get_or c.deref-2.result.now k None) no_side) in
     omega (arith, long, places_few Pfe p, whole.few)
 
@@ -25,7 +25,7 @@ pub returns : goal.returns
 returns c =
     let p = c.plan-plan.result.now in
     let arcs = c.args.arcs.now in
-    let whole : IsWhole p = subst IsWhole (sym c.plan-plan.ensures.plan) c.plan-plan.ensures.whole in
+    let whole : IsWholePlan p = subst IsWholePlan (sym c.plan-plan.ensures.plan) c.plan-plan.ensures.whole in
     let joined : IsJoined p = subst IsJoined (sym c.plan-plan.ensures.plan) c.plan-plan.ensures.joined in
     let agree : (k : ℕ) → IsPlace p k → is_arc (record_at p k).kind ≡ true → get_or c.deref.result.now k 0 ≡ ranked p [] arcs [] k = λ k h e.
     let par = arc_is (record_at p k).kind e in

@@ -6,7 +6,7 @@ use Rattle.edi_record.specs.declared.record.Kind.TheVariants.{Pno, Par, Pfe, Fea
 use Rattle.edi_plan.specs.Joined.{IsJoined}
 use Rattle.edi_plan.specs.Places.{places_of, member_of}
 use Rattle.edi_plan.specs.Plans.{Drawing, IsPlace, record_at, is_object}
-use Rattle.edi_plan.specs.Whole.{IsWhole}
+use Rattle.edi_plan.specs.Whole.{IsWholePlan}
 use Rattle.edi_plan.proofs.Orders.{points_total}
 use Rattle.edi_topo.specs.NodeKeys.{node_key_cmp, node_keys, no_node, IsNodeRanking}
 use Rattle.edi_topo.specs.TopologyRules.{BreaksTopologyRule}
@@ -56,7 +56,7 @@ returns-clause-labels c =
     let p = c.plan-plan.result.now in
     let s = c.args.schema.now in
     let is = c.plan-plan.ensures.plan in
-    let whole : IsWhole p = subst IsWhole (sym is) c.plan-plan.ensures.whole in
+    let whole : IsWholePlan p = subst IsWholePlan (sym is) c.plan-plan.ensures.whole in
     let joined : IsJoined p = subst IsJoined (sym is) c.plan-plan.ensures.joined in
     let sound : IsUnbroken (BreaksTopologyRule p) = subst (λ q. IsUnbroken (BreaksTopologyRule q)) (sym is) c.plan-plan.ensures.sound in
     let lower = c.in_ok-lower.lower in

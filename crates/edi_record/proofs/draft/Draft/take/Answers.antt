@@ -1,7 +1,7 @@
 use Rattle.std.proofs.Common.{◌≡◌, ◌∙◌, ◌&&◌, true, false, refl, sym, ap, length, is_some, codes, bytes_eq}
 use Rattle.edi_line.specs.Entry.{entry}
 use Rattle.edi_record.specs.Records.{values}
-use Rattle.edi_record.specs.declared.role.Role.TheVariants.{Identifier, Class, AttributeCount, AttributeClass, AttributeSet, AttributeValue, BodyCount, Position, EndPointer, EndSense, Skipped, Unknown}
+use Rattle.edi_record.specs.declared.role.ZoneRole.TheVariants.{Identifier, Class, AttributeCount, AttributeClass, AttributeSet, AttributeValue, BodyCount, Position, EndPointer, EndSense, Skipped, Unknown}
 use Rattle.edi_record.proofs.RecordStored.{text_taken, count_taken, others, has, no_set, extras_stay, extras_move, extras_beside_set, set_is_extra, extra_kept, body_count_taken, skipped, unknown_taken}
 use Rattle.edi_record.proofs.Roles.{code_of, place_known, link_known, no_link}
 use Rattle.edi_record.proofs.draft.Draft.take.Goals as goal

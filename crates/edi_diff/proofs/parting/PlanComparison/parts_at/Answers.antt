@@ -2,7 +2,7 @@ use Rattle.std.proofs.Common.{◌∙◌, None, get_or, subst, sym}
 use Rattle.edi_matching.specs.Matchings.{IsMatched}
 use Rattle.edi_diff.specs.inner.Comparisons.{Comparison}
 use Rattle.edi_diff.proofs.Outcomes.{some_there}
-use Rattle.edi_diff.proofs.parting.Compared.parts_at.Goals as goal
+use Rattle.edi_diff.proofs.parting.PlanComparison.parts_at.Goals as goal
 
 pub returns-then-is_some : goal.returns-then-is_some
 returns-then-is_some c = λ j free goes.

@@ -3,7 +3,7 @@ use Rattle.edi_plan.specs.Plans.{IsPlace, record_at}
 use Rattle.edi_diff.specs.Changes.{HasEndsOf}
 use Rattle.edi_diff.specs.inner.Comparisons.{Comparison, became}
 use Rattle.edi_diff.proofs.PartsReported.{ends_left, ends_known, targets_there}
-use Rattle.edi_diff.proofs.parting.Compared.has_same_ends.Goals as goal
+use Rattle.edi_diff.proofs.parting.PlanComparison.has_same_ends.Goals as goal
 
 pub returns-then-not-all_matched : goal.returns-then-not-all_matched
 returns-then-not-all_matched c =

@@ -1,7 +1,7 @@
 use Rattle.std.proofs.Common.{sym, subst}
 use Rattle.edi_pairing.specs.Names.{AreNames}
 use Rattle.edi_pairing.proofs.PlaceLemmas.{name_added}
-use Rattle.edi_pairing.proofs.places.Places.among.Goals as goal
+use Rattle.edi_pairing.proofs.places.PlacesByName.among.Goals as goal
 
 pub loop-name-preserved : goal.loop-name-preserved
 loop-name-preserved c =

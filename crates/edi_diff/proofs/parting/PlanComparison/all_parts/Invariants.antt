@@ -1,6 +1,6 @@
 use Rattle.std.proofs.Common.{◌≡◌, length}
 use Rattle.edi_diff.proofs.PartsReported.{ArePartsUpTo}
-use Rattle.edi_diff.proofs.parting.Compared.all_parts.Given as goal
+use Rattle.edi_diff.proofs.parting.PlanComparison.all_parts.Given as goal
 
 -- the parts of the records so far
 abbrev pub invariant-loop-place : goal.invariant-loop-place

@@ -4,7 +4,7 @@ use Rattle.edi_line.proofs.Stretches.{cut_first}
 use Rattle.edi_record.specs.inner.Lists.{IsSound}
 use Rattle.edi_record.specs.inner.Records.{ReadsAs}
 use Rattle.edi_record.proofs.ListRead.{one_record, rule_of_fault, list_more, list_refused, made_past, made_list, made_more}
-use Rattle.edi_record.proofs.list.RecordListGroupOut.take.Goals as goal
+use Rattle.edi_record.proofs.list.RecordsUntilFaultGroupOut.take.Goals as goal
 
 pub returns-then-is_some : goal.returns-then-is_some
 returns-then-is_some c = λ groups made. made_past groups (entries c.args.group.now) c.args.self.now.list.items c.args.self.now.fault (sym c.is_some.ensures ∙ c.if-is_some.true) made

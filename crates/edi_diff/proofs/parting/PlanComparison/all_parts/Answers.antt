@@ -2,7 +2,7 @@ use Rattle.std.proofs.Common.{◌≡◌, ◌+◌, [], ◌∷◌, ◌++◌, List,
 use Rattle.edi_matching.proofs.Totals.{goes_within}
 use Rattle.edi_diff.specs.declared.parts.Parts.{Parts}
 use Rattle.edi_diff.proofs.PartsReported.{ArePartsUpTo, parts_more}
-use Rattle.edi_diff.proofs.parting.Compared.all_parts.Goals as goal
+use Rattle.edi_diff.proofs.parting.PlanComparison.all_parts.Goals as goal
 
 pub loop-place-preserved : goal.loop-place-preserved
 loop-place-preserved c =

@@ -1,7 +1,7 @@
 use Rattle.std.proofs.Common.{◌∙◌, Some, None, sym, subst}
 use Rattle.edi_pairing.specs.inner.Places.{IsPlaceIfAny}
 use Rattle.edi_pairing.proofs.PlaceLemmas.{place_found}
-use Rattle.edi_pairing.proofs.places.Places.find.Goals as goal
+use Rattle.edi_pairing.proofs.places.PlacesByName.find.Goals as goal
 
 pub returns-in-Some-clause-place : goal.returns-in-Some-clause-place
 returns-in-Some-clause-place c =
