@@ -1,6 +1,6 @@
 #!/usr/bin/env python3
 """Makes the pages of docs/ that are made from the sources: RULES.md, TRUSTED.md and CALLING.md; and compares the
-sentences of the rules in the code with docs/FORMAT.md.
+sentences of the rules in the code with docs/FORMAT.md, and looks for names with two meanings.
 
     checks/pages.py            writes them
     checks/pages.py --check    fails if one isn't what it would write
@@ -10,7 +10,7 @@ import subprocess
 import sys
 
 HERE = os.path.dirname(os.path.abspath(__file__))
-SCRIPTS = ["rules.py", "texts.py", "reach.py", "calling.py"]
+SCRIPTS = ["rules.py", "texts.py", "reach.py", "calling.py", "names.py"]
 
 
 def main():
