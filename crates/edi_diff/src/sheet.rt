@@ -62,8 +62,7 @@ pub fn locate_from(
     ensures all { IfOk result HasSites }
     ensures refusal { IfErr result (IsRefusal schema.now (cow_slice_items bytes.entry)) }
 {
-    let room = SiteList::for_file(alloc, bytes.as_slice().len())?;
-    let (accepted, sites) = accept_beside(alloc, schema, bytes, room)?;
+    let (accepted, sites) = accept_beside(alloc, schema, bytes, SiteList::new(alloc))?;
     Ok(LocatedSheet {
         accepted,
         sites: Sequence::from_vec(sites.list),

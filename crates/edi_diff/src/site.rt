@@ -26,18 +26,14 @@ pub(crate) struct SiteList {
     pub(crate) list: Vec<Site>,
 }
 
-/// As few bytes as a record has in most files.
-const RECORD_BYTES: usize = 100;
-
 impl SiteList {
-    /// No sites, before the first record of a file of this many bytes, with room for those of most files: a list that
-    /// grew would leave the memory behind that it had before.
-    pub(crate) fn for_file(alloc: Global, length: usize) -> Result<SiteList, AllocError>
-        ensures { IfOk result (λ sites. sites.list.items ≡ []) }
+    /// No sites, before the first record.
+    pub(crate) fn new(alloc: Global) -> SiteList
+        ensures { result.list.items ≡ [] }
     {
-        Ok(SiteList {
-            list: Vec::with_capacity(alloc, length / RECORD_BYTES)?,
-        })
+        SiteList {
+            list: Vec::new(alloc),
+        }
     }
 }
 
