@@ -1,6 +1,6 @@
 //! Where the records of a file stand.
 
-ghost use Rattle.std.specs.Prelude.{◌≡◌, [], IfOk, codes, unwrap_or};
+ghost use Rattle.std.specs.Prelude.{◌≡◌, [], codes, unwrap_or};
 ghost use Rattle.std.specs.List.{AllZip};
 ghost use Rattle.edi_line.specs.Entry.{entries, first};
 ghost use Rattle.edi_record.specs.Records.{values};
