@@ -1,13 +1,12 @@
 //! What differs between two sheets.
 
-ghost use Rattle.std.specs.Prelude.{◌≡◌, ℕ, List, IfErr, IfOk, OnOk};
+ghost use Rattle.std.specs.Prelude.{◌≡◌, IfErr, IfOk, OnOk};
 ghost use Rattle.std.specs.Cow.{cow_slice_items};
 ghost use Rattle.edi_plan.specs.Agreeing.{HasClasses};
-ghost use Rattle.edi_compare.specs.Laws.{IsAcceptedPlan};
 ghost use Rattle.edi_compare.specs.Refused.{IsPairRefusal};
 ghost use Rattle.edi_compare.specs.Rules.{IsAccepted};
 ghost use Rattle.edi_matching.specs.Matchings.{MatchingHolds};
-ghost use Rattle.edi_diff.specs.Differences.{AreFindings, IsDifference, IsDifferenceText, IsLocated};
+ghost use Rattle.edi_diff.specs.Differences.{AreFindings, IsDifference, IsDifferenceText};
 ghost use Rattle.edi_diff.specs.Reports.{HasSites};
 
 use crate::changes::{Changes, changes_between};
@@ -170,26 +169,6 @@ pub fn find_differences(
         Ok(sheet) => sheet,
         Err(fault) => return Err(first_refused(fault)),
     };
-    find_beside_first(alloc, schema, first, b, brief)
-}
-
-/// What `find_differences` gives of a first sheet that is accepted, and the file of a second one.
-pub(crate) fn find_beside_first(
-    alloc: Global,
-    schema: &Schema,
-    first: LocatedSheet,
-    b: CowSlice<'_, u8>,
-    brief: bool,
-) -> Result<Findings, CompareFault>
-    requires accepted { IsAcceptedPlan schema.now first.accepted }
-    requires classes { HasClasses schema.now first.accepted }
-    requires sites { HasSites first }
-    ensures second { OnOk result (IsAccepted schema.now (cow_slice_items b.entry)) }
-    ensures findings { (a : List ℕ) → IsLocated schema.now a first → IfOk result (AreFindings schema.now a (cow_slice_items b.entry) brief) }
-    ensures first_classes { IfOk result (λ found. HasClasses schema.now found.first.accepted) }
-    ensures second_classes { IfOk result (λ found. HasClasses schema.now found.second.accepted) }
-    ensures refusal { (a : List ℕ) → IsAccepted schema.now a → IfErr result (IsPairRefusal schema.now a (cow_slice_items b.entry)) }
-{
     let second = match locate_from(alloc, schema, b) {
         Ok(sheet) => sheet,
         Err(fault) => return Err(second_refused(fault)),

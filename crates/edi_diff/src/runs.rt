@@ -1,23 +1,20 @@
 //! The run that tells what differs between two sheets.
-ghost use Rattle.std.specs.Prelude.{◌≡◌, ℕ, List, IfOk, IfErr, OnOk};
+ghost use Rattle.std.specs.Prelude.{◌≡◌, IfOk, IfErr, OnOk};
 ghost use Rattle.std.specs.Cow.{cow_slice_items};
 ghost use Rattle.edi_compare.specs.Runs.{AfterReading, AreFourRead, ComparingFault, IfFourKnown, seen};
 ghost use Rattle.edi_compare.specs.inner.Runs.{PairFault};
-ghost use Rattle.edi_schema.specs.Roles.{KindCodes};
 ghost use Rattle.edi_diff.specs.Runs.{IsDifferenceUnder};
-ghost use Rattle.edi_diff.specs.inner.Runs.{IsFirstOrFault};
 
-use crate::differing::{Difference, find_beside_first};
-use crate::sheet::{LocatedSheet, locate_from};
-use edi_compare::{RunFault, first_refused, load_or_fault, read_input};
+use crate::differing::{Difference, diff_from};
+use edi_compare::{RunFault, load_or_fault, read_input};
 use edi_line::ByteIn;
-use edi_schema::{Kinds, Schema};
+use edi_schema::Kinds;
 use std::alloc::Global;
 use std::borrow::CowSlice;
 
 /// Reads four files, and answers what differs between the third and the fourth, two sheets under the schema of the first
-/// two; or the last line of that alone. A refusal comes only where all four were read, and the second sheet is looked at only if
-/// the first is accepted. The faults are those of `edi_compare::run_compare`.
+/// two; or the last line of that alone. All are read before one is looked at, and the second sheet is looked at only if the
+/// first is accepted. The faults are those of `edi_compare::run_compare`.
 pub fn run_diff<S: ByteIn, D: ByteIn, A: ByteIn, B: ByteIn>(
     alloc: Global,
     kinds: &Kinds<'_>,
@@ -40,48 +37,32 @@ pub fn run_diff<S: ByteIn, D: ByteIn, A: ByteIn, B: ByteIn>(
     let scd = read_input(alloc, scd, 1)?;
     let dic = read_input(alloc, dic, 2)?;
     let first = read_input(alloc, first, 3)?;
-    let first = first_sheet(alloc, kinds, &scd, &dic, CowSlice::Owned(first));
     let second = read_input(alloc, second, 4)?;
-    diff_or_fault(alloc, first, CowSlice::Owned(second), brief)
+    diff_or_fault(
+        alloc,
+        kinds,
+        &scd,
+        &dic,
+        CowSlice::Owned(first),
+        CowSlice::Owned(second),
+        brief,
+    )
 }
 
-/// An accepted first sheet, and the schema that it is read under.
-#[derive(Drop)]
-struct FirstSheet {
-    schema: Schema,
-    sheet: LocatedSheet,
-}
-
-// The first sheet under the schema of the two files. Its fault waits until the second sheet is read, whose file is not in
-// memory beside that of the first.
-fn first_sheet(
+// What differs between two sheets under the schema of the two files.
+fn diff_or_fault(
     alloc: Global,
     kinds: &Kinds<'_>,
     scd: &[u8],
     dic: &[u8],
     first: CowSlice<'_, u8>,
-) -> Result<FirstSheet, RunFault>
-    ensures { IsFirstOrFault kinds.now scd.now dic.now (cow_slice_items first.entry) result }
-{
-    let schema = load_or_fault(alloc, kinds, scd, dic)?;
-    match locate_from(alloc, &schema, first) {
-        Ok(sheet) => Ok(FirstSheet { schema, sheet }),
-        Err(fault) => Err(RunFault::from(first_refused(fault))),
-    }
-}
-
-// What differs between the first sheet and the second; or the fault of the first, or else that of the second.
-fn diff_or_fault(
-    alloc: Global,
-    first: Result<FirstSheet, RunFault>,
     second: CowSlice<'_, u8>,
     brief: bool,
 ) -> Result<Difference, RunFault>
-    requires { (kinds : KindCodes) × (scd : List ℕ) × (dic : List ℕ) × (a : List ℕ) × IsFirstOrFault kinds scd dic a first }
-    ensures ok { (kinds : KindCodes) (scd dic a : List ℕ) → IsFirstOrFault kinds scd dic a first → IfOk result (IsDifferenceUnder kinds scd dic a (cow_slice_items second.entry) brief) }
-    ensures err { (kinds : KindCodes) (scd dic a : List ℕ) → IsFirstOrFault kinds scd dic a first → IfErr result (PairFault kinds scd dic a (cow_slice_items second.entry)) }
+    ensures ok { IfOk result (IsDifferenceUnder kinds.now scd.now dic.now (cow_slice_items first.entry) (cow_slice_items second.entry) brief) }
+    ensures err { IfErr result (PairFault kinds.now scd.now dic.now (cow_slice_items first.entry) (cow_slice_items second.entry)) }
 {
-    let FirstSheet { schema, sheet } = first?;
-    let found = find_beside_first(alloc, &schema, sheet, second, brief)?;
-    Ok(found.difference)
+    let schema = load_or_fault(alloc, kinds, scd, dic)?;
+    let difference = diff_from(alloc, &schema, first, second, brief)?;
+    Ok(difference)
 }

@@ -9,7 +9,7 @@ returns-clause-ok g c =
     c.deref.result.now c.deref-2.result.now c.in_ok-first.first.items c.in_ok-second.second.items (λ difference s d a b. IsDifferenceUnder c.args.kinds.now s d a b c.args.brief difference)
     (through _ _ _ c.deref.ensures.value c.in_ok-scd.ensures.all) (through _ _ _ c.deref-2.ensures.value c.in_ok-dic.ensures.all)
     c.in_ok-first.ensures.all c.in_ok-second.ensures.all
-    (c.diff_or_fault.ensures.ok c.args.kinds.now c.deref.result.now c.deref-2.result.now c.in_ok-first.first.items c.first_sheet-first.ensures)
+    c.diff_or_fault.ensures.ok
 
 pub returns-clause-err : goal.returns-clause-err
 returns-clause-err g c =
@@ -17,4 +17,4 @@ returns-clause-err g c =
     c.deref.result.now c.deref-2.result.now c.in_ok-first.first.items c.in_ok-second.second.items _ _
     (through _ _ _ c.deref.ensures.value c.in_ok-scd.ensures.all) (through _ _ _ c.deref-2.ensures.value c.in_ok-dic.ensures.all)
     c.in_ok-first.ensures.all c.in_ok-second.ensures.all
-    (c.diff_or_fault.ensures.err c.args.kinds.now c.deref.result.now c.deref-2.result.now c.in_ok-first.first.items c.first_sheet-first.ensures)
+    c.diff_or_fault.ensures.err
