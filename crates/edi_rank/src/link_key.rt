@@ -1,8 +1,9 @@
 //! The keys of links.
 
-ghost use Rattle.std.specs.Prelude.{◌≡◌, ◌<◌, ◌++◌, ◌&&◌, ℕ, length, map, None, slice_index, IfOk, IfSome, OnOk};
+ghost use Rattle.std.specs.Prelude.{◌≡◌, ◌<◌, ◌++◌, ◌&&◌, ℕ, length, map, None, slice_index, IfOk, IfSome, IsNone, OnOk};
 ghost use Rattle.std.specs.List.{AllByRecursion, list_any};
 ghost use Rattle.edi_plan.specs.Plans.{IsPlace, record_at, others_of, rest_of};
+ghost use Rattle.edi_plan.specs.declared.record.PlanEnd.{PlanEnd as End};
 ghost use Rattle.edi_schema.specs.Classes.{partner_of};
 ghost use Rattle.edi_schema.specs.Sorted.{sort_by};
 ghost use Rattle.edi_plan.specs.Orders.{attribute_cmp};
@@ -122,7 +123,8 @@ pub(crate) fn is_bare(plan: &Plan, place: u32) -> bool
 /// The two ends of a link that has no others, no SNS, no attributes and no extra zones. Nearly each link is such a one.
 pub fn plain_ends(plan: &Plan, place: u32) -> Option<(&PlanEnd, &PlanEnd)>
     requires { IsPlace plan.now place }
-    ensures { IfSome result (λ ends. IsPlainLink (record_at plan.now place) ends.0.now ends.1.now) }
+    ensures ends { IfSome result (λ ends. IsPlainLink (record_at plan.now place) ends.0.now ends.1.now) }
+    ensures none { IsNone result → (origin other : End) → ¬ (IsPlainLink (record_at plan.now place) origin other) }
 {
     if !is_bare(plan, place) {
         return None;
