@@ -1,7 +1,7 @@
 //! The files of the system, and its standard input.
 //!
 //! What they hold can't be known, so nothing of it is claimed, nor of why the system refuses a step.
-ghost use Rattle.std.specs.Prelude.{[], None, ⊤};
+ghost use Rattle.std.specs.Prelude.{◌≡◌, [], None, ⊤};
 
 use crate::folder::{Destination, FileDraft, Folder, OutFault};
 use crate::reason::Reason;
@@ -31,7 +31,9 @@ pub struct Disk<'a, R, F> {
 
 impl<'a, R: Files> Disk<'a, R, R::File> {
     /// The files of the system, before any is opened.
-    pub fn new(rt: &'a R) -> Disk<'a, R, R::File> {
+    pub fn new(rt: &'a R) -> Disk<'a, R, R::File>
+        ensures { result.rt.now ≡ rt.now }
+    {
         let first = fs::open(rt, "/").ok();
         let second = fs::open(rt, "/").ok();
         let third = fs::open(rt, "/").ok();
