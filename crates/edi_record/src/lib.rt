@@ -16,8 +16,10 @@ pub mod pointer;
 mod points;
 pub mod reading;
 pub mod record;
+pub mod record_ref;
 mod role;
 pub mod sheet;
+pub mod sheet_records;
 mod stating;
 
 pub use fault::{RecordFault, SheetFault};
@@ -31,4 +33,6 @@ pub use reading::{
     sheets_are_printable, stated_records_have_names,
 };
 pub use record::{Attribute, End, Extra, Kind, Point, Record, Value};
+pub use record_ref::RecordRef;
 pub use sheet::Sheet;
+pub use sheet_records::SheetRecords;

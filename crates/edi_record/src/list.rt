@@ -11,21 +11,21 @@ ghost use Rattle.edi_record.specs.Beside.{HasTakenAll};
 ghost use Rattle.edi_record.specs.inner.Lists.{IsMadeOf};
 
 use crate::fault::{GroupFault, RecordFault, SheetFault};
-use crate::record::Record;
 use crate::sheet::Sheet;
+use crate::sheet_records::SheetRecords;
 use crate::stating::record_of;
-use edi_line::{GroupOut, Sequence, Zone, read_groups};
+use edi_line::{GroupOut, Zone, read_groups};
 use std::alloc::{AllocError, Global};
 
 /// The records of the zones that have come, until one breaks a rule, which is then the fault.
 #[derive(Drop)]
 struct RecordsUntilFault {
-    list: Vec<Record>,
+    list: SheetRecords,
     fault: Option<RecordFault>,
 }
 
 impl GroupOut for RecordsUntilFault {
-    ghost Holds = { λ records groups. IsMadeOf groups records.list.items records.fault };
+    ghost Holds = { λ records groups. IsMadeOf groups records.list records.fault };
 
     fn take(&mut self, alloc: Global, group: &[Zone<'_>]) -> Result<(), AllocError> {
         let [head, behind @ ..] = group else {
@@ -54,7 +54,7 @@ struct RecordsAndOther<O> {
 }
 
 impl<O: GroupOut> GroupOut for RecordsAndOther<O> {
-    ghost Holds = { λ both groups. IsMadeOf groups both.records.list.items both.records.fault × O.Holds both.other groups };
+    ghost Holds = { λ both groups. IsMadeOf groups both.records.list both.records.fault × O.Holds both.other groups };
 
     fn take(&mut self, alloc: Global, group: &[Zone<'_>]) -> Result<(), AllocError> {
         self.records.take(alloc, group)?;
@@ -105,7 +105,7 @@ pub fn read_sheet_beside<O: GroupOut + Drop>(
 {
     let mut both = RecordsAndOther {
         records: RecordsUntilFault {
-            list: Vec::new(alloc),
+            list: SheetRecords::new(alloc),
             fault: None,
         },
         other,
@@ -116,10 +116,7 @@ pub fn read_sheet_beside<O: GroupOut + Drop>(
     match fault {
         Some(fault) => Err(SheetFault::Record(fault)),
         None => {
-            let sheet = Sheet {
-                cse,
-                list: Sequence::from_vec(list),
-            };
+            let sheet = Sheet { cse, list };
             Ok((sheet, other))
         }
     }

@@ -23,11 +23,11 @@ ghost use Rattle.edi_record.specs.declared.record.Value.{Value};
 use crate::attributes::copied;
 use crate::fault::RecordFault;
 use crate::groups::first_value;
-use crate::record::Record;
 use crate::sheet::Sheet;
+use crate::sheet_records::SheetRecords;
 use crate::stating::record_of;
 use edi_line::codes::{CSE, RTY};
-use edi_line::{Sequence, Text, Zone};
+use edi_line::{Text, Zone};
 use std::alloc::{AllocError, Global};
 
 /// The value of the first CSE, or none.
@@ -52,15 +52,15 @@ fn zone_at<'a, 'b>(zones: &'b [Zone<'a>], at: usize) -> Option<(&'b Zone<'a>, &'
 
 /// The records that the groups of zones state, or the first that breaks a rule and the least rule
 /// that it breaks.
-fn list_of(alloc: Global, zones: &[Zone<'_>]) -> Result<Vec<Record>, RecordFault>
+fn list_of(alloc: Global, zones: &[Zone<'_>]) -> Result<SheetRecords, RecordFault>
     requires few { length (groups_of (entries zones.now)) ≤ most_records }
-    ensures states { IfOk result (λ v. AllZip ReadsAs (groups_of (entries zones.now)) v.items) }
-    ensures few { IfOk result (λ v. length v.items ≤ most_records) }
-    ensures shape { IfOk result (λ v. AreInShape v.items) }
+    ensures states { IfOk result (λ v. AllZip ReadsAs (groups_of (entries zones.now)) v) }
+    ensures few { IfOk result (λ v. length v ≤ most_records) }
+    ensures shape { IfOk result (λ v. AreInShape v) }
     ensures sound { OnOk result (IsUnbroken (FailsTest (entries zones.now))) }
     ensures least { IfErr result (IsRecordRefusal (FailsTest (entries zones.now))) }
 {
-    let mut list = Vec::new(alloc);
+    let mut list = SheetRecords::new(alloc);
     let mut at = 0;
     while let Some((zone, behind)) = zone_at(zones, at) {
         at += 1;
@@ -88,7 +88,7 @@ pub fn records(alloc: Global, zones: &[Zone<'_>]) -> Result<Sheet, RecordFault>
     let list = list_of(alloc, zones)?;
     Ok(Sheet {
         cse: charset_of(alloc, zones)?,
-        list: Sequence::from_vec(list),
+        list,
     })
 }
 

@@ -9,26 +9,26 @@ use Rattle.edi_record.proofs.list.read_sheet_beside.Goals as goal
 pub invariant_of-sheet : goal.invariant_of-sheet
 invariant_of-sheet g c =
     let h = c.in_ok-cse.ensures.groups in
-    let list = (made_of_file c.args.bytes.now c.in_ok-cse.cse c.new.result.items c.read_groups.new.out.records.list.items c.read_groups.new.out.records.fault _ _ _ h c.new.ensures.items c.requires.none_taken c.in-None.is).0 in
-    record { few = rw c.from_vec.ensures (made_few (groups_of h.zones) c.read_groups.new.out.records.list.items list h.few); in_shape = rw c.from_vec.ensures list.shape }
+    let list = (made_of_file c.args.bytes.now c.in_ok-cse.cse c.new.result c.read_groups.new.out.records.list c.read_groups.new.out.records.fault _ _ _ h c.new.ensures c.requires.none_taken c.in-None.is).0 in
+    record { few = (made_few (groups_of h.zones) c.read_groups.new.out.records.list list h.few); in_shape = list.shape }
 
 pub returns-in-Some-clause-refusal : goal.returns-in-Some-clause-refusal
 returns-in-Some-clause-refusal g c =
     let h = c.in_ok-cse.ensures.groups in
     let records = c.read_groups.new.out.records in
-    let made = (made_of_file c.args.bytes.now c.in_ok-cse.cse c.new.result.items records.list.items records.fault _ _ _ h c.new.ensures.items c.requires.none_taken c.in-Some.is).0 in
-    (c.in_ok-cse.ensures.sound, (h.zones, h.of_file, file_refusal h.zones records.list.items c.in-Some.fault made))
+    let made = (made_of_file c.args.bytes.now c.in_ok-cse.cse c.new.result records.list records.fault _ _ _ h c.new.ensures c.requires.none_taken c.in-Some.is).0 in
+    (c.in_ok-cse.ensures.sound, (h.zones, h.of_file, file_refusal h.zones records.list c.in-Some.fault made))
 
 pub returns-in-None-clause-sheet : goal.returns-in-None-clause-sheet
 returns-in-None-clause-sheet g c =
     let h = c.in_ok-cse.ensures.groups in
     let records = c.read_groups.new.out.records in
-    let list = (made_of_file c.args.bytes.now c.in_ok-cse.cse c.new.result.items records.list.items records.fault _ _ _ h c.new.ensures.items c.requires.none_taken c.in-None.is).0 in (
+    let list = (made_of_file c.args.bytes.now c.in_ok-cse.cse c.new.result records.list records.fault _ _ _ h c.new.ensures c.requires.none_taken c.in-None.is).0 in (
       h.zones,
       h.of_file,
       record {
         cse = h.charset_is;
-        records = rw c.from_vec.ensures (all_said (groups_of h.zones) records.list.items list.states);
+        records = (all_said (groups_of h.zones) records.list list.states);
       },
     )
 
@@ -38,7 +38,7 @@ returns-in-None-clause-other g c =
     let records = c.read_groups.new.out.records in (
       h.zones,
       h.of_file,
-      (made_of_file c.args.bytes.now c.in_ok-cse.cse c.new.result.items records.list.items records.fault _ _ _ h c.new.ensures.items c.requires.none_taken c.in-None.is).1,
+      (made_of_file c.args.bytes.now c.in_ok-cse.cse c.new.result records.list records.fault _ _ _ h c.new.ensures c.requires.none_taken c.in-None.is).1,
     )
 
 pub returns-in-None-clause-records : goal.returns-in-None-clause-records
@@ -46,4 +46,4 @@ returns-in-None-clause-records g c =
     let h = c.in_ok-cse.ensures.groups in
     let records = c.read_groups.new.out.records in
     λ zones of_file. subst (λ zs. (rule : ℕ) → (place : ℕ) → ¬ (BreaksRecordRule zs rule place)) (zones_of_one c.args.bytes.now h.zones zones h.of_file of_file)
-    (file_unbroken h.zones records.list.items (made_of_file c.args.bytes.now c.in_ok-cse.cse c.new.result.items records.list.items records.fault _ _ _ h c.new.ensures.items c.requires.none_taken c.in-None.is).0)
+    (file_unbroken h.zones records.list (made_of_file c.args.bytes.now c.in_ok-cse.cse c.new.result records.list records.fault _ _ _ h c.new.ensures c.requires.none_taken c.in-None.is).0)

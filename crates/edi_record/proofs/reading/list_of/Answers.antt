@@ -17,16 +17,16 @@ loop-zone-preserved-in-Ok c =
     record {
       within = omega (arith, c.in-Ok.ensures.within, long, length-drop (c.loop-zone.at + 1) c.args.zones.now, here.0);
       so_far =
-          moved zones (entries behind) (entries (drop (c.loop-zone.at + 1 + c.in-Ok.own) c.args.zones.now)) c.push.new.self.items
-          (one_more zones (entries (drop c.loop-zone.at c.args.zones.now)) c.loop-zone.list.items c.push.new.self.items zone (entries behind) c.in-Ok.record c.loop-zone.invariant.so_far here.1 (sym c.eq.ensures ∙ c.if-eq.true)
-          c.in-Ok.ensures.states c.in-Ok.ensures.shape c.in-Ok.ensures.sound c.in_ok-push-in-Ok.ensures.items)
+          moved zones (entries behind) (entries (drop (c.loop-zone.at + 1 + c.in-Ok.own) c.args.zones.now)) c.push.new.self
+          (one_more zones (entries (drop c.loop-zone.at c.args.zones.now)) c.loop-zone.list c.push.new.self zone (entries behind) c.in-Ok.record c.loop-zone.invariant.so_far here.1 (sym c.eq.ensures ∙ c.if-eq.true)
+          c.in-Ok.ensures.states c.in-Ok.ensures.shape c.in-Ok.ensures.sound c.in_ok-push-in-Ok.ensures)
           (ap (λ zs. groups_of (entries zs)) (sym left) ∙ c.in-Ok.ensures.left);
     }
 
 pub returns-in-Err-clause-least : goal.returns-in-Err-clause-least
 returns-in-Err-clause-least c =
-    refusal_at (entries c.args.zones.now) (entries (drop c.loop-zone.at c.args.zones.now)) c.loop-zone.list.items (entry c.in-Some.zone.now) (entries c.in-Some.behind.now) c.in-Err.fault (c.len.result + 1) c.at.result c.loop-zone.invariant.so_far
-    c.in-Some.ensures.1 (sym c.eq.ensures ∙ c.if-eq.true) (omega (arith, c.len.ensures, c.loop-zone.list.ok.0)) c.at.ensures c.in-Err.ensures.least
+    refusal_at (entries c.args.zones.now) (entries (drop c.loop-zone.at c.args.zones.now)) c.loop-zone.list (entry c.in-Some.zone.now) (entries c.in-Some.behind.now) c.in-Err.fault (c.len.result + 1) c.at.result c.loop-zone.invariant.so_far
+    c.in-Some.ensures.1 (sym c.eq.ensures ∙ c.if-eq.true) (omega (arith, c.len.ensures.len, c.len.ensures.few)) c.at.ensures c.in-Err.ensures.least
 
 pub returns-clause-few : goal.returns-clause-few
 returns-clause-few c = few_in_all _ _ _ c.loop-zone.invariant.so_far (no_zone c.args.zones.now c.loop-zone.at c.in_default.ensures) c.requires.few

@@ -6,7 +6,7 @@ use Rattle.edi_record.proofs.reading.list_of.Given as goal
 abbrev pub invariant-loop-zone : goal.invariant-loop-zone
 invariant-loop-zone l = record {
   within : l.at ≤ length l.zones;
-  so_far : SoFar (entries l.fn.zones) (entries (drop l.at l.zones)) l.list.items;
+  so_far : SoFar (entries l.fn.zones) (entries (drop l.at l.zones)) l.list;
 }
 
 abbrev pub decreases-loop-zone : goal.decreases-loop-zone

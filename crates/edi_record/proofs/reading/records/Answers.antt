@@ -6,7 +6,7 @@ use Rattle.edi_record.proofs.StatesSaid.{all_said}
 use Rattle.edi_record.proofs.reading.records.Goals as goal
 
 pub invariant_of-result : goal.invariant_of-result
-invariant_of-result c = record { few = rw c.from_vec.ensures c.in_ok-list.ensures.few; in_shape = rw c.from_vec.ensures c.in_ok-list.ensures.shape }
+invariant_of-result c = record { few = c.in_ok-list.ensures.few; in_shape = c.in_ok-list.ensures.shape }
 
 pub returns-in_err-list-clause-least : goal.returns-in_err-list-clause-least
 returns-in_err-list-clause-least c =
@@ -16,7 +16,7 @@ returns-in_err-list-clause-least c =
 pub returns-clause-states : goal.returns-clause-states
 returns-clause-states c = record {
   cse = c.in_ok-charset_of.ensures;
-  records = rw c.from_vec.ensures (all_said (groups_of (entries c.args.zones.now)) c.in_ok-list.list.items c.in_ok-list.ensures.states);
+  records = all_said (groups_of (entries c.args.zones.now)) c.in_ok-list.list c.in_ok-list.ensures.states;
 }
 
 pub returns-clause-sound : goal.returns-clause-sound

@@ -1,0 +1,95 @@
+//! A record whose parts lie elsewhere.
+
+ghost use Rattle.std.specs.Prelude.{◌≡◌};
+
+use crate::name::Name;
+use crate::record::{Attribute, End, Extra, Kind, Point, Record};
+use edi_line::Text;
+use std::marker::Model;
+
+/// A record, borrowed. Contracts see the record.
+pub struct RecordRef<'a> {
+    pub(crate) kind: Kind,
+    pub(crate) rid: &'a Text,
+    pub(crate) scp: &'a Name,
+    pub(crate) points: &'a [Point],
+    pub(crate) ends: &'a [End],
+    pub(crate) attributes: &'a [Attribute],
+    pub(crate) extras: &'a [Extra],
+}
+
+impl<'a> Model for RecordRef<'a> {
+    ghost use Rattle.edi_record.specs.declared.record.Record.{Record};
+
+    ghost Value = { Record };
+
+    ghost view = { λ r. record { kind = r.kind; rid = r.rid.now; scp = r.scp.now; points = r.points.now; ends = r.ends.now; attributes = r.attributes.now; extras = r.extras.now } };
+}
+
+impl<'a> RecordRef<'a> {
+    /// The type of the record.
+    pub fn kind(&self) -> Kind
+        ensures { result ≡ self.now.kind }
+    {
+        self.kind
+    }
+
+    /// Its identifier.
+    pub fn rid(&self) -> &'a [u8]
+        ensures { result.now ≡ self.now.rid }
+    {
+        self.rid.as_slice()
+    }
+
+    /// The name of its class.
+    pub fn scp(&self) -> &'a Name
+        ensures { result.now ≡ self.now.scp }
+    {
+        self.scp
+    }
+
+    /// Its points, in file order; their coordinates are whole millionths of the file's unit.
+    pub fn points(&self) -> &'a [Point]
+        ensures { result.now ≡ self.now.points }
+    {
+        self.points
+    }
+
+    /// Its ends, the origin first.
+    pub fn ends(&self) -> &'a [End]
+        ensures { result.now ≡ self.now.ends }
+    {
+        self.ends
+    }
+
+    /// Its attributes, in file order.
+    pub fn attributes(&self) -> &'a [Attribute]
+        ensures { result.now ≡ self.now.attributes }
+    {
+        self.attributes
+    }
+
+    /// Its zones whose codes aren't known, in file order.
+    pub fn extras(&self) -> &'a [Extra]
+        ensures { result.now ≡ self.now.extras }
+    {
+        self.extras
+    }
+}
+
+impl Record {
+    /// The record, borrowed.
+    pub fn borrowed(&self) -> RecordRef<'_>
+        ensures { result ≡ self.now }
+    {
+        RecordRef {
+            kind: self.kind,
+            rid: &self.rid,
+            scp: &self.scp,
+            points: self.points.as_slice(),
+            ends: self.ends.as_slice(),
+            attributes: self.attributes.as_slice(),
+            extras: self.extras.as_slice(),
+        }
+    }
+}
