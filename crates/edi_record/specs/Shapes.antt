@@ -1,5 +1,5 @@
 -- What holds of each sheet.
-use Rattle.std.specs.Prelude.{ℕ, Bool, ◌&&◌, nat_eq, nat_le, List, length, codes}
+use Rattle.std.specs.Prelude.{ℕ, Bool, ◌&&◌, nat_eq, nat_le, List, [], length, codes, slice_index_or}
 use Rattle.edi_record.specs.declared.record.Record.{Record}
 use Rattle.edi_record.specs.declared.record.Kind.{Kind}
 use Rattle.edi_record.specs.declared.record.Kind.TheVariants.{Pno, Par, Pfe, Fea, Lnk}
@@ -38,3 +38,7 @@ may_have_ends Lnk n = nat_le 2 n
 
 abbrev pub is_in_shape : Record → Bool
 is_in_shape r = may_have_points r.kind (length r.points) && may_have_ends r.kind (length r.ends)
+
+-- the record at a place, from 0, or an empty one where there is none
+abbrev pub stated_at : List Record → ℕ → Record
+stated_at list k = slice_index_or list k (record { kind = Pno; rid = []; scp = record { rty = []; rid = [] }; points = []; ends = []; attributes = []; extras = [] })

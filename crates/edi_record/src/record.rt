@@ -1,12 +1,13 @@
 //! Records and their parts.
 
-ghost use Rattle.std.specs.Prelude.{◌≡◌, ◌||◌};
+ghost use Rattle.std.specs.Prelude.{◌≡◌, ◌||◌, IfOk};
 ghost use Rattle.edi_record.specs.Records.{has_points as kind_has_points, is_link as kind_is_link};
 ghost use Rattle.edi_record.specs.inner.RecordRules.{is_arc};
 ghost use Rattle.edi_record.specs.Shapes.{kind_code, may_have_points as may_have_so_many};
 
 use crate::name::Name;
 use edi_line::{Num, Sequence, Text};
+use std::alloc::{AllocError, Global};
 
 /// The type of a record of a sheet.
 #[derive(Clone, Copy, Debug, PartialEq, Eq, PartialOrd, Ord, Hash)]
@@ -110,6 +111,24 @@ pub struct Extra {
     pub nature: u8,
     pub format: u8,
     pub value: Value,
+}
+
+impl Extra {
+    /// The same zone, with memory of its own.
+    pub fn copied(&self, alloc: Global) -> Result<Extra, AllocError>
+        ensures { IfOk result (λ copy. copy ≡ self.now) }
+    {
+        let value = match &self.value {
+            Value::Number(number) => Value::Number(*number),
+            Value::Bytes(text) => Value::Bytes(Text::from_slice(alloc, text.as_slice())?),
+        };
+        Ok(Extra {
+            code: self.code,
+            nature: self.nature,
+            format: self.format,
+            value,
+        })
+    }
 }
 
 /// An end of a link.

@@ -1,8 +1,9 @@
 //! The records of a sheet.
 
 ghost use Rattle.std.specs.Prelude.{◌≡◌, ◌↔◌, ◌<◌, ◌^◌, ◌∷◌, ◌++◌, [], IsTrue, Some, slice_get, length, IfOk, OnOk};
+ghost use Rattle.edi_record.specs.Shapes.{stated_at};
 
-use crate::record::Record;
+use crate::record::{End, Kind, Record};
 use crate::record_ref::RecordRef;
 use std::alloc::{AllocError, Global};
 use std::marker::Model;
@@ -61,6 +62,30 @@ impl SheetRecords {
         ensures { slice_get self.now place ≡ Some result }
     {
         self.list[place].borrowed()
+    }
+
+    /// The type of a record, by its place from 0.
+    pub fn kind(&self, place: usize) -> Kind
+        requires { place < length self.now }
+        ensures { result ≡ (stated_at self.now place).kind }
+    {
+        self.list[place].kind
+    }
+
+    /// The identifier of a record, by its place from 0.
+    pub fn rid(&self, place: usize) -> &[u8]
+        requires { place < length self.now }
+        ensures { result.now ≡ (stated_at self.now place).rid }
+    {
+        self.list[place].rid.as_slice()
+    }
+
+    /// The ends of a record, by its place from 0: none if it is no link.
+    pub fn ends(&self, place: usize) -> &[End]
+        requires { place < length self.now }
+        ensures { result.now ≡ (stated_at self.now place).ends }
+    {
+        self.list[place].ends.as_slice()
     }
 
     /// The records, each with memory of its own.
