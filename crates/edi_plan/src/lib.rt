@@ -8,6 +8,7 @@ pub mod laws;
 mod names;
 mod places;
 pub mod plan;
+mod planned;
 pub mod record;
 mod record_block;
 mod record_list;

@@ -1,16 +1,17 @@
 //! The names of records: rule 301.
 
-ghost use Rattle.std.specs.Prelude.{◌≡◌, ◌∷◌, [], ◌≤◌, true, length, map, unwrap_or, IfOk, OnOk};
+ghost use Rattle.std.specs.Prelude.{◌≡◌, ◌∷◌, [], ◌<◌, ◌≤◌, true, length, map, unwrap_or, IfOk, OnOk};
 ghost use Rattle.std.specs.Cmp.Rules.{hashing};
 ghost use Rattle.std.proofs.Common.{rules};
 ghost use Rattle.edi_line.specs.Bytes.{most_records};
 ghost use Rattle.edi_hash.specs.Keys.{keyed_by};
+ghost use Rattle.edi_record.specs.Shapes.{stated_at};
 ghost use Rattle.edi_plan.specs.PlanOf.{own_name};
 ghost use Rattle.edi_plan.specs.inner.Names.{named, place_in, is_tabled as tabled_test, tabled, IsPut, AreNamesOf, IsFirstRepeatIfAny};
 ghost use Rattle.edi_plan.specs.inner.LinkNames.{with_digit, end_number, LinksDiffer};
 
 use edi_hash::{KeyNames, NameHash};
-use edi_record::{Kind, Record};
+use edi_record::{Kind, SheetRecords};
 use indexmap::IndexMap;
 use std::alloc::{AllocError, Global};
 use std::hash::{Hash, Hasher};
@@ -40,13 +41,14 @@ pub(crate) struct Names<'a> {
     pub(crate) repeat: Option<usize>,
 }
 
-/// The name of a record.
-pub(crate) fn name_of(stated: &Record) -> RecordNameRef<'_>
-    ensures { named result ≡ own_name stated.now }
+/// The name of the record at a place, from 0.
+pub(crate) fn name_at(records: &SheetRecords, place: usize) -> RecordNameRef<'_>
+    requires { place < length records.now }
+    ensures { named result ≡ own_name (stated_at records.now place) }
 {
     RecordNameRef {
-        kind: stated.kind,
-        rid: stated.rid.as_slice(),
+        kind: records.kind(place),
+        rid: records.rid(place),
     }
 }
 
@@ -74,15 +76,15 @@ fn end_number(rid: &[u8]) -> u64
 }
 
 /// Whether the numbers of the links rise, as they do in most sheets. Then no two links have one identifier.
-fn links_rise(records: &[Record]) -> bool
+fn links_rise(records: &SheetRecords) -> bool
     ensures { result ≡ true → LinksDiffer records.now }
 {
     let mut least: u64 = 0;
-    for record in records {
-        if !record.kind.is_link() {
+    for place in 0..records.len() {
+        if !records.kind(place).is_link() {
             continue;
         }
-        let number = end_number(record.rid.as_slice());
+        let number = end_number(records.rid(place));
         if number < least || number == u64::MAX {
             return false;
         }
@@ -100,25 +102,25 @@ fn is_tabled(links_rise: bool, kind: Kind) -> bool
 
 /// The hash for the names of these records that go into the table, under a key made of their identifiers. Their types are left
 /// out: one identifier makes five names at most, too few to choose among.
-fn hash_of(links_rise: bool, records: &[Record]) -> NameHash
+fn hash_of(links_rise: bool, records: &SheetRecords) -> NameHash
     ensures { result ≡ keyed_by (map (λ r. r.rid) (tabled links_rise records.now)) }
 {
     let mut names = KeyNames::new();
-    for record in records {
-        if is_tabled(links_rise, record.kind) {
-            names.add(record.rid.as_slice());
+    for place in 0..records.len() {
+        if is_tabled(links_rise, records.kind(place)) {
+            names.add(records.rid(place));
         }
     }
     names.hash()
 }
 
 /// How many names go into the table.
-fn count_tabled(links_rise: bool, records: &[Record]) -> usize
+fn count_tabled(links_rise: bool, records: &SheetRecords) -> usize
     ensures { result ≡ length (tabled links_rise records.now) }
 {
     let mut count: usize = 0;
-    for record in records {
-        if is_tabled(links_rise, record.kind) {
+    for place in 0..records.len() {
+        if is_tabled(links_rise, records.kind(place)) {
             count += 1;
         }
     }
@@ -139,7 +141,7 @@ fn place_or<'a>(
 
 impl<'a> Names<'a> {
     /// The names of records, by their places from 0.
-    pub(crate) fn among(alloc: Global, records: &'a [Record]) -> Result<Names<'a>, AllocError>
+    pub(crate) fn among(alloc: Global, records: &'a SheetRecords) -> Result<Names<'a>, AllocError>
         requires { length records.now ≤ most_records }
         ensures names { IfOk result (AreNamesOf records.now) }
         ensures repeat { IfOk result (λ names. IsFirstRepeatIfAny records.now names.repeat) }
@@ -149,11 +151,12 @@ impl<'a> Names<'a> {
         let count = count_tabled(links_rise, records);
         let mut places = IndexMap::with_capacity_and_hasher(alloc, count, hash)?;
         let mut repeat: Option<usize> = None;
-        for (place, record) in records.iter().enumerate() {
-            if !is_tabled(links_rise, record.kind) {
+        for place in 0..records.len() {
+            let name = name_at(records, place);
+            if !is_tabled(links_rise, name.kind) {
                 continue;
             }
-            let first = place_or(&mut places, name_of(record), place as u32)?;
+            let first = place_or(&mut places, name, place as u32)?;
             if first as usize != place {
                 repeat = repeat.or(Some(place));
             }

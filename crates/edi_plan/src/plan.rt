@@ -55,8 +55,8 @@ impl Plan {
         ensures least { IfErr result (IsRecordRefusal (BreaksReferenceRule schema.now sheet.list)) }
     {
         let Sheet { cse, list } = sheet;
-        let references = References::among(alloc, list.as_slice())?;
-        let planned = plan_records(alloc, schema, &references, list)?;
+        let references = References::among(alloc, &list)?;
+        let planned = plan_records(alloc, schema, &references, &list)?;
         let places = Places::among(alloc, &planned.list)?;
         Ok(Plan {
             cse,

@@ -5,8 +5,8 @@ ghost use Rattle.std.specs.Prelude.{◌≡◌, ◌+◌, ◌<◌, ◌∷◌, ◌+
 ghost use Rattle.edi_plan.specs.Plans.{blank};
 ghost use Rattle.edi_plan.specs.inner.RecordBlocks.{part_of, records_in, ArePartsWithin, IsWithin};
 
-use crate::record::{PlanAttribute, PlanEnd, PlanRecord};
-use edi_line::Sequence;
+use crate::planned::PlannedRecord;
+use crate::record::{PlanAttribute, PlanEnd};
 use edi_record::{Extra, Kind, Point};
 use edi_schema::{ClassRef, Role};
 use std::alloc::{AllocError, Global};
@@ -51,14 +51,26 @@ fn place_of(len: usize) -> Result<u32, AllocError>
 }
 
 /// Moves the elements of a part behind those of a list. Where they lie is the answer.
-fn append<T: Drop>(list: &mut Vec<T>, part: Sequence<T>) -> Result<ListPart, AllocError>
-    ensures items { OnOk result (list.new.items ≡ list.old.items ++ part) }
+fn append<T: Drop>(list: &mut Vec<T>, part: Vec<T>) -> Result<ListPart, AllocError>
+    ensures items { OnOk result (list.new.items ≡ list.old.items ++ part.items) }
     ensures from { IfOk result (λ span. span.from ≡ length list.old.items) }
-    ensures to { IfOk result (λ span. span.to ≡ length list.old.items + length part) }
+    ensures to { IfOk result (λ span. span.to ≡ length list.old.items + length part.items) }
 {
     let from = place_of(list.len())?;
-    let mut items = part.into_vec();
+    let mut items = part;
     list.append(&mut items)?;
+    let to = place_of(list.len())?;
+    Ok(ListPart { from, to })
+}
+
+/// Copies points behind those of a list. Where they lie is the answer.
+fn append_points(list: &mut Vec<Point>, part: &[Point]) -> Result<ListPart, AllocError>
+    ensures items { OnOk result (list.new.items ≡ list.old.items ++ part.now) }
+    ensures from { IfOk result (λ span. span.from ≡ length list.old.items) }
+    ensures to { IfOk result (λ span. span.to ≡ length list.old.items + length part.now) }
+{
+    let from = place_of(list.len())?;
+    list.extend_from_slice(part)?;
     let to = place_of(list.len())?;
     Ok(ListPart { from, to })
 }
@@ -95,12 +107,12 @@ impl RecordBlock {
     }
 
     /// Adds a record.
-    pub(crate) fn push(&mut self, record: PlanRecord) -> Result<(), AllocError>
+    pub(crate) fn push(&mut self, record: PlannedRecord<'_>) -> Result<(), AllocError>
         requires { ArePartsWithin self.old }
         ensures records { OnOk result (records_in self.new ≡ records_in self.old ++ «record» ∷ []) }
         ensures within { OnOk result (ArePartsWithin self.new) }
     {
-        let points = append(&mut self.points, record.points)?;
+        let points = append_points(&mut self.points, record.points)?;
         let attributes = append(&mut self.attributes, record.attributes)?;
         let extras = append(&mut self.extras, record.extras)?;
         let ends = append(&mut self.ends, record.ends)?;

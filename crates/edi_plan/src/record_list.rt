@@ -5,7 +5,8 @@ ghost use Rattle.edi_plan.specs.Plans.{blank};
 ghost use Rattle.edi_plan.specs.inner.RecordBlocks.{records_in, ArePartsWithin, IsFull};
 ghost use Rattle.edi_plan.specs.inner.RecordLists.{records_of, AreFull, AreWithin};
 
-use crate::record::{PlanAttribute, PlanEnd, PlanRecord};
+use crate::planned::PlannedRecord;
+use crate::record::{PlanAttribute, PlanEnd};
 use crate::record_block::RecordBlock;
 use edi_record::{Extra, Kind, Point};
 use edi_schema::{ClassRef, Role};
@@ -53,7 +54,7 @@ impl RecordList {
 
     /// Adds a record.
     #[tactic(auto, unfolding(crate::specs::inner::RecordLists::records_of))]
-    pub(crate) fn push(&mut self, record: PlanRecord) -> Result<(), AllocError>
+    pub(crate) fn push(&mut self, record: PlannedRecord<'_>) -> Result<(), AllocError>
         requires { AreWithin self.old }
         ensures records { OnOk result (records_of self.new ≡ records_of self.old ++ «record» ∷ []) }
         ensures within { OnOk result (AreWithin self.new) }

@@ -1,6 +1,6 @@
 //! The records of a plan: rules 302 to 307.
 
-ghost use Rattle.std.specs.Prelude.{◌≡◌, ◌+◌, ◌<◌, ◌≤◌, true, length, is_none, Any, IfOk, IfErr, IfSome, OnOk, MatchOption, Some, IsTrue, ◌↔◌, codes};
+ghost use Rattle.std.specs.Prelude.{◌≡◌, ◌≢◌, ◌⊎◌, ◌+◌, ◌<◌, ◌≤◌, true, length, is_none, Any, IfOk, IfErr, IfSome, OnOk, MatchOption, None, Some, IsTrue, ◌↔◌, codes};
 ghost use Rattle.std.specs.List.{AllZip, list_any};
 ghost use Rattle.edi_line.specs.Bytes.{most_records};
 ghost use Rattle.edi_line.specs.inner.Refusal.{first_broken};
@@ -15,27 +15,24 @@ ghost use Rattle.edi_plan.specs.inner.SideTable.{link_join, HaveEntries, IsNoted
 ghost use Rattle.edi_plan.specs.inner.RecordLists.{records_of, AreWithin};
 
 use crate::fault::{RefFault, Unresolved};
-use crate::record::{PlanAttribute, PlanEnd, PlanRecord};
+use crate::planned::PlannedRecord;
+use crate::record::{PlanAttribute, PlanEnd};
 use crate::record_list::RecordList;
 use crate::references::{References, Subset};
 use crate::sides::{note_link, without_links};
 use crate::targets::Target;
-use edi_line::{Num, Sequence, Text};
-use edi_record::{Attribute, End, Name, Record, Value};
+use edi_line::{Num, Text};
+use edi_record::{Attribute, End, Extra, Name, RecordRef, SheetRecords, Value};
 use edi_schema::{ByRole, ClassRef, Schema};
-use std::alloc::Global;
+use std::alloc::{AllocError, Global};
 
-fn value_of(may_be_number: bool, text: Text) -> Value
-    ensures { IsValueOf (may_be_number ≡ true) text result }
+fn value_of(alloc: Global, may_be_number: bool, text: &Text) -> Result<Value, AllocError>
+    ensures { IfOk result (IsValueOf (may_be_number ≡ true) text.now) }
 {
-    if may_be_number {
-        match Num::read(text.as_slice()) {
-            Some(number) => Value::Number(number),
-            None => Value::Bytes(text),
-        }
-    } else {
-        Value::Bytes(text)
+    if may_be_number && let Some(number) = Num::read(text.as_slice()) {
+        return Ok(Value::Number(number));
     }
+    Ok(Value::Bytes(text.clone()?))
 }
 
 fn is_attribute_type(rty: &Text) -> bool
@@ -44,68 +41,98 @@ fn is_attribute_type(rty: &Text) -> bool
     rty.as_slice() == b"ATT".as_slice()
 }
 
-/// The attribute under a schema, if its class is one of type `ATT` there.
-fn plan_attribute(schema: &Schema, attribute: Attribute) -> Option<PlanAttribute>
-    ensures { MatchOption result (LacksClass schema.now attribute) (Resolves schema.now attribute) }
+/// The class of an attribute under a schema, if it is one of type `ATT` there.
+fn attribute_class(schema: &Schema, name: &Name) -> Option<ClassRef>
+    ensures { MatchOption result ((name.now.rty ≢ codes "ATT") ⊎ (place_of schema.now name.now ≡ None))
+        (λ class. (name.now.rty ≡ codes "ATT") × (place_of schema.now name.now ≡ Some class) × (class < length schema.now)) }
 {
-    let Attribute { atp, tex, atv } = attribute;
-    if !is_attribute_type(&atp.rty) {
-        return None;
+    if is_attribute_type(&name.rty) {
+        schema.class(name)
+    } else {
+        None
     }
-    let class = schema.class(&atp)?;
-    let value = value_of(schema.is_number(class), atv);
-    Some(PlanAttribute {
+}
+
+/// A text that may be absent, with memory of its own.
+fn copied(text: &Option<Text>) -> Result<Option<Text>, AllocError>
+    ensures { IfOk result (λ copy. copy ≡ text.now) }
+{
+    match text {
+        Some(text) => Ok(Some(text.clone()?)),
+        None => Ok(None),
+    }
+}
+
+/// An attribute under a schema that has this class for it; or rule 303, where it has none.
+fn plan_attribute(
+    alloc: Global,
+    schema: &Schema,
+    attribute: &Attribute,
+) -> Result<PlanAttribute, Unresolved>
+    ensures ok { IfOk result (Resolves schema.now attribute.now) }
+    ensures err { IfErr result (IsUnresolved (λ rule. (rule ≡ 303) × LacksClass schema.now attribute.now)) }
+{
+    let Some(class) = attribute_class(schema, &attribute.atp) else {
+        return Err(Unresolved::Broken(303));
+    };
+    Ok(PlanAttribute {
         atp: class,
-        tex,
-        value,
+        tex: copied(&attribute.tex)?,
+        value: value_of(alloc, schema.is_number(class), &attribute.atv)?,
     })
 }
 
 fn plan_attributes(
     alloc: Global,
     schema: &Schema,
-    attributes: Sequence<Attribute>,
+    attributes: &[Attribute],
 ) -> Result<Vec<PlanAttribute>, Unresolved>
-    ensures ok { IfOk result (λ done. AllZip (Resolves schema.now) attributes done.items) }
-    ensures err { IfErr result (IsUnresolved (λ rule. (rule ≡ 303) × Any (LacksClass schema.now) attributes)) }
+    ensures ok { IfOk result (λ done. AllZip (Resolves schema.now) attributes.now done.items) }
+    ensures err { IfErr result (IsUnresolved (λ rule. (rule ≡ 303) × Any (LacksClass schema.now) attributes.now)) }
 {
     let mut done = Vec::with_capacity(alloc, attributes.len())?;
-    for attribute in attributes.into_vec() {
-        match plan_attribute(schema, attribute) {
-            Some(attribute) => done.push(attribute)?,
-            None => return Err(Unresolved::Broken(303)),
-        }
+    for attribute in attributes {
+        done.push(plan_attribute(alloc, schema, attribute)?)?;
     }
     Ok(done)
 }
 
-fn plan_end(target: Target, end: End) -> PlanEnd
-    ensures { Gives (Some target) end result }
+fn plan_end(target: Target, end: &End) -> Result<PlanEnd, AllocError>
+    ensures { IfOk result (Gives (Some target) end.now) }
 {
-    PlanEnd {
+    Ok(PlanEnd {
         target: target.place,
-        sns: end.sns,
-    }
+        sns: copied(&end.sns)?,
+    })
 }
 
 /// The ends of a record, each with its target; or rule 305, where one has none.
 fn plan_ends(
     alloc: Global,
     targets: &[Option<Target>],
-    ends: Sequence<End>,
+    ends: &[End],
 ) -> Result<Vec<PlanEnd>, Unresolved>
-    requires { length targets.now ≡ length ends }
-    ensures ok { IfOk result (λ done. AreGiven targets.now ends done.items) }
+    requires { length targets.now ≡ length ends.now }
+    ensures ok { IfOk result (λ done. AreGiven targets.now ends.now done.items) }
     ensures err { IfErr result (IsUnresolved (λ rule. (rule ≡ 305) × (list_any is_none targets.now ≡ true))) }
 {
     let mut done = Vec::with_capacity(alloc, ends.len())?;
-    let mut place: usize = 0;
-    for end in ends.into_vec() {
+    for (place, end) in ends.iter().enumerate() {
         let Some(target) = targets[place] else {
             return Err(Unresolved::Broken(305));
         };
-        done.push(plan_end(target, end))?;
-        place += 1;
+        done.push(plan_end(target, end)?)?;
+    }
+    Ok(done)
+}
+
+/// The extra zones, with memory of their own.
+fn plan_extras(alloc: Global, extras: &[Extra]) -> Result<Vec<Extra>, AllocError>
+    ensures { IfOk result (λ done. done.items ≡ extras.now) }
+{
+    let mut done = Vec::new(alloc);
+    for extra in extras {
+        done.push(extra.copied(alloc)?)?;
     }
     Ok(done)
 }
@@ -153,15 +180,15 @@ fn class_of(schema: &Schema, last: Option<ClassRef>, name: &Name) -> Option<Clas
 
 /// The record in the plan, whose class is known if the schema has it; or the least of the rules 302 to 307 that the record breaks.
 /// What a link joins is noted.
-fn plan_record(
+fn plan_record<'a>(
     alloc: Global,
     schema: &Schema,
     subset: &Option<Subset>,
     targets: &[Option<Target>],
     sides: &mut [ByRole<Option<u32>>],
     class: Option<ClassRef>,
-    record: Record,
-) -> Result<PlanRecord, Unresolved>
+    record: RecordRef<'a>,
+) -> Result<PlannedRecord<'a>, Unresolved>
     requires class { class ≡ place_of schema.now «record».scp }
     requires within { IfSome class (λ class. class < length schema.now) }
     requires long { length targets.now ≡ length «record».ends }
@@ -174,23 +201,23 @@ fn plan_record(
     let Some(class) = class else {
         return Err(Unresolved::Broken(302));
     };
-    let attributes = plan_attributes(alloc, schema, record.attributes)?;
-    if leaves_subset(subset, record.ends.as_slice()) {
+    let attributes = plan_attributes(alloc, schema, record.attributes())?;
+    if leaves_subset(subset, record.ends()) {
         return Err(Unresolved::Broken(304));
     }
-    let ends = plan_ends(alloc, targets, record.ends)?;
+    let ends = plan_ends(alloc, targets, record.ends())?;
     let role = schema.role(class);
-    if record.kind.is_link() {
+    if record.kind().is_link() {
         note_link(sides, role, targets)?;
     }
-    Ok(PlanRecord {
-        kind: record.kind,
+    Ok(PlannedRecord {
+        kind: record.kind(),
         class,
         role,
-        points: record.points,
-        attributes: Sequence::from_vec(attributes),
-        extras: record.extras,
-        ends: Sequence::from_vec(ends),
+        points: record.points(),
+        attributes,
+        extras: plan_extras(alloc, record.extras())?,
+        ends,
     })
 }
 
@@ -226,26 +253,26 @@ pub(crate) fn plan_records(
     alloc: Global,
     schema: &Schema,
     references: &References,
-    records: Sequence<Record>,
+    records: &SheetRecords,
 ) -> Result<Planned, RefFault>
-    requires few { length records ≤ most_records }
-    requires references { AreReferences records references.now }
+    requires few { length records.now ≤ most_records }
+    requires references { AreReferences records.now references.now }
     ensures within { IfOk result (λ p. AreWithin p.list) }
-    ensures each { IfOk result (λ p. AllZip (StatesPlanRecord schema.now records) records (records_of p.list)) }
-    ensures sides { IfOk result (λ p. IsDone schema.now records (length records) p.sides.items) }
-    ensures least { IfErr result (IsRecordRefusal (BreaksReferenceRule schema.now records)) }
+    ensures each { IfOk result (λ p. AllZip (StatesPlanRecord schema.now records.now) records.now (records_of p.list)) }
+    ensures sides { IfOk result (λ p. IsDone schema.now records.now (length records.now) p.sides.items) }
+    ensures least { IfErr result (IsRecordRefusal (BreaksReferenceRule schema.now records.now)) }
 {
     let mut list = RecordList::with_capacity(alloc, records.len())?;
     let mut sides = without_links(alloc, records.len())?;
     let mut targets = references.targets.as_slice();
-    let mut place: usize = 0;
     let mut last: Option<ClassRef> = None;
-    for record in records.into_vec() {
+    for place in 0..records.len() {
         if is_place(references.repeat, place) {
             return Err(broken(301, place));
         }
-        let (own, rest) = targets.split_at(record.ends.len());
-        let class = class_of(schema, last, &record.scp);
+        let record = records.record(place);
+        let (own, rest) = targets.split_at(record.ends().len());
+        let class = class_of(schema, last, record.scp());
         last = class;
         match plan_record(
             alloc,
@@ -261,7 +288,6 @@ pub(crate) fn plan_records(
             Err(Unresolved::Broken(rule)) => return Err(broken(rule, place)),
         }
         targets = rest;
-        place += 1;
     }
     Ok(Planned { list, sides })
 }

@@ -8,7 +8,7 @@ ghost use Rattle.edi_plan.specs.inner.Resolving.{first_subset, AreReferences};
 use crate::names::Names;
 use crate::targets::{Target, targets};
 use edi_line::Text;
-use edi_record::{End, Record};
+use edi_record::{End, SheetRecords};
 use std::alloc::{AllocError, Global};
 
 /// The lot and the subset of an end.
@@ -28,18 +28,18 @@ pub(crate) struct References {
 }
 
 /// The first end of all records.
-fn first_end(records: &[Record]) -> Option<&End>
+fn first_end(records: &SheetRecords) -> Option<&End>
     ensures { option_copied result ≡ first_of (flat_map (λ r. r.ends) records.now) }
 {
-    for record in records {
-        if let Some(end) = record.ends.as_slice().first() {
+    for place in 0..records.len() {
+        if let Some(end) = records.ends(place).first() {
             return Some(end);
         }
     }
     None
 }
 
-fn subset_of(alloc: Global, records: &[Record]) -> Result<Option<Subset>, AllocError>
+fn subset_of(alloc: Global, records: &SheetRecords) -> Result<Option<Subset>, AllocError>
     ensures { IfOk result (λ subset. subset ≡ first_subset records.now) }
 {
     match first_end(records) {
@@ -53,7 +53,7 @@ fn subset_of(alloc: Global, records: &[Record]) -> Result<Option<Subset>, AllocE
 
 impl References {
     /// The references among the records of a sheet. An end is looked up once, among names borrowed from the records.
-    pub(crate) fn among(alloc: Global, records: &[Record]) -> Result<References, AllocError>
+    pub(crate) fn among(alloc: Global, records: &SheetRecords) -> Result<References, AllocError>
         requires { length records.now ≤ most_records }
         ensures { IfOk result (AreReferences records.now) }
     {

@@ -8,8 +8,8 @@ ghost use Rattle.edi_plan.specs.PlanOf.{place_named};
 ghost use Rattle.edi_record.specs.Records.{is_link};
 ghost use Rattle.edi_plan.specs.inner.Targets.{target_kind, HasNameAt, IsTargetIfAny, AreTargets};
 
-use crate::names::{Names, RecordNameRef, name_of};
-use edi_record::{End, Kind, Record};
+use crate::names::{Names, RecordNameRef, name_at};
+use edi_record::{End, Kind, SheetRecords};
 use std::alloc::{AllocError, Global};
 
 /// A node, an arc, a face or an object, by its place.
@@ -77,15 +77,15 @@ impl LastNamed {
 }
 
 /// Whether the record at a place has this name.
-fn has_name(records: &[Record], place: u32, name: &RecordNameRef<'_>) -> bool
+fn has_name(records: &SheetRecords, place: u32, name: &RecordNameRef<'_>) -> bool
     ensures { result ≡ true → HasNameAt records.now (named name.now) place }
 {
     let place = place as usize;
-    place < records.len() && name_of(&records[place]) == *name
+    place < records.len() && name_at(records, place) == *name
 }
 
 /// The place of a record of this name, if it is this one or the next.
-fn place_near(records: &[Record], last: u32, name: &RecordNameRef<'_>) -> Option<u32>
+fn place_near(records: &SheetRecords, last: u32, name: &RecordNameRef<'_>) -> Option<u32>
     ensures { IfSome result (HasNameAt records.now (named name.now)) }
 {
     if has_name(records, last, name) {
@@ -101,7 +101,7 @@ fn place_near(records: &[Record], last: u32, name: &RecordNameRef<'_>) -> Option
 
 /// The place of the first record of a name. Where no two records have one name, any of that name is the first.
 fn place_of(
-    records: &[Record],
+    records: &SheetRecords,
     names: &Names<'_>,
     last: u32,
     name: &RecordNameRef<'_>,
@@ -120,7 +120,7 @@ fn place_of(
 }
 
 /// The node, arc, face or object that an end names.
-fn target_of(records: &[Record], names: &Names<'_>, last: LastNamed, end: &End) -> Option<Target>
+fn target_of(records: &SheetRecords, names: &Names<'_>, last: LastNamed, end: &End) -> Option<Target>
     requires names { AreNamesOf records.now names.now }
     requires repeat { IsFirstRepeatIfAny records.now names.now.repeat }
     ensures { IsTargetIfAny records.now end.now result }
@@ -138,7 +138,7 @@ fn target_of(records: &[Record], names: &Names<'_>, last: LastNamed, end: &End) 
 fn add_targets(
     targets: &mut Vec<Option<Target>>,
     last: &mut LastNamed,
-    records: &[Record],
+    records: &SheetRecords,
     names: &Names<'_>,
     ends: &[End],
 ) -> Result<(), AllocError>
@@ -158,7 +158,7 @@ fn add_targets(
 pub(crate) fn targets(
     alloc: Global,
     names: &Names<'_>,
-    records: &[Record],
+    records: &SheetRecords,
 ) -> Result<Vec<Option<Target>>, AllocError>
     requires names { AreNamesOf records.now names.now }
     requires repeat { IsFirstRepeatIfAny records.now names.now.repeat }
@@ -166,13 +166,13 @@ pub(crate) fn targets(
 {
     let mut targets = Vec::new(alloc);
     let mut last = LastNamed::new();
-    for record in records {
+    for place in 0..records.len() {
         add_targets(
             &mut targets,
             &mut last,
             records,
             names,
-            record.ends.as_slice(),
+            records.ends(place),
         )?;
     }
     Ok(targets)
