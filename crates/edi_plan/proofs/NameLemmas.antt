@@ -6,7 +6,8 @@ use Rattle.std.specs.Map.{lookup}
 use Rattle.std.specs.Str.{bytes_eq}
 use Rattle.std.proofs.lemmas.Bool.{cases_lt, lt-ltb, le-ltb}
 use Rattle.std.proofs.lemmas.Option.{slice_get_within}
-use Rattle.edi_record.specs.Shapes.{kind_code}
+use Rattle.edi_record.specs.Shapes.{kind_code, stated_at}
+use Rattle.edi_record.specs.inner.RecordRules.{kind_named}
 use Rattle.edi_record.specs.declared.name.Name.{Name}
 use Rattle.edi_record.specs.declared.record.Kind.{Kind}
 use Rattle.edi_record.specs.declared.record.Kind.TheVariants.{Pno, Par, Pfe, Fea, Lnk}
@@ -21,6 +22,9 @@ use Rattle.edi_plan.specs.PlanOf.{own_name, place_named}
 use Rattle.edi_plan.specs.declared.names.RecordNameRef.{RecordNameRef}
 use Rattle.edi_plan.specs.contracts.names.RecordNameRefPartialEq.TheImpl.{ghosts as names}
 use Rattle.edi_plan.proofs.Built.{position_some}
+
+same_some : {X : Type 0} {a b : X} → Some a ≡ Some b → a ≡ b
+same_some h = cc
 
 kind_apart : (a b : Kind) → kinds.eq a b ≡ bytes_eq (kind_code a) (kind_code b)
 kind_apart Pno Pno = refl
@@ -58,6 +62,17 @@ link_code Par = refl
 link_code Pfe = refl
 link_code Fea = refl
 link_code Lnk = refl
+
+-- two types with one code are one
+pub coded_kind : (a b : Kind) → kind_code a ≡ kind_code b → a ≡ b
+coded_kind a b same = same_some (sym (kind_again a) ∙ (ap kind_named same ∙ kind_again b))
+  where
+    kind_again : (k : Kind) → kind_named (kind_code k) ≡ Some k
+    kind_again Pno = refl
+    kind_again Par = refl
+    kind_again Pfe = refl
+    kind_again Fea = refl
+    kind_again Lnk = refl
 
 pub coded_link : (a b : Kind) → kind_code a ≡ kind_code b → is_link a ≡ is_link b
 coded_link a b same = link_code a ∙ (ap (λ code. bytes_eq code (codes "LNK")) same ∙ sym (link_code b))
@@ -99,8 +114,11 @@ FirstTo list n name found = MatchOption found ((j : ℕ) (q : Record) → j < n 
 abbrev pub RepeatTo : List Record → ℕ → Option ℕ → Type 0
 RepeatTo list n found = MatchOption found ((j : ℕ) → j < n → ¬ (RepeatsAt list j)) (λ k. (k < n) × IsFirstRepeat list k)
 
-same_some : {X : Type 0} {a b : X} → Some a ≡ Some b → a ≡ b
-same_some h = cc
+-- what stands at a place
+pub stated_there : (list : List Record) (k : ℕ) → k < length list → slice_get list k ≡ Some (stated_at list k)
+stated_there [] k less = absurd (omega (arith, less))
+stated_there (r ∷ rs) zero less = refl
+stated_there (r ∷ rs) (suc k) less = stated_there rs k (omega (arith, less))
 
 pub pol_is : {X : Type 0} (test : X → Bool) (xs : List X) (k : ℕ) (x : X) → slice_get xs k ≡ Some x → test x ≡ true → ((j : ℕ) (y : X) → j < k → slice_get xs j ≡ Some y → test y ≡ false) → position_or_len test xs ≡ k
 pol_is test [] k x h t before = let l = slice_get_within [] k x h in absurd (omega (arith, l))

@@ -1,9 +1,9 @@
 -- The records of a sheet, read in their order.
-use Rattle.std.proofs.Common.{◌≡◌, ℕ, ◌+◌, ◌<◌, ◌≤◌, ◌⊎◌, inl, inr, List, [], ◌∷◌, ◌++◌, length, take, drop, flat_map, Option, Some, None, slice_get, refl, sym, ap, ◌∙◌, subst, arith, length-append}
+use Rattle.std.proofs.Common.{◌≡◌, ℕ, ◌+◌, ◌<◌, ◌≤◌, ◌⊎◌, inl, inr, List, [], ◌∷◌, ◌++◌, zero, suc, add-one, get_or, length, take, drop, flat_map, Option, Some, None, slice_get, refl, sym, ap, ◌∙◌, subst, arith, length-append}
 use Rattle.std.specs.List.{AllZip}
 use Rattle.std.proofs.lemmas.Bool.{cases_order}
-use Rattle.std.proofs.lemmas.Option.{slice_get-get_or, slice_get_within}
-use Rattle.std.proofs.Math.Seq.{get_or-append_seam}
+use Rattle.std.proofs.lemmas.Option.{slice_get_within}
+use Rattle.std.proofs.Math.Seq.{drop-cons}
 use Rattle.edi_record.specs.declared.record.End.{End}
 use Rattle.edi_record.specs.declared.record.Record.{Record}
 use Rattle.edi_schema.specs.Classes.{Classes}
@@ -75,15 +75,16 @@ record_stated s list r ts p all d = record { kind = d.kind; class = d.class; rol
 
 -- where the next record stands
 
-pub stands_at : (list yielded items rest : List Record) (r : Record) (place : ℕ) → yielded ++ items ≡ list → items ≡ r ∷ rest → place ≡ length yielded → slice_get list place ≡ Some r
-stands_at list yielded items rest r place whole next counted =
-    let joined : yielded ++ r ∷ rest ≡ list = ap (λ xs. yielded ++ xs) (sym next) ∙ whole in
-    ap (λ xs. slice_get xs place) (sym joined) ∙ (ap (slice_get (yielded ++ r ∷ rest)) counted ∙ at_seam yielded)
-  where
-    at_seam : (xs : List Record) → slice_get (xs ++ r ∷ rest) (length xs) ≡ Some r
-    at_seam xs = slice_get-get_or (xs ++ r ∷ rest) (length xs) r (omega (arith, length-append xs (r ∷ rest))) ∙ ap Some (get_or-append_seam xs r rest r)
+same_some : {X : Type 0} {a b : X} → Some a ≡ Some b → a ≡ b
+same_some h = cc
 
--- repeats
+pub got_there : (list : List Record) (place : ℕ) (r : Record) → slice_get list place ≡ Some r → r ≡ get_or list place r
+got_there [] place r here = refl
+got_there (q ∷ qs) zero r here = sym (same_some here)
+got_there (q ∷ qs) (suc place) r here = got_there qs place r here
+
+pub cut_at : (list : List Record) (place : ℕ) (r : Record) → slice_get list place ≡ Some r → drop place list ≡ r ∷ drop (place + 1) list
+cut_at list place r here = drop-cons list place r (slice_get_within list place r here) ∙ (λ i. sym (got_there list place r here) i ∷ drop (sym (add-one place) i) list)
 
 pub fresh_at : (list : List Record) (place : ℕ) (repeat : Option ℕ) → IsFirstRepeatIfAny list repeat → ((k : ℕ) → repeat ≡ Some k → place ≤ k) → (repeat ≡ Some place → ⊥) → ¬ (RepeatsAt list place)
 fresh_at list place None none ahead other = none place

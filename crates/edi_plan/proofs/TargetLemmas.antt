@@ -17,7 +17,7 @@ use Rattle.edi_record.specs.Records.{is_link}
 use Rattle.edi_plan.specs.inner.Targets.{target_kind, HasNameAt, Leads, IsTargetIfAny}
 use Rattle.edi_plan.specs.declared.names.RecordNameRef.{RecordNameRef}
 use Rattle.edi_plan.specs.declared.targets.Target.{Target}
-use Rattle.edi_plan.proofs.NameLemmas.{first_named, has_name}
+use Rattle.edi_plan.proofs.NameLemmas.{coded_kind, first_named, has_name}
 
 same_some : {X : Type 0} {a b : X} → Some a ≡ Some b → a ≡ b
 same_some h = cc
@@ -71,17 +71,7 @@ module _ (list : List Record) (e : End) where
       let at = has_name list e.target place found in
       let both = coded e.target.rty k is in
       let kinds : target_kind (kind_code at.0.kind) ≡ Some k = ap target_kind (ap (λ (n : Name). n.rty) at.2) ∙ is in
-      record { there = at.0; named = found; here = at.1; kind = one_code at.0.kind k (ap (λ (n : Name). n.rty) at.2 ∙ both.0); no_link = both.1 }
-    where
-      one_code : (a b : Kind) → kind_code a ≡ kind_code b → a ≡ b
-      one_code a b h = same_some (sym (whole a) ∙ (ap Rattle.edi_record.specs.inner.RecordRules.kind_named h ∙ whole b))
-        where
-          whole : (k : Kind) → Rattle.edi_record.specs.inner.RecordRules.kind_named (kind_code k) ≡ Some k
-          whole Pno = refl
-          whole Par = refl
-          whole Pfe = refl
-          whole Fea = refl
-          whole Lnk = refl
+      record { there = at.0; named = found; here = at.1; kind = coded_kind at.0.kind k (ap (λ (n : Name). n.rty) at.2 ∙ both.0); no_link = both.1 }
 
 pub named_target : (name : RecordNameRef) (target : Name) → target.rty ≡ kind_code name.kind → name.rid.now ≡ target.rid → named name ≡ target
 named_target name target rty rid = λ i. record { rty = sym rty i; rid = rid i }

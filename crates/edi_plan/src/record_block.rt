@@ -107,19 +107,19 @@ impl RecordBlock {
     }
 
     /// Adds a record.
-    pub(crate) fn push(&mut self, record: PlannedRecord<'_>) -> Result<(), AllocError>
+    pub(crate) fn push(&mut self, planned: PlannedRecord<'_>) -> Result<(), AllocError>
         requires { ArePartsWithin self.old }
-        ensures records { OnOk result (records_in self.new ≡ records_in self.old ++ «record» ∷ []) }
+        ensures records { OnOk result (records_in self.new ≡ records_in self.old ++ planned.entry ∷ []) }
         ensures within { OnOk result (ArePartsWithin self.new) }
     {
-        let points = append_points(&mut self.points, record.points)?;
-        let attributes = append(&mut self.attributes, record.attributes)?;
-        let extras = append(&mut self.extras, record.extras)?;
-        let ends = append(&mut self.ends, record.ends)?;
+        let points = append_points(&mut self.points, planned.points)?;
+        let attributes = append(&mut self.attributes, planned.attributes)?;
+        let extras = append(&mut self.extras, planned.extras)?;
+        let ends = append(&mut self.ends, planned.ends)?;
         self.heads.push(Head {
-            kind: record.kind,
-            class: record.class,
-            role: record.role,
+            kind: planned.kind,
+            class: planned.class,
+            role: planned.role,
             points,
             attributes,
             extras,

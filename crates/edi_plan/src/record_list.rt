@@ -54,12 +54,12 @@ impl RecordList {
 
     /// Adds a record.
     #[tactic(auto, unfolding(crate::specs::inner::RecordLists::records_of))]
-    pub(crate) fn push(&mut self, record: PlannedRecord<'_>) -> Result<(), AllocError>
+    pub(crate) fn push(&mut self, planned: PlannedRecord<'_>) -> Result<(), AllocError>
         requires { AreWithin self.old }
-        ensures records { OnOk result (records_of self.new ≡ records_of self.old ++ «record» ∷ []) }
+        ensures records { OnOk result (records_of self.new ≡ records_of self.old ++ planned.entry ∷ []) }
         ensures within { OnOk result (AreWithin self.new) }
     {
-        self.last.push(record)?;
+        self.last.push(planned)?;
         if self.last.len() == BLOCK {
             self.close_last()?;
         }

@@ -26,13 +26,18 @@ use edi_record::{Attribute, End, Extra, Name, RecordRef, SheetRecords, Value};
 use edi_schema::{ByRole, ClassRef, Schema};
 use std::alloc::{AllocError, Global};
 
-fn value_of(alloc: Global, may_be_number: bool, text: &Text) -> Result<Value, AllocError>
+/// A number where the text may be one and is one, and its bytes elsewhere.
+fn value_of(may_be_number: bool, text: &Text) -> Result<Value, AllocError>
     ensures { IfOk result (IsValueOf (may_be_number ≡ true) text.now) }
 {
-    if may_be_number && let Some(number) = Num::read(text.as_slice()) {
-        return Ok(Value::Number(number));
+    if may_be_number {
+        match Num::read(text.as_slice()) {
+            Some(number) => Ok(Value::Number(number)),
+            None => Ok(Value::Bytes(text.clone()?)),
+        }
+    } else {
+        Ok(Value::Bytes(text.clone()?))
     }
-    Ok(Value::Bytes(text.clone()?))
 }
 
 fn is_attribute_type(rty: &Text) -> bool
@@ -64,11 +69,7 @@ fn copied(text: &Option<Text>) -> Result<Option<Text>, AllocError>
 }
 
 /// An attribute under a schema that has this class for it; or rule 303, where it has none.
-fn plan_attribute(
-    alloc: Global,
-    schema: &Schema,
-    attribute: &Attribute,
-) -> Result<PlanAttribute, Unresolved>
+fn plan_attribute(schema: &Schema, attribute: &Attribute) -> Result<PlanAttribute, Unresolved>
     ensures ok { IfOk result (Resolves schema.now attribute.now) }
     ensures err { IfErr result (IsUnresolved (λ rule. (rule ≡ 303) × LacksClass schema.now attribute.now)) }
 {
@@ -78,7 +79,7 @@ fn plan_attribute(
     Ok(PlanAttribute {
         atp: class,
         tex: copied(&attribute.tex)?,
-        value: value_of(alloc, schema.is_number(class), &attribute.atv)?,
+        value: value_of(schema.is_number(class), &attribute.atv)?,
     })
 }
 
@@ -92,7 +93,7 @@ fn plan_attributes(
 {
     let mut done = Vec::with_capacity(alloc, attributes.len())?;
     for attribute in attributes {
-        done.push(plan_attribute(alloc, schema, attribute)?)?;
+        done.push(plan_attribute(schema, attribute)?)?;
     }
     Ok(done)
 }
@@ -187,16 +188,16 @@ fn plan_record<'a>(
     targets: &[Option<Target>],
     sides: &mut [ByRole<Option<u32>>],
     class: Option<ClassRef>,
-    record: RecordRef<'a>,
+    record: &RecordRef<'a>,
 ) -> Result<PlannedRecord<'a>, Unresolved>
-    requires class { class ≡ place_of schema.now «record».scp }
+    requires class { class ≡ place_of schema.now record.now.scp }
     requires within { IfSome class (λ class. class < length schema.now) }
-    requires long { length targets.now ≡ length «record».ends }
+    requires long { length targets.now ≡ length record.now.ends }
     requires entries { HaveEntries sides.old targets.now }
-    ensures planned { IfOk result (IsPlanned schema.now targets.now «record») }
-    ensures noted { OnOk result (IsNoted sides.old (role_of_link schema.now «record») (link_join (role_of_link schema.now «record») targets.now) sides.new) }
-    ensures sound { OnOk result (first_broken (reference_tests schema.now subset.now targets.now sides.old «record») ≡ None) }
-    ensures least { IfErr result (IsUnresolved (λ rule. first_broken (reference_tests schema.now subset.now targets.now sides.old «record») ≡ Some rule)) }
+    ensures planned { IfOk result (IsPlanned schema.now targets.now record.now) }
+    ensures noted { OnOk result (IsNoted sides.old (role_of_link schema.now record.now) (link_join (role_of_link schema.now record.now) targets.now) sides.new) }
+    ensures sound { OnOk result (first_broken (reference_tests schema.now subset.now targets.now sides.old record.now) ≡ None) }
+    ensures least { IfErr result (IsUnresolved (λ rule. first_broken (reference_tests schema.now subset.now targets.now sides.old record.now) ≡ Some rule)) }
 {
     let Some(class) = class else {
         return Err(Unresolved::Broken(302));
@@ -281,7 +282,7 @@ pub(crate) fn plan_records(
             own,
             &mut sides,
             class,
-            record,
+            &record,
         ) {
             Ok(planned) => list.push(planned)?,
             Err(Unresolved::Memory(error)) => return Err(RefFault::Memory(error)),

@@ -22,7 +22,7 @@ pub returns-clause-agrees : goal.returns-clause-agrees
 returns-clause-agrees c = plans_agreeing c.args.schema.now c.args.sheet _ (returns-clause-plan c)
 
 pub plan_records-requires-clause-references : goal.plan_records-requires-clause-references
-plan_records-requires-clause-references c = subst (λ (list : List Record). AreReferences list c.in_ok-references.references) c.as_slice.ensures c.in_ok-references.ensures
+plan_records-requires-clause-references c = c.in_ok-references.ensures
 
 pub invariant_of-result : goal.invariant_of-result
 invariant_of-result c =
