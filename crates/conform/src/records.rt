@@ -31,7 +31,7 @@ fn by_zones(alloc: Global, file: &[u8]) -> Result<String> {
         Err(fault) => return refusals::of_lines(alloc, fault),
     };
     match records(alloc, &zones) {
-        Ok(sheet) => records_text(alloc, sheet.list.as_slice()),
+        Ok(sheet) => records_text(alloc, &sheet.list.into_records(alloc)?),
         Err(fault) => refusals::of_records(alloc, fault),
     }
 }
@@ -39,7 +39,7 @@ fn by_zones(alloc: Global, file: &[u8]) -> Result<String> {
 // The records that are made while the lines are read.
 fn by_lines(alloc: Global, file: &[u8]) -> Result<String> {
     match read_sheet(alloc, file) {
-        Ok(sheet) => records_text(alloc, sheet.list.as_slice()),
+        Ok(sheet) => records_text(alloc, &sheet.list.into_records(alloc)?),
         Err(SheetFault::Line(fault)) => refusals::of_lines(alloc, fault),
         Err(SheetFault::Record(fault)) => refusals::of_records(alloc, fault),
     }

@@ -153,7 +153,8 @@ fn earlier_in_sheet(
     ensures { IfOk result (IsEarlierIfAny schema.now bytes.now rule place) }
 {
     let sheet = sheet_of(alloc, schema, bytes)?;
-    let records = sheet.list.as_slice();
+    let records = sheet.list.into_records(alloc)?;
+    let records = records.as_slice();
     if rule == 301 {
         Ok(namesake_before(records, place))
     } else if rule == 304 {

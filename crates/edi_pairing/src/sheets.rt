@@ -10,7 +10,8 @@ ghost use Rattle.edi_schema.specs.Classes.{Classes};
 
 use crate::names::{RecordName, RecordNames};
 use edi_compare::{Accepted, Fault, accept};
-use edi_record::{Record, Sheet, read_sheet};
+use edi_line::Text;
+use edi_record::{Sheet, read_sheet};
 use edi_schema::Schema;
 use std::alloc::{AllocError, Global};
 
@@ -21,22 +22,17 @@ pub struct NamedSheet {
     pub names: RecordNames,
 }
 
-fn name_of(record: Record) -> RecordName
-    ensures names { result.kind ≡ «record».kind }
-    ensures rid { result.rid ≡ «record».rid }
-{
-    let Record { kind, rid, .. } = record;
-    RecordName { kind, rid }
-}
-
 /// The names of the records of a sheet. What else they hold is let go.
 fn names_of(alloc: Global, sheet: Sheet) -> Result<Vec<RecordName>, AllocError>
     ensures { IfOk result (λ names. names.items ≡ names_of sheet.list) }
 {
-    let records = sheet.list.into_vec();
+    let records = sheet.list;
     let mut names = Vec::with_capacity(alloc, records.len())?;
-    for record in records {
-        names.push(name_of(record))?;
+    for place in 0..records.len() {
+        names.push(RecordName {
+            kind: records.kind(place),
+            rid: Text::from_slice(alloc, records.rid(place))?,
+        })?;
     }
     Ok(names)
 }
