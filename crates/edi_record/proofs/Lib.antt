@@ -27,3 +27,5 @@ pub mod Unnumbered
 pub mod Sound
 pub mod ValueOrder
 pub mod KindOrder
+pub mod SheetBlocks
+pub mod BlockLists

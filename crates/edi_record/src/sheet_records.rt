@@ -4,13 +4,15 @@ ghost use Rattle.std.specs.Prelude.{◌≡◌, ◌↔◌, ◌<◌, ◌^◌, ◌�
 
 use crate::record::Record;
 use crate::record_ref::RecordRef;
+use crate::sheet_blocks::SheetBlocks;
+use crate::spare_lists::SpareLists;
 use std::alloc::{AllocError, Global};
 use std::marker::Model;
 
 /// The records of a sheet, in file order. Contracts see the list of records alone.
 #[derive(Drop)]
 pub struct SheetRecords {
-    list: Vec<Record>,
+    blocks: SheetBlocks,
 }
 
 impl Model for SheetRecords {
@@ -19,7 +21,11 @@ impl Model for SheetRecords {
 
     ghost Value = { List Record };
 
-    ghost view = { λ records. records.list.items };
+    ghost use Rattle.edi_record.specs.inner.BlockLists.{records_of, AreWithin};
+
+    ghost view = { λ records. records_of records.blocks };
+
+    ghost invariant = { λ records. AreWithin records.blocks };
 }
 
 impl SheetRecords {
@@ -28,7 +34,7 @@ impl SheetRecords {
         ensures { result ≡ [] }
     {
         SheetRecords {
-            list: Vec::new(alloc),
+            blocks: SheetBlocks::new(alloc),
         }
     }
 
@@ -36,8 +42,15 @@ impl SheetRecords {
     pub(crate) fn push(&mut self, record: Record) -> Result<(), AllocError>
         ensures { OnOk result (self.new ≡ self.old ++ «record» ∷ []) }
     {
-        self.list.push(record)?;
+        let _ = self.take(record)?;
         Ok(())
+    }
+
+    /// Puts a record behind the others. Its lists, emptied, are the answer.
+    pub(crate) fn take(&mut self, record: Record) -> Result<SpareLists, AllocError>
+        ensures { OnOk result (self.new ≡ self.old ++ «record» ∷ []) }
+    {
+        self.blocks.push(record)
     }
 
     /// How many records there are.
@@ -45,7 +58,7 @@ impl SheetRecords {
         ensures len { result ≡ length self.now }
         ensures few { result < 2 ^ 63 }
     {
-        self.list.len()
+        self.blocks.len()
     }
 
     /// Whether there are none.
@@ -60,14 +73,13 @@ impl SheetRecords {
         requires { place < length self.now }
         ensures { slice_get self.now place ≡ Some result }
     {
-        self.list[place].borrowed()
+        self.blocks.record(place)
     }
 
     /// The records, each with memory of its own.
     pub fn into_records(self, alloc: Global) -> Result<Vec<Record>, AllocError>
         ensures { IfOk result (λ records. records.items ≡ self) }
     {
-        let _ = alloc;
-        Ok(self.list)
+        self.blocks.into_records(alloc)
     }
 }
