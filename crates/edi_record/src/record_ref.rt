@@ -8,6 +8,7 @@ use edi_line::Text;
 use std::marker::Model;
 
 /// A record, borrowed. Contracts see the record.
+#[derive(Drop)]
 pub struct RecordRef<'a> {
     pub(crate) kind: Kind,
     pub(crate) rid: &'a Text,

@@ -161,7 +161,7 @@ impl SheetBlock {
     }
 
     /// The same records, in a block with no room for more. This block keeps its room, and has none of them.
-    pub(crate) fn moved(&mut self, alloc: Global) -> Result<SheetBlock, AllocError>
+    pub(crate) fn close(&mut self, alloc: Global) -> Result<SheetBlock, AllocError>
         requires { AreParts self.old no_stops self.old.heads.items }
         ensures records { IfOk result (λ block. records_in block ≡ records_in self.old) }
         ensures parts { IfOk result (λ block. AreParts block no_stops block.heads.items) }

@@ -51,7 +51,7 @@ impl SheetBlocks {
         if self.closed.len() >= MOST_BLOCKS {
             return Err(AllocError);
         }
-        let block = self.last.moved(self.alloc)?;
+        let block = self.last.close(self.alloc)?;
         self.closed.push(block)?;
         Ok(())
     }
