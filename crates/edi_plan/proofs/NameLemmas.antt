@@ -6,7 +6,7 @@ use Rattle.std.specs.Map.{lookup}
 use Rattle.std.specs.Str.{bytes_eq}
 use Rattle.std.proofs.lemmas.Bool.{cases_lt, lt-ltb, le-ltb}
 use Rattle.std.proofs.lemmas.Option.{slice_get_within}
-use Rattle.edi_record.specs.Shapes.{kind_code, stated_at}
+use Rattle.edi_record.specs.Shapes.{kind_code}
 use Rattle.edi_record.specs.inner.RecordRules.{kind_named}
 use Rattle.edi_record.specs.declared.name.Name.{Name}
 use Rattle.edi_record.specs.declared.record.Kind.{Kind}
@@ -113,12 +113,6 @@ FirstTo list n name found = MatchOption found ((j : ℕ) (q : Record) → j < n 
 
 abbrev pub RepeatTo : List Record → ℕ → Option ℕ → Type 0
 RepeatTo list n found = MatchOption found ((j : ℕ) → j < n → ¬ (RepeatsAt list j)) (λ k. (k < n) × IsFirstRepeat list k)
-
--- what stands at a place
-pub stated_there : (list : List Record) (k : ℕ) → k < length list → slice_get list k ≡ Some (stated_at list k)
-stated_there [] k less = absurd (omega (arith, less))
-stated_there (r ∷ rs) zero less = refl
-stated_there (r ∷ rs) (suc k) less = stated_there rs k (omega (arith, less))
 
 pub pol_is : {X : Type 0} (test : X → Bool) (xs : List X) (k : ℕ) (x : X) → slice_get xs k ≡ Some x → test x ≡ true → ((j : ℕ) (y : X) → j < k → slice_get xs j ≡ Some y → test y ≡ false) → position_or_len test xs ≡ k
 pol_is test [] k x h t before = let l = slice_get_within [] k x h in absurd (omega (arith, l))

@@ -27,3 +27,6 @@ pub mod Unnumbered
 pub mod Sound
 pub mod ValueOrder
 pub mod KindOrder
+pub mod SheetBlocks
+pub mod BlockLists
+pub mod StatedAt

@@ -6,3 +6,5 @@ pub mod Stored
 pub mod RecordRefusal
 pub mod Lists
 pub mod Shapes
+pub mod SheetBlocks
+pub mod BlockLists

@@ -56,12 +56,14 @@ pub(crate) struct Attributes<'a> {
 }
 
 impl<'a> Attributes<'a> {
-    pub(crate) fn new(alloc: Global) -> Attributes<'a>
+    /// No attributes, with a list for them that is empty.
+    pub(crate) fn new(done: Vec<Attribute>) -> Attributes<'a>
+        requires { done.items ≡ [] }
         ensures keeps { (group : List Entry) → StoresAttributes result group group }
         ensures closed { is_some result.opened ≡ false }
     {
         Attributes {
-            done: Vec::new(alloc),
+            done,
             opened: None,
             is_broken: false,
         }
@@ -142,8 +144,7 @@ impl<'a> Attributes<'a> {
             return Err(GroupFault::Broken(204));
         }
         self.close(alloc, &[])?;
-        let Attributes { mut done, .. } = self;
-        done.shrink_to_fit();
+        let Attributes { done, .. } = self;
         Ok(done)
     }
 }

@@ -23,6 +23,7 @@ use crate::pointer::Pointer;
 use crate::points::Points;
 use crate::record::{Kind, Record};
 use crate::role::{ZoneRole, role_of};
+use crate::spare_lists::SpareLists;
 use edi_line::{Sequence, Text, Zone};
 use std::alloc::{AllocError, Global};
 
@@ -46,25 +47,23 @@ pub(crate) struct Draft<'a> {
 
 impl<'a> Draft<'a> {
     /// Nothing of a record of this type has come but its type.
-    pub(crate) fn new(alloc: Global, kind: Kind) -> Result<Draft<'a>, AllocError>
-        ensures keeps { IfOk result (λ d. (group : List Entry) → StoresRecord d group group) }
-        ensures kind { IfOk result (λ d. d.kind ≡ kind) }
-        ensures counted { IfOk result (λ d. d.counted ≡ 0) }
+    pub(crate) fn new(spare: SpareLists, kind: Kind) -> Draft<'a>
+        ensures keeps { (group : List Entry) → StoresRecord result group group }
+        ensures kind { result.kind ≡ kind }
+        ensures counted { result.counted ≡ 0 }
     {
-        let points = Points::new(alloc, kind)?;
-        let ends = Ends::new(alloc, kind)?;
-        Ok(Draft {
+        Draft {
             kind,
             identifier: Only::Absent,
             class: Only::Absent,
             attribute_count: Only::Absent,
             body_count: Only::Absent,
             counted: 0,
-            attributes: Attributes::new(alloc),
-            points,
-            ends,
-            extras: Extras::new(alloc),
-        })
+            attributes: Attributes::new(spare.attributes),
+            points: Points::new(spare.points),
+            ends: Ends::new(spare.ends),
+            extras: Extras::new(spare.extras),
+        }
     }
 
     /// Takes the next zone of the record.
@@ -118,7 +117,7 @@ impl<'a> Draft<'a> {
         {
             return Err(GroupFault::Broken(205));
         }
-        let points = self.points.finish(alloc, self.kind)?;
+        let points = self.points.finish(self.kind)?;
         let ends = self.ends.finish(alloc, self.kind)?;
         let extras = self.extras.finish()?;
         Ok(Record {

@@ -50,16 +50,16 @@ pub(crate) struct Ends<'a> {
 }
 
 impl<'a> Ends<'a> {
-    /// No ends, with room for two of a link, which mostly has no more.
-    pub(crate) fn new(alloc: Global, kind: Kind) -> Result<Ends<'a>, AllocError>
-        ensures { IfOk result (λ e. (group : List Entry) → StoresEnds e group group) }
+    /// No ends, with a list for them that is empty.
+    pub(crate) fn new(done: Vec<End>) -> Ends<'a>
+        requires { done.items ≡ [] }
+        ensures { (group : List Entry) → StoresEnds result group group }
     {
-        let room = if kind.is_link() { 2 } else { 0 };
-        Ok(Ends {
-            done: Vec::with_capacity(alloc, room)?,
+        Ends {
+            done,
             opened: None,
             is_broken: false,
-        })
+        }
     }
 
     /// Closes the end that is open, if one is.
@@ -118,18 +118,19 @@ impl<'a> Ends<'a> {
         ensures breach { IfErr result (λ fault. (group : List Entry) → kind_in group ≡ Some kind → (is_link kind ≡ true → StoresEnds self.entry [] group) → IsBreachOf 207 (has_bad_end group) fault) }
     {
         if !kind.is_link() {
-            return Ok(Vec::new(alloc));
+            let Ends { mut done, .. } = self;
+            done.clear();
+            return Ok(done);
         }
         self.close(alloc)?;
         let Ends {
-            mut done,
+            done,
             is_broken,
             ..
         } = self;
         if is_broken || done.len() < 2 {
             return Err(GroupFault::Broken(207));
         }
-        done.shrink_to_fit();
         Ok(done)
     }
 }

@@ -57,11 +57,13 @@ pub(crate) struct Extras {
 }
 
 impl Extras {
-    pub(crate) fn new(alloc: Global) -> Extras
+    /// No extras, with a list for them that is empty.
+    pub(crate) fn new(list: Vec<Extra>) -> Extras
+        requires { list.items ≡ [] }
         ensures { (kind : Kind) (group : List Entry) → StoresExtras kind false result group group }
     {
         Extras {
-            list: Vec::new(alloc),
+            list,
             is_broken: false,
         }
     }
@@ -85,14 +87,10 @@ impl Extras {
         ensures sound { OnOk result ((kind : Kind) (is_open : Bool) (group : List Entry) → kind_in group ≡ Some kind → StoresExtras kind is_open self [] group → has_unknown_pointer group ≡ false) }
         ensures breach { IfErr result (λ fault. (kind : Kind) (is_open : Bool) (group : List Entry) → kind_in group ≡ Some kind → StoresExtras kind is_open self [] group → IsBreachOf 208 (has_unknown_pointer group) fault) }
     {
-        let Extras {
-            mut list,
-            is_broken,
-        } = self;
+        let Extras { list, is_broken } = self;
         if is_broken {
             return Err(GroupFault::Broken(208));
         }
-        list.shrink_to_fit();
         Ok(list)
     }
 }

@@ -19,7 +19,10 @@ pub mod record;
 pub mod record_ref;
 mod role;
 pub mod sheet;
+mod sheet_block;
+mod sheet_blocks;
 pub mod sheet_records;
+mod spare_lists;
 mod stating;
 
 pub use fault::{RecordFault, SheetFault};

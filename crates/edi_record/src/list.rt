@@ -13,15 +13,19 @@ ghost use Rattle.edi_record.specs.inner.Lists.{IsMadeOf};
 use crate::fault::{GroupFault, RecordFault, SheetFault};
 use crate::sheet::Sheet;
 use crate::sheet_records::SheetRecords;
+use crate::spare_lists::SpareLists;
 use crate::stating::record_of;
 use edi_line::{GroupOut, Zone, read_groups};
 use std::alloc::{AllocError, Global};
+use std::mem;
 
 /// The records of the zones that have come, until one breaks a rule, which is then the fault.
 #[derive(Drop)]
 struct RecordsUntilFault {
     list: SheetRecords,
     fault: Option<RecordFault>,
+    /// For the parts of the next record.
+    spare: SpareLists,
 }
 
 impl GroupOut for RecordsUntilFault {
@@ -34,8 +38,9 @@ impl GroupOut for RecordsUntilFault {
         if self.fault.is_some() {
             return Ok(());
         }
-        match record_of(alloc, head, behind) {
-            Ok((record, _)) => self.list.push(record)?,
+        let spare = mem::replace(&mut self.spare, SpareLists::new(alloc));
+        match record_of(alloc, spare, head, behind) {
+            Ok((record, _)) => self.spare = self.list.take(record)?,
             Err(GroupFault::Memory(fault)) => return Err(fault),
             Err(GroupFault::Broken(rule)) => {
                 let at = self.list.len() as u64 + 1;
@@ -107,12 +112,13 @@ pub fn read_sheet_beside<O: GroupOut + Drop>(
         records: RecordsUntilFault {
             list: SheetRecords::new(alloc),
             fault: None,
+            spare: SpareLists::new(alloc),
         },
         other,
     };
     let cse = read_groups(alloc, bytes, &mut both)?;
     let RecordsAndOther { records, other } = both;
-    let RecordsUntilFault { list, fault } = records;
+    let RecordsUntilFault { list, fault, .. } = records;
     match fault {
         Some(fault) => Err(SheetFault::Record(fault)),
         None => {

@@ -14,7 +14,7 @@ use crate::fault::GroupFault;
 use crate::pointer::cut;
 use crate::record::{Kind, Point};
 use edi_line::Num;
-use std::alloc::{AllocError, Global};
+use std::alloc::AllocError;
 
 /// The place of two coordinates.
 fn flat(x: &[u8], y: &[u8]) -> Option<Point>
@@ -74,20 +74,15 @@ pub(crate) struct Points {
 }
 
 impl Points {
-    /// No points, with room for the one of a node or two of an arc, so that most lists come out
-    /// exact.
-    pub(crate) fn new(alloc: Global, kind: Kind) -> Result<Points, AllocError>
-        ensures { IfOk result (λ p. (group : List Entry) → StoresPoints p group group) }
+    /// No points, in a list that is empty.
+    pub(crate) fn new(list: Vec<Point>) -> Points
+        requires { list.items ≡ [] }
+        ensures { (group : List Entry) → StoresPoints result group group }
     {
-        let room = match kind {
-            Kind::Pno => 1,
-            Kind::Par => 2,
-            Kind::Pfe | Kind::Fea | Kind::Lnk => 0,
-        };
-        Ok(Points {
-            list: Vec::with_capacity(alloc, room)?,
+        Points {
+            list,
             is_broken: false,
-        })
+        }
     }
 
     /// Takes a place.
@@ -104,23 +99,23 @@ impl Points {
 
     /// The points of a node or an arc, and none of other records; or rule 206, where one of them is
     /// no place or their number isn't that of the type.
-    pub(crate) fn finish(self, alloc: Global, kind: Kind) -> Result<Vec<Point>, GroupFault>
+    pub(crate) fn finish(self, kind: Kind) -> Result<Vec<Point>, GroupFault>
         ensures states { IfOk result (λ v. (group : List Entry) → (has_points kind ≡ true → StoresPoints self [] group) → (if has_points kind then map point (values (codes "COR") group) else []) ≡ map Some v.items) }
         ensures shape { IfOk result (λ v. may_have_points kind (length v.items) ≡ true) }
         ensures sound { OnOk result ((group : List Entry) → kind_in group ≡ Some kind → (has_points kind ≡ true → StoresPoints self [] group) → has_bad_point group ≡ false) }
         ensures breach { IfErr result (λ fault. (group : List Entry) → kind_in group ≡ Some kind → (has_points kind ≡ true → StoresPoints self [] group) → IsBreachOf 206 (has_bad_point group) fault) }
     {
-        if !kind.has_points() {
-            return Ok(Vec::new(alloc));
-        }
         let Points {
             mut list,
             is_broken,
         } = self;
+        if !kind.has_points() {
+            list.clear();
+            return Ok(list);
+        }
         if is_broken || !kind.may_have_points(list.len()) {
             return Err(GroupFault::Broken(206));
         }
-        list.shrink_to_fit();
         Ok(list)
     }
 }

@@ -25,6 +25,7 @@ use crate::fault::RecordFault;
 use crate::groups::first_value;
 use crate::sheet::Sheet;
 use crate::sheet_records::SheetRecords;
+use crate::spare_lists::SpareLists;
 use crate::stating::record_of;
 use edi_line::codes::{CSE, RTY};
 use edi_line::{Text, Zone};
@@ -65,7 +66,7 @@ fn list_of(alloc: Global, zones: &[Zone<'_>]) -> Result<SheetRecords, RecordFaul
     while let Some((zone, behind)) = zone_at(zones, at) {
         at += 1;
         if zone.code == RTY {
-            match record_of(alloc, zone, behind) {
+            match record_of(alloc, SpareLists::new(alloc), zone, behind) {
                 Ok((record, own)) => {
                     list.push(record)?;
                     at += own;

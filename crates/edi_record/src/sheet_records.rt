@@ -5,13 +5,15 @@ ghost use Rattle.edi_record.specs.Shapes.{stated_at};
 
 use crate::record::{End, Kind, Record};
 use crate::record_ref::RecordRef;
+use crate::sheet_blocks::SheetBlocks;
+use crate::spare_lists::SpareLists;
 use std::alloc::{AllocError, Global};
 use std::marker::Model;
 
 /// The records of a sheet, in file order. Contracts see the list of records alone.
 #[derive(Drop)]
 pub struct SheetRecords {
-    list: Vec<Record>,
+    blocks: SheetBlocks,
 }
 
 impl Model for SheetRecords {
@@ -20,7 +22,11 @@ impl Model for SheetRecords {
 
     ghost Value = { List Record };
 
-    ghost view = { λ records. records.list.items };
+    ghost use Rattle.edi_record.specs.inner.BlockLists.{records_of, AreWithin};
+
+    ghost view = { λ records. records_of records.blocks };
+
+    ghost invariant = { λ records. AreWithin records.blocks };
 }
 
 impl SheetRecords {
@@ -29,7 +35,7 @@ impl SheetRecords {
         ensures { result ≡ [] }
     {
         SheetRecords {
-            list: Vec::new(alloc),
+            blocks: SheetBlocks::new(alloc),
         }
     }
 
@@ -37,8 +43,15 @@ impl SheetRecords {
     pub(crate) fn push(&mut self, record: Record) -> Result<(), AllocError>
         ensures { OnOk result (self.new ≡ self.old ++ «record» ∷ []) }
     {
-        self.list.push(record)?;
+        let _ = self.take(record)?;
         Ok(())
+    }
+
+    /// Puts a record behind the others. Its lists, emptied, are the answer.
+    pub(crate) fn take(&mut self, record: Record) -> Result<SpareLists, AllocError>
+        ensures { OnOk result (self.new ≡ self.old ++ «record» ∷ []) }
+    {
+        self.blocks.push(record)
     }
 
     /// How many records there are.
@@ -46,7 +59,7 @@ impl SheetRecords {
         ensures len { result ≡ length self.now }
         ensures few { result < 2 ^ 63 }
     {
-        self.list.len()
+        self.blocks.len()
     }
 
     /// Whether there are none.
@@ -61,7 +74,7 @@ impl SheetRecords {
         requires { place < length self.now }
         ensures { slice_get self.now place ≡ Some result }
     {
-        self.list[place].borrowed()
+        self.blocks.record(place)
     }
 
     /// The type of a record, by its place from 0.
@@ -69,7 +82,7 @@ impl SheetRecords {
         requires { place < length self.now }
         ensures { result ≡ (stated_at self.now place).kind }
     {
-        self.list[place].kind
+        self.record(place).kind()
     }
 
     /// The identifier of a record, by its place from 0.
@@ -77,7 +90,7 @@ impl SheetRecords {
         requires { place < length self.now }
         ensures { result.now ≡ (stated_at self.now place).rid }
     {
-        self.list[place].rid.as_slice()
+        self.record(place).rid()
     }
 
     /// The ends of a record, by its place from 0: none if it is no link.
@@ -85,14 +98,13 @@ impl SheetRecords {
         requires { place < length self.now }
         ensures { result.now ≡ (stated_at self.now place).ends }
     {
-        self.list[place].ends.as_slice()
+        self.record(place).ends()
     }
 
     /// The records, each with memory of its own.
     pub fn into_records(self, alloc: Global) -> Result<Vec<Record>, AllocError>
         ensures { IfOk result (λ records. records.items ≡ self) }
     {
-        let _ = alloc;
-        Ok(self.list)
+        self.blocks.into_records(alloc)
     }
 }

@@ -12,6 +12,7 @@ ghost use Rattle.edi_record.specs.inner.RecordRefusal.{IsGroupRefusal};
 use crate::draft::Draft;
 use crate::fault::GroupFault;
 use crate::record::{Kind, Record};
+use crate::spare_lists::SpareLists;
 use edi_line::Zone;
 use std::alloc::Global;
 
@@ -37,9 +38,10 @@ fn ends_record(zone: &Zone<'_>) -> bool
 }
 
 /// The record that begins with this zone, with how many of the zones behind it are its own; or the
-/// least of the rules 201 to 208 that it breaks.
+/// least of the rules 201 to 208 that it breaks. Its parts lie in the spare lists.
 pub(crate) fn record_of(
     alloc: Global,
+    spare: SpareLists,
     head: &Zone<'_>,
     behind: &[Zone<'_>],
 ) -> Result<(Record, usize), GroupFault>
@@ -54,7 +56,7 @@ pub(crate) fn record_of(
     let Some(kind) = kind_named(head.value.as_slice()) else {
         return Err(GroupFault::Broken(201));
     };
-    let mut draft = Draft::new(alloc, kind)?;
+    let mut draft = Draft::new(spare, kind);
     let mut own = 0;
     for zone in behind {
         if ends_record(zone) {

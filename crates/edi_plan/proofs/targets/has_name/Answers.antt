@@ -1,8 +1,9 @@
 use Rattle.std.proofs.Common.{◌∙◌, ◌<◌, sym, subst}
 use Rattle.edi_record.specs.Shapes.{stated_at}
 use Rattle.edi_plan.specs.inner.Names.{named}
+use Rattle.edi_record.proofs.StatedAt.{stated_there}
 use Rattle.edi_schema.proofs.Names.{same_name}
-use Rattle.edi_plan.proofs.NameLemmas.{name_apart, stated_there}
+use Rattle.edi_plan.proofs.NameLemmas.{name_apart}
 use Rattle.edi_plan.proofs.targets.has_name.Goals as goal
 
 pub returns-then-place-len : goal.returns-then-place-len

@@ -19,8 +19,8 @@ loop-zone-init c =
     record {
       own = refl;
       kind = refl;
-      counted = omega (arith, c.in_ok-draft.ensures.counted);
-      keeps = skipped c.in_ok-draft.draft head left (head ∷ left) (inl ((bytes_eq-Decides head.code (codes "RTY")).0 c.requires)) (c.in_ok-draft.ensures.keeps (head ∷ left));
+      counted = omega (arith, c.new-draft.ensures.counted);
+      keeps = skipped c.new-draft.result head left (head ∷ left) (inl ((bytes_eq-Decides head.code (codes "RTY")).0 c.requires)) (c.new-draft.ensures.keeps (head ∷ left));
       left = refl;
     }
 
@@ -48,7 +48,7 @@ returns-in_err-finish-clause-least c =
       | else-loop-zone-test w ↦ ap before_end (no_zone c.args.behind.now c.loop-zone.zone-index w.loop-zone-test.false)
       | then-loop-zone-test+then-ends_record w ↦ ap before_end (next_zone c.args.behind.now c.loop-zone.zone-index w.zone-item.result w.loop-zone-test.true w.zone-item.is) ∙ stops (entry w.zone-item.result) (entries (drop (c.loop-zone.zone-index + 1) c.args.behind.now)) (sym w.ends_record.ensures ∙ w.if-ends_record.true)
     ] in
-    let kind : kind_in group ≡ Some c.loop-zone.draft.kind = head_kind head (before_end (entries c.args.behind.now)) c.as_slice.result.now c.in-Some.kind c.requires c.as_slice.ensures.value c.in-Some.ensures ∙ ap (λ k. Some k) (sym c.in_ok-draft.ensures.kind ∙ sym c.loop-zone.invariant.kind) in
+    let kind : kind_in group ≡ Some c.loop-zone.draft.kind = head_kind head (before_end (entries c.args.behind.now)) c.as_slice.result.now c.in-Some.kind c.requires c.as_slice.ensures.value c.in-Some.ensures ∙ ap (λ k. Some k) (sym c.new-draft.ensures.kind ∙ sym c.loop-zone.invariant.kind) in
     err_kept _ c.in_err-finish.field-0.0 (IsGroupRefusal group) c.from_residual-in_err-finish.ensures.1
     (c.in_err-finish.ensures.least group kind (subst (λ zs. StoresRecord c.loop-zone.draft zs group) over c.loop-zone.invariant.keeps))
 
@@ -60,7 +60,7 @@ returns-clause-states c =
       | else-loop-zone-test w ↦ ap before_end (no_zone c.args.behind.now c.loop-zone.zone-index w.loop-zone-test.false)
       | then-loop-zone-test+then-ends_record w ↦ ap before_end (next_zone c.args.behind.now c.loop-zone.zone-index w.zone-item.result w.loop-zone-test.true w.zone-item.is) ∙ stops (entry w.zone-item.result) (entries (drop (c.loop-zone.zone-index + 1) c.args.behind.now)) (sym w.ends_record.ensures ∙ w.if-ends_record.true)
     ] in
-    let kind : kind_in group ≡ Some c.loop-zone.draft.kind = head_kind head (before_end (entries c.args.behind.now)) c.as_slice.result.now c.in-Some.kind c.requires c.as_slice.ensures.value c.in-Some.ensures ∙ ap (λ k. Some k) (sym c.in_ok-draft.ensures.kind ∙ sym c.loop-zone.invariant.kind) in
+    let kind : kind_in group ≡ Some c.loop-zone.draft.kind = head_kind head (before_end (entries c.args.behind.now)) c.as_slice.result.now c.in-Some.kind c.requires c.as_slice.ensures.value c.in-Some.ensures ∙ ap (λ k. Some k) (sym c.new-draft.ensures.kind ∙ sym c.loop-zone.invariant.kind) in
     c.in_ok-finish.ensures.states group (one_type head (entries c.args.behind.now) c.requires) kind (subst (λ zs. StoresRecord c.loop-zone.draft zs group) over c.loop-zone.invariant.keeps)
 
 pub returns-clause-sound : goal.returns-clause-sound
@@ -71,5 +71,5 @@ returns-clause-sound c =
       | else-loop-zone-test w ↦ ap before_end (no_zone c.args.behind.now c.loop-zone.zone-index w.loop-zone-test.false)
       | then-loop-zone-test+then-ends_record w ↦ ap before_end (next_zone c.args.behind.now c.loop-zone.zone-index w.zone-item.result w.loop-zone-test.true w.zone-item.is) ∙ stops (entry w.zone-item.result) (entries (drop (c.loop-zone.zone-index + 1) c.args.behind.now)) (sym w.ends_record.ensures ∙ w.if-ends_record.true)
     ] in
-    let kind : kind_in group ≡ Some c.loop-zone.draft.kind = head_kind head (before_end (entries c.args.behind.now)) c.as_slice.result.now c.in-Some.kind c.requires c.as_slice.ensures.value c.in-Some.ensures ∙ ap (λ k. Some k) (sym c.in_ok-draft.ensures.kind ∙ sym c.loop-zone.invariant.kind) in
+    let kind : kind_in group ≡ Some c.loop-zone.draft.kind = head_kind head (before_end (entries c.args.behind.now)) c.as_slice.result.now c.in-Some.kind c.requires c.as_slice.ensures.value c.in-Some.ensures ∙ ap (λ k. Some k) (sym c.new-draft.ensures.kind ∙ sym c.loop-zone.invariant.kind) in
     c.in_ok-finish.ensures.sound group kind (subst (λ zs. StoresRecord c.loop-zone.draft zs group) over c.loop-zone.invariant.keeps)

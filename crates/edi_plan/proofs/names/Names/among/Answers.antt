@@ -1,8 +1,9 @@
 use Rattle.std.proofs.Common.{◌≡◌, ◌∙◌, ◌<◌, ◌≤◌, Some, slice_get, sym, ap, subst}
 use Rattle.edi_record.specs.Shapes.{stated_at}
 use Rattle.edi_record.specs.declared.name.Name.{Name}
+use Rattle.edi_record.proofs.StatedAt.{stated_there}
 use Rattle.edi_plan.specs.inner.Names.{place_in, is_tabled}
-use Rattle.edi_plan.proofs.NameLemmas.{coded_kind, first_own, first_put, was_there, was_new, repeat_more, repeat_none, repeat_all, names_of, left_out, no_link, repeat_apart, first_apart, stated_there}
+use Rattle.edi_plan.proofs.NameLemmas.{coded_kind, first_own, first_put, was_there, was_new, repeat_more, repeat_none, repeat_all, names_of, left_out, no_link, repeat_apart, first_apart}
 use Rattle.edi_plan.proofs.names.Names.among.Goals as goal
 use Rattle.edi_plan.proofs.names.Names.among.Goals.{then-first-place, else-first-place}
 

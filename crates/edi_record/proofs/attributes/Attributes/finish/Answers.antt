@@ -1,9 +1,8 @@
-use Rattle.std.proofs.Common.{◌∙◌, ap, sym, map, Some}
 use Rattle.edi_record.proofs.AttributesStored.{attributes_come, attributes_sound}
 use Rattle.edi_record.proofs.attributes.Attributes.finish.Goals as goal
 
 pub returns-clause-states : goal.returns-clause-states
-returns-clause-states c = λ group h. attributes_come c.args.self _ group c.if-self.false c.in_ok-close.ensures.done h ∙ ap (map Some) (sym c.shrink_to_fit.ensures.items)
+returns-clause-states c = λ group h. attributes_come c.args.self _ group c.if-self.false c.in_ok-close.ensures.done h
 
 pub returns-clause-sound : goal.returns-clause-sound
 returns-clause-sound c = λ group h. attributes_sound c.args.self _ group c.if-self.false c.in_ok-close.ensures.done h

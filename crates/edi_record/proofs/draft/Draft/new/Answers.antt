@@ -11,8 +11,8 @@ returns-clause-keeps c = λ group. record {
   end_count = λ k. refl;
   counted_points = λ k. omega arith;
   counted_ends = λ k. omega arith;
-  attributes = c.new-3.ensures.keeps group;
-  points = λ k. c.in_ok-points.ensures group;
-  ends = λ k. c.in_ok-ends.ensures group;
-  extras = λ b. subst (λ o. StoresExtras c.args.kind o c.new-4.result group group) (sym c.new-3.ensures.closed) (c.new-4.ensures c.args.kind group);
+  attributes = c.new.ensures.keeps group;
+  points = λ k. c.new-2.ensures group;
+  ends = λ k. c.new-3.ensures group;
+  extras = λ b. subst (λ o. StoresExtras c.args.kind o c.new-4.result group group) (sym c.new.ensures.closed) (c.new-4.ensures c.args.kind group);
 }

@@ -1,4 +1,4 @@
-use Rattle.std.proofs.Common.{◌∙◌, refl, sym, ap, arith, map, Some}
+use Rattle.std.proofs.Common.{◌∙◌, refl, sym, arith}
 use Rattle.edi_record.proofs.EndsStored.{ends_come, ends_sound, ends_few, ends_bad}
 use Rattle.edi_record.proofs.ends.Ends.finish.Goals as goal
 use Rattle.edi_record.proofs.ends.Ends.finish.Goals.{then-is_broken-via-then-is_broken, then-is_broken-via-else-is_broken+then-len-lt2}
@@ -18,7 +18,7 @@ returns-then-is_broken-clause-breach c = λ group k h. (
 pub returns-clause-states : goal.returns-clause-states
 returns-clause-states c = λ group h.
     let link = sym c.is_link.ensures ∙ c.if-not-is_link.false in
-    rw link (ends_come c.args.self c.close.new.self.done.items group (sym c.in_ok-close.ensures.broken ∙ c.if-is_broken.false) c.in_ok-close.ensures.done (h link) ∙ ap (map Some) (sym c.shrink_to_fit.ensures.items))
+    rw link (ends_come c.args.self c.close.new.self.done.items group (sym c.in_ok-close.ensures.broken ∙ c.if-is_broken.false) c.in_ok-close.ensures.done (h link))
 
 pub returns-clause-sound : goal.returns-clause-sound
 returns-clause-sound c = λ group k h.

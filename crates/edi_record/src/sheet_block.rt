@@ -1,0 +1,251 @@
+//! Some records of a sheet in flat lists: their points lie in one list, and so do their ends, their attributes and
+//! their extra zones.
+
+ghost use Rattle.std.specs.Prelude.{◌≡◌, ◌+◌, ◌≤◌, ◌<◌, ◌∷◌, ◌++◌, [], length, slice_get, slice_range, Some, IfOk, OnOk};
+ghost use Rattle.std.specs.Vec.Iter.{into_iter_items};
+ghost use Rattle.edi_record.specs.inner.SheetBlocks.{no_stops, stops_before, records_in, AreParts};
+
+use crate::name::Name;
+use crate::record::{Attribute, End, Extra, Kind, Point, Record};
+use crate::record_ref::RecordRef;
+use crate::spare_lists::SpareLists;
+use edi_line::{Sequence, Text};
+use std::alloc::{AllocError, Global};
+use std::vec::IntoIter;
+
+/// Where the parts of a record end in the lists. They begin where those of the record before end.
+#[derive(Clone, Copy)]
+pub(crate) struct Stops {
+    pub(crate) points: u32,
+    pub(crate) ends: u32,
+    pub(crate) attributes: u32,
+    pub(crate) extras: u32,
+}
+
+impl Stops {
+    /// Where the parts of the first record begin.
+    const NONE: Stops = Stops {
+        points: 0,
+        ends: 0,
+        attributes: 0,
+        extras: 0,
+    };
+}
+
+/// A record but for its parts, and where these end.
+#[derive(Drop)]
+pub(crate) struct SheetHead {
+    pub(crate) kind: Kind,
+    pub(crate) rid: Text,
+    pub(crate) scp: Name,
+    pub(crate) stops: Stops,
+}
+
+/// The records by their places, with the lists of what they have.
+#[derive(Drop)]
+pub(crate) struct SheetBlock {
+    pub(crate) heads: Vec<SheetHead>,
+    pub(crate) points: Vec<Point>,
+    pub(crate) ends: Vec<End>,
+    pub(crate) attributes: Vec<Attribute>,
+    pub(crate) extras: Vec<Extra>,
+}
+
+/// A length in four bytes, or want of memory where it has more.
+fn place_of(len: usize) -> Result<u32, AllocError>
+    ensures { IfOk result (λ place. place ≡ len) }
+{
+    if len > u32::MAX as usize {
+        return Err(AllocError);
+    }
+    Ok(len as u32)
+}
+
+/// Moves the elements of a part behind those of a list. Where they end and the emptied part are the answer.
+fn append<T: Drop>(list: &mut Vec<T>, part: Sequence<T>) -> Result<(u32, Vec<T>), AllocError>
+    ensures items { OnOk result (list.new.items ≡ list.old.items ++ part) }
+    ensures stop { IfOk result (λ added. added.0 ≡ length list.old.items + length part) }
+    ensures emptied { IfOk result (λ added. added.1.items ≡ []) }
+{
+    let mut items = part.into_vec();
+    list.append(&mut items)?;
+    Ok((place_of(list.len())?, items))
+}
+
+/// The elements of a list, in one with no room for more. The list keeps its own room.
+fn moved<T: Drop>(alloc: Global, list: &mut Vec<T>) -> Result<Vec<T>, AllocError>
+    ensures items { IfOk result (λ exact. exact.items ≡ list.old.items) }
+    ensures emptied { OnOk result (list.new.items ≡ []) }
+{
+    let mut exact = Vec::with_capacity(alloc, list.len())?;
+    exact.append(list)?;
+    Ok(exact)
+}
+
+/// The next elements, so many, in a list of their own.
+fn taken<T: Drop>(alloc: Global, rest: &mut IntoIter<T>, many: u32) -> Result<Vec<T>, AllocError>
+    requires { many ≤ length (into_iter_items rest.old) }
+    ensures items { IfOk result (λ own. into_iter_items rest.old ≡ own.items ++ into_iter_items rest.new) }
+    ensures long { IfOk result (λ own. length own.items ≡ many) }
+{
+    let mut own = Vec::with_capacity(alloc, many as usize)?;
+    for _ in 0..many {
+        if let Some(item) = rest.next() {
+            own.push(item)?;
+        }
+    }
+    Ok(own)
+}
+
+/// A part of a list, borrowed.
+fn part<T>(list: &Vec<T>, from: u32, to: u32) -> &[T]
+    requires rises { from ≤ to }
+    requires within { to ≤ length list.now.items }
+    ensures { result.now ≡ slice_range list.now.items from to }
+{
+    &list[from as usize..to as usize]
+}
+
+impl SheetBlock {
+    /// No records.
+    pub(crate) fn new(alloc: Global) -> SheetBlock
+        ensures none { records_in result ≡ [] }
+        ensures parts { AreParts result no_stops result.heads.items }
+    {
+        SheetBlock {
+            heads: Vec::new(alloc),
+            points: Vec::new(alloc),
+            ends: Vec::new(alloc),
+            attributes: Vec::new(alloc),
+            extras: Vec::new(alloc),
+        }
+    }
+
+    /// Adds a record. Its lists, emptied, are the answer.
+    pub(crate) fn push(&mut self, record: Record) -> Result<SpareLists, AllocError>
+        requires { AreParts self.old no_stops self.old.heads.items }
+        ensures records { OnOk result (records_in self.new ≡ records_in self.old ++ «record» ∷ []) }
+        ensures parts { OnOk result (AreParts self.new no_stops self.new.heads.items) }
+    {
+        let Record {
+            kind,
+            rid,
+            scp,
+            points,
+            ends,
+            attributes,
+            extras,
+        } = record;
+        let (points_stop, points) = append(&mut self.points, points)?;
+        let (ends_stop, ends) = append(&mut self.ends, ends)?;
+        let (attributes_stop, attributes) = append(&mut self.attributes, attributes)?;
+        let (extras_stop, extras) = append(&mut self.extras, extras)?;
+        let stops = Stops {
+            points: points_stop,
+            ends: ends_stop,
+            attributes: attributes_stop,
+            extras: extras_stop,
+        };
+        self.heads.push(SheetHead {
+            kind,
+            rid,
+            scp,
+            stops,
+        })?;
+        Ok(SpareLists {
+            points,
+            ends,
+            attributes,
+            extras,
+        })
+    }
+
+    /// The same records, in a block with no room for more. This block keeps its room, and has none of them.
+    pub(crate) fn close(&mut self, alloc: Global) -> Result<SheetBlock, AllocError>
+        requires { AreParts self.old no_stops self.old.heads.items }
+        ensures records { IfOk result (λ block. records_in block ≡ records_in self.old) }
+        ensures parts { IfOk result (λ block. AreParts block no_stops block.heads.items) }
+        ensures none { OnOk result (records_in self.new ≡ []) }
+        ensures no_parts { OnOk result (AreParts self.new no_stops self.new.heads.items) }
+    {
+        Ok(SheetBlock {
+            heads: moved(alloc, &mut self.heads)?,
+            points: moved(alloc, &mut self.points)?,
+            ends: moved(alloc, &mut self.ends)?,
+            attributes: moved(alloc, &mut self.attributes)?,
+            extras: moved(alloc, &mut self.extras)?,
+        })
+    }
+
+    /// How many records there are.
+    pub(crate) fn len(&self) -> usize
+        ensures { result ≡ length (records_in self.now) }
+    {
+        self.heads.len()
+    }
+
+    /// Where the parts of a record begin.
+    fn begin(&self, place: usize) -> Stops
+        requires { place < length self.now.heads.items }
+        ensures { result ≡ stops_before place no_stops self.now.heads.items }
+    {
+        if place > 0 {
+            return self.heads[place - 1].stops;
+        }
+        Stops::NONE
+    }
+
+    /// A record, by its place from 0.
+    pub(crate) fn record(&self, place: usize) -> RecordRef<'_>
+        requires parts { AreParts self.now no_stops self.now.heads.items }
+        requires there { place < length (records_in self.now) }
+        ensures { slice_get (records_in self.now) place ≡ Some result }
+    {
+        let head = &self.heads[place];
+        let from = self.begin(place);
+        let to = head.stops;
+        RecordRef {
+            kind: head.kind,
+            rid: &head.rid,
+            scp: &head.scp,
+            points: part(&self.points, from.points, to.points),
+            ends: part(&self.ends, from.ends, to.ends),
+            attributes: part(&self.attributes, from.attributes, to.attributes),
+            extras: part(&self.extras, from.extras, to.extras),
+        }
+    }
+
+    /// Moves the records, each with lists of its own, behind those of a list.
+    pub(crate) fn into_records(
+        self,
+        alloc: Global,
+        records: &mut Vec<Record>,
+    ) -> Result<(), AllocError>
+        requires { AreParts self no_stops self.heads.items }
+        ensures { OnOk result (records.new.items ≡ records.old.items ++ records_in self) }
+    {
+        let mut points = self.points.into_iter();
+        let mut ends = self.ends.into_iter();
+        let mut attributes = self.attributes.into_iter();
+        let mut extras = self.extras.into_iter();
+        let mut from = Stops::NONE;
+        for head in self.heads {
+            let to = head.stops;
+            let points = taken(alloc, &mut points, to.points - from.points)?;
+            let ends = taken(alloc, &mut ends, to.ends - from.ends)?;
+            let attributes = taken(alloc, &mut attributes, to.attributes - from.attributes)?;
+            let extras = taken(alloc, &mut extras, to.extras - from.extras)?;
+            records.push(Record {
+                kind: head.kind,
+                rid: head.rid,
+                scp: head.scp,
+                points: Sequence::from_vec(points),
+                ends: Sequence::from_vec(ends),
+                attributes: Sequence::from_vec(attributes),
+                extras: Sequence::from_vec(extras),
+            })?;
+            from = to;
+        }
+        Ok(())
+    }
+}

@@ -1,0 +1,123 @@
+//! The records of a sheet, in blocks.
+
+ghost use Rattle.std.specs.Prelude.{◌≡◌, ◌<◌, ◌^◌, ◌∷◌, ◌++◌, [], length, slice_get, Some, IfOk, OnOk};
+ghost use Rattle.edi_record.specs.inner.SheetBlocks.{records_in};
+ghost use Rattle.edi_record.specs.inner.BlockLists.{records_of, IsFull, AreClosed, AreWithin};
+
+use crate::record::Record;
+use crate::record_ref::RecordRef;
+use crate::sheet_block::SheetBlock;
+use crate::spare_lists::SpareLists;
+use std::alloc::{AllocError, Global};
+
+// How many records a closed block has.
+const BLOCK: usize = 256;
+
+// How many closed blocks there may be, so that the number of records is no overflow.
+const MOST_BLOCKS: usize = u32::MAX as usize;
+
+/// The records by their places: those of closed blocks, and the last.
+#[derive(Drop)]
+pub(crate) struct SheetBlocks {
+    pub(crate) alloc: Global,
+    pub(crate) closed: Vec<SheetBlock>,
+    pub(crate) last: SheetBlock,
+}
+
+impl SheetBlocks {
+    /// No records.
+    #[tactic(auto, unfolding(crate::specs::inner::BlockLists::records_of))]
+    pub(crate) fn new(alloc: Global) -> SheetBlocks
+        ensures none { records_of result ≡ [] }
+        ensures within { AreWithin result }
+    {
+        SheetBlocks {
+            alloc,
+            closed: Vec::new(alloc),
+            last: SheetBlock::new(alloc),
+        }
+    }
+
+    /// Puts the records of the last block, which is full, into a closed one.
+    #[tactic(auto, unfolding(crate::specs::inner::BlockLists::records_of))]
+    fn close_last(&mut self) -> Result<(), AllocError>
+        requires within { AreWithin self.old }
+        requires full { length (records_in self.old.last) ≡ 256 }
+        ensures records { OnOk result (records_of self.new ≡ records_of self.old) }
+        ensures within { OnOk result (AreWithin self.new) }
+        ensures none { OnOk result (records_in self.new.last ≡ []) }
+        ensures closed { AreClosed self.new.closed.items }
+    {
+        if self.closed.len() >= MOST_BLOCKS {
+            return Err(AllocError);
+        }
+        let block = self.last.close(self.alloc)?;
+        self.closed.push(block)?;
+        Ok(())
+    }
+
+    /// Adds a record, or leaves the last block in any state.
+    #[tactic(auto, unfolding(crate::specs::inner::BlockLists::records_of))]
+    fn add(&mut self, record: Record) -> Result<SpareLists, AllocError>
+        requires { AreWithin self.old }
+        ensures records { OnOk result (records_of self.new ≡ records_of self.old ++ «record» ∷ []) }
+        ensures within { OnOk result (AreWithin self.new) }
+        ensures closed { AreClosed self.new.closed.items }
+    {
+        if self.last.len() == BLOCK {
+            self.close_last()?;
+        }
+        self.last.push(record)
+    }
+
+    /// Adds a record. Its lists, emptied, are the answer. Where memory is wanting, the records of the last block are
+    /// lost.
+    pub(crate) fn push(&mut self, record: Record) -> Result<SpareLists, AllocError>
+        requires { AreWithin self.old }
+        ensures records { OnOk result (records_of self.new ≡ records_of self.old ++ «record» ∷ []) }
+        ensures within { AreWithin self.new }
+    {
+        let added = self.add(record);
+        if added.is_err() {
+            self.last = SheetBlock::new(self.alloc);
+        }
+        added
+    }
+
+    /// How many records there are.
+    pub(crate) fn len(&self) -> usize
+        requires { AreWithin self.now }
+        ensures len { result ≡ length (records_of self.now) }
+        ensures few { result < 2 ^ 63 }
+    {
+        self.closed.len() * BLOCK + self.last.len()
+    }
+
+    /// A record, by its place from 0.
+    pub(crate) fn record(&self, place: usize) -> RecordRef<'_>
+        requires within { AreWithin self.now }
+        requires there { place < length (records_of self.now) }
+        ensures { slice_get (records_of self.now) place ≡ Some result }
+    {
+        let at = place / BLOCK;
+        if at < self.closed.len() {
+            self.closed[at].record(place % BLOCK)
+        } else {
+            self.last.record(place % BLOCK)
+        }
+    }
+
+    /// The records, each with lists of its own.
+    #[tactic(auto, unfolding(crate::specs::inner::BlockLists::records_of))]
+    pub(crate) fn into_records(self, alloc: Global) -> Result<Vec<Record>, AllocError>
+        requires { AreWithin self }
+        ensures { IfOk result (λ records. records.items ≡ records_of self) }
+    {
+        let mut records = Vec::with_capacity(alloc, self.len())?;
+        for block in self.closed {
+            block.into_records(alloc, &mut records)?;
+        }
+        self.last.into_records(alloc, &mut records)?;
+        Ok(records)
+    }
+}
