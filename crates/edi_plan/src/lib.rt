@@ -15,6 +15,7 @@ mod record_list;
 mod records;
 mod references;
 mod sides;
+mod spare_parts;
 mod targets;
 
 pub use attributes::sorted_attributes;

@@ -7,6 +7,7 @@ ghost use Rattle.edi_plan.specs.inner.RecordBlocks.{part_of, records_in, ArePart
 
 use crate::planned::PlannedRecord;
 use crate::record::{PlanAttribute, PlanEnd};
+use crate::spare_parts::SpareParts;
 use edi_record::{Extra, Kind, Point};
 use edi_schema::{ClassRef, Role};
 use std::alloc::{AllocError, Global};
@@ -50,17 +51,20 @@ fn place_of(len: usize) -> Result<u32, AllocError>
     Ok(len as u32)
 }
 
-/// Moves the elements of a part behind those of a list. Where they lie is the answer.
-fn append<T: Drop>(list: &mut Vec<T>, part: Vec<T>) -> Result<ListPart, AllocError>
+/// Moves the elements of a part behind those of a list. Where they lie and the emptied part are the answer.
+fn append<T: Drop>(
+    list: &mut Vec<T>,
+    mut part: Vec<T>,
+) -> Result<(ListPart, Vec<T>), AllocError>
     ensures items { OnOk result (list.new.items ≡ list.old.items ++ part.items) }
-    ensures from { IfOk result (λ span. span.from ≡ length list.old.items) }
-    ensures to { IfOk result (λ span. span.to ≡ length list.old.items + length part.items) }
+    ensures from { IfOk result (λ added. added.0.from ≡ length list.old.items) }
+    ensures to { IfOk result (λ added. added.0.to ≡ length list.old.items + length part.items) }
+    ensures emptied { IfOk result (λ added. added.1.items ≡ []) }
 {
     let from = place_of(list.len())?;
-    let mut items = part;
-    list.append(&mut items)?;
+    list.append(&mut part)?;
     let to = place_of(list.len())?;
-    Ok(ListPart { from, to })
+    Ok((ListPart { from, to }, part))
 }
 
 /// Copies points behind those of a list. Where they lie is the answer.
@@ -106,16 +110,16 @@ impl RecordBlock {
         })
     }
 
-    /// Adds a record.
-    pub(crate) fn push(&mut self, planned: PlannedRecord<'_>) -> Result<(), AllocError>
+    /// Adds a record. Its lists, emptied, are the answer.
+    pub(crate) fn push(&mut self, planned: PlannedRecord<'_>) -> Result<SpareParts, AllocError>
         requires { ArePartsWithin self.old }
         ensures records { OnOk result (records_in self.new ≡ records_in self.old ++ planned.entry ∷ []) }
         ensures within { OnOk result (ArePartsWithin self.new) }
     {
         let points = append_points(&mut self.points, planned.points)?;
-        let attributes = append(&mut self.attributes, planned.attributes)?;
-        let extras = append(&mut self.extras, planned.extras)?;
-        let ends = append(&mut self.ends, planned.ends)?;
+        let (attributes, no_attributes) = append(&mut self.attributes, planned.attributes)?;
+        let (extras, no_extras) = append(&mut self.extras, planned.extras)?;
+        let (ends, no_ends) = append(&mut self.ends, planned.ends)?;
         self.heads.push(Head {
             kind: planned.kind,
             class: planned.class,
@@ -125,7 +129,11 @@ impl RecordBlock {
             extras,
             ends,
         })?;
-        Ok(())
+        Ok(SpareParts {
+            attributes: no_attributes,
+            extras: no_extras,
+            ends: no_ends,
+        })
     }
 
     /// The same records, with no room for more.

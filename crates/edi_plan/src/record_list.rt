@@ -8,6 +8,7 @@ ghost use Rattle.edi_plan.specs.inner.RecordLists.{records_of, AreFull, AreWithi
 use crate::planned::PlannedRecord;
 use crate::record::{PlanAttribute, PlanEnd};
 use crate::record_block::RecordBlock;
+use crate::spare_parts::SpareParts;
 use edi_record::{Extra, Kind, Point};
 use edi_schema::{ClassRef, Role};
 use std::alloc::{AllocError, Global};
@@ -52,18 +53,18 @@ impl RecordList {
         Ok(())
     }
 
-    /// Adds a record.
+    /// Adds a record. Its lists, emptied, are the answer.
     #[tactic(auto, unfolding(crate::specs::inner::RecordLists::records_of))]
-    pub(crate) fn push(&mut self, planned: PlannedRecord<'_>) -> Result<(), AllocError>
+    pub(crate) fn push(&mut self, planned: PlannedRecord<'_>) -> Result<SpareParts, AllocError>
         requires { AreWithin self.old }
         ensures records { OnOk result (records_of self.new ≡ records_of self.old ++ planned.entry ∷ []) }
         ensures within { OnOk result (AreWithin self.new) }
     {
-        self.last.push(planned)?;
+        let spare = self.last.push(planned)?;
         if self.last.len() == BLOCK {
             self.close_last()?;
         }
-        Ok(())
+        Ok(spare)
     }
 
     /// How many records there are.

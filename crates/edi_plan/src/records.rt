@@ -1,6 +1,6 @@
 //! The records of a plan: rules 302 to 307.
 
-ghost use Rattle.std.specs.Prelude.{◌≡◌, ◌≢◌, ◌⊎◌, ◌+◌, ◌<◌, ◌≤◌, true, length, is_none, Any, IfOk, IfErr, IfSome, OnOk, MatchOption, None, Some, IsTrue, ◌↔◌, codes};
+ghost use Rattle.std.specs.Prelude.{◌≡◌, ◌≢◌, ◌⊎◌, ◌+◌, ◌<◌, ◌≤◌, [], true, length, is_none, Any, IfOk, IfErr, IfSome, OnOk, MatchOption, None, Some, IsTrue, ◌↔◌, codes};
 ghost use Rattle.std.specs.List.{AllZip, list_any};
 ghost use Rattle.edi_line.specs.Bytes.{most_records};
 ghost use Rattle.edi_line.specs.inner.Refusal.{first_broken};
@@ -20,6 +20,7 @@ use crate::record::{PlanAttribute, PlanEnd};
 use crate::record_list::RecordList;
 use crate::references::{References, Subset};
 use crate::sides::{note_link, without_links};
+use crate::spare_parts::SpareParts;
 use crate::targets::Target;
 use edi_line::{Num, Text};
 use edi_record::{Attribute, End, Extra, Name, RecordRef, SheetRecords, Value};
@@ -83,15 +84,16 @@ fn plan_attribute(schema: &Schema, attribute: &Attribute) -> Result<PlanAttribut
     })
 }
 
+/// The attributes under a schema, in a list that is empty; or rule 303, where one has no class there.
 fn plan_attributes(
-    alloc: Global,
     schema: &Schema,
     attributes: &[Attribute],
+    mut done: Vec<PlanAttribute>,
 ) -> Result<Vec<PlanAttribute>, Unresolved>
+    requires { done.items ≡ [] }
     ensures ok { IfOk result (λ done. AllZip (Resolves schema.now) attributes.now done.items) }
     ensures err { IfErr result (IsUnresolved (λ rule. (rule ≡ 303) × Any (LacksClass schema.now) attributes.now)) }
 {
-    let mut done = Vec::with_capacity(alloc, attributes.len())?;
     for attribute in attributes {
         done.push(plan_attribute(schema, attribute)?)?;
     }
@@ -107,17 +109,17 @@ fn plan_end(target: Target, end: &End) -> Result<PlanEnd, AllocError>
     })
 }
 
-/// The ends of a record, each with its target; or rule 305, where one has none.
+/// The ends of a record, each with its target, in a list that is empty; or rule 305, where one has none.
 fn plan_ends(
-    alloc: Global,
     targets: &[Option<Target>],
     ends: &[End],
+    mut done: Vec<PlanEnd>,
 ) -> Result<Vec<PlanEnd>, Unresolved>
-    requires { length targets.now ≡ length ends.now }
+    requires long { length targets.now ≡ length ends.now }
+    requires empty { done.items ≡ [] }
     ensures ok { IfOk result (λ done. AreGiven targets.now ends.now done.items) }
     ensures err { IfErr result (IsUnresolved (λ rule. (rule ≡ 305) × (list_any is_none targets.now ≡ true))) }
 {
-    let mut done = Vec::with_capacity(alloc, ends.len())?;
     for (place, end) in ends.iter().enumerate() {
         let Some(target) = targets[place] else {
             return Err(Unresolved::Broken(305));
@@ -127,13 +129,13 @@ fn plan_ends(
     Ok(done)
 }
 
-/// The extra zones, with memory of their own.
-fn plan_extras(alloc: Global, extras: &[Extra]) -> Result<Vec<Extra>, AllocError>
+/// The extra zones, with memory of their own, in a list that is empty.
+fn plan_extras(extras: &[Extra], mut done: Vec<Extra>) -> Result<Vec<Extra>, AllocError>
+    requires { done.items ≡ [] }
     ensures { IfOk result (λ done. done.items ≡ extras.now) }
 {
-    let mut done = Vec::new(alloc);
     for extra in extras {
-        done.push(extra.copied(alloc)?)?;
+        done.push(extra.copied()?)?;
     }
     Ok(done)
 }
@@ -182,13 +184,13 @@ fn class_of(schema: &Schema, last: Option<ClassRef>, name: &Name) -> Option<Clas
 /// The record in the plan, whose class is known if the schema has it; or the least of the rules 302 to 307 that the record breaks.
 /// What a link joins is noted.
 fn plan_record<'a>(
-    alloc: Global,
     schema: &Schema,
     subset: &Option<Subset>,
     targets: &[Option<Target>],
     sides: &mut [ByRole<Option<u32>>],
     class: Option<ClassRef>,
     record: &RecordRef<'a>,
+    spare: SpareParts,
 ) -> Result<PlannedRecord<'a>, Unresolved>
     requires class { class ≡ place_of schema.now record.now.scp }
     requires within { IfSome class (λ class. class < length schema.now) }
@@ -202,11 +204,11 @@ fn plan_record<'a>(
     let Some(class) = class else {
         return Err(Unresolved::Broken(302));
     };
-    let attributes = plan_attributes(alloc, schema, record.attributes())?;
+    let attributes = plan_attributes(schema, record.attributes(), spare.attributes)?;
     if leaves_subset(subset, record.ends()) {
         return Err(Unresolved::Broken(304));
     }
-    let ends = plan_ends(alloc, targets, record.ends())?;
+    let ends = plan_ends(targets, record.ends(), spare.ends)?;
     let role = schema.role(class);
     if record.kind().is_link() {
         note_link(sides, role, targets)?;
@@ -217,7 +219,7 @@ fn plan_record<'a>(
         role,
         points: record.points(),
         attributes,
-        extras: plan_extras(alloc, record.extras())?,
+        extras: plan_extras(record.extras(), spare.extras)?,
         ends,
     })
 }
@@ -267,6 +269,7 @@ pub(crate) fn plan_records(
     let mut sides = without_links(alloc, records.len())?;
     let mut targets = references.targets.as_slice();
     let mut last: Option<ClassRef> = None;
+    let mut spare = SpareParts::new(alloc);
     for place in 0..records.len() {
         if is_place(references.repeat, place) {
             return Err(broken(301, place));
@@ -276,15 +279,15 @@ pub(crate) fn plan_records(
         let class = class_of(schema, last, record.scp());
         last = class;
         match plan_record(
-            alloc,
             schema,
             &references.subset,
             own,
             &mut sides,
             class,
             &record,
+            spare,
         ) {
-            Ok(planned) => list.push(planned)?,
+            Ok(planned) => spare = list.push(planned)?,
             Err(Unresolved::Memory(error)) => return Err(RefFault::Memory(error)),
             Err(Unresolved::Broken(rule)) => return Err(broken(rule, place)),
         }

@@ -7,7 +7,7 @@ ghost use Rattle.edi_record.specs.Shapes.{kind_code, may_have_points as may_have
 
 use crate::name::Name;
 use edi_line::{Num, Sequence, Text};
-use std::alloc::{AllocError, Global};
+use std::alloc::AllocError;
 
 /// The type of a record of a sheet.
 #[derive(Clone, Copy, Debug, PartialEq, Eq, PartialOrd, Ord, Hash)]
@@ -115,12 +115,12 @@ pub struct Extra {
 
 impl Extra {
     /// The same zone, with memory of its own.
-    pub fn copied(&self, alloc: Global) -> Result<Extra, AllocError>
+    pub fn copied(&self) -> Result<Extra, AllocError>
         ensures { IfOk result (λ copy. copy ≡ self.now) }
     {
         let value = match &self.value {
             Value::Number(number) => Value::Number(*number),
-            Value::Bytes(text) => Value::Bytes(Text::from_slice(alloc, text.as_slice())?),
+            Value::Bytes(text) => Value::Bytes(text.clone()?),
         };
         Ok(Extra {
             code: self.code,

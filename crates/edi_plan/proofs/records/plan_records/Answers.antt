@@ -85,10 +85,10 @@ loop-place-preserved c =
     let states = record_stated s list r c.split_at.result.0.now c.in-Ok.planned own c.in-Ok.ensures.planned in
     record {
       known = subst (IsClassOfName s) (sym (c.class_of-class.ensures.class ∙ ap (place_of s) c.scp.ensures)) (named_class s r.scp);
-      within = c.in_ok-push-in-Ok.ensures.within;
+      within = c.in_ok-spare-in-Ok.ensures.within;
       zipped =
           zip_taken (StatesPlanRecord s list) [] list place r (records_of c.loop-place.list) c.in-Ok.planned (records_of c.push.new.self) (slice_get_within list place r here) (got_there list place r here)
-          c.in_ok-push-in-Ok.ensures.records i.zipped states;
+          c.in_ok-spare-in-Ok.ensures.records i.zipped states;
       ahead = ahead_more place c.args.references.now.repeat i.ahead elsewhere;
       left = subst (AreTargets list (drop (c.loop-place.place + 1) c.args.records.now)) (sym (c.split_at.ensures.back ∙ ap (λ (es : List End). drop (length es) c.loop-place.targets.now) c.ends.ensures))
           (later_targets list (drop c.loop-place.place c.args.records.now) (drop (c.loop-place.place + 1) c.args.records.now) r next c.loop-place.targets.now i.left);
