@@ -1,146 +1,151 @@
 -- Records in flat lists: a record that is added leaves those before it as they are.
-use Rattle.std.proofs.Common.{◌≡◌, ℕ, zero, suc, ◌+◌, ◌-◌, ◌<◌, ◌≤◌, List, [], ◌∷◌, ◌++◌, length, get_or, map, take, drop, refl, sym, ap, ◌∙◌, subst, arith, length-append}
-use Rattle.std.specs.List.{AllByRecursion}
-use Rattle.std.proofs.Math.Seq.{drop-append_seam, take-length}
-use Rattle.std.proofs.lemmas.List.{take-append-le, drop-append-le, length-drop, length-map, map-append, get_or-map}
-use Rattle.edi_plan.specs.Plans.{blank}
+use Rattle.std.proofs.Common.{◌≡◌, ℕ, zero, suc, ◌+◌, ◌<◌, List, [], ◌∷◌, ◌++◌, length, get_or, refl, sym, ap, ◌∙◌, subst, arith}
+use Rattle.std.specs.List.{slice_range}
+use Rattle.edi_plan.specs.declared.record.PlanAttribute.{PlanAttribute}
+use Rattle.edi_plan.specs.declared.record.PlanEnd.{PlanEnd}
+use Rattle.edi_record.specs.declared.record.Extra.{Extra}
+use Rattle.edi_record.specs.declared.record.Point.{Point}
 use Rattle.edi_plan.specs.declared.record.PlanRecord.{PlanRecord}
+use Rattle.edi_record.specs.declared.sheet_block.Stops.{Stops}
 use Rattle.edi_plan.specs.declared.record_block.Head.{Head}
 use Rattle.edi_plan.specs.declared.record_block.RecordBlock.{RecordBlock}
-use Rattle.edi_plan.specs.declared.record_block.ListPart.{ListPart}
-use Rattle.edi_plan.specs.inner.RecordBlocks.{part_of, record_of, records_in, IsWithin, HasParts, ArePartsWithin}
+use Rattle.edi_record.specs.inner.SheetBlocks.{IsPart, no_stops}
+use Rattle.edi_record.proofs.SheetBlocks.{part_stays, part_added, within_more, within_added, ends_added}
+use Rattle.edi_plan.specs.Plans.{blank}
+use Rattle.edi_plan.specs.inner.RecordBlocks.{stops_before, record_of, records_from, records_in, HasParts, AreEnds, AreParts}
 
--- where the elements lie that were put behind those of a list
-pub record Lies (at long : ℕ) (s : ListPart) : Type 0 where
-  pub from : s.from ≡ at
-  pub to : s.to ≡ at + long
-
-module _ {X : Type 0} (xs ys zs : List X) (grown : zs ≡ xs ++ ys) (s : ListPart) where
-  longer : length zs ≡ length xs + length ys
-  longer = ap length grown ∙ length-append xs ys
-
-  pub part_stays : IsWithin (length xs) s → part_of zs s ≡ part_of xs s
-  part_stays w =
-      let left : s.to - s.from ≤ length (drop s.from xs) = omega (arith, w.rises, w.ends, length-drop s.from xs) in
-      ap (λ l. part_of l s) grown ∙ (ap (take (s.to - s.from)) (drop-append-le s.from xs ys (omega (arith, w.rises, w.ends))) ∙ take-append-le (s.to - s.from) (drop s.from xs) ys left)
-
-  pub part_added : Lies (length xs) (length ys) s → part_of zs s ≡ ys
-  part_added lies =
-      let long : s.to - s.from ≡ length ys = omega (arith, lies.from, lies.to) in
-      ap (λ l. part_of l s) grown ∙ (ap (λ n. take (s.to - s.from) (drop n (xs ++ ys))) lies.from ∙ (ap (take (s.to - s.from)) (drop-append_seam xs ys) ∙ (ap (λ n. take n ys) long ∙ take-length ys)))
-
-  pub within_more : IsWithin (length xs) s → IsWithin (length zs) s
-  within_more w = record { rises = w.rises; ends = omega (arith, w.ends, longer) }
-
-  pub within_added : Lies (length xs) (length ys) s → IsWithin (length zs) s
-  within_added lies = record { rises = omega (arith, lies.from, lies.to); ends = omega (arith, lies.to, longer) }
+pub records_long : (block : RecordBlock) (from : Stops) (hs : List Head) → length (records_from block from hs) ≡ length hs
+records_long block from [] = refl
+records_long block from (h ∷ hs) = ap suc (records_long block h.stops hs)
 
 -- what the lists have once a record is added
 pub record Grows (old new : RecordBlock) (r : PlanRecord) : Type 0 where
   pub points : new.points.items ≡ old.points.items ++ r.points
+  pub ends : new.ends.items ≡ old.ends.items ++ r.ends
   pub attributes : new.attributes.items ≡ old.attributes.items ++ r.attributes
   pub extras : new.extras.items ≡ old.extras.items ++ r.extras
-  pub ends : new.ends.items ≡ old.ends.items ++ r.ends
 
--- where the parts of that record lie
+-- the head of that record
 pub record IsHeadOf (old : RecordBlock) (r : PlanRecord) (h : Head) : Type 0 where
   pub kind : h.kind ≡ r.kind
   pub class : h.class ≡ r.class
   pub role : h.role ≡ r.role
-  pub points : Lies (length old.points.items) (length r.points) h.points
-  pub attributes : Lies (length old.attributes.items) (length r.attributes) h.attributes
-  pub extras : Lies (length old.extras.items) (length r.extras) h.extras
-  pub ends : Lies (length old.ends.items) (length r.ends) h.ends
-
-pub all_added : {X : Type 0} (P : X → Type 0) (xs : List X) (x : X) → AllByRecursion P xs → P x → AllByRecursion P (xs ++ x ∷ [])
-all_added P [] x all one = (one, tt)
-all_added P (y ∷ ys) x all one = (all.0, all_added P ys x all.1 one)
-
-pub all_at : {X : Type 0} (P : X → Type 0) (xs : List X) (k : ℕ) (d : X) → AllByRecursion P xs → k < length xs → P (get_or xs k d)
-all_at P [] k d all less = absurd (omega (arith, less))
-all_at P (x ∷ xs) zero d all less = all.0
-all_at P (x ∷ xs) (suc k) d all less = all_at P xs k d all.1 (omega (arith, less))
+  pub points : h.stops.points ≡ length old.points.items + length r.points
+  pub ends : h.stops.ends ≡ length old.ends.items + length r.ends
+  pub attributes : h.stops.attributes ≡ length old.attributes.items + length r.attributes
+  pub extras : h.stops.extras ≡ length old.extras.items + length r.extras
 
 module _ (old new : RecordBlock) (r : PlanRecord) (grows : Grows old new r) where
-  record_stays : (h : Head) → HasParts old h → record_of new h ≡ record_of old h
-  record_stays h has =
-      let points = part_stays old.points.items r.points new.points.items grows.points h.points has.points in
-      let attributes = part_stays old.attributes.items r.attributes new.attributes.items grows.attributes h.attributes has.attributes in
-      let extras = part_stays old.extras.items r.extras new.extras.items grows.extras h.extras has.extras in
-      let ends = part_stays old.ends.items r.ends new.ends.items grows.ends h.ends has.ends in
-      λ i. record { kind = h.kind; class = h.class; role = h.role; points = points i; attributes = attributes i; extras = extras i; ends = ends i }
+  record_stays : (from : Stops) (h : Head) → HasParts old from h → record_of new from h ≡ record_of old from h
+  record_stays from h has =
+      let points = part_stays old.points.items r.points new.points.items grows.points from.points h.stops.points has.points in
+      let ends = part_stays old.ends.items r.ends new.ends.items grows.ends from.ends h.stops.ends has.ends in
+      let attributes = part_stays old.attributes.items r.attributes new.attributes.items grows.attributes from.attributes h.stops.attributes has.attributes in
+      let extras = part_stays old.extras.items r.extras new.extras.items grows.extras from.extras h.stops.extras has.extras in
+      λ i. record { kind = h.kind; class = h.class; role = h.role; points = points i; ends = ends i; attributes = attributes i; extras = extras i }
 
-  parts_stay : (h : Head) → HasParts old h → HasParts new h
-  parts_stay h has = record {
-    points = within_more old.points.items r.points new.points.items grows.points h.points has.points;
-    attributes = within_more old.attributes.items r.attributes new.attributes.items grows.attributes h.attributes has.attributes;
-    extras = within_more old.extras.items r.extras new.extras.items grows.extras h.extras has.extras;
-    ends = within_more old.ends.items r.ends new.ends.items grows.ends h.ends has.ends;
+  parts_stay : (from : Stops) (h : Head) → HasParts old from h → HasParts new from h
+  parts_stay from h has = record {
+    points = within_more old.points.items r.points new.points.items grows.points from.points h.stops.points has.points;
+    ends = within_more old.ends.items r.ends new.ends.items grows.ends from.ends h.stops.ends has.ends;
+    attributes = within_more old.attributes.items r.attributes new.attributes.items grows.attributes from.attributes h.stops.attributes has.attributes;
+    extras = within_more old.extras.items r.extras new.extras.items grows.extras from.extras h.stops.extras has.extras;
   }
-
-  records_stay : (hs : List Head) → AllByRecursion (HasParts old) hs → map (record_of new) hs ≡ map (record_of old) hs
-  records_stay [] all = refl
-  records_stay (h ∷ hs) all = let first = record_stays h all.0 in let more = records_stay hs all.1 in λ i. first i ∷ more i
-
-  all_stay : (hs : List Head) → AllByRecursion (HasParts old) hs → AllByRecursion (HasParts new) hs
-  all_stay [] all = tt
-  all_stay (h ∷ hs) all = (parts_stay h all.0, all_stay hs all.1)
 
   module _ (h : Head) (is : IsHeadOf old r h) where
-    record_added : record_of new h ≡ r
-    record_added =
-        let points = part_added old.points.items r.points new.points.items grows.points h.points is.points in
-        let attributes = part_added old.attributes.items r.attributes new.attributes.items grows.attributes h.attributes is.attributes in
-        let extras = part_added old.extras.items r.extras new.extras.items grows.extras h.extras is.extras in
-        let ends = part_added old.ends.items r.ends new.ends.items grows.ends h.ends is.ends in
-        λ i. record { kind = is.kind i; class = is.class i; role = is.role i; points = points i; attributes = attributes i; extras = extras i; ends = ends i }
+    record_added : (from : Stops) → AreEnds old from → record_of new from h ≡ r
+    record_added from ends_are =
+        let points = part_added old.points.items r.points new.points.items grows.points from.points h.stops.points ends_are.points is.points in
+        let ends = part_added old.ends.items r.ends new.ends.items grows.ends from.ends h.stops.ends ends_are.ends is.ends in
+        let attributes = part_added old.attributes.items r.attributes new.attributes.items grows.attributes from.attributes h.stops.attributes ends_are.attributes is.attributes in
+        let extras = part_added old.extras.items r.extras new.extras.items grows.extras from.extras h.stops.extras ends_are.extras is.extras in
+        λ i. record { kind = is.kind i; class = is.class i; role = is.role i; points = points i; ends = ends i; attributes = attributes i; extras = extras i }
 
-    parts_added : HasParts new h
-    parts_added = record {
-      points = within_added old.points.items r.points new.points.items grows.points h.points is.points;
-      attributes = within_added old.attributes.items r.attributes new.attributes.items grows.attributes h.attributes is.attributes;
-      extras = within_added old.extras.items r.extras new.extras.items grows.extras h.extras is.extras;
-      ends = within_added old.ends.items r.ends new.ends.items grows.ends h.ends is.ends;
+    parts_added : (from : Stops) → AreEnds old from → HasParts new from h
+    parts_added from ends_are = record {
+      points = within_added old.points.items r.points new.points.items grows.points from.points h.stops.points ends_are.points is.points;
+      ends = within_added old.ends.items r.ends new.ends.items grows.ends from.ends h.stops.ends ends_are.ends is.ends;
+      attributes = within_added old.attributes.items r.attributes new.attributes.items grows.attributes from.attributes h.stops.attributes ends_are.attributes is.attributes;
+      extras = within_added old.extras.items r.extras new.extras.items grows.extras from.extras h.stops.extras ends_are.extras is.extras;
     }
 
-    pub records_pushed : new.heads.items ≡ old.heads.items ++ h ∷ [] → ArePartsWithin old → records_in new ≡ records_in old ++ r ∷ []
-    records_pushed pushed within =
-        let before = records_stay old.heads.items within in
-        ap (map (record_of new)) pushed ∙ (map-append (record_of new) old.heads.items (h ∷ []) ∙ (λ i. before i ++ record_added i ∷ []))
+    are_ends : AreEnds new h.stops
+    are_ends = record {
+      points = ends_added old.points.items r.points new.points.items grows.points 0 h.stops.points is.points;
+      ends = ends_added old.ends.items r.ends new.ends.items grows.ends 0 h.stops.ends is.ends;
+      attributes = ends_added old.attributes.items r.attributes new.attributes.items grows.attributes 0 h.stops.attributes is.attributes;
+      extras = ends_added old.extras.items r.extras new.extras.items grows.extras 0 h.stops.extras is.extras;
+    }
 
-    pub within_pushed : new.heads.items ≡ old.heads.items ++ h ∷ [] → ArePartsWithin old → ArePartsWithin new
-    within_pushed pushed within =
-        subst (AllByRecursion (HasParts new)) (sym pushed) (all_added (HasParts new) old.heads.items h (all_stay old.heads.items within) parts_added)
+    records_more : (from : Stops) (hs : List Head) → AreParts old from hs → records_from new from (hs ++ h ∷ []) ≡ records_from old from hs ++ r ∷ []
+    records_more from [] all = let added = record_added from all in λ i. added i ∷ []
+    records_more from (x ∷ hs) all = let first = record_stays from x all.0 in let more = records_more x.stops hs all.1 in λ i. first i ∷ more i
 
--- the same elements in lists with no room for more
+    parts_more : (from : Stops) (hs : List Head) → AreParts old from hs → AreParts new from (hs ++ h ∷ [])
+    parts_more from [] all = (parts_added from all, are_ends)
+    parts_more from (x ∷ hs) all = (parts_stay from x all.0, parts_more x.stops hs all.1)
 
-module _ (old new : RecordBlock) (heads : new.heads.items ≡ old.heads.items) (points : new.points.items ≡ old.points.items) (attributes : new.attributes.items ≡ old.attributes.items)
-    (extras : new.extras.items ≡ old.extras.items) (ends : new.ends.items ≡ old.ends.items) where
-  pub records_same : records_in new ≡ records_in old
-  records_same = λ i. map (λ (h : Head). record { kind = h.kind; class = h.class; role = h.role; points = part_of (points i) h.points; attributes = part_of (attributes i) h.attributes; extras = part_of (extras i) h.extras; ends = part_of (ends i) h.ends }) (heads i)
+    module _ (pushed : new.heads.items ≡ old.heads.items ++ h ∷ []) (parts : AreParts old no_stops old.heads.items) where
+      pub records_pushed : records_in new ≡ records_in old ++ r ∷ []
+      records_pushed = ap (records_from new no_stops) pushed ∙ records_more no_stops old.heads.items parts
 
-  same_parts : (h : Head) → HasParts old h → HasParts new h
-  same_parts h has = record {
-    points = subst (λ n. IsWithin n h.points) (sym (ap length points)) has.points;
-    attributes = subst (λ n. IsWithin n h.attributes) (sym (ap length attributes)) has.attributes;
-    extras = subst (λ n. IsWithin n h.extras) (sym (ap length extras)) has.extras;
-    ends = subst (λ n. IsWithin n h.ends) (sym (ap length ends)) has.ends;
+      pub parts_pushed : AreParts new no_stops new.heads.items
+      parts_pushed = subst (AreParts new no_stops) (sym pushed) (parts_more no_stops old.heads.items parts)
+
+-- the same elements in other lists
+
+module _ (old new : RecordBlock) (points : new.points.items ≡ old.points.items) (ends : new.ends.items ≡ old.ends.items) (attributes : new.attributes.items ≡ old.attributes.items) (extras : new.extras.items ≡ old.extras.items) where
+  same_ends : (from : Stops) → AreEnds old from → AreEnds new from
+  same_ends from all = record {
+    points = all.points ∙ sym (ap length points);
+    ends = all.ends ∙ sym (ap length ends);
+    attributes = all.attributes ∙ sym (ap length attributes);
+    extras = all.extras ∙ sym (ap length extras);
   }
 
-  all_same : (hs : List Head) → AllByRecursion (HasParts old) hs → AllByRecursion (HasParts new) hs
-  all_same [] all = tt
-  all_same (h ∷ hs) all = (same_parts h all.0, all_same hs all.1)
+  same_parts : (from : Stops) (h : Head) → HasParts old from h → HasParts new from h
+  same_parts from h has = record {
+    points = subst (λ n. IsPart n from.points h.stops.points) (sym (ap length points)) has.points;
+    ends = subst (λ n. IsPart n from.ends h.stops.ends) (sym (ap length ends)) has.ends;
+    attributes = subst (λ n. IsPart n from.attributes h.stops.attributes) (sym (ap length attributes)) has.attributes;
+    extras = subst (λ n. IsPart n from.extras h.stops.extras) (sym (ap length extras)) has.extras;
+  }
 
-  pub within_same : ArePartsWithin old → ArePartsWithin new
-  within_same within = subst (AllByRecursion (HasParts new)) (sym heads) (all_same old.heads.items within)
+  all_same : (from : Stops) (hs : List Head) → AreParts old from hs → AreParts new from hs
+  all_same from [] all = same_ends from all
+  all_same from (h ∷ hs) all = (same_parts from h all.0, all_same h.stops hs all.1)
+
+  pub parts_same : new.heads.items ≡ old.heads.items → AreParts old no_stops old.heads.items → AreParts new no_stops new.heads.items
+  parts_same heads parts = subst (AreParts new no_stops) (sym heads) (all_same no_stops old.heads.items parts)
 
 -- the record at a place
 
-pub place_within : (list : RecordBlock) (place : ℕ) → place < length (records_in list) → place < length list.heads.items
-place_within list place there = omega (arith, there, length-map list.heads.items (record_of list))
+pub place_within : (block : RecordBlock) (place : ℕ) → place < length (records_in block) → place < length block.heads.items
+place_within block place there = omega (arith, there, records_long block no_stops block.heads.items)
 
-pub record_there : (list : RecordBlock) (place : ℕ) (h : Head) → place < length (records_in list) → h ≡ get_or list.heads.items place h → get_or (records_in list) place blank ≡ record_of list h
-record_there list place h there is = get_or-map (record_of list) list.heads.items place h blank (place_within list place there) ∙ ap (record_of list) (sym is)
+pub stops_there : (from : Stops) (hs : List Head) (k : ℕ) (h : Head) → k < length hs → h ≡ get_or hs k h → h.stops ≡ stops_before (suc k) from hs
+stops_there from [] k h less is = absurd (omega (arith, less))
+stops_there from (x ∷ hs) zero h less is = ap (λ (y : Head). y.stops) is
+stops_there from (x ∷ hs) (suc k) h less is = stops_there x.stops hs k h (omega (arith, less)) is
 
-pub parts_there : (list : RecordBlock) (place : ℕ) (h : Head) → ArePartsWithin list → place < length (records_in list) → h ≡ get_or list.heads.items place h → HasParts list h
-parts_there list place h within there is = subst (HasParts list) (sym is) (all_at (HasParts list) list.heads.items place h within (place_within list place there))
+parts_at : (block : RecordBlock) (from : Stops) (hs : List Head) (k : ℕ) (h : Head) → AreParts block from hs → k < length hs → h ≡ get_or hs k h → HasParts block (stops_before k from hs) h
+parts_at block from [] k h all less is = absurd (omega (arith, less))
+parts_at block from (x ∷ hs) zero h all less is = subst (HasParts block from) (sym is) all.0
+parts_at block from (x ∷ hs) (suc k) h all less is = parts_at block x.stops hs k h all.1 (omega (arith, less)) is
+
+record_at : (block : RecordBlock) (from : Stops) (hs : List Head) (k : ℕ) (h : Head) → k < length hs → h ≡ get_or hs k h → get_or (records_from block from hs) k blank ≡ record_of block (stops_before k from hs) h
+record_at block from [] k h less is = absurd (omega (arith, less))
+record_at block from (x ∷ hs) zero h less is = ap (record_of block from) (sym is)
+record_at block from (x ∷ hs) (suc k) h less is = record_at block x.stops hs k h (omega (arith, less)) is
+
+module _ (block : RecordBlock) (place : ℕ) (there : place < length (records_in block)) (h : Head) (is : h ≡ get_or block.heads.items place h) (from : Stops) (begins : from ≡ stops_before place no_stops block.heads.items) where
+  pub parts_there : AreParts block no_stops block.heads.items → HasParts block from h
+  parts_there parts = subst (λ (s : Stops). HasParts block s h) (sym begins) (parts_at block no_stops block.heads.items place h parts (place_within block place there) is)
+
+  pub record_there : (points : List Point) (ends : List PlanEnd) (attributes : List PlanAttribute) (extras : List Extra) → points ≡ slice_range block.points.items from.points h.stops.points → ends ≡ slice_range block.ends.items from.ends h.stops.ends
+      → attributes ≡ slice_range block.attributes.items from.attributes h.stops.attributes → extras ≡ slice_range block.extras.items from.extras h.stops.extras
+      → get_or (records_in block) place blank ≡ record { kind = h.kind; class = h.class; role = h.role; points = points; ends = ends; attributes = attributes; extras = extras }
+  record_there points ends attributes extras own_points own_ends own_attributes own_extras =
+      record_at block no_stops block.heads.items place h (place_within block place there) is
+      ∙ (ap (λ (s : Stops). record_of block s h) (sym begins)
+      ∙ λ i. record { kind = h.kind; class = h.class; role = h.role; points = sym own_points i; ends = sym own_ends i; attributes = sym own_attributes i; extras = sym own_extras i })

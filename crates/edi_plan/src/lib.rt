@@ -8,6 +8,7 @@ pub mod laws;
 mod names;
 mod places;
 pub mod plan;
+mod plan_record_ref;
 mod planned;
 pub mod record;
 mod record_block;

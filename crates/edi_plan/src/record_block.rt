@@ -1,34 +1,26 @@
 //! Some records in flat lists: their points lie in one list, and so do their attributes, their extra zones and
 //! their ends.
 
-ghost use Rattle.std.specs.Prelude.{◌≡◌, ◌+◌, ◌<◌, ◌∷◌, ◌++◌, [], length, slice_index_or, IfOk, OnOk};
+ghost use Rattle.std.specs.Prelude.{◌≡◌, ◌+◌, ◌<◌, ◌≤◌, ◌∷◌, ◌++◌, [], length, slice_index_or, slice_range, IfOk, OnOk};
 ghost use Rattle.edi_plan.specs.Plans.{blank};
-ghost use Rattle.edi_plan.specs.inner.RecordBlocks.{part_of, records_in, ArePartsWithin, IsWithin};
+ghost use Rattle.edi_record.specs.inner.SheetBlocks.{no_stops};
+ghost use Rattle.edi_plan.specs.inner.RecordBlocks.{records_in, stops_before, ArePartsWithin};
 
+use crate::plan_record_ref::PlanRecordRef;
 use crate::planned::PlannedRecord;
 use crate::record::{PlanAttribute, PlanEnd};
 use crate::spare_parts::SpareParts;
-use edi_record::{Extra, Kind, Point};
+use edi_record::{Extra, Kind, Point, Stops};
 use edi_schema::{ClassRef, Role};
 use std::alloc::{AllocError, Global};
 
-/// A part of a list, from one place up to another.
-#[derive(Clone, Copy)]
-pub(crate) struct ListPart {
-    pub(crate) from: u32,
-    pub(crate) to: u32,
-}
-
-/// A record, and which parts of the lists are its own.
+/// A record but for its parts, and where these end in the lists. They begin where those of the record before end.
 #[derive(Clone, Copy)]
 pub(crate) struct Head {
     pub(crate) kind: Kind,
     pub(crate) class: ClassRef,
     pub(crate) role: Role,
-    pub(crate) points: ListPart,
-    pub(crate) attributes: ListPart,
-    pub(crate) extras: ListPart,
-    pub(crate) ends: ListPart,
+    pub(crate) stops: Stops,
 }
 
 /// The records by their places, with the lists of what they have.
@@ -51,32 +43,23 @@ fn place_of(len: usize) -> Result<u32, AllocError>
     Ok(len as u32)
 }
 
-/// Moves the elements of a part behind those of a list. Where they lie and the emptied part are the answer.
-fn append<T: Drop>(
-    list: &mut Vec<T>,
-    mut part: Vec<T>,
-) -> Result<(ListPart, Vec<T>), AllocError>
+/// Moves the elements of a part behind those of a list. Where they end and the emptied part are the answer.
+fn append<T: Drop>(list: &mut Vec<T>, mut part: Vec<T>) -> Result<(u32, Vec<T>), AllocError>
     ensures items { OnOk result (list.new.items ≡ list.old.items ++ part.items) }
-    ensures from { IfOk result (λ added. added.0.from ≡ length list.old.items) }
-    ensures to { IfOk result (λ added. added.0.to ≡ length list.old.items + length part.items) }
+    ensures stop { IfOk result (λ added. added.0 ≡ length list.old.items + length part.items) }
     ensures emptied { IfOk result (λ added. added.1.items ≡ []) }
 {
-    let from = place_of(list.len())?;
     list.append(&mut part)?;
-    let to = place_of(list.len())?;
-    Ok((ListPart { from, to }, part))
+    Ok((place_of(list.len())?, part))
 }
 
-/// Copies points behind those of a list. Where they lie is the answer.
-fn append_points(list: &mut Vec<Point>, part: &[Point]) -> Result<ListPart, AllocError>
+/// Copies points behind those of a list. Where they end is the answer.
+fn append_points(list: &mut Vec<Point>, part: &[Point]) -> Result<u32, AllocError>
     ensures items { OnOk result (list.new.items ≡ list.old.items ++ part.now) }
-    ensures from { IfOk result (λ span. span.from ≡ length list.old.items) }
-    ensures to { IfOk result (λ span. span.to ≡ length list.old.items + length part.now) }
+    ensures stop { IfOk result (λ stop. stop ≡ length list.old.items + length part.now) }
 {
-    let from = place_of(list.len())?;
     list.extend_from_slice(part)?;
-    let to = place_of(list.len())?;
-    Ok(ListPart { from, to })
+    place_of(list.len())
 }
 
 /// A list with no room for more.
@@ -88,11 +71,12 @@ fn shrunk<T>(mut list: Vec<T>) -> Vec<T>
 }
 
 /// A part of a list, borrowed.
-fn part<T>(list: &Vec<T>, span: ListPart) -> &[T]
-    requires { IsWithin (length list.now.items) span }
-    ensures { result.now ≡ part_of list.now.items span }
+fn part<T>(list: &Vec<T>, from: u32, to: u32) -> &[T]
+    requires rises { from ≤ to }
+    requires within { to ≤ length list.now.items }
+    ensures { result.now ≡ slice_range list.now.items from to }
 {
-    &list[span.from as usize..span.to as usize]
+    &list[from as usize..to as usize]
 }
 
 impl RecordBlock {
@@ -120,14 +104,17 @@ impl RecordBlock {
         let (attributes, no_attributes) = append(&mut self.attributes, planned.attributes)?;
         let (extras, no_extras) = append(&mut self.extras, planned.extras)?;
         let (ends, no_ends) = append(&mut self.ends, planned.ends)?;
+        let stops = Stops {
+            points,
+            ends,
+            attributes,
+            extras,
+        };
         self.heads.push(Head {
             kind: planned.kind,
             class: planned.class,
             role: planned.role,
-            points,
-            attributes,
-            extras,
-            ends,
+            stops,
         })?;
         Ok(SpareParts {
             attributes: no_attributes,
@@ -158,57 +145,34 @@ impl RecordBlock {
         self.heads.len()
     }
 
-    /// The type of a record, by its place from 0.
-    pub(crate) fn kind(&self, place: usize) -> Kind
-        requires { place < length (records_in self.now) }
-        ensures { result ≡ (slice_index_or (records_in self.now) place blank).kind }
+    /// Where the parts of a record begin.
+    fn begin(&self, place: usize) -> Stops
+        requires { place < length self.now.heads.items }
+        ensures { result ≡ stops_before place no_stops self.now.heads.items }
     {
-        self.heads[place].kind
+        if place > 0 {
+            return self.heads[place - 1].stops;
+        }
+        Stops::NONE
     }
 
-    pub(crate) fn class(&self, place: usize) -> ClassRef
-        requires { place < length (records_in self.now) }
-        ensures { result ≡ (slice_index_or (records_in self.now) place blank).class }
-    {
-        self.heads[place].class
-    }
-
-    pub(crate) fn role(&self, place: usize) -> Role
-        requires { place < length (records_in self.now) }
-        ensures { result ≡ (slice_index_or (records_in self.now) place blank).role }
-    {
-        self.heads[place].role
-    }
-
-    pub(crate) fn points(&self, place: usize) -> &[Point]
+    /// A record, by its place from 0.
+    pub(crate) fn record(&self, place: usize) -> PlanRecordRef<'_>
         requires within { ArePartsWithin self.now }
         requires there { place < length (records_in self.now) }
-        ensures { result.now ≡ (slice_index_or (records_in self.now) place blank).points }
+        ensures { result ≡ slice_index_or (records_in self.now) place blank }
     {
-        part(&self.points, self.heads[place].points)
-    }
-
-    pub(crate) fn attributes(&self, place: usize) -> &[PlanAttribute]
-        requires within { ArePartsWithin self.now }
-        requires there { place < length (records_in self.now) }
-        ensures { result.now ≡ (slice_index_or (records_in self.now) place blank).attributes }
-    {
-        part(&self.attributes, self.heads[place].attributes)
-    }
-
-    pub(crate) fn extras(&self, place: usize) -> &[Extra]
-        requires within { ArePartsWithin self.now }
-        requires there { place < length (records_in self.now) }
-        ensures { result.now ≡ (slice_index_or (records_in self.now) place blank).extras }
-    {
-        part(&self.extras, self.heads[place].extras)
-    }
-
-    pub(crate) fn ends(&self, place: usize) -> &[PlanEnd]
-        requires within { ArePartsWithin self.now }
-        requires there { place < length (records_in self.now) }
-        ensures { result.now ≡ (slice_index_or (records_in self.now) place blank).ends }
-    {
-        part(&self.ends, self.heads[place].ends)
+        let head = &self.heads[place];
+        let from = self.begin(place);
+        let to = head.stops;
+        PlanRecordRef {
+            kind: head.kind,
+            class: head.class,
+            role: head.role,
+            points: part(&self.points, from.points, to.points),
+            attributes: part(&self.attributes, from.attributes, to.attributes),
+            extras: part(&self.extras, from.extras, to.extras),
+            ends: part(&self.ends, from.ends, to.ends),
+        }
     }
 }

@@ -19,7 +19,7 @@ pub mod record;
 pub mod record_ref;
 mod role;
 pub mod sheet;
-mod sheet_block;
+pub mod sheet_block;
 mod sheet_blocks;
 pub mod sheet_records;
 mod spare_lists;
@@ -38,4 +38,5 @@ pub use reading::{
 pub use record::{Attribute, End, Extra, Kind, Point, Record, Value};
 pub use record_ref::RecordRef;
 pub use sheet::Sheet;
+pub use sheet_block::Stops;
 pub use sheet_records::SheetRecords;

@@ -15,16 +15,16 @@ use std::vec::IntoIter;
 
 /// Where the parts of a record end in the lists. They begin where those of the record before end.
 #[derive(Clone, Copy)]
-pub(crate) struct Stops {
-    pub(crate) points: u32,
-    pub(crate) ends: u32,
-    pub(crate) attributes: u32,
-    pub(crate) extras: u32,
+pub struct Stops {
+    pub points: u32,
+    pub ends: u32,
+    pub attributes: u32,
+    pub extras: u32,
 }
 
 impl Stops {
     /// Where the parts of the first record begin.
-    const NONE: Stops = Stops {
+    pub const NONE: Stops = Stops {
         points: 0,
         ends: 0,
         attributes: 0,

@@ -1,46 +1,60 @@
 -- Some records in flat lists.
-use Rattle.std.specs.Prelude.{◌≡◌, ℕ, ◌≤◌, List, length, map}
-use Rattle.std.specs.List.{AllByRecursion, slice_range}
+use Rattle.std.specs.Prelude.{◌≡◌, ℕ, zero, suc, List, [], ◌∷◌, length, slice_range}
+use Rattle.edi_record.specs.declared.sheet_block.Stops.{Stops}
+use Rattle.edi_record.specs.inner.SheetBlocks.{IsPart, no_stops}
 use Rattle.edi_plan.specs.declared.record.PlanRecord.{PlanRecord}
 use Rattle.edi_plan.specs.declared.record_block.Head.{Head}
 use Rattle.edi_plan.specs.declared.record_block.RecordBlock.{RecordBlock}
-use Rattle.edi_plan.specs.declared.record_block.ListPart.{ListPart}
 
--- the part of a list from one place up to another
-abbrev pub part_of : {X : Type 0} → List X → ListPart → List X
-part_of xs s = slice_range xs s.from s.to
+-- where the parts of the record at a place begin
+abbrev pub stops_before : ℕ → Stops → List Head → Stops
+stops_before zero from hs = from
+stops_before (suc k) from [] = from
+stops_before (suc k) from (h ∷ hs) = stops_before k h.stops hs
 
--- a record with its parts of the lists
-abbrev pub record_of : RecordBlock → Head → PlanRecord
-record_of block h = record {
+-- a record with its parts of the lists, which begin there
+abbrev pub record_of : RecordBlock → Stops → Head → PlanRecord
+record_of block from h = record {
   kind = h.kind;
   class = h.class;
   role = h.role;
-  points = part_of block.points.items h.points;
-  attributes = part_of block.attributes.items h.attributes;
-  extras = part_of block.extras.items h.extras;
-  ends = part_of block.ends.items h.ends;
+  points = slice_range block.points.items from.points h.stops.points;
+  attributes = slice_range block.attributes.items from.attributes h.stops.attributes;
+  extras = slice_range block.extras.items from.extras h.stops.extras;
+  ends = slice_range block.ends.items from.ends h.stops.ends;
 }
+
+-- the records of these heads, each with its parts
+abbrev pub records_from : RecordBlock → Stops → List Head → List PlanRecord
+records_from block from [] = []
+records_from block from (h ∷ hs) = record_of block from h ∷ records_from block h.stops hs
 
 -- the records in their order
 abbrev pub records_in : RecordBlock → List PlanRecord
-records_in block = map (record_of block) block.heads.items
-
--- the part ends where it begins or later, and within a list of this length
-pub record IsWithin (n : ℕ) (s : ListPart) : Type 0 where
-  pub rises : s.from ≤ s.to
-  pub ends : s.to ≤ n
+records_in block = records_from block no_stops block.heads.items
 
 -- the parts of a record are parts of the lists
-pub record HasParts (block : RecordBlock) (h : Head) : Type 0 where
-  pub points : IsWithin (length block.points.items) h.points
-  pub attributes : IsWithin (length block.attributes.items) h.attributes
-  pub extras : IsWithin (length block.extras.items) h.extras
-  pub ends : IsWithin (length block.ends.items) h.ends
+pub record HasParts (block : RecordBlock) (from : Stops) (h : Head) : Type 0 where
+  pub points : IsPart (length block.points.items) from.points h.stops.points
+  pub attributes : IsPart (length block.attributes.items) from.attributes h.stops.attributes
+  pub extras : IsPart (length block.extras.items) from.extras h.stops.extras
+  pub ends : IsPart (length block.ends.items) from.ends h.stops.ends
 
--- and so are those of each record
+-- the lists end here
+pub record AreEnds (block : RecordBlock) (from : Stops) : Type 0 where
+  pub points : from.points ≡ length block.points.items
+  pub attributes : from.attributes ≡ length block.attributes.items
+  pub extras : from.extras ≡ length block.extras.items
+  pub ends : from.ends ≡ length block.ends.items
+
+-- the parts of the records fill the lists from here on
+abbrev pub AreParts : RecordBlock → Stops → List Head → Type 0
+AreParts block from [] = AreEnds block from
+AreParts block from (h ∷ hs) = HasParts block from h × AreParts block h.stops hs
+
+-- and so do those of all records
 abbrev pub ArePartsWithin : RecordBlock → Type 0
-ArePartsWithin block = AllByRecursion (HasParts block) block.heads.items
+ArePartsWithin block = AreParts block no_stops block.heads.items
 
 -- the block has as many records as each block but the last
 pub record IsFull (block : RecordBlock) : Type 0 where
