@@ -1,18 +1,16 @@
 //! Some records of a sheet in flat lists: their points lie in one list, and so do their ends, their attributes and
 //! their extra zones.
 
-ghost use Rattle.std.specs.Prelude.{◌≡◌, ◌+◌, ◌≤◌, ◌<◌, ◌∷◌, ◌++◌, [], length, slice_get, slice_range, Some, IfOk, OnOk, OnErr};
-ghost use Rattle.std.specs.Vec.{vec_len, vec_capacity};
-ghost use Rattle.std.specs.Vec.Iter.{into_iter_items};
+ghost use Rattle.std.specs.Prelude.{◌≡◌, ◌<◌, ◌∷◌, ◌++◌, [], length, slice_get, Some, IfOk, OnOk, OnErr};
 ghost use Rattle.edi_record.specs.inner.SheetBlocks.{no_stops, stops_before, records_in, AreParts, AreSame, HasRoom, AreStopsOf};
 
+use crate::flat_lists::{append, make_room, move_behind, part, push_behind, taken};
 use crate::name::Name;
 use crate::record::{Attribute, End, Extra, Kind, Point, Record};
 use crate::record_ref::RecordRef;
 use crate::spare_lists::SpareLists;
 use edi_line::{Sequence, Text};
 use std::alloc::{AllocError, Global};
-use std::vec::IntoIter;
 
 /// Where the parts of a record end in the lists. They begin where those of the record before end.
 #[derive(Clone, Copy)]
@@ -50,78 +48,6 @@ pub(crate) struct SheetBlock {
     pub(crate) ends: Vec<End>,
     pub(crate) attributes: Vec<Attribute>,
     pub(crate) extras: Vec<Extra>,
-}
-
-/// A length in four bytes, or want of memory where it has more.
-fn place_of(len: usize) -> Result<u32, AllocError>
-    ensures { IfOk result (λ place. place ≡ len) }
-{
-    if len > u32::MAX as usize {
-        return Err(AllocError);
-    }
-    Ok(len as u32)
-}
-
-/// Makes room for so many more elements. Where they will end is the answer.
-fn make_room<T>(list: &mut Vec<T>, more: usize) -> Result<u32, AllocError>
-    ensures items { list.new.items ≡ list.old.items }
-    ensures room { OnOk result (vec_len list.new + more ≤ vec_capacity list.new) }
-    ensures stop { IfOk result (λ stop. stop ≡ length list.old.items + more) }
-{
-    list.reserve(more)?;
-    place_of(list.len() + more)
-}
-
-/// Moves elements behind those of a list that has room for them.
-fn move_behind<T: Drop>(list: &mut Vec<T>, items: &mut Vec<T>)
-    requires { vec_len list.old + vec_len items.old ≤ vec_capacity list.old }
-    ensures moved { list.new.items ≡ list.old.items ++ items.old.items }
-    ensures emptied { items.new.items ≡ [] }
-{
-    let _never_fails = list.append(items);
-}
-
-/// Puts an element behind those of a list that has room for it.
-fn push_behind<T: Drop>(list: &mut Vec<T>, item: T)
-    requires { vec_len list.old < vec_capacity list.old }
-    ensures { list.new.items ≡ list.old.items ++ «item» ∷ [] }
-{
-    let _never_fails = list.push(item);
-}
-
-/// Moves the elements of a part behind those of a list that has room for them. The emptied part is the answer.
-fn append<T: Drop>(list: &mut Vec<T>, part: Sequence<T>) -> Vec<T>
-    requires { vec_len list.old + length part ≤ vec_capacity list.old }
-    ensures moved { list.new.items ≡ list.old.items ++ part }
-    ensures emptied { result.items ≡ [] }
-{
-    let mut items = part.into_vec();
-    move_behind(list, &mut items);
-    items
-}
-
-/// The next elements, so many, in a list of their own.
-fn taken<T: Drop>(alloc: Global, rest: &mut IntoIter<T>, many: u32) -> Result<Vec<T>, AllocError>
-    requires { many ≤ length (into_iter_items rest.old) }
-    ensures items { IfOk result (λ own. into_iter_items rest.old ≡ own.items ++ into_iter_items rest.new) }
-    ensures long { IfOk result (λ own. length own.items ≡ many) }
-{
-    let mut own = Vec::with_capacity(alloc, many as usize)?;
-    for _ in 0..many {
-        if let Some(item) = rest.next() {
-            own.push(item)?;
-        }
-    }
-    Ok(own)
-}
-
-/// A part of a list, borrowed.
-fn part<T>(list: &Vec<T>, from: u32, to: u32) -> &[T]
-    requires rises { from ≤ to }
-    requires within { to ≤ length list.now.items }
-    ensures { result.now ≡ slice_range list.now.items from to }
-{
-    &list[from as usize..to as usize]
 }
 
 impl SheetBlock {
