@@ -46,7 +46,7 @@ pub(crate) struct Draft<'a> {
 }
 
 impl<'a> Draft<'a> {
-    /// Nothing of a record of this type has come but its type.
+    /// Nothing of a record of this type has come but its type. Its parts will lie in the spare lists.
     pub(crate) fn new(spare: SpareLists, kind: Kind) -> Draft<'a>
         ensures keeps { (group : List Entry) → StoresRecord result group group }
         ensures kind { result.kind ≡ kind }

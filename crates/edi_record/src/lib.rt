@@ -7,6 +7,7 @@ mod draft;
 mod ends;
 mod extras;
 pub mod fault;
+mod flat_lists;
 pub mod groups;
 pub mod laws;
 pub mod list;

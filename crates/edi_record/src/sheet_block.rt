@@ -1,17 +1,16 @@
 //! Some records of a sheet in flat lists: their points lie in one list, and so do their ends, their attributes and
 //! their extra zones.
 
-ghost use Rattle.std.specs.Prelude.{◌≡◌, ◌+◌, ◌≤◌, ◌<◌, ◌∷◌, ◌++◌, [], length, slice_get, slice_range, Some, IfOk, OnOk};
-ghost use Rattle.std.specs.Vec.Iter.{into_iter_items};
-ghost use Rattle.edi_record.specs.inner.SheetBlocks.{no_stops, stops_before, records_in, AreParts};
+ghost use Rattle.std.specs.Prelude.{◌≡◌, ◌<◌, ◌∷◌, ◌++◌, [], length, slice_get, Some, IfOk, OnOk, OnErr};
+ghost use Rattle.edi_record.specs.inner.SheetBlocks.{no_stops, stops_before, records_in, AreParts, AreSame, HasRoom, AreStopsOf};
 
+use crate::flat_lists::{append, make_room, move_behind, part, push_behind, taken};
 use crate::name::Name;
 use crate::record::{Attribute, End, Extra, Kind, Point, Record};
 use crate::record_ref::RecordRef;
 use crate::spare_lists::SpareLists;
 use edi_line::{Sequence, Text};
 use std::alloc::{AllocError, Global};
-use std::vec::IntoIter;
 
 /// Where the parts of a record end in the lists. They begin where those of the record before end.
 #[derive(Clone, Copy)]
@@ -51,61 +50,6 @@ pub(crate) struct SheetBlock {
     pub(crate) extras: Vec<Extra>,
 }
 
-/// A length in four bytes, or want of memory where it has more.
-fn place_of(len: usize) -> Result<u32, AllocError>
-    ensures { IfOk result (λ place. place ≡ len) }
-{
-    if len > u32::MAX as usize {
-        return Err(AllocError);
-    }
-    Ok(len as u32)
-}
-
-/// Moves the elements of a part behind those of a list. Where they end and the emptied part are the answer.
-fn append<T: Drop>(list: &mut Vec<T>, part: Sequence<T>) -> Result<(u32, Vec<T>), AllocError>
-    ensures items { OnOk result (list.new.items ≡ list.old.items ++ part) }
-    ensures stop { IfOk result (λ added. added.0 ≡ length list.old.items + length part) }
-    ensures emptied { IfOk result (λ added. added.1.items ≡ []) }
-{
-    let mut items = part.into_vec();
-    list.append(&mut items)?;
-    Ok((place_of(list.len())?, items))
-}
-
-/// The elements of a list, in one with no room for more. The list keeps its own room.
-fn moved<T: Drop>(alloc: Global, list: &mut Vec<T>) -> Result<Vec<T>, AllocError>
-    ensures items { IfOk result (λ exact. exact.items ≡ list.old.items) }
-    ensures emptied { OnOk result (list.new.items ≡ []) }
-{
-    let mut exact = Vec::with_capacity(alloc, list.len())?;
-    exact.append(list)?;
-    Ok(exact)
-}
-
-/// The next elements, so many, in a list of their own.
-fn taken<T: Drop>(alloc: Global, rest: &mut IntoIter<T>, many: u32) -> Result<Vec<T>, AllocError>
-    requires { many ≤ length (into_iter_items rest.old) }
-    ensures items { IfOk result (λ own. into_iter_items rest.old ≡ own.items ++ into_iter_items rest.new) }
-    ensures long { IfOk result (λ own. length own.items ≡ many) }
-{
-    let mut own = Vec::with_capacity(alloc, many as usize)?;
-    for _ in 0..many {
-        if let Some(item) = rest.next() {
-            own.push(item)?;
-        }
-    }
-    Ok(own)
-}
-
-/// A part of a list, borrowed.
-fn part<T>(list: &Vec<T>, from: u32, to: u32) -> &[T]
-    requires rises { from ≤ to }
-    requires within { to ≤ length list.now.items }
-    ensures { result.now ≡ slice_range list.now.items from to }
-{
-    &list[from as usize..to as usize]
-}
-
 impl SheetBlock {
     /// No records.
     pub(crate) fn new(alloc: Global) -> SheetBlock
@@ -121,12 +65,29 @@ impl SheetBlock {
         }
     }
 
+    /// Makes room for a record. Where its parts will end is the answer.
+    fn make_room(&mut self, record: &Record) -> Result<Stops, AllocError>
+        ensures same { AreSame self.old self.new }
+        ensures room { OnOk result (HasRoom self.new record.now) }
+        ensures stops { IfOk result (AreStopsOf self.old record.now) }
+    {
+        self.heads.reserve(1)?;
+        Ok(Stops {
+            points: make_room(&mut self.points, record.points.len())?,
+            ends: make_room(&mut self.ends, record.ends.len())?,
+            attributes: make_room(&mut self.attributes, record.attributes.len())?,
+            extras: make_room(&mut self.extras, record.extras.len())?,
+        })
+    }
+
     /// Adds a record. Its lists, emptied, are the answer.
     pub(crate) fn push(&mut self, record: Record) -> Result<SpareLists, AllocError>
         requires { AreParts self.old no_stops self.old.heads.items }
         ensures records { OnOk result (records_in self.new ≡ records_in self.old ++ «record» ∷ []) }
-        ensures parts { OnOk result (AreParts self.new no_stops self.new.heads.items) }
+        ensures unchanged { OnErr result (records_in self.new ≡ records_in self.old) }
+        ensures parts { AreParts self.new no_stops self.new.heads.items }
     {
+        let stops = self.make_room(&record)?;
         let Record {
             kind,
             rid,
@@ -136,27 +97,18 @@ impl SheetBlock {
             attributes,
             extras,
         } = record;
-        let (points_stop, points) = append(&mut self.points, points)?;
-        let (ends_stop, ends) = append(&mut self.ends, ends)?;
-        let (attributes_stop, attributes) = append(&mut self.attributes, attributes)?;
-        let (extras_stop, extras) = append(&mut self.extras, extras)?;
-        let stops = Stops {
-            points: points_stop,
-            ends: ends_stop,
-            attributes: attributes_stop,
-            extras: extras_stop,
-        };
-        self.heads.push(SheetHead {
+        let head = SheetHead {
             kind,
             rid,
             scp,
             stops,
-        })?;
+        };
+        push_behind(&mut self.heads, head);
         Ok(SpareLists {
-            points,
-            ends,
-            attributes,
-            extras,
+            points: append(&mut self.points, points),
+            ends: append(&mut self.ends, ends),
+            attributes: append(&mut self.attributes, attributes),
+            extras: append(&mut self.extras, extras),
         })
     }
 
@@ -166,15 +118,22 @@ impl SheetBlock {
         ensures records { IfOk result (λ block. records_in block ≡ records_in self.old) }
         ensures parts { IfOk result (λ block. AreParts block no_stops block.heads.items) }
         ensures none { OnOk result (records_in self.new ≡ []) }
-        ensures no_parts { OnOk result (AreParts self.new no_stops self.new.heads.items) }
+        ensures unchanged { OnErr result (records_in self.new ≡ records_in self.old) }
+        ensures own_parts { AreParts self.new no_stops self.new.heads.items }
     {
-        Ok(SheetBlock {
-            heads: moved(alloc, &mut self.heads)?,
-            points: moved(alloc, &mut self.points)?,
-            ends: moved(alloc, &mut self.ends)?,
-            attributes: moved(alloc, &mut self.attributes)?,
-            extras: moved(alloc, &mut self.extras)?,
-        })
+        let mut closed = SheetBlock {
+            heads: Vec::with_capacity(alloc, self.heads.len())?,
+            points: Vec::with_capacity(alloc, self.points.len())?,
+            ends: Vec::with_capacity(alloc, self.ends.len())?,
+            attributes: Vec::with_capacity(alloc, self.attributes.len())?,
+            extras: Vec::with_capacity(alloc, self.extras.len())?,
+        };
+        move_behind(&mut closed.heads, &mut self.heads);
+        move_behind(&mut closed.points, &mut self.points);
+        move_behind(&mut closed.ends, &mut self.ends);
+        move_behind(&mut closed.attributes, &mut self.attributes);
+        move_behind(&mut closed.extras, &mut self.extras);
+        Ok(closed)
     }
 
     /// How many records there are.

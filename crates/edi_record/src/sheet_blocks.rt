@@ -1,8 +1,8 @@
 //! The records of a sheet, in blocks.
 
-ghost use Rattle.std.specs.Prelude.{◌≡◌, ◌<◌, ◌^◌, ◌∷◌, ◌++◌, [], length, slice_get, Some, IfOk, OnOk};
+ghost use Rattle.std.specs.Prelude.{◌≡◌, ◌<◌, ◌^◌, ◌∷◌, ◌++◌, [], length, slice_get, Some, IfOk, OnOk, OnErr};
 ghost use Rattle.edi_record.specs.inner.SheetBlocks.{records_in};
-ghost use Rattle.edi_record.specs.inner.BlockLists.{records_of, IsFull, AreClosed, AreWithin};
+ghost use Rattle.edi_record.specs.inner.BlockLists.{records_of, AreWithin};
 
 use crate::record::Record;
 use crate::record_ref::RecordRef;
@@ -43,45 +43,31 @@ impl SheetBlocks {
     fn close_last(&mut self) -> Result<(), AllocError>
         requires within { AreWithin self.old }
         requires full { length (records_in self.old.last) ≡ 256 }
-        ensures records { OnOk result (records_of self.new ≡ records_of self.old) }
-        ensures within { OnOk result (AreWithin self.new) }
+        ensures records { records_of self.new ≡ records_of self.old }
+        ensures within { AreWithin self.new }
         ensures none { OnOk result (records_in self.new.last ≡ []) }
-        ensures closed { AreClosed self.new.closed.items }
     {
         if self.closed.len() >= MOST_BLOCKS {
             return Err(AllocError);
         }
+        self.closed.reserve(1)?;
         let block = self.last.close(self.alloc)?;
-        self.closed.push(block)?;
+        let _never_fails = self.closed.push(block);
         Ok(())
     }
 
-    /// Adds a record, or leaves the last block in any state.
+    /// Adds a record. Its lists, emptied, are the answer.
     #[tactic(auto, unfolding(crate::specs::inner::BlockLists::records_of))]
-    fn add(&mut self, record: Record) -> Result<SpareLists, AllocError>
+    pub(crate) fn push(&mut self, record: Record) -> Result<SpareLists, AllocError>
         requires { AreWithin self.old }
         ensures records { OnOk result (records_of self.new ≡ records_of self.old ++ «record» ∷ []) }
-        ensures within { OnOk result (AreWithin self.new) }
-        ensures closed { AreClosed self.new.closed.items }
+        ensures unchanged { OnErr result (records_of self.new ≡ records_of self.old) }
+        ensures within { AreWithin self.new }
     {
         if self.last.len() == BLOCK {
             self.close_last()?;
         }
         self.last.push(record)
-    }
-
-    /// Adds a record. Its lists, emptied, are the answer. Where memory is wanting, the records of the last block are
-    /// lost.
-    pub(crate) fn push(&mut self, record: Record) -> Result<SpareLists, AllocError>
-        requires { AreWithin self.old }
-        ensures records { OnOk result (records_of self.new ≡ records_of self.old ++ «record» ∷ []) }
-        ensures within { AreWithin self.new }
-    {
-        let added = self.add(record);
-        if added.is_err() {
-            self.last = SheetBlock::new(self.alloc);
-        }
-        added
     }
 
     /// How many records there are.

@@ -1,6 +1,6 @@
 //! The records of a sheet.
 
-ghost use Rattle.std.specs.Prelude.{◌≡◌, ◌↔◌, ◌<◌, ◌^◌, ◌∷◌, ◌++◌, [], IsTrue, Some, slice_get, length, IfOk, OnOk};
+ghost use Rattle.std.specs.Prelude.{◌≡◌, ◌↔◌, ◌<◌, ◌^◌, ◌∷◌, ◌++◌, [], IsTrue, Some, slice_get, length, IfOk, OnOk, OnErr};
 ghost use Rattle.edi_record.specs.Shapes.{stated_at};
 
 use crate::record::{End, Kind, Record};
@@ -49,7 +49,8 @@ impl SheetRecords {
 
     /// Puts a record behind the others. Its lists, emptied, are the answer.
     pub(crate) fn take(&mut self, record: Record) -> Result<SpareLists, AllocError>
-        ensures { OnOk result (self.new ≡ self.old ++ «record» ∷ []) }
+        ensures records { OnOk result (self.new ≡ self.old ++ «record» ∷ []) }
+        ensures unchanged { OnErr result (self.new ≡ self.old) }
     {
         self.blocks.push(record)
     }

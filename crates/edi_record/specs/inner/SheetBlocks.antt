@@ -1,5 +1,6 @@
 -- The records of a sheet in blocks. The records of a block lie in flat lists.
-use Rattle.std.specs.Prelude.{◌≡◌, ℕ, zero, suc, ◌≤◌, List, [], ◌∷◌, length, slice_range}
+use Rattle.std.specs.Prelude.{◌≡◌, ℕ, zero, suc, ◌+◌, ◌≤◌, List, [], ◌∷◌, length, slice_range}
+use Rattle.std.specs.Vec.{vec_len, vec_capacity}
 use Rattle.edi_record.specs.declared.record.Record.{Record}
 use Rattle.edi_record.specs.declared.sheet_block.Stops.{Stops}
 use Rattle.edi_record.specs.declared.sheet_block.SheetHead.{SheetHead}
@@ -59,3 +60,26 @@ pub record AreEnds (block : SheetBlock) (from : Stops) : Type 0 where
 abbrev pub AreParts : SheetBlock → Stops → List SheetHead → Type 0
 AreParts block from [] = AreEnds block from
 AreParts block from (h ∷ hs) = HasParts block from h × AreParts block h.stops hs
+
+-- the same elements, in lists with other room
+pub record AreSame (old new : SheetBlock) : Type 0 where
+  pub heads : new.heads.items ≡ old.heads.items
+  pub points : new.points.items ≡ old.points.items
+  pub ends : new.ends.items ≡ old.ends.items
+  pub attributes : new.attributes.items ≡ old.attributes.items
+  pub extras : new.extras.items ≡ old.extras.items
+
+-- there is room for one more record
+pub record HasRoom (block : SheetBlock) (r : Record) : Type 0 where
+  pub heads : vec_len block.heads + 1 ≤ vec_capacity block.heads
+  pub points : vec_len block.points + length r.points ≤ vec_capacity block.points
+  pub ends : vec_len block.ends + length r.ends ≤ vec_capacity block.ends
+  pub attributes : vec_len block.attributes + length r.attributes ≤ vec_capacity block.attributes
+  pub extras : vec_len block.extras + length r.extras ≤ vec_capacity block.extras
+
+-- the parts of the next record will end here
+pub record AreStopsOf (block : SheetBlock) (r : Record) (to : Stops) : Type 0 where
+  pub points : to.points ≡ length block.points.items + length r.points
+  pub ends : to.ends ≡ length block.ends.items + length r.ends
+  pub attributes : to.attributes ≡ length block.attributes.items + length r.attributes
+  pub extras : to.extras ≡ length block.extras.items + length r.extras

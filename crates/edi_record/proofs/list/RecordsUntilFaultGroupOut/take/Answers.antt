@@ -16,7 +16,7 @@ returns-in_ok-self-in-Ok c = λ groups made.
     let one = one_record (entries c.args.group.now) (entry c.head-item.result) _ c.requires cut in
     made_more (groups ++ entries c.args.group.now ∷ []) c.take.new.self c.args.self.now.fault none
     (list_more groups c.args.self.now.list c.take.new.self (entries c.args.group.now) c.in-Ok.record (made_list groups c.args.self.now.list c.args.self.now.fault none made)
-    (subst (λ g. ReadsAs g c.in-Ok.record) one.1 c.in-Ok.ensures.states) c.in-Ok.ensures.shape (subst IsSound one.1 c.in-Ok.ensures.sound) c.in_ok-self-in-Ok.ensures)
+    (subst (λ g. ReadsAs g c.in-Ok.record) one.1 c.in-Ok.ensures.states) c.in-Ok.ensures.shape (subst IsSound one.1 c.in-Ok.ensures.sound) c.in_ok-self-in-Ok.ensures.records)
 
 pub returns-in-Err-Broken : goal.returns-in-Err-Broken
 returns-in-Err-Broken c = λ groups made.
