@@ -138,14 +138,10 @@ record_at block from [] k h less is = absurd (omega (arith, less))
 record_at block from (x ∷ hs) zero h less is = ap (record_of block from) (sym is)
 record_at block from (x ∷ hs) (suc k) h less is = record_at block x.stops hs k h (omega (arith, less)) is
 
+pub record_there : (block : RecordBlock) (place : ℕ) → place < length (records_in block) → (h : Head) → h ≡ get_or block.heads.items place h
+    → get_or (records_in block) place blank ≡ record_of block (stops_before place no_stops block.heads.items) h
+record_there block place there h is = record_at block no_stops block.heads.items place h (place_within block place there) is
+
 module _ (block : RecordBlock) (place : ℕ) (there : place < length (records_in block)) (h : Head) (is : h ≡ get_or block.heads.items place h) (from : Stops) (begins : from ≡ stops_before place no_stops block.heads.items) where
   pub parts_there : AreParts block no_stops block.heads.items → HasParts block from h
   parts_there parts = subst (λ (s : Stops). HasParts block s h) (sym begins) (parts_at block no_stops block.heads.items place h parts (place_within block place there) is)
-
-  pub record_there : (points : List Point) (ends : List PlanEnd) (attributes : List PlanAttribute) (extras : List Extra) → points ≡ slice_range block.points.items from.points h.stops.points → ends ≡ slice_range block.ends.items from.ends h.stops.ends
-      → attributes ≡ slice_range block.attributes.items from.attributes h.stops.attributes → extras ≡ slice_range block.extras.items from.extras h.stops.extras
-      → get_or (records_in block) place blank ≡ record { kind = h.kind; class = h.class; role = h.role; points = points; ends = ends; attributes = attributes; extras = extras }
-  record_there points ends attributes extras own_points own_ends own_attributes own_extras =
-      record_at block no_stops block.heads.items place h (place_within block place there) is
-      ∙ (ap (λ (s : Stops). record_of block s h) (sym begins)
-      ∙ λ i. record { kind = h.kind; class = h.class; role = h.role; points = sym own_points i; ends = sym own_ends i; attributes = sym own_attributes i; extras = sym own_extras i })

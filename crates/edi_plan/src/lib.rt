@@ -8,7 +8,6 @@ pub mod laws;
 mod names;
 mod places;
 pub mod plan;
-mod plan_record_ref;
 mod planned;
 pub mod record;
 mod record_block;

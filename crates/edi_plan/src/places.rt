@@ -62,7 +62,7 @@ impl Places {
     {
         let mut places = Places::none(alloc);
         for place in 0..list.len() {
-            places.add(list.record(place).kind(), place as u32)?;
+            places.add(list.kind(place), place as u32)?;
         }
         Ok(places)
     }

@@ -96,7 +96,7 @@ impl Plan {
         requires { IsPlace self.now place }
         ensures { result ≡ (record_at self.now place).class }
     {
-        self.list.record(place as usize).class()
+        self.list.class(place as usize)
     }
 
     /// The kind of link that the class of a record has. It says something of links alone, though records of other types may have such a class.
@@ -104,7 +104,7 @@ impl Plan {
         requires { IsPlace self.now place }
         ensures { result ≡ (record_at self.now place).role }
     {
-        self.list.record(place as usize).role()
+        self.list.role(place as usize)
     }
 
     /// The points of a node or an arc, in file order; their coordinates are whole millionths of the file's unit.
@@ -112,7 +112,7 @@ impl Plan {
         requires { IsPlace self.now place }
         ensures { result.now ≡ (record_at self.now place).points }
     {
-        self.list.record(place as usize).points()
+        self.list.points(place as usize)
     }
 
     /// The attributes of a record, in file order.
@@ -120,7 +120,7 @@ impl Plan {
         requires { IsPlace self.now place }
         ensures { result.now ≡ (record_at self.now place).attributes }
     {
-        self.list.record(place as usize).attributes()
+        self.list.attributes(place as usize)
     }
 
     /// The extra zones of a record, in file order.
@@ -128,7 +128,7 @@ impl Plan {
         requires { IsPlace self.now place }
         ensures { result.now ≡ (record_at self.now place).extras }
     {
-        self.list.record(place as usize).extras()
+        self.list.extras(place as usize)
     }
 
     /// The ends of a link, the origin first.
@@ -136,7 +136,7 @@ impl Plan {
         requires { IsPlace self.now place }
         ensures { result.now ≡ (record_at self.now place).ends }
     {
-        self.list.record(place as usize).ends()
+        self.list.ends(place as usize)
     }
 
     /// The node or the face that an arc has by its link of a role, or `None` where it has no such link.

@@ -6,7 +6,6 @@ ghost use Rattle.edi_plan.specs.Plans.{blank};
 ghost use Rattle.edi_record.specs.inner.SheetBlocks.{no_stops};
 ghost use Rattle.edi_plan.specs.inner.RecordBlocks.{records_in, stops_before, ArePartsWithin};
 
-use crate::plan_record_ref::PlanRecordRef;
 use crate::planned::PlannedRecord;
 use crate::record::{PlanAttribute, PlanEnd};
 use crate::spare_parts::SpareParts;
@@ -156,23 +155,71 @@ impl RecordBlock {
         Stops::NONE
     }
 
-    /// A record, by its place from 0.
-    pub(crate) fn record(&self, place: usize) -> PlanRecordRef<'_>
+    /// The type of a record, by its place from 0.
+    pub(crate) fn kind(&self, place: usize) -> Kind
+        requires { place < length (records_in self.now) }
+        ensures { result ≡ (slice_index_or (records_in self.now) place blank).kind }
+    {
+        self.heads[place].kind
+    }
+
+    /// The class of a record, by its place from 0.
+    pub(crate) fn class(&self, place: usize) -> ClassRef
+        requires { place < length (records_in self.now) }
+        ensures { result ≡ (slice_index_or (records_in self.now) place blank).class }
+    {
+        self.heads[place].class
+    }
+
+    /// The kind of link that the class of a record has, by its place from 0.
+    pub(crate) fn role(&self, place: usize) -> Role
+        requires { place < length (records_in self.now) }
+        ensures { result ≡ (slice_index_or (records_in self.now) place blank).role }
+    {
+        self.heads[place].role
+    }
+
+    /// The points of a record, by its place from 0.
+    pub(crate) fn points(&self, place: usize) -> &[Point]
         requires within { ArePartsWithin self.now }
         requires there { place < length (records_in self.now) }
-        ensures { result ≡ slice_index_or (records_in self.now) place blank }
+        ensures { result.now ≡ (slice_index_or (records_in self.now) place blank).points }
     {
         let head = &self.heads[place];
         let from = self.begin(place);
-        let to = head.stops;
-        PlanRecordRef {
-            kind: head.kind,
-            class: head.class,
-            role: head.role,
-            points: part(&self.points, from.points, to.points),
-            attributes: part(&self.attributes, from.attributes, to.attributes),
-            extras: part(&self.extras, from.extras, to.extras),
-            ends: part(&self.ends, from.ends, to.ends),
-        }
+        part(&self.points, from.points, head.stops.points)
+    }
+
+    /// The attributes of a record, by its place from 0.
+    pub(crate) fn attributes(&self, place: usize) -> &[PlanAttribute]
+        requires within { ArePartsWithin self.now }
+        requires there { place < length (records_in self.now) }
+        ensures { result.now ≡ (slice_index_or (records_in self.now) place blank).attributes }
+    {
+        let head = &self.heads[place];
+        let from = self.begin(place);
+        part(&self.attributes, from.attributes, head.stops.attributes)
+    }
+
+    /// The extra zones of a record, by its place from 0.
+    pub(crate) fn extras(&self, place: usize) -> &[Extra]
+        requires within { ArePartsWithin self.now }
+        requires there { place < length (records_in self.now) }
+        ensures { result.now ≡ (slice_index_or (records_in self.now) place blank).extras }
+    {
+        let head = &self.heads[place];
+        let from = self.begin(place);
+        part(&self.extras, from.extras, head.stops.extras)
+    }
+
+    /// The ends of a record, by its place from 0.
+    pub(crate) fn ends(&self, place: usize) -> &[PlanEnd]
+        requires within { ArePartsWithin self.now }
+        requires there { place < length (records_in self.now) }
+        ensures { result.now ≡ (slice_index_or (records_in self.now) place blank).ends }
+    {
+        let head = &self.heads[place];
+        let from = self.begin(place);
+        part(&self.ends, from.ends, head.stops.ends)
     }
 }

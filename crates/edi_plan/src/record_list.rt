@@ -5,10 +5,12 @@ ghost use Rattle.edi_plan.specs.Plans.{blank};
 ghost use Rattle.edi_plan.specs.inner.RecordBlocks.{records_in, ArePartsWithin, IsFull};
 ghost use Rattle.edi_plan.specs.inner.RecordLists.{records_of, AreFull, AreWithin};
 
-use crate::plan_record_ref::PlanRecordRef;
 use crate::planned::PlannedRecord;
+use crate::record::{PlanAttribute, PlanEnd};
 use crate::record_block::RecordBlock;
 use crate::spare_parts::SpareParts;
+use edi_record::{Extra, Kind, Point};
+use edi_schema::{ClassRef, Role};
 use std::alloc::{AllocError, Global};
 use std::mem;
 
@@ -90,12 +92,66 @@ impl RecordList {
         }
     }
 
-    /// A record, by its place from 0.
-    pub(crate) fn record(&self, place: usize) -> PlanRecordRef<'_>
+    /// The type of a record, by its place from 0.
+    pub(crate) fn kind(&self, place: usize) -> Kind
         requires within { AreWithin self.now }
         requires there { place < length (records_of self.now) }
-        ensures { result ≡ slice_index_or (records_of self.now) place blank }
+        ensures { result ≡ (slice_index_or (records_of self.now) place blank).kind }
     {
-        self.block(place).record(place % BLOCK)
+        self.block(place).kind(place % BLOCK)
+    }
+
+    /// The class of a record, by its place from 0.
+    pub(crate) fn class(&self, place: usize) -> ClassRef
+        requires within { AreWithin self.now }
+        requires there { place < length (records_of self.now) }
+        ensures { result ≡ (slice_index_or (records_of self.now) place blank).class }
+    {
+        self.block(place).class(place % BLOCK)
+    }
+
+    /// The kind of link that the class of a record has, by its place from 0.
+    pub(crate) fn role(&self, place: usize) -> Role
+        requires within { AreWithin self.now }
+        requires there { place < length (records_of self.now) }
+        ensures { result ≡ (slice_index_or (records_of self.now) place blank).role }
+    {
+        self.block(place).role(place % BLOCK)
+    }
+
+    /// The points of a record, by its place from 0.
+    pub(crate) fn points(&self, place: usize) -> &[Point]
+        requires within { AreWithin self.now }
+        requires there { place < length (records_of self.now) }
+        ensures { result.now ≡ (slice_index_or (records_of self.now) place blank).points }
+    {
+        self.block(place).points(place % BLOCK)
+    }
+
+    /// The attributes of a record, by its place from 0.
+    pub(crate) fn attributes(&self, place: usize) -> &[PlanAttribute]
+        requires within { AreWithin self.now }
+        requires there { place < length (records_of self.now) }
+        ensures { result.now ≡ (slice_index_or (records_of self.now) place blank).attributes }
+    {
+        self.block(place).attributes(place % BLOCK)
+    }
+
+    /// The extra zones of a record, by its place from 0.
+    pub(crate) fn extras(&self, place: usize) -> &[Extra]
+        requires within { AreWithin self.now }
+        requires there { place < length (records_of self.now) }
+        ensures { result.now ≡ (slice_index_or (records_of self.now) place blank).extras }
+    {
+        self.block(place).extras(place % BLOCK)
+    }
+
+    /// The ends of a record, by its place from 0.
+    pub(crate) fn ends(&self, place: usize) -> &[PlanEnd]
+        requires within { AreWithin self.now }
+        requires there { place < length (records_of self.now) }
+        ensures { result.now ≡ (slice_index_or (records_of self.now) place blank).ends }
+    {
+        self.block(place).ends(place % BLOCK)
     }
 }

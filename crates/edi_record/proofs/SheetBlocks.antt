@@ -11,6 +11,8 @@ use Rattle.edi_record.specs.declared.record.Record.{Record}
 use Rattle.edi_record.specs.declared.sheet_block.Stops.{Stops}
 use Rattle.edi_record.specs.declared.sheet_block.SheetHead.{SheetHead}
 use Rattle.edi_record.specs.declared.sheet_block.SheetBlock.{SheetBlock}
+use Rattle.edi_record.specs.Shapes.{stated_at}
+use Rattle.edi_record.proofs.StatedAt.{stated_is}
 use Rattle.edi_record.specs.inner.SheetBlocks.{no_stops, stops_before, record_of, records_from, records_in, IsPart, HasParts, AreEnds, AreParts}
 
 pub records_long : (block : SheetBlock) (from : Stops) (hs : List SheetHead) → length (records_from block from hs) ≡ length hs
@@ -159,6 +161,10 @@ record_at : (block : SheetBlock) (from : Stops) (hs : List SheetHead) (k : ℕ) 
 record_at block from [] k h less is = absurd (omega (arith, less))
 record_at block from (x ∷ hs) zero h less is = ap (λ (y : SheetHead). Some (record_of block from y)) (sym is)
 record_at block from (x ∷ hs) (suc k) h less is = record_at block x.stops hs k h (omega (arith, less)) is
+
+pub stated_in : (block : SheetBlock) (place : ℕ) → place < length (records_in block) → (h : SheetHead) → h ≡ get_or block.heads.items place h
+    → stated_at (records_in block) place ≡ record_of block (stops_before place no_stops block.heads.items) h
+stated_in block place there h is = sym (stated_is (records_in block) place _ (record_at block no_stops block.heads.items place h (place_within block place there) is))
 
 module _ (block : SheetBlock) (place : ℕ) (there : place < length (records_in block)) (h : SheetHead) (is : h ≡ get_or block.heads.items place h) (from : Stops) (begins : from ≡ stops_before place no_stops block.heads.items) where
   pub parts_there : AreParts block no_stops block.heads.items → HasParts block from h

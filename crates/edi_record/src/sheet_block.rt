@@ -2,6 +2,7 @@
 //! their extra zones.
 
 ghost use Rattle.std.specs.Prelude.{◌≡◌, ◌<◌, ◌∷◌, ◌++◌, [], length, slice_get, Some, IfOk, OnOk, OnErr};
+ghost use Rattle.edi_record.specs.Shapes.{stated_at};
 ghost use Rattle.edi_record.specs.inner.SheetBlocks.{no_stops, stops_before, records_in, AreParts, AreSame, HasRoom, AreStopsOf};
 
 use crate::flat_lists::{append, make_room, move_behind, part, push_behind, taken};
@@ -152,6 +153,33 @@ impl SheetBlock {
             return self.heads[place - 1].stops;
         }
         Stops::NONE
+    }
+
+    /// The type of a record, by its place from 0.
+    pub(crate) fn kind(&self, place: usize) -> Kind
+        requires { place < length (records_in self.now) }
+        ensures { result ≡ (stated_at (records_in self.now) place).kind }
+    {
+        self.heads[place].kind
+    }
+
+    /// The identifier of a record, by its place from 0.
+    pub(crate) fn rid(&self, place: usize) -> &[u8]
+        requires { place < length (records_in self.now) }
+        ensures { result.now ≡ (stated_at (records_in self.now) place).rid }
+    {
+        self.heads[place].rid.as_slice()
+    }
+
+    /// The ends of a record, by its place from 0.
+    pub(crate) fn ends(&self, place: usize) -> &[End]
+        requires parts { AreParts self.now no_stops self.now.heads.items }
+        requires there { place < length (records_in self.now) }
+        ensures { result.now ≡ (stated_at (records_in self.now) place).ends }
+    {
+        let head = &self.heads[place];
+        let from = self.begin(place);
+        part(&self.ends, from.ends, head.stops.ends)
     }
 
     /// A record, by its place from 0.

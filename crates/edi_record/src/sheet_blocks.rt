@@ -1,10 +1,11 @@
 //! The records of a sheet, in blocks.
 
-ghost use Rattle.std.specs.Prelude.{◌≡◌, ◌<◌, ◌^◌, ◌∷◌, ◌++◌, [], length, slice_get, Some, IfOk, OnOk, OnErr};
-ghost use Rattle.edi_record.specs.inner.SheetBlocks.{records_in};
+ghost use Rattle.std.specs.Prelude.{◌≡◌, ◌<◌, ◌%◌, ◌^◌, ◌∷◌, ◌++◌, [], length, slice_get, Some, IfOk, OnOk, OnErr};
+ghost use Rattle.edi_record.specs.Shapes.{stated_at};
+ghost use Rattle.edi_record.specs.inner.SheetBlocks.{no_stops, records_in, AreParts};
 ghost use Rattle.edi_record.specs.inner.BlockLists.{records_of, AreWithin};
 
-use crate::record::Record;
+use crate::record::{End, Kind, Record};
 use crate::record_ref::RecordRef;
 use crate::sheet_block::SheetBlock;
 use crate::spare_lists::SpareLists;
@@ -77,6 +78,49 @@ impl SheetBlocks {
         ensures few { result < 2 ^ 63 }
     {
         self.closed.len() * BLOCK + self.last.len()
+    }
+
+    /// The block of the record at a place, from 0.
+    fn block(&self, place: usize) -> &SheetBlock
+        requires within { AreWithin self.now }
+        requires there { place < length (records_of self.now) }
+        ensures parts { AreParts result.now no_stops result.now.heads.items }
+        ensures there { place % 256 < length (records_in result.now) }
+        ensures same { stated_at (records_of self.now) place ≡ stated_at (records_in result.now) (place % 256) }
+    {
+        let at = place / BLOCK;
+        if at < self.closed.len() {
+            &self.closed[at]
+        } else {
+            &self.last
+        }
+    }
+
+    /// The type of a record, by its place from 0.
+    pub(crate) fn kind(&self, place: usize) -> Kind
+        requires within { AreWithin self.now }
+        requires there { place < length (records_of self.now) }
+        ensures { result ≡ (stated_at (records_of self.now) place).kind }
+    {
+        self.block(place).kind(place % BLOCK)
+    }
+
+    /// The identifier of a record, by its place from 0.
+    pub(crate) fn rid(&self, place: usize) -> &[u8]
+        requires within { AreWithin self.now }
+        requires there { place < length (records_of self.now) }
+        ensures { result.now ≡ (stated_at (records_of self.now) place).rid }
+    {
+        self.block(place).rid(place % BLOCK)
+    }
+
+    /// The ends of a record, by its place from 0.
+    pub(crate) fn ends(&self, place: usize) -> &[End]
+        requires within { AreWithin self.now }
+        requires there { place < length (records_of self.now) }
+        ensures { result.now ≡ (stated_at (records_of self.now) place).ends }
+    {
+        self.block(place).ends(place % BLOCK)
     }
 
     /// A record, by its place from 0.

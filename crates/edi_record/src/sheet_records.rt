@@ -83,7 +83,7 @@ impl SheetRecords {
         requires { place < length self.now }
         ensures { result ≡ (stated_at self.now place).kind }
     {
-        self.record(place).kind()
+        self.blocks.kind(place)
     }
 
     /// The identifier of a record, by its place from 0.
@@ -91,7 +91,7 @@ impl SheetRecords {
         requires { place < length self.now }
         ensures { result.now ≡ (stated_at self.now place).rid }
     {
-        self.record(place).rid()
+        self.blocks.rid(place)
     }
 
     /// The ends of a record, by its place from 0: none if it is no link.
@@ -99,7 +99,7 @@ impl SheetRecords {
         requires { place < length self.now }
         ensures { result.now ≡ (stated_at self.now place).ends }
     {
-        self.record(place).ends()
+        self.blocks.ends(place)
     }
 
     /// The records, each with memory of its own.

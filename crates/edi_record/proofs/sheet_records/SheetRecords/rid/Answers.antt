@@ -1,7 +1,0 @@
-use Rattle.std.proofs.Common.{◌∙◌, ap}
-use Rattle.edi_record.specs.declared.record.Record.{Record}
-use Rattle.edi_record.proofs.StatedAt.{stated_is}
-use Rattle.edi_record.proofs.sheet_records.SheetRecords.rid.Goals as goal
-
-pub returns : goal.returns
-returns c = c.rid.ensures ∙ ap (λ (r : Record). r.rid) (stated_is c.args.self.now c.args.place c.record.result c.record.ensures)
