@@ -1,3 +1,5 @@
+pub mod Packing
+pub mod PackedSites
 pub mod Tables
 pub mod Steps
 pub mod Comparisons

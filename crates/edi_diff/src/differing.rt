@@ -12,7 +12,7 @@ ghost use Rattle.edi_diff.specs.Reports.{HasSites};
 use crate::changes::{Changes, changes_between};
 use crate::parting::parts_of;
 use crate::report::Reporter;
-use crate::sheet::{LocatedSheet, locate_from};
+use crate::sheet::{LocatedSheet, locate_packed};
 use crate::totals::is_same;
 use edi_compare::{CompareFault, first_refused, second_refused};
 use edi_line::Sequence;
@@ -165,14 +165,17 @@ pub fn find_differences(
     ensures second_classes { IfOk result (λ found. HasClasses schema.now found.second.accepted) }
     ensures refusal { IfErr result (IsPairRefusal schema.now (cow_slice_items a.entry) (cow_slice_items b.entry)) }
 {
-    let first = match locate_from(alloc, schema, a) {
+    let packed = match locate_packed(alloc, schema, a) {
         Ok(sheet) => sheet,
         Err(fault) => return Err(first_refused(fault)),
     };
-    let second = match locate_from(alloc, schema, b) {
+    let other = match locate_packed(alloc, schema, b) {
         Ok(sheet) => sheet,
         Err(fault) => return Err(second_refused(fault)),
     };
+    // Reading takes the most memory, so sites are unpacked only when both plans stand.
+    let first = packed.unpack(alloc)?;
+    let second = other.unpack(alloc)?;
     let unchanged = differences(alloc, schema, &first.accepted, &second.accepted)?;
     let same = is_same(alloc, &first, &second, &unchanged)?;
     let ChangesWithText { became, text } = changes_with_text(

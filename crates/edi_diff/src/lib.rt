@@ -5,6 +5,8 @@ mod changes;
 pub mod differing;
 mod lines;
 mod marks;
+mod numbers;
+mod packed;
 mod parting;
 pub mod parts;
 mod proposing;

@@ -1,21 +1,24 @@
 //! Accepted sheets, with where their records stand.
 
-ghost use Rattle.std.specs.Prelude.{◌≡◌, IfErr, IfOk, OnOk};
+ghost use Rattle.std.specs.Prelude.{◌≡◌, ℕ, List, IfErr, IfOk, OnOk};
 ghost use Rattle.std.specs.Cow.{cow_slice_items};
 ghost use Rattle.edi_plan.specs.Agreeing.{HasClasses};
 ghost use Rattle.edi_compare.specs.PlanOfFile.{IsPlanOfFile};
 ghost use Rattle.edi_compare.specs.Refused.{IsRefusal};
 ghost use Rattle.edi_compare.specs.Rules.{IsAccepted};
 ghost use Rattle.edi_plan.specs.Places.{places_of};
+ghost use Rattle.edi_record.specs.Beside.{HasTakenAll};
 ghost use Rattle.edi_diff.specs.Reports.{HasSites};
 ghost use Rattle.edi_diff.specs.Sites.{AreSitesOf};
+ghost use Rattle.edi_diff.specs.inner.PackedSites.{PacksSitesOf};
 
-use crate::site::{Site, SiteList};
+use crate::packed::PackedSites;
+use crate::site::Site;
 use edi_compare::{Accepted, Fault, accept_beside};
 use edi_line::Sequence;
 use edi_record::Kind;
 use edi_schema::Schema;
-use std::alloc::Global;
+use std::alloc::{AllocError, Global};
 use std::borrow::CowSlice;
 
 /// An accepted sheet, with where its records stand in their file.
@@ -62,9 +65,48 @@ pub fn locate_from(
     ensures all { IfOk result HasSites }
     ensures refusal { IfErr result (IsRefusal schema.now (cow_slice_items bytes.entry)) }
 {
-    let (accepted, sites) = accept_beside(alloc, schema, bytes, SiteList::new(alloc))?;
-    Ok(LocatedSheet {
-        accepted,
-        sites: Sequence::from_vec(sites.list),
-    })
+    let packed = locate_packed(alloc, schema, bytes)?;
+    match packed.unpack(alloc) {
+        Ok(sheet) => Ok(sheet),
+        Err(error) => Err(Fault::Memory(error)),
+    }
+}
+
+/// An accepted sheet, with where its records stand in their file, packed.
+#[derive(Drop)]
+pub(crate) struct PackedSheet {
+    accepted: Accepted,
+    sites: PackedSites,
+}
+
+impl PackedSheet {
+    /// The sheet with its sites as a list.
+    pub(crate) fn unpack(self, alloc: Global) -> Result<LocatedSheet, AllocError>
+        ensures accepted { IfOk result (λ sheet. sheet.accepted ≡ self.accepted) }
+        ensures sites { IfOk result (λ sheet. (b : List ℕ) → HasTakenAll b (PacksSitesOf self.sites) → AreSitesOf b sheet.sites) }
+    {
+        let PackedSheet { accepted, sites } = self;
+        let count = accepted.sound().plan().len();
+        let sites = sites.unpack(alloc, count as usize)?;
+        Ok(LocatedSheet {
+            accepted,
+            sites: Sequence::from_vec(sites),
+        })
+    }
+}
+
+/// What `locate_from` gives, with the sites still packed, as a sheet is held while another is read.
+pub(crate) fn locate_packed(
+    alloc: Global,
+    schema: &Schema,
+    bytes: CowSlice<'_, u8>,
+) -> Result<PackedSheet, Fault>
+    ensures accepted { OnOk result (IsAccepted schema.now (cow_slice_items bytes.entry)) }
+    ensures plan { IfOk result (λ sheet. IsPlanOfFile schema.now (cow_slice_items bytes.entry) sheet.accepted) }
+    ensures classes { IfOk result (λ sheet. HasClasses schema.now sheet.accepted) }
+    ensures sites { IfOk result (λ sheet. HasTakenAll (cow_slice_items bytes.entry) (PacksSitesOf sheet.sites)) }
+    ensures refusal { IfErr result (IsRefusal schema.now (cow_slice_items bytes.entry)) }
+{
+    let (accepted, sites) = accept_beside(alloc, schema, bytes, PackedSites::new(alloc))?;
+    Ok(PackedSheet { accepted, sites })
 }
