@@ -6,7 +6,11 @@ ghost use Rattle.std.specs.Vec.Iter.{into_iter_items};
 
 use edi_line::Sequence;
 use std::alloc::{AllocError, Global};
+use std::mem;
 use std::vec::IntoIter;
+
+/// How many elements an empty list may have room for and still be kept for later ones.
+const MOST_KEPT: usize = 65_536;
 
 /// A length in four bytes, or want of memory where it has more.
 fn place_of(len: usize) -> Result<u32, AllocError>
@@ -18,12 +22,16 @@ fn place_of(len: usize) -> Result<u32, AllocError>
     Ok(len as u32)
 }
 
-/// Makes room for so many more elements. Where they will end is the answer.
+/// Makes room for so many more elements, unless there are none yet: then the list that comes takes this one's place. Where the elements
+/// will end is the answer.
 pub(crate) fn make_room<T>(list: &mut Vec<T>, more: usize) -> Result<u32, AllocError>
     ensures items { list.new.items ≡ list.old.items }
-    ensures room { OnOk result (vec_len list.new + more ≤ vec_capacity list.new) }
+    ensures room { OnOk result (0 < vec_len list.new → vec_len list.new + more ≤ vec_capacity list.new) }
     ensures stop { IfOk result (λ stop. stop ≡ length list.old.items + more) }
 {
+    if list.is_empty() {
+        return place_of(more);
+    }
     list.reserve(more)?;
     place_of(list.len() + more)
 }
@@ -45,15 +53,60 @@ pub(crate) fn push_behind<T: Drop>(list: &mut Vec<T>, item: T)
     let _never_fails = list.push(item);
 }
 
-/// Moves the elements of a part behind those of a list that has room for them. The emptied part is the answer.
+/// Moves the elements of a part behind those of a list that has room for them, or puts the part in its place where it has none. An empty
+/// list is the answer.
 pub(crate) fn append<T: Drop>(list: &mut Vec<T>, part: Sequence<T>) -> Vec<T>
-    requires { vec_len list.old + length part ≤ vec_capacity list.old }
+    requires { 0 < vec_len list.old → vec_len list.old + length part ≤ vec_capacity list.old }
     ensures moved { list.new.items ≡ list.old.items ++ part }
     ensures emptied { result.items ≡ [] }
 {
     let mut items = part.into_vec();
+    if list.is_empty() {
+        return mem::replace(list, items);
+    }
     move_behind(list, &mut items);
     items
+}
+
+/// An empty list, which is kept for later elements unless it has room for very many.
+pub(crate) fn kept<T: Drop>(alloc: Global, list: Vec<T>) -> Vec<T>
+    requires { list.items ≡ [] }
+    ensures { result.items ≡ [] }
+{
+    if list.capacity() > MOST_KEPT {
+        Vec::new(alloc)
+    } else {
+        list
+    }
+}
+
+/// An empty list with room for the elements of another, but without where these are very many.
+pub(crate) fn exact_room<T>(alloc: Global, list: &Vec<T>) -> Result<Vec<T>, AllocError>
+    ensures { IfOk result (λ exact. exact.items ≡ []) }
+{
+    if list.len() > MOST_KEPT {
+        return Ok(Vec::new(alloc));
+    }
+    Vec::with_capacity(alloc, list.len())
+}
+
+/// Hands the elements of a list over, with no room for more: in the empty list, if it has room for them, or else in the list itself.
+pub(crate) fn handed_over<T: Drop>(
+    alloc: Global,
+    mut exact: Vec<T>,
+    list: &mut Vec<T>,
+) -> Vec<T>
+    requires { exact.items ≡ [] }
+    ensures items { result.items ≡ list.old.items }
+    ensures emptied { list.new.items ≡ [] }
+{
+    if exact.capacity() < list.len() {
+        exact = mem::replace(list, Vec::new(alloc));
+        exact.shrink_to_fit();
+        return exact;
+    }
+    move_behind(&mut exact, list);
+    exact
 }
 
 /// The next elements, so many, in a list of their own.

@@ -38,7 +38,7 @@ impl GroupOut for RecordsUntilFault {
         if self.fault.is_some() {
             return Ok(());
         }
-        let spare = mem::replace(&mut self.spare, SpareLists::new(alloc));
+        let spare = mem::replace(&mut self.spare, SpareLists::new(alloc)).limited(alloc);
         match record_of(alloc, spare, head, behind) {
             Ok((record, _)) => self.spare = self.list.take(record)?,
             Err(GroupFault::Memory(fault)) => return Err(fault),

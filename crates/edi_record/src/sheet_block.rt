@@ -5,7 +5,7 @@ ghost use Rattle.std.specs.Prelude.{◌≡◌, ◌<◌, ◌∷◌, ◌++◌, [],
 ghost use Rattle.edi_record.specs.Shapes.{stated_at};
 ghost use Rattle.edi_record.specs.inner.SheetBlocks.{no_stops, stops_before, records_in, AreParts, AreSame, HasRoom, AreStopsOf};
 
-use crate::flat_lists::{append, make_room, move_behind, part, push_behind, taken};
+use crate::flat_lists::{append, exact_room, handed_over, make_room, part, push_behind, taken};
 use crate::name::Name;
 use crate::record::{Attribute, End, Extra, Kind, Point, Record};
 use crate::record_ref::RecordRef;
@@ -113,7 +113,7 @@ impl SheetBlock {
         })
     }
 
-    /// The same records, in a block with no room for more. This block keeps its room, and has none of them.
+    /// The same records, in a block with no room for more. This block has none of them, and mostly keeps its room.
     pub(crate) fn close(&mut self, alloc: Global) -> Result<SheetBlock, AllocError>
         requires { AreParts self.old no_stops self.old.heads.items }
         ensures records { IfOk result (λ block. records_in block ≡ records_in self.old) }
@@ -122,19 +122,18 @@ impl SheetBlock {
         ensures unchanged { OnErr result (records_in self.new ≡ records_in self.old) }
         ensures own_parts { AreParts self.new no_stops self.new.heads.items }
     {
-        let mut closed = SheetBlock {
-            heads: Vec::with_capacity(alloc, self.heads.len())?,
-            points: Vec::with_capacity(alloc, self.points.len())?,
-            ends: Vec::with_capacity(alloc, self.ends.len())?,
-            attributes: Vec::with_capacity(alloc, self.attributes.len())?,
-            extras: Vec::with_capacity(alloc, self.extras.len())?,
-        };
-        move_behind(&mut closed.heads, &mut self.heads);
-        move_behind(&mut closed.points, &mut self.points);
-        move_behind(&mut closed.ends, &mut self.ends);
-        move_behind(&mut closed.attributes, &mut self.attributes);
-        move_behind(&mut closed.extras, &mut self.extras);
-        Ok(closed)
+        let heads = exact_room(alloc, &self.heads)?;
+        let points = exact_room(alloc, &self.points)?;
+        let ends = exact_room(alloc, &self.ends)?;
+        let attributes = exact_room(alloc, &self.attributes)?;
+        let extras = exact_room(alloc, &self.extras)?;
+        Ok(SheetBlock {
+            heads: handed_over(alloc, heads, &mut self.heads),
+            points: handed_over(alloc, points, &mut self.points),
+            ends: handed_over(alloc, ends, &mut self.ends),
+            attributes: handed_over(alloc, attributes, &mut self.attributes),
+            extras: handed_over(alloc, extras, &mut self.extras),
+        })
     }
 
     /// How many records there are.

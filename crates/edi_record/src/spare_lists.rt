@@ -2,6 +2,7 @@
 
 ghost use Rattle.std.specs.Prelude.{◌≡◌, []};
 
+use crate::flat_lists::kept;
 use crate::record::{Attribute, End, Extra, Point};
 use std::alloc::Global;
 
@@ -26,6 +27,16 @@ impl SpareLists {
             ends: Vec::new(alloc),
             attributes: Vec::new(alloc),
             extras: Vec::new(alloc),
+        }
+    }
+
+    /// The same lists, but for those that have room for very many elements.
+    pub(crate) fn limited(self, alloc: Global) -> SpareLists {
+        SpareLists {
+            points: kept(alloc, self.points),
+            ends: kept(alloc, self.ends),
+            attributes: kept(alloc, self.attributes),
+            extras: kept(alloc, self.extras),
         }
     }
 }

@@ -1,5 +1,5 @@
 -- The records of a sheet in blocks. The records of a block lie in flat lists.
-use Rattle.std.specs.Prelude.{◌≡◌, ℕ, zero, suc, ◌+◌, ◌≤◌, List, [], ◌∷◌, length, slice_range}
+use Rattle.std.specs.Prelude.{◌≡◌, ℕ, zero, suc, ◌+◌, ◌<◌, ◌≤◌, List, [], ◌∷◌, length, slice_range}
 use Rattle.std.specs.Vec.{vec_len, vec_capacity}
 use Rattle.edi_record.specs.declared.record.Record.{Record}
 use Rattle.edi_record.specs.declared.sheet_block.Stops.{Stops}
@@ -69,13 +69,13 @@ pub record AreSame (old new : SheetBlock) : Type 0 where
   pub attributes : new.attributes.items ≡ old.attributes.items
   pub extras : new.extras.items ≡ old.extras.items
 
--- there is room for one more record
+-- there is room for one more record, in each list that isn't empty
 pub record HasRoom (block : SheetBlock) (r : Record) : Type 0 where
   pub heads : vec_len block.heads + 1 ≤ vec_capacity block.heads
-  pub points : vec_len block.points + length r.points ≤ vec_capacity block.points
-  pub ends : vec_len block.ends + length r.ends ≤ vec_capacity block.ends
-  pub attributes : vec_len block.attributes + length r.attributes ≤ vec_capacity block.attributes
-  pub extras : vec_len block.extras + length r.extras ≤ vec_capacity block.extras
+  pub points : 0 < vec_len block.points → vec_len block.points + length r.points ≤ vec_capacity block.points
+  pub ends : 0 < vec_len block.ends → vec_len block.ends + length r.ends ≤ vec_capacity block.ends
+  pub attributes : 0 < vec_len block.attributes → vec_len block.attributes + length r.attributes ≤ vec_capacity block.attributes
+  pub extras : 0 < vec_len block.extras → vec_len block.extras + length r.extras ≤ vec_capacity block.extras
 
 -- the parts of the next record will end here
 pub record AreStopsOf (block : SheetBlock) (r : Record) (to : Stops) : Type 0 where
