@@ -11,7 +11,7 @@ ghost use Rattle.edi_schema.specs.Classes.{Classes};
 use crate::names::{RecordName, RecordNames};
 use edi_compare::{Accepted, Fault, accept};
 use edi_line::Text;
-use edi_record::{Sheet, read_sheet};
+use edi_record::{SheetRecords, read_sheet};
 use edi_schema::Schema;
 use std::alloc::{AllocError, Global};
 
@@ -22,11 +22,10 @@ pub struct NamedSheet {
     pub names: RecordNames,
 }
 
-/// The names of the records of a sheet. What else they hold is let go.
-fn names_of(alloc: Global, sheet: Sheet) -> Result<Vec<RecordName>, AllocError>
-    ensures { IfOk result (λ names. names.items ≡ names_of sheet.list) }
+/// The names of records.
+fn names_of(alloc: Global, records: &SheetRecords) -> Result<Vec<RecordName>, AllocError>
+    ensures { IfOk result (λ names. names.items ≡ names_of records.now) }
 {
-    let records = sheet.list;
     let mut names = Vec::with_capacity(alloc, records.len())?;
     for place in 0..records.len() {
         names.push(RecordName {
@@ -52,7 +51,7 @@ fn names_in(alloc: Global, bytes: &[u8]) -> Result<Vec<RecordName>, Fault>
 {
     hold_bytes(bytes);
     let sheet = read_sheet(alloc, bytes)?;
-    let names = names_of(alloc, sheet)?;
+    let names = names_of(alloc, &sheet.list)?;
     Ok(names)
 }
 
