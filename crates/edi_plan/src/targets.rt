@@ -120,7 +120,12 @@ fn place_of(
 }
 
 /// The node, arc, face or object that an end names.
-fn target_of(records: &SheetRecords, names: &Names<'_>, last: LastNamed, end: &End) -> Option<Target>
+fn target_of(
+    records: &SheetRecords,
+    names: &Names<'_>,
+    last: LastNamed,
+    end: &End,
+) -> Option<Target>
     requires names { AreNamesOf records.now names.now }
     requires repeat { IsFirstRepeatIfAny records.now names.now.repeat }
     ensures { IsTargetIfAny records.now end.now result }
@@ -167,13 +172,7 @@ pub(crate) fn targets(
     let mut targets = Vec::new(alloc);
     let mut last = LastNamed::new();
     for place in 0..records.len() {
-        add_targets(
-            &mut targets,
-            &mut last,
-            records,
-            names,
-            records.ends(place),
-        )?;
+        add_targets(&mut targets, &mut last, records, names, records.ends(place))?;
     }
     Ok(targets)
 }

@@ -91,11 +91,7 @@ pub(crate) fn exact_room<T>(alloc: Global, list: &Vec<T>) -> Result<Vec<T>, Allo
 }
 
 /// Hands the elements of a list over, with no room for more: in the empty list, if it has room for them, or else in the list itself.
-pub(crate) fn handed_over<T: Drop>(
-    alloc: Global,
-    mut exact: Vec<T>,
-    list: &mut Vec<T>,
-) -> Vec<T>
+pub(crate) fn handed_over<T: Drop>(alloc: Global, mut exact: Vec<T>, list: &mut Vec<T>) -> Vec<T>
     requires { exact.items ≡ [] }
     ensures items { result.items ≡ list.old.items }
     ensures emptied { list.new.items ≡ [] }

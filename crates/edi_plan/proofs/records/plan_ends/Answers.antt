@@ -17,8 +17,8 @@ loop-place-preserved c =
     let next : drop n ends ≡ e ∷ drop (n + 1) ends = drop-cons ends n e c.loop-place-test.true ∙ (λ i. sym c.index-ends-place.is i ∷ drop (sym (add-one n) i) ends) in
     let less : n < length targets = subst (λ m. n < m) (sym c.requires.long) c.loop-place-test.true in
     λ (more : List PlanEnd) given.
-        subst (AreGiven targets ends) (sym (ap (λ xs. xs ++ more) c.in_ok-push.ensures.items ∙ append_assoc c.loop-place.done.items (p ∷ []) more))
-        (c.loop-place.invariant (p ∷ more) (given_step targets n _ c.in-Some.target (drop n ends) (drop (n + 1) ends) e p more less c.in-Some.is next c.in_ok-plan_end.ensures given))
+    subst (AreGiven targets ends) (sym (ap (λ xs. xs ++ more) c.in_ok-push.ensures.items ∙ append_assoc c.loop-place.done.items (p ∷ []) more))
+    (c.loop-place.invariant (p ∷ more) (given_step targets n _ c.in-Some.target (drop n ends) (drop (n + 1) ends) e p more less c.in-Some.is next c.in_ok-plan_end.ensures given))
 
 pub returns-in_default-clause-err : goal.returns-in_default-clause-err
 returns-in_default-clause-err c =
