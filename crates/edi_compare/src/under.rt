@@ -8,11 +8,10 @@ ghost use Rattle.edi_compare.specs.inner.Under.{UnderSchema};
 
 use crate::canonical::canon_from;
 use crate::fault::{Fault, RunFault};
-use crate::runs::{load_or_fault, read_input};
-use edi_line::ByteIn;
+use crate::runs::{load_or_fault, read_input, read_input_pieces};
+use edi_line::{ByteIn, FileBytes, Pieces};
 use edi_schema::{Kinds, Schema};
 use std::alloc::Global;
-use std::borrow::CowSlice;
 
 /// Reads two files, and gives their schema.
 pub fn schema_of<S: ByteIn, D: ByteIn>(
@@ -44,16 +43,16 @@ pub fn canon_under<V: ByteIn>(
     ensures err { IfErr result (UnderFault schema.now (seen (V.contents vec.old) (V.contents vec.new) (V.has_failed vec.new))) }
     ensures after { IfErr result (λ e. AfterReading e (IsRead (seen (V.contents vec.old) (V.contents vec.new) (V.has_failed vec.new)))) }
 {
-    let vec = read_input(alloc, vec, 3)?;
+    let vec = read_input_pieces(alloc, vec, 3)?;
     form_or_fault(alloc, schema, vec)
 }
 
 // The canonical file of a sheet, with its refusal as a run's.
-fn form_or_fault(alloc: Global, schema: &Schema, vec: Vec<u8>) -> Result<Vec<u8>, RunFault>
-    ensures ok { IfOk result (λ c. IsFormOf schema.now vec.items c.items) }
-    ensures err { IfErr result (UnderSchema schema.now vec.items) }
+fn form_or_fault(alloc: Global, schema: &Schema, vec: Pieces) -> Result<Vec<u8>, RunFault>
+    ensures ok { IfOk result (λ c. IsFormOf schema.now vec c.items) }
+    ensures err { IfErr result (UnderSchema schema.now vec) }
 {
-    match canon_from(alloc, schema, CowSlice::Owned(vec)) {
+    match canon_from(alloc, schema, FileBytes::InPieces(vec)) {
         Ok(bytes) => Ok(bytes),
         Err(Fault::Memory(error)) => Err(RunFault::Memory(error)),
         Err(fault) => Err(RunFault::First(fault)),

@@ -1,7 +1,7 @@
 //! What differs between two sheets.
 
 ghost use Rattle.std.specs.Prelude.{◌≡◌, IfErr, IfOk, OnOk};
-ghost use Rattle.std.specs.Cow.{cow_slice_items};
+ghost use Rattle.edi_line.specs.FileBytes.{file_bytes};
 ghost use Rattle.edi_plan.specs.Agreeing.{HasClasses};
 ghost use Rattle.edi_compare.specs.Refused.{IsPairRefusal};
 ghost use Rattle.edi_compare.specs.Rules.{IsAccepted};
@@ -15,7 +15,7 @@ use crate::report::Reporter;
 use crate::sheet::{LocatedSheet, locate_packed};
 use crate::totals::is_same;
 use edi_compare::{CompareFault, first_refused, second_refused};
-use edi_line::Sequence;
+use edi_line::{FileBytes, Sequence};
 use edi_matching::{Matching, differences};
 use edi_schema::Schema;
 use std::alloc::{AllocError, Global};
@@ -126,8 +126,8 @@ pub fn diff(
     diff_from(
         alloc,
         schema,
-        CowSlice::Borrowed(a),
-        CowSlice::Borrowed(b),
+        FileBytes::Whole(CowSlice::Borrowed(a)),
+        FileBytes::Whole(CowSlice::Borrowed(b)),
         brief,
     )
 }
@@ -136,14 +136,14 @@ pub fn diff(
 pub(crate) fn diff_from(
     alloc: Global,
     schema: &Schema,
-    a: CowSlice<'_, u8>,
-    b: CowSlice<'_, u8>,
+    a: FileBytes<'_>,
+    b: FileBytes<'_>,
     brief: bool,
 ) -> Result<Difference, CompareFault>
-    ensures first { OnOk result (IsAccepted schema.now (cow_slice_items a.entry)) }
-    ensures second { OnOk result (IsAccepted schema.now (cow_slice_items b.entry)) }
-    ensures difference { IfOk result (IsDifference schema.now (cow_slice_items a.entry) (cow_slice_items b.entry) brief) }
-    ensures refusal { IfErr result (IsPairRefusal schema.now (cow_slice_items a.entry) (cow_slice_items b.entry)) }
+    ensures first { OnOk result (IsAccepted schema.now (file_bytes a.entry)) }
+    ensures second { OnOk result (IsAccepted schema.now (file_bytes b.entry)) }
+    ensures difference { IfOk result (IsDifference schema.now (file_bytes a.entry) (file_bytes b.entry) brief) }
+    ensures refusal { IfErr result (IsPairRefusal schema.now (file_bytes a.entry) (file_bytes b.entry)) }
 {
     let found = find_differences(alloc, schema, a, b, brief)?;
     Ok(found.difference)
@@ -154,16 +154,16 @@ pub(crate) fn diff_from(
 pub fn find_differences(
     alloc: Global,
     schema: &Schema,
-    a: CowSlice<'_, u8>,
-    b: CowSlice<'_, u8>,
+    a: FileBytes<'_>,
+    b: FileBytes<'_>,
     brief: bool,
 ) -> Result<Findings, CompareFault>
-    ensures first { OnOk result (IsAccepted schema.now (cow_slice_items a.entry)) }
-    ensures second { OnOk result (IsAccepted schema.now (cow_slice_items b.entry)) }
-    ensures findings { IfOk result (AreFindings schema.now (cow_slice_items a.entry) (cow_slice_items b.entry) brief) }
+    ensures first { OnOk result (IsAccepted schema.now (file_bytes a.entry)) }
+    ensures second { OnOk result (IsAccepted schema.now (file_bytes b.entry)) }
+    ensures findings { IfOk result (AreFindings schema.now (file_bytes a.entry) (file_bytes b.entry) brief) }
     ensures first_classes { IfOk result (λ found. HasClasses schema.now found.first.accepted) }
     ensures second_classes { IfOk result (λ found. HasClasses schema.now found.second.accepted) }
-    ensures refusal { IfErr result (IsPairRefusal schema.now (cow_slice_items a.entry) (cow_slice_items b.entry)) }
+    ensures refusal { IfErr result (IsPairRefusal schema.now (file_bytes a.entry) (file_bytes b.entry)) }
 {
     let packed = match locate_packed(alloc, schema, a) {
         Ok(sheet) => sheet,

@@ -1,16 +1,15 @@
 //! The run that tells what differs between two sheets.
 ghost use Rattle.std.specs.Prelude.{◌≡◌, IfOk, IfErr, OnOk};
-ghost use Rattle.std.specs.Cow.{cow_slice_items};
+ghost use Rattle.edi_line.specs.FileBytes.{file_bytes};
 ghost use Rattle.edi_compare.specs.Runs.{AfterReading, AreFourRead, ComparingFault, IfFourKnown, seen};
 ghost use Rattle.edi_compare.specs.inner.Runs.{PairFault};
 ghost use Rattle.edi_diff.specs.Runs.{IsDifferenceUnder};
 
 use crate::differing::{Difference, diff_from};
-use edi_compare::{RunFault, load_or_fault, read_input};
-use edi_line::ByteIn;
+use edi_compare::{RunFault, load_or_fault, read_input, read_input_pieces};
+use edi_line::{ByteIn, FileBytes};
 use edi_schema::Kinds;
 use std::alloc::Global;
-use std::borrow::CowSlice;
 
 /// Reads four files, and answers what differs between the third and the fourth, two sheets under the schema of the first
 /// two; or the last line of that alone. All are read before one is looked at, and the second sheet is looked at only if the
@@ -36,15 +35,15 @@ pub fn run_diff<S: ByteIn, D: ByteIn, A: ByteIn, B: ByteIn>(
 {
     let scd = read_input(alloc, scd, 1)?;
     let dic = read_input(alloc, dic, 2)?;
-    let first = read_input(alloc, first, 3)?;
-    let second = read_input(alloc, second, 4)?;
+    let first = read_input_pieces(alloc, first, 3)?;
+    let second = read_input_pieces(alloc, second, 4)?;
     diff_or_fault(
         alloc,
         kinds,
         &scd,
         &dic,
-        CowSlice::Owned(first),
-        CowSlice::Owned(second),
+        FileBytes::InPieces(first),
+        FileBytes::InPieces(second),
         brief,
     )
 }
@@ -55,12 +54,12 @@ fn diff_or_fault(
     kinds: &Kinds<'_>,
     scd: &[u8],
     dic: &[u8],
-    first: CowSlice<'_, u8>,
-    second: CowSlice<'_, u8>,
+    first: FileBytes<'_>,
+    second: FileBytes<'_>,
     brief: bool,
 ) -> Result<Difference, RunFault>
-    ensures ok { IfOk result (IsDifferenceUnder kinds.now scd.now dic.now (cow_slice_items first.entry) (cow_slice_items second.entry) brief) }
-    ensures err { IfErr result (PairFault kinds.now scd.now dic.now (cow_slice_items first.entry) (cow_slice_items second.entry)) }
+    ensures ok { IfOk result (IsDifferenceUnder kinds.now scd.now dic.now (file_bytes first.entry) (file_bytes second.entry) brief) }
+    ensures err { IfErr result (PairFault kinds.now scd.now dic.now (file_bytes first.entry) (file_bytes second.entry)) }
 {
     let schema = load_or_fault(alloc, kinds, scd, dic)?;
     let difference = diff_from(alloc, &schema, first, second, brief)?;

@@ -1,7 +1,7 @@
 //! Accepted sheets, with where their records stand.
 
 ghost use Rattle.std.specs.Prelude.{◌≡◌, ℕ, List, IfErr, IfOk, OnOk};
-ghost use Rattle.std.specs.Cow.{cow_slice_items};
+ghost use Rattle.edi_line.specs.FileBytes.{file_bytes};
 ghost use Rattle.edi_plan.specs.Agreeing.{HasClasses};
 ghost use Rattle.edi_compare.specs.PlanOfFile.{IsPlanOfFile};
 ghost use Rattle.edi_compare.specs.Refused.{IsRefusal};
@@ -15,7 +15,7 @@ ghost use Rattle.edi_diff.specs.inner.PackedSites.{PacksSitesOf};
 use crate::packed::PackedSites;
 use crate::site::Site;
 use edi_compare::{Accepted, Fault, accept_beside};
-use edi_line::Sequence;
+use edi_line::{FileBytes, Sequence};
 use edi_record::Kind;
 use edi_schema::Schema;
 use std::alloc::{AllocError, Global};
@@ -48,7 +48,7 @@ pub fn locate(alloc: Global, schema: &Schema, bytes: &[u8]) -> Result<LocatedShe
     ensures all { IfOk result HasSites }
     ensures refusal { IfErr result (IsRefusal schema.now bytes.now) }
 {
-    locate_from(alloc, schema, CowSlice::Borrowed(bytes))
+    locate_from(alloc, schema, FileBytes::Whole(CowSlice::Borrowed(bytes)))
 }
 
 /// What `locate` gives of a file that is let go, where it is owned, as soon as its sites and its records are read: its bytes
@@ -56,14 +56,14 @@ pub fn locate(alloc: Global, schema: &Schema, bytes: &[u8]) -> Result<LocatedShe
 pub fn locate_from(
     alloc: Global,
     schema: &Schema,
-    bytes: CowSlice<'_, u8>,
+    bytes: FileBytes<'_>,
 ) -> Result<LocatedSheet, Fault>
-    ensures accepted { OnOk result (IsAccepted schema.now (cow_slice_items bytes.entry)) }
-    ensures plan { IfOk result (λ sheet. IsPlanOfFile schema.now (cow_slice_items bytes.entry) sheet.accepted) }
+    ensures accepted { OnOk result (IsAccepted schema.now (file_bytes bytes.entry)) }
+    ensures plan { IfOk result (λ sheet. IsPlanOfFile schema.now (file_bytes bytes.entry) sheet.accepted) }
     ensures classes { IfOk result (λ sheet. HasClasses schema.now sheet.accepted) }
-    ensures sites { IfOk result (λ sheet. AreSitesOf (cow_slice_items bytes.entry) sheet.sites) }
+    ensures sites { IfOk result (λ sheet. AreSitesOf (file_bytes bytes.entry) sheet.sites) }
     ensures all { IfOk result HasSites }
-    ensures refusal { IfErr result (IsRefusal schema.now (cow_slice_items bytes.entry)) }
+    ensures refusal { IfErr result (IsRefusal schema.now (file_bytes bytes.entry)) }
 {
     let packed = locate_packed(alloc, schema, bytes)?;
     match packed.unpack(alloc) {
@@ -99,13 +99,13 @@ impl PackedSheet {
 pub(crate) fn locate_packed(
     alloc: Global,
     schema: &Schema,
-    bytes: CowSlice<'_, u8>,
+    bytes: FileBytes<'_>,
 ) -> Result<PackedSheet, Fault>
-    ensures accepted { OnOk result (IsAccepted schema.now (cow_slice_items bytes.entry)) }
-    ensures plan { IfOk result (λ sheet. IsPlanOfFile schema.now (cow_slice_items bytes.entry) sheet.accepted) }
+    ensures accepted { OnOk result (IsAccepted schema.now (file_bytes bytes.entry)) }
+    ensures plan { IfOk result (λ sheet. IsPlanOfFile schema.now (file_bytes bytes.entry) sheet.accepted) }
     ensures classes { IfOk result (λ sheet. HasClasses schema.now sheet.accepted) }
-    ensures sites { IfOk result (λ sheet. HasTakenAll (cow_slice_items bytes.entry) (PacksSitesOf sheet.sites)) }
-    ensures refusal { IfErr result (IsRefusal schema.now (cow_slice_items bytes.entry)) }
+    ensures sites { IfOk result (λ sheet. HasTakenAll (file_bytes bytes.entry) (PacksSitesOf sheet.sites)) }
+    ensures refusal { IfErr result (IsRefusal schema.now (file_bytes bytes.entry)) }
 {
     let (accepted, sites) = accept_beside(alloc, schema, bytes, PackedSites::new(alloc))?;
     Ok(PackedSheet { accepted, sites })

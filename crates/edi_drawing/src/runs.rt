@@ -1,17 +1,16 @@
 //! The runs that draw.
 ghost use Rattle.std.specs.Prelude.{◌≡◌, IfOk, IfErr, OnOk};
-ghost use Rattle.std.specs.Cow.{cow_slice_items};
+ghost use Rattle.edi_line.specs.FileBytes.{file_bytes};
 ghost use Rattle.edi_compare.specs.Runs.{AfterReading, AreFourRead, AreRead, ComparingFault, FilesFault, IfFourKnown, IfThreeKnown, seen};
 ghost use Rattle.edi_compare.specs.inner.Runs.{PairFault, SheetFault};
 ghost use Rattle.edi_drawing.specs.Runs.{IsDrawnDifferenceUnder, IsPictureUnder};
 
 use crate::drawing::{draw_difference_from, draw_from};
 use crate::drawn::DrawnDifference;
-use edi_compare::{Fault, RunFault, load_or_fault, read_input};
-use edi_line::ByteIn;
+use edi_compare::{Fault, RunFault, load_or_fault, read_input, read_input_pieces};
+use edi_line::{ByteIn, FileBytes};
 use edi_schema::Kinds;
 use std::alloc::Global;
-use std::borrow::CowSlice;
 
 /// Reads three files, and draws the third, a sheet under the schema of the first two (docs/FORMAT.md, "Pictures"). The
 /// faults are those of `edi_compare::canon_of`.
@@ -33,8 +32,8 @@ pub fn run_draw<S: ByteIn, D: ByteIn, V: ByteIn>(
 {
     let scd = read_input(alloc, scd, 1)?;
     let dic = read_input(alloc, dic, 2)?;
-    let vec = read_input(alloc, vec, 3)?;
-    draw_or_fault(alloc, kinds, &scd, &dic, CowSlice::Owned(vec))
+    let vec = read_input_pieces(alloc, vec, 3)?;
+    draw_or_fault(alloc, kinds, &scd, &dic, FileBytes::InPieces(vec))
 }
 
 /// Reads four files, and answers what differs between the third and the fourth, two sheets under the schema of the first
@@ -60,15 +59,15 @@ pub fn run_draw_difference<S: ByteIn, D: ByteIn, A: ByteIn, B: ByteIn>(
 {
     let scd = read_input(alloc, scd, 1)?;
     let dic = read_input(alloc, dic, 2)?;
-    let first = read_input(alloc, first, 3)?;
-    let second = read_input(alloc, second, 4)?;
+    let first = read_input_pieces(alloc, first, 3)?;
+    let second = read_input_pieces(alloc, second, 4)?;
     draw_difference_or_fault(
         alloc,
         kinds,
         &scd,
         &dic,
-        CowSlice::Owned(first),
-        CowSlice::Owned(second),
+        FileBytes::InPieces(first),
+        FileBytes::InPieces(second),
         brief,
     )
 }
@@ -79,10 +78,10 @@ fn draw_or_fault(
     kinds: &Kinds<'_>,
     scd: &[u8],
     dic: &[u8],
-    vec: CowSlice<'_, u8>,
+    vec: FileBytes<'_>,
 ) -> Result<Vec<u8>, RunFault>
-    ensures ok { IfOk result (λ picture. IsPictureUnder kinds.now scd.now dic.now (cow_slice_items vec.entry) picture.items) }
-    ensures err { IfErr result (SheetFault kinds.now scd.now dic.now (cow_slice_items vec.entry)) }
+    ensures ok { IfOk result (λ picture. IsPictureUnder kinds.now scd.now dic.now (file_bytes vec.entry) picture.items) }
+    ensures err { IfErr result (SheetFault kinds.now scd.now dic.now (file_bytes vec.entry)) }
 {
     let schema = load_or_fault(alloc, kinds, scd, dic)?;
     match draw_from(alloc, &schema, vec) {
@@ -98,12 +97,12 @@ fn draw_difference_or_fault(
     kinds: &Kinds<'_>,
     scd: &[u8],
     dic: &[u8],
-    first: CowSlice<'_, u8>,
-    second: CowSlice<'_, u8>,
+    first: FileBytes<'_>,
+    second: FileBytes<'_>,
     brief: bool,
 ) -> Result<DrawnDifference, RunFault>
-    ensures ok { IfOk result (IsDrawnDifferenceUnder kinds.now scd.now dic.now (cow_slice_items first.entry) (cow_slice_items second.entry) brief) }
-    ensures err { IfErr result (PairFault kinds.now scd.now dic.now (cow_slice_items first.entry) (cow_slice_items second.entry)) }
+    ensures ok { IfOk result (IsDrawnDifferenceUnder kinds.now scd.now dic.now (file_bytes first.entry) (file_bytes second.entry) brief) }
+    ensures err { IfErr result (PairFault kinds.now scd.now dic.now (file_bytes first.entry) (file_bytes second.entry)) }
 {
     let schema = load_or_fault(alloc, kinds, scd, dic)?;
     let drawn = draw_difference_from(alloc, &schema, first, second, brief)?;

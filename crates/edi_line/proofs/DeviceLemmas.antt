@@ -1,6 +1,6 @@
 -- What two writes in a row did, and the answers that are no refusal.
-use Rattle.std.proofs.Common.{◌≡◌, ℕ, ◌+◌, ◌-◌, ◌<◌, ◌≤◌, ◌||◌, Bool, true, false, List, [], ◌∷◌, length, take, drop, ◌++◌, refl, sym, arith, append_assoc}
-use Rattle.std.specs.Prelude.{Option, None, Some}
+use Rattle.std.proofs.Common.{◌≡◌, ℕ, ◌+◌, ◌-◌, ◌<◌, ◌≤◌, ◌||◌, ◌∙◌, Bool, true, false, List, [], ◌∷◌, length, take, drop, ◌++◌, refl, sym, subst, arith, append_assoc}
+use Rattle.std.specs.Prelude.{Option, None, Some, Result, Ok, Err, MatchResult, IfOk, IsErrAnd}
 use Rattle.std.specs.Io.KnownBytes.{Appends, Consumes}
 use Rattle.std.proofs.Math.Seq.{take-add}
 use Rattle.std.proofs.Math.Bool.{or-false}
@@ -44,3 +44,8 @@ Reads-left_at bytes buffer false at start count s within c end copied =
     (all, λ zero room. let finish : length bytes ≡ start = end zero room in grind (arith, common_steps))
 Reads-left_at [] buffer true at start count s within c end copied = (grind (arith, common_steps), λ _ _. refl)
 Reads-left_at (x ∷ xs) buffer true at start count s within c end copied = (tt, λ _ _. tt)
+
+-- a value that came through `map_err`
+pub mapped_value : {A E D : Type 0} (from : Result A E) (to : Result A D) (Q : E → D → Type 0) (x : A) (P : A → Type 0) → MatchResult from (λ y. to ≡ Ok y) (λ e. IsErrAnd to (Q e)) → to ≡ Ok x → IfOk from P → P x
+mapped_value (Ok y) to Q x P same is h = let e : Ok y ≡ Ok x = sym same ∙ is in let at : y ≡ x = cc in subst P at h
+mapped_value (Err e) to Q x P same is h = absurd (subst (λ r. IsErrAnd r (Q e)) is same)

@@ -9,7 +9,8 @@ pub mod Ends
 pub mod Feeds
 pub mod Stretches
 pub mod HandedOn
-pub mod Pieces
+pub mod Joined
+pub mod FilePieces
 pub mod Shape
 pub mod DeviceLemmas
 pub mod Heads

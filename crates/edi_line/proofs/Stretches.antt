@@ -7,6 +7,7 @@ use Rattle.edi_line.specs.Entry.{Entry, entry, entries, has_code}
 use Rattle.edi_line.specs.Groups.{IsOneRecord}
 use Rattle.edi_line.specs.Zones.{begins_group, ends_group, before_end, groups_of}
 use Rattle.edi_line.specs.inner.Groups.{charset_in}
+use Rattle.edi_line.specs.inner.HandingOn.{starts_ended}
 use Rattle.edi_line.specs.declared.zone.Zone.{Zone}
 
 -- ---- the first of some zones
@@ -28,10 +29,6 @@ pub charset_further : (z : Entry) (zs : List Entry) → has_code (codes "CSE") z
 charset_further z zs e = rw e refl
 
 -- ---- groups of zones in stretches
-
-abbrev pub starts_ended : List Entry → Bool
-starts_ended [] = false
-starts_ended (z ∷ zs) = ends_group z
 
 pub end_behind : (xs ys : List Entry) → starts_ended ys ≡ true → before_end (xs ++ ys) ≡ before_end xs
 end_behind [] [] e = refl

@@ -1,8 +1,9 @@
 -- The zones that are done, and the one that is open.
-use Rattle.std.proofs.Common.{◌≡◌, ℕ, zero, suc, ◌+◌, ◌-◌, ◌≤◌, ◌==◌, Bool, true, false, not, ◌&&◌, refl, sym, ap, ◌∙◌, List, [], ◌∷◌, ◌++◌, length, Some, None, option_map, option_to_list, slice_index_or, slice_set, take, arith}
+use Rattle.std.proofs.Common.{◌≡◌, ℕ, zero, suc, ◌+◌, ◌-◌, ◌≤◌, ◌==◌, Bool, true, false, not, ◌&&◌, refl, sym, ap, ◌∙◌, List, [], ◌∷◌, ◌++◌, length, map, Option, Some, None, option_map, option_to_list, slice_index_or, slice_set, take, arith}
 use Rattle.std.proofs.Math.Bool.{and-true}
-use Rattle.std.proofs.lemmas.List.{append-nil, length-map}
-use Rattle.edi_line.specs.Entry.{entry, entries}
+use Rattle.std.proofs.lemmas.List.{append-nil, append_assoc, map-append, length-map}
+use Rattle.edi_line.specs.Entry.{Entry, entry, entries}
+use Rattle.edi_line.specs.Feeding.{Zoned}
 use Rattle.edi_line.specs.Zones.{ends_group}
 use Rattle.edi_line.specs.inner.Borrowed.{begins_at}
 use Rattle.edi_line.specs.inner.Groups.{has_group}
@@ -107,3 +108,36 @@ begun_lengthened true xs n old new more is e at longer =
     let was : last_of xs ≡ Some old = item_last xs n old e ∙ ap (λ z. Some z) (sym at) in
     ap begins_at (open_set xs n new e) ∙ ap (λ z. Some z.line) longer ∙ sym (ap begins_at was)
 begun_lengthened false xs n old new more is e at longer = absurd cc
+
+-- ---- zones of the same entries
+
+done_mapped : {X Y : Type 0} (f : X → Y) (is_open : Bool) (xs : List X) → map f (done_of is_open xs) ≡ done_of is_open (map f xs)
+done_mapped f false xs = refl
+done_mapped f true [] = refl
+done_mapped f true (x ∷ []) = refl
+done_mapped f true (x ∷ (y ∷ ys)) = ap (λ l. f x ∷ l) (done_mapped f true (y ∷ ys))
+
+open_mapped : {X Y : Type 0} (f : X → Y) (is_open : Bool) (xs : List X) → option_map f (open_of is_open xs) ≡ open_of is_open (map f xs)
+open_mapped f false xs = refl
+open_mapped f true [] = refl
+open_mapped f true (x ∷ []) = refl
+open_mapped f true (x ∷ (y ∷ ys)) = open_mapped f true (y ∷ ys)
+
+abbrev zoned_by : List Entry → Option Entry → Zoned
+zoned_by done open_zone = record { done = done; open_zone = open_zone }
+
+pub same_zoned : (is_open : Bool) (xs ys : List Zone) → entries xs ≡ entries ys
+    → zoned_by (entries (done_of is_open xs)) (option_map entry (open_of is_open xs)) ≡ zoned_by (entries (done_of is_open ys)) (option_map entry (open_of is_open ys))
+same_zoned is_open xs ys e =
+    let done = done_mapped entry is_open xs ∙ ap (done_of is_open) e ∙ sym (done_mapped entry is_open ys) in
+    let last = open_mapped entry is_open xs ∙ ap (open_of is_open) e ∙ sym (open_mapped entry is_open ys) in
+    ap (λ d. zoned_by d (option_map entry (open_of is_open xs))) done ∙ ap (zoned_by (entries (done_of is_open ys))) last
+
+-- a zone more whose entry is that of the next one
+pub zone_moved : (all : List Entry) (moved zone : Zone) (rest : List Zone) (moved_all : List Zone) → entries moved_all ++ entries (zone ∷ rest) ≡ all → entry moved ≡ entry zone
+    → entries (moved_all ++ moved ∷ []) ++ entries rest ≡ all
+zone_moved all moved zone rest moved_all e same =
+    ap (λ l. l ++ entries rest) (map-append entry moved_all (moved ∷ []))
+    ∙ append_assoc (entries moved_all) (entry moved ∷ []) (entries rest)
+    ∙ ap (λ z. entries moved_all ++ z ∷ entries rest) same
+    ∙ e

@@ -7,6 +7,8 @@ pub mod ZoneLists
 pub mod Held
 pub mod Feeding
 pub mod Groups
+pub mod HandingOn
+pub mod FilePieces
 pub mod Texts
 pub mod Borrowed
 pub mod Refusal

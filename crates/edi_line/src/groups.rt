@@ -1,16 +1,21 @@
 //! The zones of a file, record by record.
 
-ghost use Rattle.std.specs.Prelude.{◌≡◌, ◌≤◌, ◌+◌, ◌^◌, ◌<◌, ◌++◌, ◌∷◌, [], false, List, OnOk, IfOk, IfErr, drop, length};
+ghost use Rattle.std.specs.Prelude.{◌≡◌, ◌≤◌, ◌+◌, ◌^◌, ◌<◌, ◌++◌, ◌∷◌, [], false, ℕ, List, OnOk, IfOk, IfErr, drop, length};
 ghost use Rattle.std.specs.List.{list_any};
 ghost use Rattle.edi_line.specs.Entry.{Entry, entry, entries};
+ghost use Rattle.edi_line.specs.FileBytes.{file_bytes};
 ghost use Rattle.edi_line.specs.Groups.{IsHandedOut, IsOneRecord};
-ghost use Rattle.edi_line.specs.LineRules.{BreaksLineRule};
-ghost use Rattle.edi_line.specs.Refusal.{IsUnbroken, IsLineRefusal};
+ghost use Rattle.edi_line.specs.LineRules.{BreaksIn, BreaksLineRule};
+ghost use Rattle.edi_line.specs.Refusal.{IsUnbroken, IsLeastBroken, IsLineRefusal, IfBroken};
+ghost use Rattle.edi_line.specs.Spelling.{Reading};
 ghost use Rattle.edi_line.specs.Zones.{ends_group, groups_of};
 ghost use Rattle.edi_line.specs.inner.Groups.{charset_behind, charset_in};
+ghost use Rattle.edi_line.specs.inner.HandingOn.{IsAtLines, WentOn};
+ghost use Rattle.edi_line.specs.inner.Zones.{readings_of};
 
 use crate::codes::{CSE, EOM, RTY};
 use crate::fault::LineFault;
+use crate::file::{FileBytes, Pieces};
 use crate::lines;
 use crate::reading::Reader;
 use crate::text::Text;
@@ -42,21 +47,111 @@ pub fn read_groups<O: GroupOut>(
     ensures sound { OnOk result (IsUnbroken (BreaksLineRule bytes.now)) }
     ensures least { IfErr result (IsLineRefusal (BreaksLineRule bytes.now)) }
 {
+    read_last(alloc, Reader::new(alloc), None, bytes, out)
+}
+
+/// What `read_groups` does with a file that is let go: at once when all its lines are read, or piece by piece.
+pub fn read_groups_from<O: GroupOut>(
+    alloc: Global,
+    file: FileBytes<'_>,
+    out: &mut O,
+) -> Result<Option<Text>, LineFault>
+    ensures groups { IfOk result (λ charset. IsHandedOut (file_bytes file.entry) charset (O.Holds out.old) (O.Holds out.new)) }
+    ensures sound { OnOk result (IsUnbroken (BreaksLineRule (file_bytes file.entry))) }
+    ensures least { IfErr result (IsLineRefusal (BreaksLineRule (file_bytes file.entry))) }
+{
+    match file {
+        FileBytes::Whole(bytes) => read_groups(alloc, bytes.as_slice(), out),
+        FileBytes::InPieces(pieces) => read_groups_of_pieces(alloc, pieces, out),
+    }
+}
+
+/// Reads a file in pieces, of which each is let go when its lines are read.
+fn read_groups_of_pieces<O: GroupOut>(
+    alloc: Global,
+    pieces: Pieces,
+    out: &mut O,
+) -> Result<Option<Text>, LineFault>
+    ensures groups { IfOk result (λ charset. IsHandedOut pieces charset (O.Holds out.old) (O.Holds out.new)) }
+    ensures sound { OnOk result (IsUnbroken (BreaksLineRule pieces)) }
+    ensures least { IfErr result (IsLineRefusal (BreaksLineRule pieces)) }
+{
+    let (ended, last) = pieces.into_parts();
     let mut reader = Reader::new(alloc);
     let mut charset = None;
+    for piece in ended {
+        reader = read_piece(alloc, reader, &mut charset, &piece, out)?;
+    }
+    read_last(alloc, reader, charset, &last, out)
+}
+
+/// Reads the lines of a piece, from which the reader then borrows nothing.
+fn read_piece<O: GroupOut>(
+    alloc: Global,
+    reader: Reader<'static>,
+    charset: &mut Option<Text>,
+    piece: &[u8],
+    out: &mut O,
+) -> Result<Reader<'static>, LineFault>
+    requires { (lines : List Reading) × (left : List Reading) × (given : List Entry) × IsAtLines lines (readings_of piece.now ++ left) given reader charset.old × (length lines + 1 < 2 ^ 64) }
+    ensures ok { IfOk result (λ reader_now. (lines left : List Reading) (given : List Entry) → IsAtLines lines (readings_of piece.now ++ left) given reader.entry charset.old
+        → WentOn lines left given reader_now charset.new (O.Holds out.old) (O.Holds out.new)) }
+    ensures broken { IfErr result (IfBroken (λ rule at. (lines left : List Reading) (given : List Entry)
+        → IsAtLines lines (readings_of piece.now ++ left) given reader.entry charset.old → IsLeastBroken (BreaksIn lines) rule at)) }
+{
+    let reader = read_lines(alloc, reader, charset, piece, out)?;
+    Ok(reader.into_owned(alloc)?)
+}
+
+/// Reads the last lines of a file, and hands on what is left then.
+fn read_last<O: GroupOut>(
+    alloc: Global,
+    reader: Reader<'static>,
+    charset: Option<Text>,
+    bytes: &[u8],
+    out: &mut O,
+) -> Result<Option<Text>, LineFault>
+    requires { (lines : List Reading) × (given : List Entry) × IsAtLines lines (readings_of bytes.now) given reader charset × (length lines + 1 < 2 ^ 64) }
+    ensures groups { IfOk result (λ charset_now. (file : List ℕ) (given : List Entry) → IsAtLines (readings_of file) (readings_of bytes.now) given reader.entry charset
+        → IsHandedOut file charset_now (λ groups. O.Holds out.old (groups ++ groups_of given)) (O.Holds out.new)) }
+    ensures sound { OnOk result ((file : List ℕ) (given : List Entry) → IsAtLines (readings_of file) (readings_of bytes.now) given reader.entry charset
+        → IsUnbroken (BreaksLineRule file)) }
+    ensures least { IfErr result (IfBroken (λ rule at. (file : List ℕ) (given : List Entry) → IsAtLines (readings_of file) (readings_of bytes.now) given reader.entry charset
+        → IsLeastBroken (BreaksLineRule file) rule at)) }
+{
+    let mut charset = charset;
+    let reader = read_lines(alloc, reader, &mut charset, bytes, out)?;
+    let zones = reader.finish()?;
+    hand_on(alloc, &zones, &mut charset, out)?;
+    Ok(charset)
+}
+
+/// Reads lines, and hands the zones of each record on once the next one has begun.
+fn read_lines<'a, O: GroupOut>(
+    alloc: Global,
+    reader: Reader<'a>,
+    charset: &mut Option<Text>,
+    bytes: &'a [u8],
+    out: &mut O,
+) -> Result<Reader<'a>, LineFault>
+    requires { (lines : List Reading) × (left : List Reading) × (given : List Entry) × IsAtLines lines (readings_of bytes.now ++ left) given reader charset.old × (length lines + 1 < 2 ^ 64) }
+    ensures ok { IfOk result (λ reader_now. (lines left : List Reading) (given : List Entry) → IsAtLines lines (readings_of bytes.now ++ left) given reader.entry charset.old
+        → WentOn lines left given reader_now charset.new (O.Holds out.old) (O.Holds out.new)) }
+    ensures broken { IfErr result (IfBroken (λ rule at. (lines left : List Reading) (given : List Entry)
+        → IsAtLines lines (readings_of bytes.now ++ left) given reader.entry charset.old → IsLeastBroken (BreaksIn lines) rule at)) }
+{
+    let mut reader = reader;
     let mut rest = bytes;
     while !rest.is_empty() {
         let (line, after) = lines::first_line(rest);
         reader.take_line(alloc, lines::content(line))?;
         if reader.has_group() {
-            hand_on(alloc, reader.done(), &mut charset, out)?;
+            hand_on(alloc, reader.done(), charset, out)?;
             reader.let_go();
         }
         rest = after;
     }
-    let zones = reader.finish()?;
-    hand_on(alloc, &zones, &mut charset, out)?;
-    Ok(charset)
+    Ok(reader)
 }
 
 /// Hands the zones of a record on, or stores the character set of those in front of the first one.

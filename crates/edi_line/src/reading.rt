@@ -194,6 +194,17 @@ impl<'a> Reader<'a> {
         self.zones.let_go();
     }
 
+    /// The same with zones that own their values, so that nothing is borrowed.
+    pub(crate) fn into_owned(self, alloc: Global) -> Result<Reader<'static>, AllocError>
+        ensures line { IfOk result (λ owned. owned.line ≡ self.entry.line) }
+        ensures order { IfOk result (λ owned. owned.order ≡ self.entry.order) }
+        ensures zones { IfOk result (λ owned. zoned owned ≡ zoned self.entry) }
+    {
+        let Reader { line, order, zones } = self;
+        let zones = zones.into_owned(alloc)?;
+        Ok(Reader { line, order, zones })
+    }
+
     /// All lines have come.
     pub(crate) fn finish(self) -> Result<Vec<Zone<'a>>, LineFault>
         requires { self.line + 1 < 2 ^ 64 }

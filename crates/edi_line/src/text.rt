@@ -1,6 +1,6 @@
 //! A byte string that owns its memory.
 
-ghost use Rattle.std.specs.Prelude.{◌≡◌, ◌≤◌, nat_eq, refl, length, IfOk, Some};
+ghost use Rattle.std.specs.Prelude.{◌≡◌, ◌+◌, ◌≤◌, nat_eq, refl, length, take, IfOk, Some};
 ghost use Rattle.std.specs.Ordering.{nat_cmp};
 ghost use Rattle.std.specs.Cmp.{partial_equiv_from_equiv};
 ghost use Rattle.std.specs.Cmp.Lexicographic.{pointwise, slice_cmp, nat_list_eq_equiv, nat_list_cmp_total, texts_ties, texts_po};
@@ -74,11 +74,31 @@ fn short(text: &[u8]) -> Bytes
     ensures within { IsWithin result }
 {
     let mut bytes = [0; SHORT];
-    bytes[..text.len()].copy_from_slice(text);
+    match text.len() {
+        0 => {}
+        1 => bytes[0] = text[0],
+        2 | 3 => copy_both_ends(&mut bytes, text, 2),
+        4..=7 => copy_both_ends(&mut bytes, text, 4),
+        _ => copy_both_ends(&mut bytes, text, 8),
+    }
     Bytes::Short {
         len: text.len() as u8,
         bytes,
     }
+}
+
+/// Copies a text by its first bytes and its last ones, so many, which may overlap. Copies of a known size take no call.
+fn copy_both_ends(bytes: &mut [u8; SHORT], text: &[u8], size: usize)
+    requires enough { size ≤ length text.now }
+    requires all { length text.now ≤ size + size }
+    requires room { length text.now ≤ 14 }
+    ensures { take (length text.now) bytes.new ≡ text.now }
+{
+    let len = text.len();
+    let (first, _) = text.split_at(size);
+    let (_, last) = text.split_at(len - size);
+    bytes[..size].copy_from_slice(first);
+    bytes[len - size..len].copy_from_slice(last);
 }
 
 impl PartialEq for Text {
@@ -133,6 +153,18 @@ impl Clone for Text {
     ghost is_clone = { λ t copy. copy ≡ t };
 
     fn clone(&self) -> Result<Text, AllocError> {
-        Text::from_slice(self.alloc, self.as_slice())
+        let bytes = match &self.bytes {
+            Bytes::Short { len, bytes } => Bytes::Short {
+                len: *len,
+                bytes: *bytes,
+            },
+            Bytes::Long(bytes) => {
+                Bytes::Long(Box::new(self.alloc, Vec::from_slice(self.alloc, bytes)?)?)
+            }
+        };
+        Ok(Text {
+            alloc: self.alloc,
+            bytes,
+        })
     }
 }

@@ -1,8 +1,10 @@
 //! Reading a source to its end.
-ghost use Rattle.std.specs.Prelude.{◌≡◌, ◌+◌, ◌≤◌, ◌<◌, ℕ, List, length, IsTrue, IfSome, IfOk, OnOk, IsErrOf, vec_len, false};
+
+ghost use Rattle.std.specs.Prelude.{◌≡◌, ◌+◌, ◌-◌, ◌^◌, ◌≤◌, ◌<◌, ℕ, List, length, IsTrue, IfSome, IfOk, OnOk, IsErrOf, vec_len, false};
 ghost use Rattle.std.specs.Io.KnownBytes.{Consumes, IsAtEnd};
 
-use super::device::{ByteIn, ByteOut};
+use crate::device::ByteIn;
+use crate::file::Pieces;
 use std::alloc::{AllocError, Global};
 use thiserror::Error;
 
@@ -48,6 +50,40 @@ pub fn read_all<R: ByteIn>(alloc: Global, reader: &mut R, limit: u64) -> Result<
                 }
                 bytes
                     .extend_from_slice(&buffer[..count])
+                    .map_err(ReadFault::Memory)?;
+            }
+        }
+    }
+}
+
+/// The bytes that `read_all` gives, in pieces of which each can be let go by itself.
+pub fn read_pieces<R: ByteIn>(
+    alloc: Global,
+    reader: &mut R,
+    limit: u64,
+) -> Result<Pieces, ReadFault>
+    requires { limit < 2 ^ 64 - 1 }
+    ensures all { IfOk result (λ bytes. IfSome (R.contents reader.old) (λ contents. bytes ≡ contents)) }
+    ensures end { OnOk result (IsAtEnd (R.contents reader.new)) }
+    ensures sound { OnOk result (R.has_failed reader.new ≡ false) }
+    ensures bound { IfOk result (λ bytes. length bytes ≤ limit) }
+    ensures failed { IsErrOf result ReadFault.Read → IsTrue (R.has_failed reader.new) }
+    ensures too_long { IsErrOf result ReadFault.TooLong → (came : List ℕ)
+        × Consumes (R.contents reader.old) (R.contents reader.new) came × (limit < length came) }
+    ensures cost { R.reads reader.new ≤ R.reads reader.old + limit + 2 }
+{
+    let mut pieces = Pieces::new(alloc);
+    let mut chunk = [0u8; CHUNK];
+    loop {
+        match reader.read(&mut chunk) {
+            None => return Err(ReadFault::Read),
+            Some(0) => return Ok(pieces),
+            Some(count) => {
+                if limit - pieces.len() < count as u64 {
+                    return Err(ReadFault::TooLong);
+                }
+                pieces = pieces
+                    .with(alloc, &chunk[..count])
                     .map_err(ReadFault::Memory)?;
             }
         }

@@ -1,6 +1,6 @@
 //! A zone of a file.
 
-ghost use Rattle.std.specs.Prelude.{◌≡◌, ◌++◌, OnOk};
+ghost use Rattle.std.specs.Prelude.{◌≡◌, ◌++◌, OnOk, IfOk};
 ghost use Rattle.edi_line.specs.Entry.{entry};
 ghost use Rattle.edi_line.specs.inner.Zones.{with_more};
 
@@ -37,5 +37,29 @@ impl<'a> Zone<'a> {
                 Ok(())
             }
         }
+    }
+
+    /// The same zone, which owns its value.
+    pub(crate) fn into_owned(self, alloc: Global) -> Result<Zone<'static>, AllocError>
+        ensures { IfOk result (λ owned. entry owned ≡ entry self.entry) }
+    {
+        let Zone {
+            line,
+            code,
+            nature,
+            format,
+            value,
+        } = self;
+        let value = match value {
+            CowSlice::Owned(value) => value,
+            CowSlice::Borrowed(value) => Vec::from_slice(alloc, value)?,
+        };
+        Ok(Zone {
+            line,
+            code,
+            nature,
+            format,
+            value: CowSlice::Owned(value),
+        })
     }
 }

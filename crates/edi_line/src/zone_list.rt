@@ -1,6 +1,6 @@
 //! The zones that have begun.
 
-ghost use Rattle.std.specs.Prelude.{◌≡◌, false, [], ◌∷◌, ◌++◌, None, Some, OnOk, option_map, option_to_list};
+ghost use Rattle.std.specs.Prelude.{◌≡◌, false, [], ◌∷◌, ◌++◌, None, Some, OnOk, IfOk, option_map, option_to_list};
 ghost use Rattle.edi_line.specs.Entry.{entry};
 ghost use Rattle.edi_line.specs.Zones.{ends_group as zone_ends_group};
 ghost use Rattle.edi_line.specs.inner.Borrowed.{IsClosed, IsLengthened};
@@ -98,6 +98,20 @@ impl<'a> ZoneList<'a> {
             self.zones.clear();
             self.zones.push_reserved(zone);
         }
+    }
+
+    /// The same zones, each of which owns its value.
+    pub(crate) fn into_owned(self, alloc: Global) -> Result<ZoneList<'static>, AllocError>
+        ensures { IfOk result (λ owned. zoned_list owned ≡ zoned_list self.entry) }
+    {
+        let mut owned = Vec::with_capacity(alloc, self.zones.len())?;
+        for zone in self.zones {
+            owned.push(zone.into_owned(alloc)?)?;
+        }
+        Ok(ZoneList {
+            zones: owned,
+            is_open: self.is_open,
+        })
     }
 
     /// All zones, the open one too.

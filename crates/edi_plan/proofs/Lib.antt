@@ -1,4 +1,3 @@
-pub mod ClassNames
 pub mod Built
 pub mod RecordBlocks
 pub mod RecordLists

@@ -1,10 +1,5 @@
 -- Records in flat lists: a record that is added leaves those before it as they are.
 use Rattle.std.proofs.Common.{◌≡◌, ℕ, zero, suc, ◌+◌, ◌<◌, List, [], ◌∷◌, ◌++◌, length, get_or, refl, sym, ap, ◌∙◌, subst, arith}
-use Rattle.std.specs.List.{slice_range}
-use Rattle.edi_plan.specs.declared.record.PlanAttribute.{PlanAttribute}
-use Rattle.edi_plan.specs.declared.record.PlanEnd.{PlanEnd}
-use Rattle.edi_record.specs.declared.record.Extra.{Extra}
-use Rattle.edi_record.specs.declared.record.Point.{Point}
 use Rattle.edi_plan.specs.declared.record.PlanRecord.{PlanRecord}
 use Rattle.edi_record.specs.declared.sheet_block.Stops.{Stops}
 use Rattle.edi_plan.specs.declared.record_block.Head.{Head}

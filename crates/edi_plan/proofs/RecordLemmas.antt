@@ -1,7 +1,8 @@
 -- The records of a sheet, read in their order.
-use Rattle.std.proofs.Common.{◌≡◌, ℕ, ◌+◌, ◌<◌, ◌≤◌, ◌⊎◌, inl, inr, List, [], ◌∷◌, ◌++◌, zero, suc, add-one, get_or, length, take, drop, flat_map, Option, Some, None, slice_get, refl, sym, ap, ◌∙◌, subst, arith, length-append}
+use Rattle.std.proofs.Common.{◌≡◌, ℕ, ◌+◌, ◌<◌, ◌≤◌, ◌⊎◌, inl, inr, List, [], ◌∷◌, ◌++◌, zero, suc, add-one, get_or, length, take, drop, flat_map, Option, Some, None, slice_get, refl, sym, ap, ◌∙◌, subst, arith}
 use Rattle.std.specs.List.{AllZip}
 use Rattle.std.proofs.lemmas.Bool.{cases_order}
+use Rattle.std.proofs.lemmas.List.{length-drop, drop-drop}
 use Rattle.std.proofs.lemmas.Option.{slice_get_within}
 use Rattle.std.proofs.Math.Seq.{drop-cons}
 use Rattle.edi_record.specs.declared.record.End.{End}
@@ -85,6 +86,24 @@ got_there (q ∷ qs) (suc place) r here = got_there qs place r here
 
 pub cut_at : (list : List Record) (place : ℕ) (r : Record) → slice_get list place ≡ Some r → drop place list ≡ r ∷ drop (place + 1) list
 cut_at list place r here = drop-cons list place r (slice_get_within list place r here) ∙ (λ i. sym (got_there list place r here) i ∷ drop (sym (add-one place) i) list)
+
+-- the records that are left
+
+pub left_there : (list rest : List Record) (place : ℕ) (r : Record) → rest ≡ drop place list → slice_get rest 0 ≡ Some r → slice_get list place ≡ Some r
+left_there list rest place r is first = go list place (ap (λ rs. slice_get rs 0) (sym is) ∙ first)
+  where
+    go : (list : List Record) (place : ℕ) → slice_get (drop place list) 0 ≡ Some r → slice_get list place ≡ Some r
+    go list zero first = first
+    go [] (suc place) first = first
+    go (q ∷ qs) (suc place) first = go qs place first
+
+pub none_left : (list rest : List Record) (place : ℕ) → rest ≡ drop place list → place ≤ length list → rest ≡ [] → place ≡ length list
+none_left list rest place is within none = let long = sym (length-drop place list) ∙ ap length (sym is ∙ none) in omega (arith, within, long)
+
+pub one_left_less : (list rest new : List Record) (place : ℕ) → rest ≡ drop place list → new ≡ drop 1 rest → new ≡ drop (place + 1) list
+one_left_less list rest new place is next = next ∙ (ap (drop 1) is ∙ drop-drop 1 place list)
+
+-- whether the next record repeats a name
 
 pub fresh_at : (list : List Record) (place : ℕ) (repeat : Option ℕ) → IsFirstRepeatIfAny list repeat → ((k : ℕ) → repeat ≡ Some k → place ≤ k) → (repeat ≡ Some place → ⊥) → ¬ (RepeatsAt list place)
 fresh_at list place None none ahead other = none place

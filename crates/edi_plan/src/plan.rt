@@ -56,7 +56,7 @@ impl Plan {
     {
         let Sheet { cse, list } = sheet;
         let references = References::among(alloc, &list)?;
-        let planned = plan_records(alloc, schema, &references, &list)?;
+        let planned = plan_records(alloc, schema, &references, list)?;
         let places = Places::among(alloc, &planned.list)?;
         Ok(Plan {
             cse,

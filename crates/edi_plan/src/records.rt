@@ -10,7 +10,7 @@ ghost use Rattle.edi_plan.specs.inner.Done.{IsDone};
 ghost use Rattle.edi_plan.specs.PlanOf.{StatesPlanRecord};
 ghost use Rattle.edi_record.specs.RecordRefusal.{IsRecordRefusal};
 ghost use Rattle.edi_plan.specs.ReferenceRules.{BreaksReferenceRule};
-ghost use Rattle.edi_plan.specs.inner.Resolving.{IsClassOfName, is_elsewhere, leaves, reference_tests, role_of_link, AreGiven, Gives, AreReferences, IsPlanned, IsUnresolved, LacksClass, Resolves};
+ghost use Rattle.edi_plan.specs.inner.Resolving.{is_elsewhere, leaves, reference_tests, role_of_link, AreGiven, Gives, AreReferences, IsPlanned, IsUnresolved, LacksClass, Resolves};
 ghost use Rattle.edi_plan.specs.inner.SideTable.{link_join, HaveEntries, IsNoted};
 ghost use Rattle.edi_plan.specs.inner.RecordLists.{records_of, AreWithin};
 
@@ -24,7 +24,7 @@ use crate::spare_parts::SpareParts;
 use crate::targets::Target;
 use edi_line::{Num, Text};
 use edi_record::{Attribute, End, Extra, Name, RecordRef, SheetRecords, Value};
-use edi_schema::{ByRole, ClassRef, Schema};
+use edi_schema::{ByRole, ClassFinder, ClassRef, Schema};
 use std::alloc::{AllocError, Global};
 
 /// A number where the text may be one and is one, and its bytes elsewhere.
@@ -169,18 +169,6 @@ fn leaves_subset(subset: &Option<Subset>, ends: &[End]) -> bool
     }
 }
 
-/// The class of a name, where that of the record before, if it has one, is known. Records of one class mostly follow one another.
-fn class_of(schema: &Schema, last: Option<ClassRef>, name: &Name) -> Option<ClassRef>
-    requires { IsClassOfName schema.now last }
-    ensures class { result ≡ place_of schema.now name.now }
-    ensures within { IfSome result (λ class. class < length schema.now) }
-{
-    match last {
-        Some(class) if schema.name(class) == name => last,
-        _ => schema.class(name),
-    }
-}
-
 /// The record in the plan, whose class is known if the schema has it; or the least of the rules 302 to 307 that the record breaks.
 /// What a link joins is noted.
 fn plan_record<'a>(
@@ -251,33 +239,33 @@ pub(crate) struct Planned {
     pub(crate) sides: Vec<ByRole<Option<u32>>>,
 }
 
-/// The records in the plan; or the first that breaks a rule of references, and the least rule there.
+/// The records in the plan; or the first that breaks a rule of references, and the least rule there. The records are let go on the way.
 pub(crate) fn plan_records(
     alloc: Global,
     schema: &Schema,
     references: &References,
-    records: &SheetRecords,
+    records: SheetRecords,
 ) -> Result<Planned, RefFault>
-    requires few { length records.now ≤ most_records }
-    requires references { AreReferences records.now references.now }
+    requires few { length records ≤ most_records }
+    requires references { AreReferences records references.now }
     ensures within { IfOk result (λ p. AreWithin p.list) }
-    ensures each { IfOk result (λ p. AllZip (StatesPlanRecord schema.now records.now) records.now (records_of p.list)) }
-    ensures sides { IfOk result (λ p. IsDone schema.now records.now (length records.now) p.sides.items) }
-    ensures least { IfErr result (IsRecordRefusal (BreaksReferenceRule schema.now records.now)) }
+    ensures each { IfOk result (λ p. AllZip (StatesPlanRecord schema.now records) records (records_of p.list)) }
+    ensures sides { IfOk result (λ p. IsDone schema.now records (length records) p.sides.items) }
+    ensures least { IfErr result (IsRecordRefusal (BreaksReferenceRule schema.now records)) }
 {
     let mut list = RecordList::with_capacity(alloc, records.len())?;
     let mut sides = without_links(alloc, records.len())?;
     let mut targets = references.targets.as_slice();
-    let mut last: Option<ClassRef> = None;
+    let mut classes = ClassFinder::new(schema);
     let mut spare = SpareParts::new(alloc);
-    for place in 0..records.len() {
+    let mut rest = records.into_rest();
+    let mut place = 0;
+    while let Some(record) = rest.first() {
         if is_place(references.repeat, place) {
             return Err(broken(301, place));
         }
-        let record = records.record(place);
-        let (own, rest) = targets.split_at(record.ends().len());
-        let class = class_of(schema, last, record.scp());
-        last = class;
+        let (own, later) = targets.split_at(record.ends().len());
+        let class = classes.class(record.scp());
         match plan_record(
             schema,
             &references.subset,
@@ -291,7 +279,9 @@ pub(crate) fn plan_records(
             Err(Unresolved::Memory(error)) => return Err(RefFault::Memory(error)),
             Err(Unresolved::Broken(rule)) => return Err(broken(rule, place)),
         }
-        targets = rest;
+        targets = later;
+        rest.advance();
+        place += 1;
     }
     Ok(Planned { list, sides })
 }

@@ -17,7 +17,7 @@ get_right [] ys k later = ap (slice_get ys) (omega arith)
 get_right (x ∷ xs) ys zero later = absurd (omega (arith, later))
 get_right (x ∷ xs) ys (suc k) later = get_right xs ys k (omega (arith, later)) ∙ ap (slice_get ys) (omega arith)
 
-pub full_long : (blocks : List SheetBlock) → AllByRecursion IsFull blocks → length (flat_map records_in blocks) ≡ length blocks * 4096
+pub full_long : (blocks : List SheetBlock) → AllByRecursion IsFull blocks → length (flat_map records_in blocks) ≡ length blocks * 256
 full_long [] all = refl
 full_long (b ∷ bs) all =
     let more = full_long bs all.1 in
@@ -34,33 +34,33 @@ full_added [] b all one = (one, tt)
 full_added (x ∷ bs) b all one = (all.0, full_added bs b all.1 one)
 
 -- the record at a place in a closed block
-in_full : (blocks : List SheetBlock) (rest : List Record) (k : ℕ) (d : SheetBlock) → AllByRecursion IsFull blocks → k / 4096 < length blocks
-    → slice_get (flat_map records_in blocks ++ rest) k ≡ slice_get (records_in (get_or blocks (k / 4096) d)) (k % 4096)
+in_full : (blocks : List SheetBlock) (rest : List Record) (k : ℕ) (d : SheetBlock) → AllByRecursion IsFull blocks → k / 256 < length blocks
+    → slice_get (flat_map records_in blocks ++ rest) k ≡ slice_get (records_in (get_or blocks (k / 256) d)) (k % 256)
 in_full [] rest k d all less = absurd (omega (arith, less))
-in_full (b ∷ bs) rest k d all less = go (k / 4096) refl less (λ j within. in_full bs rest j d all.1 within)
+in_full (b ∷ bs) rest k d all less = go (k / 256) refl less (λ j within. in_full bs rest j d all.1 within)
   where
-    long : length (records_in b) ≡ 4096
+    long : length (records_in b) ≡ 256
     long = all.0.long
 
     joined : flat_map records_in (b ∷ bs) ++ rest ≡ records_in b ++ (flat_map records_in bs ++ rest)
     joined = append_assoc (records_in b) (flat_map records_in bs) rest
 
-    go : (n : ℕ) → k / 4096 ≡ n → n < length (b ∷ bs)
-        → ((j : ℕ) → j / 4096 < length bs → slice_get (flat_map records_in bs ++ rest) j ≡ slice_get (records_in (get_or bs (j / 4096) d)) (j % 4096))
-        → slice_get (flat_map records_in (b ∷ bs) ++ rest) k ≡ slice_get (records_in (get_or (b ∷ bs) n d)) (k % 4096)
+    go : (n : ℕ) → k / 256 ≡ n → n < length (b ∷ bs)
+        → ((j : ℕ) → j / 256 < length bs → slice_get (flat_map records_in bs ++ rest) j ≡ slice_get (records_in (get_or bs (j / 256) d)) (j % 256))
+        → slice_get (flat_map records_in (b ∷ bs) ++ rest) k ≡ slice_get (records_in (get_or (b ∷ bs) n d)) (k % 256)
     go zero e less more =
         let here : k < length (records_in b) = omega (arith, e, long) in
-        let same : k ≡ k % 4096 = omega (arith, e) in
+        let same : k ≡ k % 256 = omega (arith, e) in
         ap (λ xs. slice_get xs k) joined ∙ (get_left (records_in b) (flat_map records_in bs ++ rest) k here ∙ ap (slice_get (records_in b)) same)
     go (suc n) e less more =
-        let later : 4096 ≤ k = omega (arith, e) in
-        let place : (k - 4096) / 4096 ≡ n = omega (arith, e) in
-        let same : (k - 4096) % 4096 ≡ k % 4096 = omega (arith, later) in
+        let later : 256 ≤ k = omega (arith, e) in
+        let place : (k - 256) / 256 ≡ n = omega (arith, e) in
+        let same : (k - 256) % 256 ≡ k % 256 = omega (arith, later) in
         ap (λ xs. slice_get xs k) joined ∙ (get_right (records_in b) (flat_map records_in bs ++ rest) k (omega (arith, later, long))
         ∙ (ap (λ n. slice_get (flat_map records_in bs ++ rest) (k - n)) long
-        ∙ (more (k - 4096) (omega (arith, place, less)) ∙ λ i. slice_get (records_in (get_or bs (place i) d)) (same i))))
+        ∙ (more (k - 256) (omega (arith, place, less)) ∙ λ i. slice_get (records_in (get_or bs (place i) d)) (same i))))
 
-pub list_long : (list : SheetBlocks) → AreWithin list → length (records_of list) ≡ length list.closed.items * 4096 + length (records_in list.last)
+pub list_long : (list : SheetBlocks) → AreWithin list → length (records_of list) ≡ length list.closed.items * 256 + length (records_in list.last)
 unfolding records_of
 list_long list within =
     let both = length-append (flat_map records_in list.closed.items) (records_in list.last) in
@@ -68,25 +68,25 @@ list_long list within =
     omega (arith, both, closed)
 
 module _ (list : SheetBlocks) (within : AreWithin list) (place : ℕ) where
-  module _ (b : SheetBlock) (less : place / 4096 < length list.closed.items) (is : b ≡ get_or list.closed.items (place / 4096) b) where
+  module _ (b : SheetBlock) (less : place / 256 < length list.closed.items) (is : b ≡ get_or list.closed.items (place / 256) b) where
     pub closed_full : IsFull b
-    closed_full = full_at list.closed.items (place / 4096) b within.closed.full less is
+    closed_full = full_at list.closed.items (place / 256) b within.closed.full less is
 
-    pub closed_there : place % 4096 < length (records_in b)
+    pub closed_there : place % 256 < length (records_in b)
     closed_there = omega (arith, closed_full.long)
 
-    pub closed_same : (r : Record) → slice_get (records_in b) (place % 4096) ≡ Some r → slice_get (records_of list) place ≡ Some r
+    pub closed_same : (r : Record) → slice_get (records_in b) (place % 256) ≡ Some r → slice_get (records_of list) place ≡ Some r
     unfolding records_of
-    closed_same r found = in_full list.closed.items (records_in list.last) place b within.closed.full less ∙ (ap (λ (c : SheetBlock). slice_get (records_in c) (place % 4096)) (sym is) ∙ found)
+    closed_same r found = in_full list.closed.items (records_in list.last) place b within.closed.full less ∙ (ap (λ (c : SheetBlock). slice_get (records_in c) (place % 256)) (sym is) ∙ found)
 
-  module _ (there : place < length (records_of list)) (later : length list.closed.items ≤ place / 4096) where
-    at_last : place - length list.closed.items * 4096 ≡ place % 4096
+  module _ (there : place < length (records_of list)) (later : length list.closed.items ≤ place / 256) where
+    at_last : place - length list.closed.items * 256 ≡ place % 256
     at_last = let long = list_long list within in omega (arith, long, within.short, there, later)
 
-    pub last_there : place % 4096 < length (records_in list.last)
+    pub last_there : place % 256 < length (records_in list.last)
     last_there = let long = list_long list within in let at = at_last in omega (arith, long, there, at, later)
 
-    pub last_same : (r : Record) → slice_get (records_in list.last) (place % 4096) ≡ Some r → slice_get (records_of list) place ≡ Some r
+    pub last_same : (r : Record) → slice_get (records_in list.last) (place % 256) ≡ Some r → slice_get (records_of list) place ≡ Some r
     unfolding records_of
     last_same r found =
         let long = full_long list.closed.items within.closed.full in

@@ -29,4 +29,5 @@ pub mod ValueOrder
 pub mod KindOrder
 pub mod SheetBlocks
 pub mod BlockLists
+pub mod GoneThrough
 pub mod StatedAt

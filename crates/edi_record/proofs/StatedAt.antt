@@ -1,5 +1,5 @@
 -- The record at a place.
-use Rattle.std.proofs.Common.{◌≡◌, ℕ, zero, suc, ◌<◌, List, [], ◌∷◌, length, Some, slice_get, refl, sym, arith}
+use Rattle.std.proofs.Common.{◌≡◌, ℕ, zero, suc, ◌<◌, List, [], ◌∷◌, length, Some, slice_get, refl, arith}
 use Rattle.edi_record.specs.Shapes.{stated_at}
 use Rattle.edi_record.specs.declared.record.Record.{Record}
 

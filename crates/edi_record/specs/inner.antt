@@ -8,3 +8,4 @@ pub mod Lists
 pub mod Shapes
 pub mod SheetBlocks
 pub mod BlockLists
+pub mod SheetRest

@@ -23,12 +23,13 @@ pub mod sheet;
 pub mod sheet_block;
 mod sheet_blocks;
 pub mod sheet_records;
+pub mod sheet_rest;
 mod spare_lists;
 mod stating;
 
 pub use fault::{RecordFault, SheetFault};
 pub use groups::{first_value, group_here, lacks_identifier};
-pub use list::{KeepNothing, read_sheet, read_sheet_beside};
+pub use list::{KeepNothing, read_sheet, read_sheet_beside, read_sheet_from};
 pub use name::Name;
 pub use pointer::{Pointer, texts_are_unique};
 pub use reading::{
@@ -41,3 +42,4 @@ pub use record_ref::RecordRef;
 pub use sheet::Sheet;
 pub use sheet_block::Stops;
 pub use sheet_records::SheetRecords;
+pub use sheet_rest::SheetRest;

@@ -2,6 +2,7 @@
 
 ghost use Rattle.std.specs.Prelude.{◌≡◌, ℕ, List, [], IfOk, IfErr, OnOk, ⊤};
 ghost use Rattle.edi_line.specs.Entry.{Entry};
+ghost use Rattle.edi_line.specs.FileBytes.{file_bytes};
 ghost use Rattle.edi_line.specs.LineRules.{BreaksLineRule, IsZonesOf};
 ghost use Rattle.edi_line.specs.Refusal.{IsUnbroken};
 ghost use Rattle.edi_record.specs.RecordRefusal.{IsSheetRefusal};
@@ -15,8 +16,9 @@ use crate::sheet::Sheet;
 use crate::sheet_records::SheetRecords;
 use crate::spare_lists::SpareLists;
 use crate::stating::record_of;
-use edi_line::{GroupOut, Zone, read_groups};
+use edi_line::{FileBytes, GroupOut, Zone, read_groups_from};
 use std::alloc::{AllocError, Global};
+use std::borrow::CowSlice;
 use std::mem;
 
 /// The records of the zones that have come, until one breaks a rule, which is then the fault.
@@ -108,6 +110,22 @@ pub fn read_sheet_beside<O: GroupOut + Drop>(
     ensures records { OnOk result ((zones : List Entry) → IsZonesOf bytes.now zones → IsUnbroken (BreaksRecordRule zones)) }
     ensures refusal { IfErr result (IsSheetRefusal bytes.now) }
 {
+    read_sheet_from(alloc, FileBytes::Whole(CowSlice::Borrowed(bytes)), other)
+}
+
+/// What `read_sheet_beside` gives of a file that is let go as it is read: at once at the end of its lines, or piece by piece.
+pub fn read_sheet_from<O: GroupOut + Drop>(
+    alloc: Global,
+    file: FileBytes<'_>,
+    other: O,
+) -> Result<(Sheet, O), SheetFault>
+    requires none_taken { O.Holds other [] }
+    ensures sheet { IfOk result (λ read. (zones : List Entry) × IsZonesOf (file_bytes file.entry) zones × StatesSheet zones read.0) }
+    ensures other { IfOk result (λ read. HasTakenAll (file_bytes file.entry) (O.Holds read.1)) }
+    ensures lines { OnOk result (IsUnbroken (BreaksLineRule (file_bytes file.entry))) }
+    ensures records { OnOk result ((zones : List Entry) → IsZonesOf (file_bytes file.entry) zones → IsUnbroken (BreaksRecordRule zones)) }
+    ensures refusal { IfErr result (IsSheetRefusal (file_bytes file.entry)) }
+{
     let mut both = RecordsAndOther {
         records: RecordsUntilFault {
             list: SheetRecords::new(alloc),
@@ -116,7 +134,7 @@ pub fn read_sheet_beside<O: GroupOut + Drop>(
         },
         other,
     };
-    let cse = read_groups(alloc, bytes, &mut both)?;
+    let cse = read_groups_from(alloc, file, &mut both)?;
     let RecordsAndOther { records, other } = both;
     let RecordsUntilFault { list, fault, .. } = records;
     match fault {

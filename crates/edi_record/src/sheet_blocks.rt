@@ -12,7 +12,7 @@ use crate::spare_lists::SpareLists;
 use std::alloc::{AllocError, Global};
 
 // How many records a closed block has.
-const BLOCK: usize = 4096;
+const BLOCK: usize = 256;
 
 // How many closed blocks there may be, so that the number of records is no overflow.
 const MOST_BLOCKS: usize = u32::MAX as usize;
@@ -43,7 +43,7 @@ impl SheetBlocks {
     #[tactic(auto, unfolding(crate::specs::inner::BlockLists::records_of))]
     fn close_last(&mut self) -> Result<(), AllocError>
         requires within { AreWithin self.old }
-        requires full { length (records_in self.old.last) ≡ 4096 }
+        requires full { length (records_in self.old.last) ≡ 256 }
         ensures records { records_of self.new ≡ records_of self.old }
         ensures within { AreWithin self.new }
         ensures none { OnOk result (records_in self.new.last ≡ []) }
@@ -85,8 +85,8 @@ impl SheetBlocks {
         requires within { AreWithin self.now }
         requires there { place < length (records_of self.now) }
         ensures parts { AreParts result.now no_stops result.now.heads.items }
-        ensures there { place % 4096 < length (records_in result.now) }
-        ensures same { stated_at (records_of self.now) place ≡ stated_at (records_in result.now) (place % 4096) }
+        ensures there { place % 256 < length (records_in result.now) }
+        ensures same { stated_at (records_of self.now) place ≡ stated_at (records_in result.now) (place % 256) }
     {
         let at = place / BLOCK;
         if at < self.closed.len() {

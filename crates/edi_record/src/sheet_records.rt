@@ -6,6 +6,7 @@ ghost use Rattle.edi_record.specs.Shapes.{stated_at};
 use crate::record::{End, Kind, Record};
 use crate::record_ref::RecordRef;
 use crate::sheet_blocks::SheetBlocks;
+use crate::sheet_rest::SheetRest;
 use crate::spare_lists::SpareLists;
 use std::alloc::{AllocError, Global};
 use std::marker::Model;
@@ -100,6 +101,13 @@ impl SheetRecords {
         ensures { result.now ≡ (stated_at self.now place).ends }
     {
         self.blocks.ends(place)
+    }
+
+    /// The records, to be gone through once and let go on the way.
+    pub fn into_rest(self) -> SheetRest
+        ensures { result ≡ self }
+    {
+        SheetRest::new(self.blocks)
     }
 
     /// The records, each with memory of its own.

@@ -29,10 +29,10 @@ module _ {X : Type 0} (p : X → Bool) where
       go true false below above over under = let l : n < m = below refl in let g : suc m ≤ suc n = under refl in absurd (omega (arith, l, g))
       go false true below above over under = let l : m ≤ n = above refl in let g : suc n < suc m = over refl in absurd (omega (arith, l, g))
 
-  position-here : (x : X) (xs : List X) → p x ≡ true → position p (x ∷ xs) ≡ Some 0
+  pub position-here : (x : X) (xs : List X) → p x ≡ true → position p (x ∷ xs) ≡ Some 0
   position-here x xs e = rw e (rw (lt-ltb 0 (suc (length xs)) (omega arith)) refl)
 
-  position-later : (x : X) (xs : List X) → p x ≡ false → position p (x ∷ xs) ≡ option_map suc (position p xs)
+  pub position-later : (x : X) (xs : List X) → p x ≡ false → position p (x ∷ xs) ≡ option_map suc (position p xs)
   position-later x xs e = rw (e, one-add) (stepped (position_or_len p xs) (length xs))
 
   no_suc : (o : Option ℕ) → option_map suc o ≡ None → o ≡ None

@@ -3,6 +3,7 @@
 
 pub mod by_role;
 pub mod class;
+pub mod class_finder;
 mod definition;
 mod draft;
 pub mod fault;
@@ -17,6 +18,7 @@ mod titles;
 
 pub use by_role::ByRole;
 pub use class::{Class, ClassRef};
+pub use class_finder::ClassFinder;
 pub use fault::{SchemaFault, Source};
 pub use kinds::Kinds;
 pub use role::Role;

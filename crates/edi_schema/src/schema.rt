@@ -1,4 +1,4 @@
-ghost use Rattle.std.specs.Prelude.{◌≡◌, ◌<◌, ◌≤◌, length, map, Some, option_map, IfOk, IfErr, IfSome, OnOk};
+ghost use Rattle.std.specs.Prelude.{◌≡◌, ◌<◌, ◌≤◌, true, length, map, Some, option_map, IfOk, IfErr, IfSome, OnOk};
 ghost use Rattle.edi_line.specs.Bytes.{most_records};
 ghost use Rattle.edi_line.specs.Entry.{entries};
 ghost use Rattle.edi_line.specs.LineRules.{IsZonesOf, BreaksLineRule};
@@ -141,6 +141,27 @@ impl Schema {
     {
         let place = self.classes.get_index_of(name)?;
         Some(ClassRef::at(place as u32))
+    }
+
+    /// The class with a name, which is looked for at this place first.
+    pub(crate) fn class_near(&self, near: u32, name: &Name) -> Option<ClassRef>
+        ensures class { result ≡ place_of self.now name.now }
+        ensures within { IfSome result (λ class. class < length self.now) }
+    {
+        if self.has_name(near, name) {
+            Some(ClassRef::at(near))
+        } else {
+            self.class(name)
+        }
+    }
+
+    /// Whether there is a class at this place that has this name.
+    fn has_name(&self, place: u32, name: &Name) -> bool
+        ensures class { result ≡ true → place_of self.now name.now ≡ Some place }
+        ensures within { result ≡ true → place < length self.now }
+    {
+        self.keeps();
+        (place as usize) < self.classes.len() && self.name(ClassRef::at(place)) == name
     }
 
     /// The type and the identifier of a class of this schema.

@@ -1,5 +1,5 @@
 -- The records that are written of a plan, and what is read of them.
-use Rattle.std.proofs.Common.{Less, ◌≡◌, ℕ, zero, suc, ◌+◌, ◌<◌, ℤ, Bool, true, false, cond, true≢false, List, [], ◌∷◌, ◌++◌, length, map, append-nil, Option, Some, None, option_map, unwrap_or, slice_get, get_or, nat_eq, position, refl, sym, ap, ap₂, ◌∙◌, subst, arith, nat_lt, eqb-true}
+use Rattle.std.proofs.Common.{◌≡◌, ℕ, zero, suc, ◌+◌, ◌<◌, ℤ, Bool, true, false, cond, true≢false, List, [], ◌∷◌, ◌++◌, length, map, append-nil, Option, Some, None, option_map, unwrap_or, slice_get, get_or, nat_eq, position, refl, sym, ap, ap₂, ◌∙◌, subst, arith, nat_lt, eqb-true}
 use Rattle.std.specs.Prelude.{codes, decimal, flat_map, option_to_list}
 use Rattle.std.specs.List.{AllByRecursion, AllZip, position_or_len}
 use Rattle.std.specs.Map.{keys_of}
@@ -27,11 +27,10 @@ use Rattle.edi_record.specs.declared.record.Value.{Value}
 use Rattle.edi_record.specs.declared.record.Value.TheVariants.{Number, Bytes}
 use Rattle.edi_record.specs.declared.sheet.Sheet.{Sheet}
 use Rattle.edi_record.proofs.Stated.{own_again}
-use Rattle.edi_schema.specs.Classes.{Classes, IsSchema, is_name, name_cmp, place_of, is_number_of}
-use Rattle.edi_schema.specs.Sorted.{AlwaysRises}
+use Rattle.edi_schema.specs.Classes.{Classes, IsSchema, is_name, place_of, is_number_of}
 use Rattle.edi_schema.specs.declared.class.Class.{Class}
-use Rattle.edi_schema.proofs.Names.{name_itself, other_name}
-use Rattle.edi_schema.proofs.Ordered.{all_at}
+use Rattle.edi_schema.proofs.InPlace.{found_in_place}
+use Rattle.edi_schema.proofs.Names.{name_itself}
 use Rattle.edi_plan.specs.Agreeing.{AttributeAgrees, RecordAgrees, Agrees}
 use Rattle.edi_plan.specs.PlanOf.{IsPlanOf, StatesPlanAttribute, StatesPlanEnd, StatesPlanRecord, own_name, place_named}
 use Rattle.edi_plan.specs.Plans.{Drawing, IsPlace, record_at, blank}
@@ -52,14 +51,6 @@ keys_length : (s : Classes) → length (keys_of s) ≡ length s
 keys_length [] = refl
 keys_length (e ∷ es) = ap suc (keys_length es)
 
-first_place : (names : List Name) → AlwaysRises name_cmp names → (k : ℕ) (n : Name) → slice_get names k ≡ Some n → position_or_len (is_name n) names ≡ k
-first_place [] up k n h = absurd (none-some n h)
-first_place (x ∷ xs) up zero n h = let same : is_name n x ≡ true = subst (λ m. is_name n m ≡ true) (sym (same_Some x n h)) (name_itself n) in rw same refl
-first_place (x ∷ xs) up (suc k) n h =
-    let other : is_name n x ≡ false = other_name x n (all_at (λ y. name_cmp x y ≡ Less) xs up.0 k n h) in
-    let more = first_place xs up.1 k n h in
-    rw other (omega (arith, more))
-
 position_is : {X : Type 0} (test : X → Bool) (xs : List X) (k : ℕ) → position_or_len test xs ≡ k → k < length xs → position test xs ≡ Some k
 position_is test xs k e h =
     let less : nat_lt (position_or_len test xs) (length xs) ≡ true = lt-ltb _ _ (omega (arith, e, h)) in
@@ -71,7 +62,7 @@ name_there s c h =
     there ∙ ap Some (sym (ap (λ o. unwrap_or o no_name) there))
 
 pub place_there : (s : Classes) → IsSchema s → (c : ℕ) → c < length s → place_of s (class_name_of s c) ≡ Some c
-place_there s keeps c h = position_is (is_name (class_name_of s c)) (keys_of s) c (first_place (keys_of s) keeps.in_order c (class_name_of s c) (name_there s c h)) (omega (arith, h, keys_length s))
+place_there s keeps c h = found_in_place s keeps c (class_name_of s c) (name_there s c h)
 
 letter_there : (s : Classes) → IsSchema s → (c : ℕ) → c < length s → (letters s).letter (class_name_of s c) ≡ class_letter_of s c
 letter_there s keeps c h = ap (λ o. unwrap_or (option_map (λ (x : Class). x.letter) o) 65) (named_at s (class_name_of s c) c (place_there s keeps c h)).1

@@ -1,11 +1,10 @@
 -- What a record is in a plan, and what keeps it from one.
-use Rattle.std.specs.Prelude.{◌≡◌, ◌≢◌, ◌⊎◌, ℕ, Bool, false, not, ◌||◌, List, [], ◌∷◌, flat_map, Option, None, Some, is_none, IfSome, option_map, unwrap_or, codes, ⊤, if◌then◌else◌}
+use Rattle.std.specs.Prelude.{◌≡◌, ◌≢◌, ◌⊎◌, ℕ, Bool, false, not, ◌||◌, List, [], ◌∷◌, flat_map, Option, None, Some, is_none, option_map, unwrap_or, codes, ⊤, if◌then◌else◌}
 use Rattle.std.specs.Str.{bytes_eq}
 use Rattle.std.specs.List.{AllZip, list_any}
 use Rattle.edi_line.specs.Refusal.{Test, test}
 use Rattle.edi_record.specs.declared.record.Attribute.{Attribute}
 use Rattle.edi_record.specs.declared.record.End.{End}
-use Rattle.edi_record.specs.declared.name.Name.{Name}
 use Rattle.edi_record.specs.declared.record.Record.{Record}
 use Rattle.edi_schema.specs.Classes.{Classes, place_of, role_named}
 use Rattle.edi_schema.specs.declared.role.Role.{Role}
@@ -25,10 +24,6 @@ use Rattle.edi_plan.specs.declared.references.References.{References}
 use Rattle.edi_plan.specs.declared.references.Subset.{Subset}
 use Rattle.edi_schema.specs.declared.by_role.ByRole.{ByRole}
 use Rattle.edi_plan.specs.declared.targets.Target.{Target}
-
--- a class, if it is one, is that of some name
-abbrev pub IsClassOfName : Classes → Option ℕ → Type 0
-IsClassOfName s class = IfSome class (λ c. (name : Name) × (place_of s name ≡ Some c))
 
 -- a fault other than want of memory names such a rule
 abbrev pub IsUnresolved : (ℕ → Type 0) → Unresolved → Type 0

@@ -12,7 +12,7 @@ records_of list = flat_map records_in list.closed.items ++ records_in list.last
 
 -- a closed block
 pub record IsFull (block : SheetBlock) : Type 0 where
-  pub long : length (records_in block) ≡ 4096
+  pub long : length (records_in block) ≡ 256
   pub parts : AreParts block no_stops block.heads.items
 
 -- closed blocks, of which there are so few that their records can be counted
@@ -24,4 +24,4 @@ pub record AreClosed (blocks : List SheetBlock) : Type 0 where
 pub record AreWithin (list : SheetBlocks) : Type 0 where
   pub closed : AreClosed list.closed.items
   pub parts : AreParts list.last no_stops list.last.heads.items
-  pub short : length (records_in list.last) ≤ 4096
+  pub short : length (records_in list.last) ≤ 256

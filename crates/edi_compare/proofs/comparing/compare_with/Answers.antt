@@ -1,5 +1,5 @@
 use Rattle.std.proofs.Common.{ℕ, List, sym, subst}
-use Rattle.std.specs.Cow.{cow_slice_items}
+use Rattle.edi_line.specs.FileBytes.{file_bytes}
 use Rattle.edi_compare.specs.inner.Forms.{IsPlanForm}
 use Rattle.edi_compare.proofs.Compared.{verdict_on_files}
 use Rattle.edi_compare.proofs.comparing.compare_with.Goals as goal
@@ -9,6 +9,6 @@ returns-clause-verdict c a p states untouched =
     let s = c.args.schema.now in
     let form = c.in-Ok.form in
     let q = form.labelled.sound in
-    verdict_on_files s a (cow_slice_items c.args.b) p q states c.in-Ok.ensures.form.plan c.in_ok-verdict_of.field-0
+    verdict_on_files s a (file_bytes c.args.b) p q states c.in-Ok.ensures.form.plan c.in_ok-verdict_of.field-0
     (c.in_ok-verdict_of.ensures p q untouched
     (subst (λ (file : List ℕ). IsPlanForm s q form.labelled.labels file) (sym c.deref.ensures.value) c.in-Ok.ensures.form.plan_form))

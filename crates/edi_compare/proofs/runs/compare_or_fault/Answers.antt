@@ -1,4 +1,4 @@
-use Rattle.std.specs.Cow.{cow_slice_items}
+use Rattle.edi_line.specs.FileBytes.{file_bytes}
 use Rattle.edi_compare.specs.Faults.{of_pair}
 use Rattle.edi_compare.specs.inner.Runs.{PairFault}
 use Rattle.edi_compare.proofs.PairFaults.{pair_fault}
@@ -8,7 +8,7 @@ use Rattle.edi_compare.proofs.runs.compare_or_fault.Goals as goal
 pub returns-in_err-verdict-clause-err : goal.returns-in_err-verdict-clause-err
 returns-in_err-verdict-clause-err c =
     let f = c.in_err-verdict.field-0.0 in
-    let a = cow_slice_items c.args.first in
-    let b = cow_slice_items c.args.second in
+    let a = file_bytes c.args.first in
+    let b = file_bytes c.args.second in
     err_kept _ (of_pair f) (PairFault c.args.kinds.now c.args.scd.now c.args.dic.now a b) c.from_residual-in_err-verdict.ensures.1
     (pair_fault c.args.kinds.now c.args.scd.now c.args.dic.now a b c.in_ok-schema.schema f c.in_ok-schema.ensures.ok c.in_err-verdict.ensures.refusal)

@@ -1,5 +1,5 @@
 use Rattle.std.proofs.Common.{alloc_error, refl}
-use Rattle.std.specs.Cow.{cow_slice_items}
+use Rattle.edi_line.specs.FileBytes.{file_bytes}
 use Rattle.edi_compare.proofs.Refusals.{err_kept}
 use Rattle.edi_compare.specs.Refused.{IsPairRefusal}
 use Rattle.edi_compare.specs.declared.fault.CompareFault.TheVariants.{Memory}
@@ -8,49 +8,49 @@ use Rattle.edi_diff.proofs.differing.find_differences.Goals as goal
 
 pub differences-requires-clause-first : goal.differences-requires-clause-first
 differences-requires-clause-first c =
-    let a = cow_slice_items c.args.a in
+    let a = file_bytes c.args.a in
     let here = located c.args.schema.now a c.in-Ok.sheet.accepted c.in_ok-first.first c.in_ok-first.ensures.accepted c.in-Ok.ensures.plan (c.in_ok-first.ensures.sites a c.in-Ok.ensures.sites) in
     (a, c.in-Ok.ensures.accepted, here.0.plan)
 
 pub differences-requires-clause-second : goal.differences-requires-clause-second
 differences-requires-clause-second c =
-    let b = cow_slice_items c.args.b in
+    let b = file_bytes c.args.b in
     let other = c.in-Ok-locate_packed in
     let there = located c.args.schema.now b other.sheet.accepted c.in_ok-second.second c.in_ok-second.ensures.accepted other.ensures.plan (c.in_ok-second.ensures.sites b other.ensures.sites) in
     (b, other.ensures.accepted, there.0.plan)
 
 pub changes_with_text-requires-clause-first_sites : goal.changes_with_text-requires-clause-first_sites
 changes_with_text-requires-clause-first_sites c =
-    let a = cow_slice_items c.args.a in
+    let a = file_bytes c.args.a in
     let here = located c.args.schema.now a c.in-Ok.sheet.accepted c.in_ok-first.first c.in_ok-first.ensures.accepted c.in-Ok.ensures.plan (c.in_ok-first.ensures.sites a c.in-Ok.ensures.sites) in
     here.1
 
 pub changes_with_text-requires-clause-second_sites : goal.changes_with_text-requires-clause-second_sites
 changes_with_text-requires-clause-second_sites c =
-    let b = cow_slice_items c.args.b in
+    let b = file_bytes c.args.b in
     let other = c.in-Ok-locate_packed in
     let there = located c.args.schema.now b other.sheet.accepted c.in_ok-second.second c.in_ok-second.ensures.accepted other.ensures.plan (c.in_ok-second.ensures.sites b other.ensures.sites) in
     there.1
 
 pub returns-in_err-first-clause-refusal : goal.returns-in_err-first-clause-refusal
-returns-in_err-first-clause-refusal c = err_kept _ (Memory alloc_error) (IsPairRefusal c.args.schema.now (cow_slice_items c.args.a) (cow_slice_items c.args.b)) c.from_residual.ensures.1 tt
+returns-in_err-first-clause-refusal c = err_kept _ (Memory alloc_error) (IsPairRefusal c.args.schema.now (file_bytes c.args.a) (file_bytes c.args.b)) c.from_residual.ensures.1 tt
 
 pub returns-in_err-second-clause-refusal : goal.returns-in_err-second-clause-refusal
-returns-in_err-second-clause-refusal c = err_kept _ (Memory alloc_error) (IsPairRefusal c.args.schema.now (cow_slice_items c.args.a) (cow_slice_items c.args.b)) c.from_residual-in_err-second.ensures.1 tt
+returns-in_err-second-clause-refusal c = err_kept _ (Memory alloc_error) (IsPairRefusal c.args.schema.now (file_bytes c.args.a) (file_bytes c.args.b)) c.from_residual-in_err-second.ensures.1 tt
 
 pub returns-in_err-unchanged-clause-refusal : goal.returns-in_err-unchanged-clause-refusal
-returns-in_err-unchanged-clause-refusal c = err_kept _ (Memory alloc_error) (IsPairRefusal c.args.schema.now (cow_slice_items c.args.a) (cow_slice_items c.args.b)) c.from_residual-in_err-unchanged.ensures.1 tt
+returns-in_err-unchanged-clause-refusal c = err_kept _ (Memory alloc_error) (IsPairRefusal c.args.schema.now (file_bytes c.args.a) (file_bytes c.args.b)) c.from_residual-in_err-unchanged.ensures.1 tt
 
 pub returns-in_err-same-clause-refusal : goal.returns-in_err-same-clause-refusal
-returns-in_err-same-clause-refusal c = err_kept _ (Memory alloc_error) (IsPairRefusal c.args.schema.now (cow_slice_items c.args.a) (cow_slice_items c.args.b)) c.from_residual-in_err-same.ensures.1 tt
+returns-in_err-same-clause-refusal c = err_kept _ (Memory alloc_error) (IsPairRefusal c.args.schema.now (file_bytes c.args.a) (file_bytes c.args.b)) c.from_residual-in_err-same.ensures.1 tt
 
 pub returns-in_err-became-clause-refusal : goal.returns-in_err-became-clause-refusal
-returns-in_err-became-clause-refusal c = err_kept _ (Memory alloc_error) (IsPairRefusal c.args.schema.now (cow_slice_items c.args.a) (cow_slice_items c.args.b)) c.from_residual-in_err-became.ensures.1 tt
+returns-in_err-became-clause-refusal c = err_kept _ (Memory alloc_error) (IsPairRefusal c.args.schema.now (file_bytes c.args.a) (file_bytes c.args.b)) c.from_residual-in_err-became.ensures.1 tt
 
 pub returns-clause-findings : goal.returns-clause-findings
 returns-clause-findings c =
-    let a = cow_slice_items c.args.a in
-    let b = cow_slice_items c.args.b in
+    let a = file_bytes c.args.a in
+    let b = file_bytes c.args.b in
     let other = c.in-Ok-locate_packed in
     let here = located c.args.schema.now a c.in-Ok.sheet.accepted c.in_ok-first.first c.in_ok-first.ensures.accepted c.in-Ok.ensures.plan (c.in_ok-first.ensures.sites a c.in-Ok.ensures.sites) in
     let there = located c.args.schema.now b other.sheet.accepted c.in_ok-second.second c.in_ok-second.ensures.accepted other.ensures.plan (c.in_ok-second.ensures.sites b other.ensures.sites) in

@@ -1,7 +1,7 @@
 use Rattle.std.proofs.Common.{take, subst, arith}
 use Rattle.std.proofs.lemmas.Result.{err_from_is_err_and}
 use Rattle.edi_line.specs.Feeding.{StandsFor, joined}
-use Rattle.edi_line.proofs.Pieces.{joined_more, joined_room, piece_refused, stands_whole}
+use Rattle.edi_line.proofs.Joined.{joined_more, joined_room, piece_refused, stands_whole}
 use Rattle.edi_line.proofs.feed.zones_of_pieces.Goals as goal
 
 pub feed-requires : goal.feed-requires

@@ -1,4 +1,4 @@
-use Rattle.std.proofs.Common.{◌∙◌, sym, ap, unwrap_or, false, refl}
+use Rattle.std.proofs.Common.{◌∙◌, sym, ap, unwrap_or, false}
 use Rattle.edi_plan.proofs.Built.{number_at_place, value_stated}
 use Rattle.edi_plan.proofs.records.plan_attribute.Goals as goal
 

@@ -1,18 +1,22 @@
-use Rattle.std.proofs.Common.{◌≡◌, ◌≤◌, ℕ, take, drop, Some}
+use Rattle.std.proofs.Common.{◌≡◌, ◌≤◌, ℕ, length, take, drop, Some}
 use Rattle.std.specs.List.{AllZip}
 use Rattle.edi_plan.specs.inner.Done.{IsDone}
 use Rattle.edi_plan.specs.PlanOf.{StatesPlanRecord}
-use Rattle.edi_plan.specs.inner.Resolving.{IsClassOfName}
 use Rattle.edi_plan.specs.inner.Targets.{AreTargets}
 use Rattle.edi_plan.specs.inner.RecordLists.{records_of, AreWithin}
 use Rattle.edi_plan.proofs.records.plan_records.Given as goal
 
-abbrev pub invariant-loop-place : goal.invariant-loop-place
-invariant-loop-place l = record {
-  known : IsClassOfName l.schema l.last;
+abbrev pub invariant-loop-record : goal.invariant-loop-record
+invariant-loop-record l = record {
+  same : l.classes ≡ l.schema;
   within : AreWithin l.list;
-  zipped : AllZip (StatesPlanRecord l.schema l.records) (take l.place l.records) (records_of l.list);
+  there : l.place ≤ length l.fn.records;
+  rest : l.rest ≡ drop l.place l.fn.records;
+  zipped : AllZip (StatesPlanRecord l.schema l.fn.records) (take l.place l.fn.records) (records_of l.list);
   ahead : (k : ℕ) → l.references.repeat ≡ Some k → l.place ≤ k;
-  left : AreTargets l.records (drop l.place l.records) l.targets;
-  done : IsDone l.schema l.records l.place l.sides.items;
+  left : AreTargets l.fn.records (drop l.place l.fn.records) l.targets;
+  done : IsDone l.schema l.fn.records l.place l.sides.items;
 }
+
+abbrev pub decreases-loop-record : goal.decreases-loop-record
+decreases-loop-record l = length l.rest

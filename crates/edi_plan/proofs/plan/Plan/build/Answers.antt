@@ -1,8 +1,6 @@
-use Rattle.std.proofs.Common.{List, length, sym, subst, refl, arith}
-use Rattle.edi_record.specs.declared.record.Record.{Record}
+use Rattle.std.proofs.Common.{length, sym, subst, refl, arith}
 use Rattle.edi_plan.specs.inner.Done.{IsDone}
 use Rattle.edi_plan.specs.PlanOf.{IsPlanOf, StatesPlanRecord}
-use Rattle.edi_plan.specs.inner.Resolving.{AreReferences}
 use Rattle.edi_plan.specs.inner.RecordLists.{records_of}
 use Rattle.edi_plan.proofs.Built.{plans_agreeing, plans_whole, zip_length}
 use Rattle.edi_plan.proofs.JoinedLemmas.{plans_joined}

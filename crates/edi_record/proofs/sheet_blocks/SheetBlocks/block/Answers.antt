@@ -17,9 +17,9 @@ returns-then-at-len-clause-same c =
     let list = c.args.self.now in
     let place = c.args.place in
     let b = c.index.result.now in
-    let less : place / 4096 < length list.closed.items = omega (arith, c.if-at-len.true, c.len.ensures, list.closed.ok.0) in
+    let less : place / 256 < length list.closed.items = omega (arith, c.if-at-len.true, c.len.ensures, list.closed.ok.0) in
     let there = closed_there list c.requires.within place b less c.index.ensures in
-    sym (stated_is (records_of list) place _ (closed_same list c.requires.within place b less c.index.ensures _ (stated_there (records_in b) (place % 4096) there)))
+    sym (stated_is (records_of list) place _ (closed_same list c.requires.within place b less c.index.ensures _ (stated_there (records_in b) (place % 256) there)))
 
 pub returns-else-at-len-clause-there : goal.returns-else-at-len-clause-there
 returns-else-at-len-clause-there c = last_there c.args.self.now c.requires.within c.args.place c.requires.there (omega (arith, c.if-at-len.false, c.len.ensures, c.args.self.now.closed.ok.0))
@@ -28,6 +28,6 @@ pub returns-else-at-len-clause-same : goal.returns-else-at-len-clause-same
 returns-else-at-len-clause-same c =
     let list = c.args.self.now in
     let place = c.args.place in
-    let later : length list.closed.items ≤ place / 4096 = omega (arith, c.if-at-len.false, c.len.ensures, list.closed.ok.0) in
+    let later : length list.closed.items ≤ place / 256 = omega (arith, c.if-at-len.false, c.len.ensures, list.closed.ok.0) in
     let there = last_there list c.requires.within place c.requires.there later in
-    sym (stated_is (records_of list) place _ (last_same list c.requires.within place c.requires.there later _ (stated_there (records_in list.last) (place % 4096) there)))
+    sym (stated_is (records_of list) place _ (last_same list c.requires.within place c.requires.there later _ (stated_there (records_in list.last) (place % 256) there)))

@@ -1,0 +1,20 @@
+-- One record less of a list in two parts, of which the first is gone through from a place on.
+use Rattle.std.proofs.Common.{◌≡◌, ℕ, zero, suc, ◌+◌, ◌<◌, ◌≤◌, List, [], ◌∷◌, ◌++◌, length, drop, refl, sym, ap, ◌∙◌, arith}
+
+module _ {X : Type 0} where
+  -- within the first part
+  pub one_further : (xs ys : List X) (k n : ℕ) → n ≡ suc k → n < length xs → drop n xs ++ ys ≡ drop 1 (drop k xs ++ ys)
+  one_further xs ys k n is less = ap (λ m. drop m xs ++ ys) is ∙ go xs k (omega (arith, is, less))
+    where
+      go : (xs : List X) (k : ℕ) → suc k < length xs → drop (suc k) xs ++ ys ≡ drop 1 (drop k xs ++ ys)
+      go [] k less = absurd (omega (arith, less))
+      go (x ∷ xs) zero less = refl
+      go (x ∷ xs) (suc k) less = go xs k (omega (arith, less))
+
+  -- at its end
+  pub part_gone : (xs ys : List X) (k : ℕ) → length xs ≤ k + 1 → (length xs ≤ k → ys ≡ []) → ys ≡ drop 1 (drop k xs ++ ys)
+  part_gone [] ys zero short none = let e = none (omega arith) in e ∙ ap (drop 1) (sym e)
+  part_gone [] ys (suc k) short none = let e = none (omega arith) in e ∙ ap (drop 1) (sym e)
+  part_gone (x ∷ []) ys zero short none = refl
+  part_gone (x ∷ y ∷ xs) ys zero short none = absurd (omega (arith, short))
+  part_gone (x ∷ xs) ys (suc k) short none = part_gone xs ys k (omega (arith, short)) (λ less. none (omega (arith, less)))
