@@ -7,7 +7,7 @@ ghost use Rattle.edi_compare.specs.Under.{SchemaFilesFault, UnderFault};
 ghost use Rattle.edi_compare.specs.inner.Under.{UnderSchema};
 
 use crate::canonical::canon_from;
-use crate::fault::{Fault, RunFault};
+use crate::fault::RunFault;
 use crate::runs::{load_or_fault, read_input, read_input_pieces};
 use edi_line::{ByteIn, FileBytes, Pieces};
 use edi_schema::{Kinds, Schema};
@@ -52,9 +52,6 @@ fn form_or_fault(alloc: Global, schema: &Schema, vec: Pieces) -> Result<Vec<u8>,
     ensures ok { IfOk result (λ c. IsFormOf schema.now vec c.items) }
     ensures err { IfErr result (UnderSchema schema.now vec) }
 {
-    match canon_from(alloc, schema, FileBytes::InPieces(vec)) {
-        Ok(bytes) => Ok(bytes),
-        Err(Fault::Memory(error)) => Err(RunFault::Memory(error)),
-        Err(fault) => Err(RunFault::First(fault)),
-    }
+    let canonical = canon_from(alloc, schema, FileBytes::InPieces(vec))?;
+    Ok(canonical)
 }
