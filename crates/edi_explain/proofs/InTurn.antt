@@ -9,16 +9,16 @@ module _ {X : Type 0} (P : X → Type 0) (xs : List X) where
   abbrev pub NoneBefore : ℕ → Type 0
   NoneBefore i = (k : ℕ) (x : X) → k < i → slice_get xs k ≡ Some x → ¬ (P x)
 
-  pub one_more : (i : ℕ) (x : X) → i < length xs → x ≡ get_or xs i x → ¬ (P x) → NoneBefore i → NoneBefore (i + 1)
-  one_more i x within is not before k y less at = go (cases_order i k)
+  pub one_more_there : (i : ℕ) (x : X) → slice_get xs i ≡ Some x → ¬ (P x) → NoneBefore i → NoneBefore (i + 1)
+  one_more_there i x here not before k y less at = go (cases_order i k)
     where
-      here : slice_get xs i ≡ Some x
-      here = slice_get_read xs (length xs) i x refl within is
-
       go : (i ≡ k) ⊎ ((i < k) ⊎ (k < i)) → ¬ (P y)
       go (inl e) p = not (subst P (same_some (sym at ∙ (ap (slice_get xs) (sym e) ∙ here))) p)
       go (inr (inl past)) p = absurd (omega (arith, less, past))
       go (inr (inr earlier)) p = before k y earlier at p
+
+  pub one_more : (i : ℕ) (x : X) → i < length xs → x ≡ get_or xs i x → ¬ (P x) → NoneBefore i → NoneBefore (i + 1)
+  one_more i x within is = one_more_there i x (slice_get_read xs (length xs) i x refl within is)
 
   pub none_in : (i : ℕ) → length xs ≤ i → NoneBefore i → ¬ (Any P xs)
   none_in i long before d =

@@ -16,3 +16,5 @@ pub mod Miscounted
 pub mod Counted
 pub mod Earlier
 pub mod Remarks
+pub mod Zipped
+pub mod SitesFound

@@ -77,10 +77,13 @@ pub fn explain_sheet(
     match &found.fault {
         Fault::Memory(error) => Err(*error),
         Fault::Line { rule, at } => explain_line(alloc, &NamedFile { name, bytes }, *rule, *at),
-        Fault::Entry { rule, at } => {
-            let sites = refused_with(alloc, schema, bytes, *rule, *at, found.earlier)?;
-            lines_of_refused(alloc, name, &sites, sentence_for(*rule), *rule)
-        }
+        Fault::Entry { rule, at } => match &found.sites {
+            Some(sites) => lines_of_refused(alloc, name, sites, sentence_for(*rule), *rule),
+            None => {
+                let sites = refused_with(alloc, schema, bytes, *rule, *at, found.earlier)?;
+                lines_of_refused(alloc, name, &sites, sentence_for(*rule), *rule)
+            }
+        },
     }
 }
 

@@ -17,6 +17,7 @@ mod repeats;
 pub mod rows;
 mod seeking;
 pub mod site;
+mod sites;
 pub mod skipped;
 pub mod text;
 mod texts;

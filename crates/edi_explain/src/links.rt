@@ -1,6 +1,6 @@
 //! The earlier links that rule 307 speaks of.
 
-ghost use Rattle.std.specs.Prelude.{◌≡◌, ◌≢◌, ◌↔◌, ◌<◌, ℕ, List, IsTrue, MatchOption, Any, length};
+ghost use Rattle.std.specs.Prelude.{◌≡◌, ◌≢◌, ◌↔◌, ◌<◌, ℕ, List, IsTrue, MatchOption, Any, codes, length};
 ghost use Rattle.edi_record.specs.declared.record.Kind.TheVariants.{Par};
 ghost use Rattle.edi_record.specs.declared.record.Record.{Record as Records};
 ghost use Rattle.edi_schema.specs.Classes.{Classes};
@@ -11,36 +11,46 @@ ghost use Rattle.edi_plan.specs.ReferenceRules.{IsLinkOfRole};
 ghost use Rattle.edi_explain.specs.Partners.{IsLeastIfAny, ShareArc, SharesSide};
 ghost use Rattle.edi_explain.specs.inner.Arcs.{IsArcNamed};
 
-use edi_record::{Kind, Name, Record};
+use edi_record::{Kind, Name, RecordRef, SheetRecords};
 use edi_schema::{Role, Schema};
 
 /// The kind of a link, if it is one of the four.
-fn kind_of_link(schema: &Schema, record: &Record) -> Option<Role>
+fn kind_of_link(schema: &Schema, record: &RecordRef<'_>) -> Option<Role>
     ensures { (list : List Records) → MatchOption result ((role : Roles) → role ≢ Plain → ¬ (IsLinkOfRole schema.now list «record».now role)) (λ role. (role ≢ Plain) × IsLinkOfRole schema.now list «record».now role) }
 {
-    if record.kind != Kind::Lnk {
+    if record.kind() != Kind::Lnk {
         return None;
     }
-    let class = schema.class(&record.scp)?;
+    let class = schema.class(record.scp())?;
     match schema.role(class) {
         Role::Plain => None,
         role => Some(role),
     }
 }
 
-/// Whether a record is an arc of this name.
-fn is_arc_named(record: &Record, name: &Name) -> bool
-    ensures { IsTrue result ↔ ((own_name «record».now ≡ name.now) × («record».now.kind ≡ Par)) }
+/// Whether a name is of the type of arcs.
+fn is_of_arc(name: &Name) -> bool
+    ensures { IsTrue result ↔ (name.now.rty ≡ codes "PAR") }
 {
-    record.kind == Kind::Par && name.rty.as_slice() == b"PAR".as_slice() && record.rid == name.rid
+    name.rty.as_slice() == b"PAR".as_slice()
 }
 
-/// Whether an arc has this name.
-fn has_arc(records: &[Record], name: &Name) -> bool
+/// Whether a record is an arc of this name.
+fn is_arc_named(record: &RecordRef<'_>, name: &Name) -> bool
+    ensures { IsTrue result ↔ ((own_name «record».now ≡ name.now) × («record».now.kind ≡ Par)) }
+{
+    record.kind() == Kind::Par && is_of_arc(name) && record.rid() == name.rid.as_slice()
+}
+
+/// Whether an arc has this name. A name of another type is not looked for, since many links may share a face.
+fn has_arc(records: &SheetRecords, name: &Name) -> bool
     ensures { IsTrue result ↔ ((a : ℕ) × IsArcNamed records.now name.now a) }
 {
-    for record in records {
-        if is_arc_named(record, name) {
+    if !is_of_arc(name) {
+        return false;
+    }
+    for place in 0..records.len() {
+        if is_arc_named(&records.record(place), name) {
             return true;
         }
     }
@@ -48,10 +58,10 @@ fn has_arc(records: &[Record], name: &Name) -> bool
 }
 
 /// Whether an end of a record has this target.
-fn has_target(record: &Record, target: &Name) -> bool
+fn has_target(record: &RecordRef<'_>, target: &Name) -> bool
     ensures { IsTrue result ↔ Any (λ e. e.target ≡ target.now) «record».now.ends }
 {
-    for end in record.ends.as_slice() {
+    for end in record.ends() {
         if end.target == *target {
             return true;
         }
@@ -60,10 +70,10 @@ fn has_target(record: &Record, target: &Name) -> bool
 }
 
 /// Whether two records have an end each that names one arc.
-fn share_arc(records: &[Record], earlier: &Record, record: &Record) -> bool
+fn share_arc(records: &SheetRecords, earlier: &RecordRef<'_>, record: &RecordRef<'_>) -> bool
     ensures { (s : Classes) → IsTrue result ↔ ShareArc s records.now earlier.now «record».now }
 {
-    for end in record.ends.as_slice() {
+    for end in record.ends() {
         if has_target(earlier, &end.target) && has_arc(records, &end.target) {
             return true;
         }
@@ -72,7 +82,7 @@ fn share_arc(records: &[Record], earlier: &Record, record: &Record) -> bool
 }
 
 /// Whether a record is a link of this kind, which is one of the four.
-fn is_of_kind(schema: &Schema, record: &Record, role: Role) -> bool
+fn is_of_kind(schema: &Schema, record: &RecordRef<'_>, role: Role) -> bool
     requires { role ≢ Plain }
     ensures { (list : List Records) → IsTrue result ↔ IsLinkOfRole schema.now list «record».now role }
 {
@@ -85,10 +95,10 @@ fn is_of_kind(schema: &Schema, record: &Record, role: Role) -> bool
 /// Whether an earlier record is a link of this kind, which is one of the four, and of an arc of a record.
 fn is_of_side(
     schema: &Schema,
-    records: &[Record],
+    records: &SheetRecords,
     role: Role,
-    earlier: &Record,
-    record: &Record,
+    earlier: &RecordRef<'_>,
+    record: &RecordRef<'_>,
 ) -> bool
     requires { role ≢ Plain }
     ensures { IsTrue result ↔ (IsLinkOfRole schema.now records.now earlier.now role × ShareArc schema.now records.now earlier.now «record».now) }
@@ -98,13 +108,14 @@ fn is_of_side(
 
 /// The first link of the kind of the one at a place and of an arc of that one, if it comes before that one: rule 307.
 /// Places are counted from 0, in file order. `None` also where the record isn't a link of one of the four kinds.
-pub fn same_side(schema: &Schema, records: &[Record], place: usize) -> Option<usize>
+pub fn same_side(schema: &Schema, records: &SheetRecords, place: usize) -> Option<usize>
     requires { place < length records.now }
     ensures { IsLeastIfAny (SharesSide schema.now records.now place) result }
 {
-    let role = kind_of_link(schema, &records[place])?;
+    let own = records.record(place);
+    let role = kind_of_link(schema, &own)?;
     for earlier in 0..place {
-        if is_of_side(schema, records, role, &records[earlier], &records[place]) {
+        if is_of_side(schema, records, role, &records.record(earlier), &own) {
             return Some(earlier);
         }
     }

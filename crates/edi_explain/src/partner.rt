@@ -9,46 +9,47 @@ ghost use Rattle.edi_topo.specs.TopologyRules.{AreEqualNodes};
 ghost use Rattle.edi_explain.specs.Partners.{HasEnd, IsEqualNode, IsLeastIfAny, SharesName, SharesPoints};
 
 use edi_plan::Plan;
-use edi_record::{Kind, Record};
+use edi_record::{Kind, RecordRef, SheetRecords};
 use edi_topo::node_key::compare_nodes;
 use edi_topo::{ForwardPoints, NodeKey, node_key_at};
 use std::alloc::{AllocError, Global};
 
 /// Whether two records have one type and identifier.
-fn have_one_name(record: &Record, other: &Record) -> bool
+fn have_one_name(record: &RecordRef<'_>, other: &RecordRef<'_>) -> bool
     ensures { IsTrue result ↔ (own_name record.now ≡ own_name other.now) }
 {
-    record.kind == other.kind && record.rid == other.rid
+    record.kind() == other.kind() && record.rid() == other.rid()
 }
 
 /// The first record with the type and the identifier of the one at a place, if it comes before that
 /// one: rule 301. Places are counted from 0, in file order.
-pub fn namesake(records: &[Record], place: usize) -> Option<usize>
+pub fn namesake(records: &SheetRecords, place: usize) -> Option<usize>
     requires { place < length records.now }
     ensures { IsLeastIfAny (SharesName records.now place) result }
 {
+    let own = records.record(place);
     for earlier in 0..place {
-        if have_one_name(&records[earlier], &records[place]) {
+        if have_one_name(&records.record(earlier), &own) {
             return Some(earlier);
         }
     }
     None
 }
 
-fn has_end(record: &Record) -> bool
+fn has_end(record: &RecordRef<'_>) -> bool
     ensures { IsTrue result ↔ (0 < length record.now.ends) }
 {
-    !record.ends.as_slice().is_empty()
+    !record.ends().is_empty()
 }
 
 /// The record with the first end of all links, if it comes before the one at a place: rule 304.
 /// Places are counted from 0, in file order.
-pub fn first_link(records: &[Record], place: usize) -> Option<usize>
+pub fn first_link(records: &SheetRecords, place: usize) -> Option<usize>
     requires { place < length records.now }
     ensures { IsLeastIfAny (HasEnd records.now place) result }
 {
     for earlier in 0..place {
-        if has_end(&records[earlier]) {
+        if has_end(&records.record(earlier)) {
             return Some(earlier);
         }
     }

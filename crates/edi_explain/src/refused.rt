@@ -1,9 +1,11 @@
 //! The record that a refusal names, and the earlier one that its rule speaks of.
 
-ghost use Rattle.std.specs.Prelude.{◌≡◌, ◌≢◌, ◌⊎◌, ◌-◌, ◌<◌, ℕ, List, Option, IfOk, length};
+ghost use Rattle.std.specs.Prelude.{◌≡◌, ◌≢◌, ◌⊎◌, ◌-◌, ◌<◌, [], ℕ, List, Option, IfOk, length};
 ghost use Rattle.edi_line.specs.Entry.{Entry};
 ghost use Rattle.edi_line.specs.LineRules.{BreaksLineRule, IsZonesOf};
 ghost use Rattle.edi_line.specs.Refusal.{IsUnbroken};
+ghost use Rattle.edi_record.specs.Beside.{HasTakenAll};
+ghost use Rattle.edi_record.specs.declared.sheet.Sheet.{Sheet as Sheets};
 ghost use Rattle.edi_compare.specs.PlanOfFile.{IsPlanOfFile, IsSheetOf};
 ghost use Rattle.edi_compare.specs.Refused.{IsRefusal};
 ghost use Rattle.edi_compare.specs.Rules.{RecordsHold, ReferencesHold};
@@ -17,9 +19,10 @@ use crate::partner::{equal_node, first_link, namesake, same_arc};
 use crate::rows::row_namesake;
 use crate::seeking::sites_in;
 use crate::site::RecordSite;
-use edi_line::{LineFault, zones};
+use crate::sites::{SitesInOrder, sites_among};
+use edi_line::{GroupOut, LineFault, zones};
 use edi_plan::{Plan, RefFault};
-use edi_record::{Record, RecordFault, Sheet, SheetFault, read_sheet};
+use edi_record::{KeepNothing, RecordFault, Sheet, SheetFault, SheetRecords, read_sheet_beside};
 use edi_schema::Schema;
 use std::alloc::{AllocError, Global};
 
@@ -30,19 +33,36 @@ pub struct Refused {
     pub earlier: Option<RecordSite>,
 }
 
-/// The records of a file that breaks no rule of lines or records.
-fn sheet_of(alloc: Global, schema: &Schema, bytes: &[u8]) -> Result<Sheet, AllocError>
-    requires { RecordsHold schema.now bytes.now }
-    ensures { IfOk result (IsSheetOf bytes.now) }
+/// The records of a file that breaks no rule of lines or records, and what was given the zones of each in the same pass, of
+/// which it had taken none.
+fn sheet_beside<O: GroupOut + Drop>(
+    alloc: Global,
+    schema: &Schema,
+    bytes: &[u8],
+    other: O,
+) -> Result<(Sheet, O), AllocError>
+    requires holds { RecordsHold schema.now bytes.now }
+    requires none_taken { O.Holds other [] }
+    ensures sheet { IfOk result (λ read. IsSheetOf bytes.now read.0) }
+    ensures other { IfOk result (λ read. HasTakenAll bytes.now (O.Holds read.1)) }
 {
     let _ = schema;
-    match read_sheet(alloc, bytes) {
-        Ok(sheet) => Ok(sheet),
+    match read_sheet_beside(alloc, bytes, other) {
+        Ok(read) => Ok(read),
         Err(SheetFault::Line(LineFault::Memory(error))) => Err(error),
         Err(SheetFault::Record(RecordFault::Memory(error))) => Err(error),
         Err(SheetFault::Line(LineFault::Broken { .. })) => unreachable!(),
         Err(SheetFault::Record(RecordFault::Broken { .. })) => unreachable!(),
     }
+}
+
+/// The records of a file that breaks no rule of lines or records.
+fn sheet_of(alloc: Global, schema: &Schema, bytes: &[u8]) -> Result<Sheet, AllocError>
+    requires { RecordsHold schema.now bytes.now }
+    ensures { IfOk result (IsSheetOf bytes.now) }
+{
+    let (sheet, _) = sheet_beside(alloc, schema, bytes, KeepNothing)?;
+    Ok(sheet)
 }
 
 /// The plan of a file that breaks no rule of lines, records or references.
@@ -59,7 +79,7 @@ fn plan_of(alloc: Global, schema: &Schema, bytes: &[u8]) -> Result<Plan, AllocEr
 }
 
 /// The first record with the name of the one at a place, if it comes before that one.
-fn namesake_before(records: &[Record], place: u64) -> Option<u64>
+fn namesake_before(records: &SheetRecords, place: u64) -> Option<u64>
     ensures { IsLeastIfAny (SharesName records.now place) result }
 {
     if place >= records.len() as u64 {
@@ -72,7 +92,7 @@ fn namesake_before(records: &[Record], place: u64) -> Option<u64>
 }
 
 /// The record with the first end of all links, if it comes before the one at a place.
-fn link_before(records: &[Record], place: u64) -> Option<u64>
+fn link_before(records: &SheetRecords, place: u64) -> Option<u64>
     ensures { IsLeastIfAny (HasEnd records.now place) result }
 {
     if place >= records.len() as u64 {
@@ -85,7 +105,7 @@ fn link_before(records: &[Record], place: u64) -> Option<u64>
 }
 
 /// The first link of the kind and of an arc of the one at a place, if it comes before that one.
-fn side_before(schema: &Schema, records: &[Record], place: u64) -> Option<u64>
+fn side_before(schema: &Schema, records: &SheetRecords, place: u64) -> Option<u64>
     ensures { IsLeastIfAny (SharesSide schema.now records.now place) result }
 {
     if place >= records.len() as u64 {
@@ -141,6 +161,20 @@ pub(crate) fn object_before(
 }
 
 /// The earlier record that a rule of references speaks of: by its name, by its subset, or by the side of an arc.
+fn earlier_among(schema: &Schema, records: &SheetRecords, rule: u16, place: u64) -> Option<u64>
+    requires { (rule ≡ 301) ⊎ ((rule ≡ 304) ⊎ (rule ≡ 307)) }
+    ensures { (b : List ℕ) (sheet : Sheets) → IsSheetOf b sheet → sheet.list ≡ records.now → IsEarlierIfAny schema.now b rule place result }
+{
+    if rule == 301 {
+        namesake_before(records, place)
+    } else if rule == 304 {
+        link_before(records, place)
+    } else {
+        side_before(schema, records, place)
+    }
+}
+
+/// The earlier record that a rule of references speaks of.
 fn earlier_in_sheet(
     alloc: Global,
     schema: &Schema,
@@ -153,15 +187,36 @@ fn earlier_in_sheet(
     ensures { IfOk result (IsEarlierIfAny schema.now bytes.now rule place) }
 {
     let sheet = sheet_of(alloc, schema, bytes)?;
-    let records = sheet.list.into_records(alloc)?;
-    let records = records.as_slice();
-    if rule == 301 {
-        Ok(namesake_before(records, place))
-    } else if rule == 304 {
-        Ok(link_before(records, place))
-    } else {
-        Ok(side_before(schema, records, place))
-    }
+    Ok(earlier_among(schema, &sheet.list, rule, place))
+}
+
+/// The place of the earlier record that the rule of a refusal speaks of, counted from 0, and where it and the refused one stand.
+#[derive(Drop)]
+pub(crate) struct Placed {
+    pub(crate) earlier: Option<u64>,
+    pub(crate) sites: Refused,
+}
+
+/// The earlier record that a rule of references speaks of, and where it and the record with this number stand, in one reading.
+pub(crate) fn placed_in_sheet(
+    alloc: Global,
+    schema: &Schema,
+    bytes: &[u8],
+    rule: u16,
+    number: u64,
+) -> Result<Placed, AllocError>
+    requires holds { RecordsHold schema.now bytes.now }
+    requires rule { (rule ≡ 301) ⊎ ((rule ≡ 304) ⊎ (rule ≡ 307)) }
+    ensures earlier { IfOk result (λ p. IsEarlierIfAny schema.now bytes.now rule (number - 1) p.earlier) }
+    ensures sites { IfOk result (λ p. IsRefusedAt schema.now bytes.now rule number p.sites) }
+{
+    let none = SitesInOrder {
+        list: Vec::new(alloc),
+    };
+    let (sheet, sites) = sheet_beside(alloc, schema, bytes, none)?;
+    let earlier = earlier_among(schema, &sheet.list, rule, number.saturating_sub(1));
+    let sites = sites_among(&sites.list, number, earlier)?;
+    Ok(Placed { earlier, sites })
 }
 
 /// The earlier record that a rule of topology or of objects speaks of: an equal node, the same arc, or an equal object.

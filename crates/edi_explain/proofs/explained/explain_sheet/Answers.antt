@@ -12,14 +12,14 @@ explain_line-requires c =
 pub returns-in-Line : goal.returns-in-Line
 returns-in-Line c = rw c.in-Line.is c.explain_line.ensures
 
-pub returns-in_ok-sites-in-Entry : goal.returns-in_ok-sites-in-Entry
-returns-in_ok-sites-in-Entry c =
-    let said = c.sentence_for.ensures in
-    let sites = c.in_ok-sites-in-Entry.sites in
-    rw c.in-Entry.is (IfOk-weaker c.lines_of_refused.result _ _ (λ lines is. (
+pub returns-in_ok-sites-in-None : goal.returns-in_ok-sites-in-None
+returns-in_ok-sites-in-None c =
+    let said = c.sentence_for-in-None.ensures in
+    let sites = c.in_ok-sites-in-None.sites in
+    rw c.in-Entry.is (IfOk-weaker c.lines_of_refused-in-None.result _ _ (λ lines is. (
       said.0,
       sites,
       said.1,
-      c.in_ok-sites-in-Entry.ensures,
+      c.in_ok-sites-in-None.ensures,
       is ∙ ap (λ (s : List ℕ). lines_of_sites c.args.name.now sites s c.in-Entry.rule) said.2,
-    )) c.lines_of_refused.ensures)
+    )) c.lines_of_refused-in-None.ensures)

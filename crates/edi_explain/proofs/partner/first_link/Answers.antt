@@ -1,5 +1,4 @@
-use Rattle.std.proofs.Common.{◌<◌, length, refl, sym, subst, arith, ◌∙◌}
-use Rattle.std.proofs.lemmas.Option.{slice_get_read}
+use Rattle.std.proofs.Common.{◌<◌, length, sym, subst, arith, ◌∙◌}
 use Rattle.edi_record.specs.declared.record.Record.{Record}
 use Rattle.edi_explain.specs.Partners.{HasEnd}
 use Rattle.edi_explain.proofs.Leasts.{least_here, none_here}
@@ -8,18 +7,14 @@ use Rattle.edi_explain.proofs.partner.first_link.Goals as goal
 
 pub returns-then-has_end : goal.returns-then-has_end
 returns-then-has_end c =
-    let list = c.args.records.now in
     let less : c.loop-earlier.earlier < c.args.place = omega arith in
-    let there = slice_get_read list _ c.loop-earlier.earlier c.index-records-earlier.result refl (omega arith) c.index-records-earlier.is in
-    least_here (HasEnd list c.args.place) c.loop-earlier.earlier c.loop-earlier.invariant
-    (c.index-records-earlier.result, less, there, c.has_end.ensures.0 c.if-has_end.true, c.requires)
+    least_here (HasEnd c.args.records.now c.args.place) c.loop-earlier.earlier c.loop-earlier.invariant
+    (c.record.result, less, c.record.ensures, c.has_end.ensures.0 c.if-has_end.true, c.requires)
 
 pub loop-earlier-preserved : goal.loop-earlier-preserved
 loop-earlier-preserved c =
-    let list = c.args.records.now in
-    let there = slice_get_read list _ c.loop-earlier.earlier c.index-records-earlier.result refl (omega arith) c.index-records-earlier.is in
-    none_here (HasEnd list c.args.place) c.loop-earlier.earlier c.loop-earlier.invariant
-    (λ h. let t = c.has_end.ensures.1 (subst (λ (r : Record). 0 < length r.ends) (sym (same_some (sym there ∙ h.2))) h.3) in let f = c.if-has_end.false in cc)
+    none_here (HasEnd c.args.records.now c.args.place) c.loop-earlier.earlier c.loop-earlier.invariant
+    (λ h. let t = c.has_end.ensures.1 (subst (λ (r : Record). 0 < length r.ends) (sym (same_some (sym c.record.ensures ∙ h.2))) h.3) in let f = c.if-has_end.false in cc)
 
 pub returns : goal.returns
 returns c = λ k h. c.loop-earlier.invariant k (omega (arith, h.1)) h
