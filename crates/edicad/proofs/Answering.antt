@@ -19,6 +19,7 @@ use Rattle.edicad.specs.Reasons.{Why}
 use Rattle.edicad.specs.SheetRuns.{Inputs}
 use Rattle.edicad.specs.Statuses.{GoesOut, IsSheetStatus, Prints}
 use Rattle.edi_words.specs.declared.words.ManyFiles.{ManyFiles}
+use Rattle.edi_explain.proofs.Zipped.{zip_push}
 
 abbrev pub paths_of : List (Bor (List ℕ)) → List (List ℕ)
 paths_of paths = map (λ (p : Bor (List ℕ)). p.now) paths
@@ -57,12 +58,6 @@ goes_more : (a b c : Option (List ℕ)) (f g : Bool) (x y : List ℕ) → GoesOu
 goes_more a b c f g x y (inl h) (inl k) stays = inl (appends_more a b c x y h k)
 goes_more a b c f g x y (inr h) (inl k) stays = inr (stays h)
 goes_more a b c f g x y h (inr k) stays = inr k
-
-zip_push : {X Y : Type 0} (R : X → Y → Type 0) (xs : List X) (ys : List Y) (x : X) (y : Y) → AllZip R xs ys → R x y → AllZip R (xs ++ x ∷ []) (ys ++ y ∷ [])
-zip_push R [] [] x y h r = (r, tt)
-zip_push R [] (b ∷ ys) x y h r = absurd h
-zip_push R (a ∷ xs) [] x y h r = absurd h
-zip_push R (a ∷ xs) (b ∷ ys) x y h r = (h.0, zip_push R xs ys x y h.1 r)
 
 said_push : (f : Step → List ℕ) (steps : List Step) (step : Step) → flat_map f (steps ++ step ∷ []) ≡ flat_map f steps ++ f step
 said_push f [] step = append-nil (f step)
