@@ -3,7 +3,6 @@ use Rattle.std.proofs.Common.{◌≡◌, ℕ, zero, suc, ◌+◌, ◌<◌, ◌�
 use Rattle.std.specs.Prelude.{codes, flat_map, max, cond, nat_lt, ◌==◌}
 use Rattle.std.specs.Ordering.{is_lt, nat_cmp, ord_max}
 use Rattle.std.specs.declared.cmp.Ordering.TheVariants.{Less, Equal, Greater}
-use Rattle.std.specs.List.{AllZip}
 use Rattle.std.specs.Io.KnownBytes.{Appends}
 use Rattle.std.proofs.lemmas.List.Sums.{fold-append}
 use Rattle.edi_schema.specs.Classes.{Classes}
