@@ -2,11 +2,12 @@
 """Times `explain` against `check` of sheets that are refused at their last record, by each rule that speaks of an earlier one.
 
     cd crates/edicad && rt run -- --version             builds out/edicad
-    python3 bench/explaining.py SCD DIC VEC [ROUNDS]    from the top; VEC is an accepted sheet of generate.py or the like
+    python3 bench/explaining.py SCD DIC VEC [ROUNDS]    from the top; VEC is accepted, with records of all types,
+                                                        as generate.py makes it
 
-For each rule a sheet is made of VEC, mostly by a record more; both calls must refuse it by that rule. Printed: seconds of user
-and system time, the best of ROUNDS (15) in turn, and their ratio, which is all to trust. The last sheet has all its faces as one,
-with as many links as there were: a search for each of them would take hours.
+For each rule a sheet is made of VEC by a record more, or two; both calls must refuse it by that rule. Printed: seconds of user
+and system time, the best of ROUNDS (15) in turn, and their ratio, which is all to trust. In the last sheet all links of faces name
+one face, so that a search among all records for each of them would show.
 """
 import os
 import re
@@ -37,23 +38,35 @@ def last_of(records, mark):
     return next(it for it in reversed(records) if mark in it)
 
 
+def elsewhere(link):
+    """The link with its last end in another subset."""
+    return re.sub(rb";SeT1;(?!.*;SeT1;)", b";SeT9;", link, flags=re.S)
+
+
+def bare(record):
+    """The record without attributes."""
+    return re.sub(rb"(?m)^ATCSN.*$", b"ATCSN02:00", re.sub(rb"(?m)^(ATP|ATV|TEX|NEX).*\n", b"", record))
+
+
+def of_one_face(records):
+    """The records with all that name a face naming the first one."""
+    face = next(place for place, it in enumerate(records) if b"RTYSA03:PFE" in it)
+    ends = [re.sub(rb"(?m)^FTPCP\d\d:(.*;PFE;).*$", lambda it: b"FTPCP%02d:%s1" % (len(it[1]) + 1, it[1]), it) for it in records]
+    return [*ends[:face], named(ends[face], b"1"), *ends[face + 1 :]]
+
+
 def refused_by(records):
     """Records that make a refused sheet, by the rule that refuses it."""
-    side = last_of(records, b";REL;DRT_id")
-    fea = re.sub(rb"(?m)^(ATP|ATV|TEX).*\n", b"", last_of(records, b"RTYSA03:FEA"))
-    fea = re.sub(rb"(?m)^ATCSN.*$", b"ATCSN02:00", fea)
-    away = re.sub(rb";SeT1;(?!.*;SeT1;)", b";SeT9;", last_of(records, b"RTYSA03:LNK"), flags=re.S)
-    one_face = [re.sub(rb"(?m)^FTPCP\d\d:(.*;PFE;).*$", lambda it: b"FTPCP%02d:%s1" % (len(it[1]) + 1, it[1]), it) for it in records]
-    face = next(place for place, it in enumerate(one_face) if b"RTYSA03:PFE" in it)
-    one_face[face] = named(one_face[face], b"1")
+    link, object_ = last_of(records, b"RTYSA03:LNK"), bare(last_of(records, b"RTYSA03:FEA"))
+    joined = of_one_face(records)
     return [
-        (301, records + [records[-1]]),
-        (304, records + [named(away, b"Lien_0")]),
-        (307, records + [named(side, b"Lien_0")]),
-        (403, records + [named(last_of(records, b"RTYSA03:PNO"), b"Noeud_0")]),
-        (405, records + [named(last_of(records, b"RTYSA03:PAR"), b"Arc_0")]),
-        (501, records + [named(fea, b"Objet_a"), named(fea, b"Objet_b")]),
-        (307, one_face + [named(last_of(one_face, b";REL;DRT_id"), b"Lien_0")]),
+        (301, [*records, records[-1]]),
+        (304, [*records, named(elsewhere(link), b"Lien_0")]),
+        (307, [*records, named(last_of(records, b";REL;DRT_id"), b"Lien_0")]),
+        (403, [*records, named(last_of(records, b"RTYSA03:PNO"), b"Noeud_0")]),
+        (405, [*records, named(last_of(records, b"RTYSA03:PAR"), b"Arc_0")]),
+        (501, [*records, named(object_, b"Objet_a"), named(object_, b"Objet_b")]),
+        (307, [*joined, named(last_of(joined, b";REL;DRT_id"), b"Lien_0")]),
     ]
 
 

@@ -1,11 +1,11 @@
 #!/usr/bin/env python3
-"""Times `hash` over many sheets in one run against `canon` over each in a run of its own, and `explain` against `check`.
+"""Times `hash` over many sheets in one run against `canon` over each in a run of its own.
 
     cd crates/edicad && rt run -- --version      builds out/edicad
     python3 bench/many.py SCD DIC VEC [COUNT]    from the top; COUNT is how many sheets (1000), all of them this one
 
 Printed: seconds of user and system time of `hash`, of `canon` less the time that the same number of starts takes, and their
-ratio; then of `explain` and `check` of the sheet, which may be a refused one. Trust the ratios alone.
+ratio, which is all to trust.
 """
 import os
 import subprocess
@@ -32,8 +32,6 @@ def main():
         starts = sum(seconds(["--version"]) for _ in range(count))
     together = min(seconds(["hash", scd, dic, *[vec] * count]) for _ in range(3))
     print(f"hash of {count} sheets {together:.2f} s, canon of each {single:.2f} s, starts {starts:.2f} s: {together / (single - starts):.2f}")
-    check, explain = [min(seconds([word, scd, dic, vec]) for _ in range(10)) for word in ("check", "explain")]
-    print(f"explain {explain:.3f} s, check {check:.3f} s: {explain / check:.2f}")
 
 
 main()
