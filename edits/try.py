@@ -1,35 +1,118 @@
 #!/usr/bin/env python3
-"""Tries the planted bugs of this folder: the prover has to refuse each, as it has to refuse those in crates/*/must-fail.
+"""Tries the planted bugs of this folder: the prover has to refuse each for what it means.
 
-    python3 edits/try.py [CRATE ..]      from the top; all crates where none is named
-
-These are second bugs of a function and bugs of private ones, beside the gate, which tries one of most public functions. The crates
-are copied, with the work that is kept of them in out/, and in the copy a crate has these bugs in the place of its own.
+    python3 edits/try.py CRATE ..       from the top: all edits of these crates, and writes their lists (REFUSED.md)
+    python3 edits/try.py --all          those of all crates
+    python3 edits/try.py --landing      as the gate does, right after `rt ci`: those of what has changed since the last landing and of a
+                                        third of the other crates; it writes nothing
+    python3 edits/try.py --lists        looks whether the lists name the edits that are here
+    python3 edits/try.py --next         writes LANDING anew: a session begins with it
 """
 import os
-import shutil
-import subprocess
 import sys
-import tempfile
+import threading
+import time
+from concurrent.futures import ThreadPoolExecutor
 
 HERE = os.path.dirname(os.path.abspath(__file__))
 TOP = os.path.dirname(HERE)
+sys.path.insert(0, HERE)
+
+from driver import choice, edit, kit, lists, trying  # noqa: E402
+
+# what a check of the dearest crate takes at its most, in bytes
+NEED = 5_000_000_000
+
+printing = threading.Lock()
 
 
-def main():
-    names = sys.argv[1:] or sorted(it for it in os.listdir(HERE) if os.path.isdir(os.path.join(HERE, it)))
-    failed = []
-    with tempfile.TemporaryDirectory(prefix="edits-") as room:
-        for name in ("crates.txt", "HANDLES"):
-            shutil.copy(os.path.join(TOP, name), room)
-        shutil.copytree(os.path.join(TOP, "crates"), os.path.join(room, "crates"))
-        for name in names:
-            planted = os.path.join(room, "crates", name, "must-fail")
-            shutil.rmtree(planted)
-            shutil.copytree(os.path.join(HERE, name), planted)
-            if subprocess.run(["rt", "must-fail", name], cwd=room).returncode != 0:
-                failed.append(name)
-    sys.exit(f"failed: {' '.join(failed)}" if failed else 0)
+def say(text):
+    with printing:
+        print(f"edits: {text}", flush=True)
 
 
-main()
+def folders():
+    return sorted(it for it in os.listdir(HERE) if os.path.isdir(f"{HERE}/{it}") and lists.paths_in(f"{HERE}/{it}"))
+
+
+def lanes():
+    """How many checks run side by side."""
+    return max(1, min(kit.RT.processors(), kit.RT.free() // NEED))
+
+
+def try_one(crate, only, from_nothing):
+    """The verdicts on the edits of a crate, or on those of these names, and what can't be planted."""
+    folder = f"{HERE}/{crate.name}"
+    good, bad = edit.edits_in(folder, crate.folder)
+    good = [it for it in good if only is None or it.name in only]
+    begun = time.monotonic()
+    verdicts = trying.try_crate(crate, good, say, from_nothing)
+    rows = lists.read_list(folder)
+    for name in sorted(verdicts):
+        tell(crate.name, name, verdicts[name], rows.get(name))
+    for name, why in bad:
+        say(f"{crate.name}/{name}: SHOWS NOTHING: {why}")
+    say(f"{crate.name}: {len(good)} edits in {time.monotonic() - begun:.0f} s")
+    return verdicts, bad
+
+
+def tell(crate, name, verdict, row):
+    """Prints what becomes of an edit, on one line."""
+    what = f"`{verdict.goal}` of {verdict.function()}" if verdict.goal else ""
+    if verdict.is_refused():
+        other = "" if row and (row.function, row.goal, row.how) == (verdict.function(), verdict.goal, verdict.how) else "; its list has another goal"
+        say(f"{crate}/{name}: refused, {verdict.how}: {what}{other}")
+    else:
+        say(f"{crate}/{name}: SHOWS NOTHING: {verdict.how}: {what} {verdict.said[:200]}")
+
+
+def try_all(names, single, from_nothing):
+    """Tries the edits of these crates side by side, and single ones of others; the verdicts of each, and how many show nothing."""
+    crates = kit.crates_of(TOP)
+    work = [(crates[it], None) for it in names] + [(crates[it], single[it]) for it in sorted(single)]
+    work.sort(key=lambda it: -it[0].count(rb"\n"))
+    with ThreadPoolExecutor(lanes()) as pool:
+        found = list(pool.map(lambda it: (it[0].name, *try_one(*it, from_nothing)), work))
+    lost = sum(len(bad) + sum(not it.is_refused() for it in verdicts.values()) for _, verdicts, bad in found)
+    return {name: verdicts for name, verdicts, _ in found}, lost
+
+
+def write_lists(found):
+    for name, verdicts in found.items():
+        lists.write_list(f"{HERE}/{name}", lists.rows_of(f"{HERE}/{name}", verdicts))
+
+
+def landing():
+    """What the gate tries."""
+    now = choice.landing_of(HERE)
+    names = [it for it in kit.crates_of(TOP) if it in folders()]
+    what = choice.chosen(TOP, names, now)
+    say(f"landing {now.number}: {' '.join(sorted(what.whole)) or 'no crate'}; single edits of {' '.join(sorted(what.single)) or 'none'}")
+    found, lost = try_all(sorted(what.whole), what.single, True)
+    return sum(map(len, found.values())), lost
+
+
+def main(words):
+    if words == ["--next"]:
+        choice.next_landing(TOP, HERE)
+        return 0
+    if words == ["--lists"]:
+        found = [why for it in folders() for why in lists.complaints(f"{HERE}/{it}")]
+        for why in found:
+            say(why)
+        return 1 if found else 0
+    if words == ["--landing"]:
+        tried, lost = landing()
+    else:
+        names = folders() if words == ["--all"] else words
+        if not names or not set(names) <= set(folders()):
+            sys.exit(__doc__)
+        found, lost = try_all(names, {}, False)
+        write_lists(found)
+        tried = sum(map(len, found.values()))
+    say(f"{tried - lost} refused, {lost} show nothing")
+    return 1 if lost else 0
+
+
+if __name__ == "__main__":
+    sys.exit(main(sys.argv[1:]))

@@ -1,0 +1,74 @@
+"""The toolchain's `rt` as a module, and one check of a crate whose files were changed."""
+import importlib.machinery
+import importlib.util
+import os
+import shutil
+import signal
+import subprocess
+import sys
+import tempfile
+
+sys.dont_write_bytecode = True
+
+
+def load():
+    """`rt` and what it stands on, with this repository's handles."""
+    path = os.path.realpath(shutil.which("rt"))
+    loader = importlib.machinery.SourceFileLoader("rt_of_the_kit", path)
+    made = importlib.util.module_from_spec(importlib.util.spec_from_loader("rt_of_the_kit", loader))
+    loader.exec_module(made)
+    made.rtlib.Crate = made.Crate
+    # (its first call sets a signal's handler, which only the main thread may)
+    made.rtlib.guarded()
+    return made
+
+
+RT = load()
+
+
+def crates_of(top):
+    """The repository's crates by their names."""
+    return {it.name: it for it in RT.rtlib.crates_below(top)}
+
+
+class Checked:
+    """What a check said, whether it ended in time, and whether it came to a verdict on the crate."""
+
+    def __init__(self, text, ended):
+        self.text = text
+        self.ended = ended
+        self.is_stale = bool(RT.rtlib.STALE.search(text))
+        self.is_whole = ended and text.rstrip("\n").split("\n")[-1].startswith("logic=")
+
+
+def check(crate, texts, without, kept, seconds):
+    """Checks a copy of the crate with these texts in the place of its own and without the answers of these functions, over the work in
+    the folder `kept`, which gets what is new."""
+    with tempfile.TemporaryDirectory(prefix="edits-room-") as room:
+        for part in RT.rtlib.PARTS:
+            if os.path.isdir(f"{crate.folder}/{part}"):
+                shutil.copytree(f"{crate.folder}/{part}", f"{room}/{part}")
+        for path, text in texts.items():
+            with open(f"{room}/{path}", "w", encoding="utf-8") as file:
+                file.write(text)
+        for path in without:
+            answers = f"{room}/proofs/{'/'.join(path)}/Answers.antt"
+            if os.path.isfile(answers):
+                os.remove(answers)
+        words = [RT.rtlib.RATTLE, "check", *crate.words(["--jobs", "1"], keeps=False), "--incremental", kept]
+        return ended_within([*RT.rtlib.guarded(), *words], room, seconds)
+
+
+def ended_within(words, folder, seconds):
+    with tempfile.TemporaryFile("w+", errors="replace") as said:
+        how = {"cwd": folder, "stdin": subprocess.DEVNULL, "stdout": said, "stderr": subprocess.STDOUT}
+        run = subprocess.Popen(words, **how)
+        try:
+            run.wait(timeout=seconds)
+            ended = run.returncode >= 0
+        except subprocess.TimeoutExpired:
+            os.kill(run.pid, signal.SIGKILL)
+            run.wait()
+            ended = False
+        said.seek(0)
+        return Checked(said.read(), ended)

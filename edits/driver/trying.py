@@ -1,0 +1,140 @@
+"""Trying a crate's edits: in groups, then alone where that showed nothing, then without the written answers that no longer fit."""
+import os
+import shutil
+import tempfile
+
+from . import judge
+from .edit import functions_of, groups_of, planted, text_of
+from .kit import RT, check
+
+# how long one check may take, in seconds: from nothing, and over kept work
+FROM_NOTHING = 1800
+OVER_KEPT = 900
+
+
+class Unfinished(Exception):
+    """A check that gave no verdict on the crate: it took too long, or the front end refused the text, for these faults."""
+
+    def __init__(self, faults=None):
+        super().__init__()
+        self.faults = faults
+
+
+def linked(source, to):
+    """The file under a second name, or a copy of it where the system gives none: a check replaces files and writes into none."""
+    try:
+        os.link(source, to)
+    except OSError:
+        shutil.copy2(source, to)
+
+
+class Trial:
+    """The checks of one crate's edits, each over a copy of the same kept work."""
+
+    def __init__(self, crate, room, kept, say):
+        self.crate = crate
+        self.room = room
+        self.kept = kept
+        self.say = say
+
+    def check(self, edits, without=()):
+        """Checks the crate with these edits planted, and without the answers of these functions."""
+        texts = planted(edits, self.crate.folder)
+        work = tempfile.mkdtemp(prefix="kept-", dir=self.room)
+        seconds = FROM_NOTHING
+        if self.kept:
+            shutil.copytree(self.kept, work, dirs_exist_ok=True, copy_function=linked)
+            seconds = OVER_KEPT
+        said = check(self.crate, texts, without, work, seconds)
+        if said.is_stale:
+            raise SystemExit(f"edits: the kept work of {self.crate.name} or of a library can't be used: remove its out/")
+        if self.kept or not said.is_whole:
+            shutil.rmtree(work)
+        else:
+            self.kept = work
+        return said, texts
+
+    def functions_in(self, texts):
+        """The functions of the crate's sources, with these texts in the place of its own."""
+        found = []
+        for at, _, files in os.walk(f"{self.crate.folder}/src"):
+            for name in sorted(files):
+                if name.endswith(".rt"):
+                    file = os.path.relpath(f"{at}/{name}", self.crate.folder)
+                    found += functions_of(file, texts.get(file) or text_of(f"{self.crate.folder}/{file}"))
+        return found
+
+    def judged(self, edits, without=()):
+        """The faults and the states of a check with these edits."""
+        said, texts = self.check(edits, without)
+        if not said.ended:
+            raise Unfinished()
+        faults = judge.faults_in(said.text, self.functions_in(texts))
+        if not said.is_whole:
+            raise Unfinished(faults)
+        return faults, judge.states_of(said.text)
+
+    def try_group(self, edits):
+        """The verdict on each edit of a group that is planted at once. Where there is none, those that the front end refuses are taken out,
+        or each half is tried by itself."""
+        try:
+            faults, states = self.judged(edits)
+            return {it.name: judge.verdict_of(it, faults, states, self.crate.name) for it in edits}
+        except Unfinished as why:
+            faults = why.faults
+        found = {it.name: judge.of_front_end(it, faults) for it in edits if faults}
+        found = {name: it for name, it in found.items() if it}
+        if len(edits) == 1:
+            return found or {edits[0].name: judge.Verdict(judge.TIME if faults is None else judge.UNREAD)}
+        rest = [it for it in edits if it.name not in found]
+        parts = [rest] if found else [rest[: len(rest) // 2], rest[len(rest) // 2 :]]
+        for part in parts:
+            found.update(self.try_group(part) if part else {})
+        return found
+
+    def try_alone(self, edit):
+        """The verdict on an edit by every fault of the crate with it alone."""
+        try:
+            return judge.verdict_alone(edit, *self.judged([edit]))
+        except Unfinished as why:
+            return judge.Verdict(judge.TIME if why.faults is None else judge.UNREAD)
+
+    def try_without_answers(self, edits, verdicts):
+        """The verdicts on edits by which an answer no longer fits, from a check without the answers of those functions."""
+        try:
+            faults, _ = self.judged(edits, [verdicts[it.name].path for it in edits])
+        except Unfinished:
+            return {it.name: verdicts[it.name] for it in edits}
+        return {it.name: judge.without_answer(verdicts[it.name], faults) for it in edits}
+
+    def all_verdicts(self, edits):
+        """The verdict on each edit, by its name."""
+        verdicts = {}
+        groups = groups_of(edits)
+        for number, group in enumerate(groups):
+            found = self.try_group(group)
+            unfit = [it for it in group if found[it.name].how == judge.ANSWER]
+            if unfit:
+                found.update(self.try_without_answers(unfit, found))
+            for edit in group:
+                if found[edit.name].how in judge.UNSURE:
+                    found[edit.name] = self.try_alone(edit)
+            verdicts.update(found)
+            self.say(f"{self.crate.name}: group {number + 1} of {len(groups)}, {len(group)} edits")
+        return verdicts
+
+
+def kept_of(crate):
+    """The folder of what earlier checks kept of a crate, where it and the libraries below it are built."""
+    kept = f"{crate.folder}/{RT.rtlib.KEPT[1]}"
+    return kept if crate.has_kept() and all(it.is_built() for it in crate.below()) else None
+
+
+def try_crate(crate, edits, say, from_nothing=False):
+    """The verdict on each of these edits of a crate, by their names."""
+    with tempfile.TemporaryDirectory(prefix="edits-") as room:
+        kept = None if from_nothing else kept_of(crate)
+        linked_kept = f"{room}/kept"
+        if kept:
+            shutil.copytree(kept, linked_kept, copy_function=linked)
+        return Trial(crate, room, linked_kept if kept else None, say).all_verdicts(edits)

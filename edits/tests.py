@@ -1,0 +1,203 @@
+#!/usr/bin/env python3
+"""Tests of the driver: on a crate of a few functions, edits of each sort get the verdict that they should.
+
+    python3 edits/tests.py      its last line is `N passed, M failed`
+"""
+import os
+import sys
+import tempfile
+
+HERE = os.path.dirname(os.path.abspath(__file__))
+sys.path.insert(0, HERE)
+
+from driver import choice, edit, judge, kit, lists, trying  # noqa: E402
+
+SOURCE = """//! A few functions, for the tests of the driver.
+#![tactic(auto)]
+
+ghost use Rattle.std.specs.Prelude.{◌≡◌, ◌+◌, ◌<◌, nat_lt};
+
+/// The least number that is too large.
+const LIMIT: u32 = 1000;
+
+/// A number and the one behind it.
+pub struct Pair {
+    /// The number.
+    pub first: u32,
+    /// The one behind it.
+    pub second: u32,
+}
+
+/// The number behind a number.
+pub fn next(number: u32) -> u32
+    requires { number < 2000 }
+    ensures { result ≡ number + 1 }
+{
+    number + 1
+}
+
+/// The number two behind a number.
+pub fn after_next(number: u32) -> u32
+    requires { number < 1000 }
+    ensures { result ≡ number + 2 }
+{
+    let one = next(number);
+    next(one)
+}
+
+/// Whether a number is small.
+pub fn is_small(number: u32) -> bool
+    ensures { result ≡ nat_lt number 1000 }
+{
+    number < LIMIT
+}
+
+/// A number with the one behind it.
+pub fn with_next(number: u32) -> Pair
+    requires { number < 1000 }
+    ensures first { result.first ≡ number }
+    ensures second { result.second ≡ number + 1 }
+{
+    Pair {
+        first: number,
+        second: number + 1,
+    }
+}
+
+/// A number and itself.
+pub fn twice(number: u32) -> u32
+    requires { number < 1000 }
+    ensures { result ≡ number + number }
+{
+    number + number
+}
+
+/// The number behind a number.
+pub fn named(number: u32) -> u32
+    requires { number < 1000 }
+    ensures { result ≡ number + 1 }
+{
+    let behind = next(number);
+    behind
+}
+"""
+PROOFS = {
+    "twice": "use Rattle.std.proofs.Common.{refl}\nuse Rattle.trial.proofs.twice.Goals as goal\n\npub returns : goal.returns\nreturns c = refl\n",
+    "named": "use Rattle.trial.proofs.named.Goals as goal\n\npub returns : goal.returns\nreturns c = c.next-behind.ensures\n",
+}
+# each edit: its pairs, and what has to be said of it
+EDITS = {
+    "harmless": ([("    number + 1", "    1 + number")], judge.PROVED),
+    "wrong": ([("    number + 1", "    number + 2")], judge.FALSE),
+    "harmless_above_a_wrong_one": ([("    next(one)", "    { next(one) }")], judge.PROVED),
+    "first_of_a_function": ([("    next(one)", "    one")], judge.FALSE),
+    "second_of_a_function": ([("    next(one)", "    next(one) - 2")], judge.FALSE),
+    "only_an_answer": ([("    number + number", "    number * 2")], judge.UNFIT),
+    "wrong_under_an_answer": ([("    number + number", "    number + number + 1")], judge.FALSE),
+    "name_that_an_answer_has": ([("    let behind = next(number);", "    let other = next(number);"), ("    behind", "    other")], judge.NAME),
+    "no_such_name": ([("    number < LIMIT", "    missing < LIMIT")], judge.NAME),
+    "no_such_type": ([("    number < LIMIT", "    u64::from(number) < LIMIT")], judge.TYPE),
+    "a_type": ([("    pub first: u32,", "    pub first: u64,")], judge.TYPE),
+    "a_constant": ([("u32 = 1000;", "u32 = 1001;")], judge.FALSE),
+    "condition_of_an_added_call": ([("    next(one)", "    let _ = next(number + 1500); next(one)")], judge.CALL),
+}
+
+
+class Report:
+    """Counts what is as it should be."""
+
+    def __init__(self):
+        self.passed = 0
+        self.failed = 0
+
+    def check(self, name, found, wanted):
+        if found == wanted:
+            self.passed += 1
+        else:
+            self.failed += 1
+            print(f"FAILED {name}: found {found!r}, wanted {wanted!r}")
+
+
+def write(path, text):
+    os.makedirs(os.path.dirname(path), exist_ok=True)
+    with open(path, "w", encoding="utf-8") as file:
+        file.write(text)
+
+
+def make(top):
+    """A repository with the crate, and the edits beside it."""
+    write(f"{top}/crates.txt", "trial:\n")
+    write(f"{top}/HANDLES", "Handles allowed: none.\n")
+    write(f"{top}/crates/trial/src/lib.rt", SOURCE)
+    for name, text in PROOFS.items():
+        write(f"{top}/crates/trial/proofs/{name}/Answers.antt", text)
+    for name, (pairs, _) in EDITS.items():
+        write(f"{top}/edits/trial/{name}.edit", "file: src/lib.rt\n" + "".join(f"old: {old}\nnew: {new}\n" for old, new in pairs))
+
+
+def groups(report, good):
+    """Two edits of one function, and one of a type, don't stand in one group with others of the same."""
+    found = edit.groups_of(good)
+    report.check("each edit is in one group", sorted(it.name for group in found for it in group), sorted(EDITS))
+    for group in found:
+        functions = [it for each in group for it in each.functions]
+        report.check("a function stands once in a group", len(functions), len(set(functions)))
+        report.check("what changes no function stands alone", len(group) == 1 or not any(it.is_lone for it in group), True)
+
+
+def verdicts(report, crate, good):
+    found = trying.try_crate(crate, good, lambda text: None)
+    for name, (_, wanted) in EDITS.items():
+        report.check(name, found[name].how, wanted)
+    report.check("the goal of a wrong one", (found["wrong"].function(), found["wrong"].goal), ("next", "returns"))
+    report.check("the goal of a constant", found["a_constant"].function(), "is_small")
+    return found
+
+
+def limits(report, crate, good):
+    """A check that takes too long shows nothing."""
+    usual, trying.FROM_NOTHING = trying.FROM_NOTHING, 0.1
+    slow = trying.try_crate(crate, [it for it in good if it.name == "wrong"], lambda text: None)
+    trying.FROM_NOTHING = usual
+    report.check("a check without end", slow["wrong"].how, judge.TIME)
+
+
+def pages(report, folder, found):
+    """A list names what is refused, and says what it lacks."""
+    refused = {it for it in EDITS if EDITS[it][1] in judge.REFUSED}
+    lists.write_list(folder, lists.rows_of(folder, found))
+    report.check("a list's rows", set(lists.read_list(folder)), refused)
+    report.check("a list's gaps", len(lists.complaints(folder)), len(EDITS) - len(refused))
+    write(f"{folder}/wrong.edit", "file: src/lib.rt\nold:     number + 1\nnew:     number + 3\n")
+    report.check("a list behind a changed edit", [it for it in lists.complaints(folder) if "changed" in it], ["trial/wrong: it has changed since it was tried"])
+    os.remove(f"{folder}/wrong.edit")
+    report.check("a list behind an edit that is gone", [it for it in lists.complaints(folder) if "not there" in it], ["trial/wrong: it is on the list and not there"])
+
+
+def thirds(report):
+    """Three landings try every crate; a commit that isn't known has all of them tried."""
+    names = [f"crate_{it}" for it in range(20)]
+    tried = [choice.third_of(names, number) for number in (7, 8, 9)]
+    report.check("three landings", sorted(it for each in tried for it in each), sorted(names))
+    unknown = choice.chosen(HERE, names, choice.Landing(1, "0000000"))
+    report.check("a commit that isn't known", unknown.whole, set(names))
+
+
+def main():
+    report = Report()
+    with tempfile.TemporaryDirectory(prefix="edits-tests-") as top:
+        make(top)
+        crate = kit.crates_of(top)["trial"]
+        good, bad = edit.edits_in(f"{top}/edits/trial", crate.folder)
+        report.check("edits that can't be planted", bad, [])
+        groups(report, good)
+        found = verdicts(report, crate, good)
+        limits(report, crate, good)
+        pages(report, f"{top}/edits/trial", found)
+    thirds(report)
+    print(f"{report.passed} passed, {report.failed} failed")
+    return 1 if report.failed else 0
+
+
+if __name__ == "__main__":
+    sys.exit(main())
