@@ -1,8 +1,9 @@
 -- A plain argument or command is not global.
-use Rattle.std.proofs.Common.{◌≡◌, ◌&&◌, Bool, true, false, not, is_some, refl, sym}
+use Rattle.std.proofs.Common.{◌≡◌, ◌∙◌, ◌&&◌, Bool, true, false, not, is_some, refl, sym, ap, ap₂, Result, Ok, Err}
+use Rattle.std.specs.Prelude.{IfOk, IsOkAnd}
 use Rattle.std.proofs.lemmas.Bool.{false≢true}
 use Rattle.clap.specs.Walk.{is_empty}
-use Rattle.clap.specs.Words.{app_of, rule_of}
+use Rattle.clap.specs.Words.{AddsArg, AddsSubcommand, App, Rule, app_of, rule_of, with_rule, with_subcommand}
 use Rattle.clap.specs.declared.builder.Arg.{Arg}
 use Rattle.clap.specs.declared.builder.Command.{Command}
 use Rattle.clap.specs.declared.builder.Command.TheViews.{out-Command}
@@ -27,3 +28,20 @@ arg_local a e =
 
 pub command_local : (c : Command) → (app_of c).top.is_plain ≡ true → (out-Command c).has_globals ≡ false
 command_local c e = is_false (out-Command c).has_globals (left _ _ (right _ _ (right _ _ e)))
+
+-- a subcommand that was made is added to a command that was made
+pub subcommand_added : {E : Type 0} (old added new : Result Command E) (a sub : App) → sub.top.is_plain ≡ true → IfOk old (λ c. app_of c ≡ a)
+    → IfOk added (λ s. app_of s ≡ sub) → IfOk new (λ n. IsOkAnd old (λ c. IsOkAnd added (λ s. AddsSubcommand c s n)))
+    → IfOk new (λ n. app_of n ≡ with_subcommand a sub.top)
+subcommand_added (Ok c) (Ok s) (Ok n) a sub plain from is adds =
+    adds.shape (command_local s (ap (λ (t : App). t.top.is_plain) is ∙ plain)) ∙ ap₂ with_subcommand from (ap (λ (t : App). t.top) is)
+subcommand_added (Err e) added (Ok n) a sub plain from is adds = absurd adds
+subcommand_added (Ok c) (Err e) (Ok n) a sub plain from is adds = absurd adds
+subcommand_added old added (Err e) a sub plain from is adds = tt
+
+-- an argument is added to a command that was made
+pub rule_added : {E : Type 0} (old new : Result Command E) (arg : Arg) (a : App) (rule : Rule) → rule.is_simple ≡ true → IfOk old (λ c. app_of c ≡ a)
+    → rule_of arg ≡ rule → IfOk new (λ n. IsOkAnd old (λ c. AddsArg c arg n)) → IfOk new (λ n. app_of n ≡ with_rule a rule)
+rule_added (Ok c) (Ok n) arg a rule plain from is adds = adds.shape (arg_local arg (ap (λ (r : Rule). r.is_simple) is ∙ plain)) ∙ ap₂ with_rule from is
+rule_added (Err e) (Ok n) arg a rule plain from is adds = absurd adds
+rule_added old (Err e) arg a rule plain from is adds = tt

@@ -1,5 +1,5 @@
 -- What the words of the command line ask for.
-use Rattle.std.specs.Prelude.{◌≡◌, ◌⊎◌, ◌<◌, ◌+◌, ◌==◌, ℕ, Bool, true, false, if◌then◌else◌, List, [], ◌∷◌, Option, Some, None, codes, is_some, map, option_map, unwrap_or}
+use Rattle.std.specs.Prelude.{◌≡◌, ◌⊎◌, ◌<◌, ◌≤◌, ◌+◌, ◌==◌, ℕ, Bool, true, false, if◌then◌else◌, List, [], ◌∷◌, Option, Some, None, codes, is_some, map, option_map, unwrap_or, IfSome}
 use Rattle.std.specs.List.{slice_split}
 use Rattle.std.specs.Str.{bytes_eq}
 use Rattle.std.proofs.Common.{Bor}
@@ -197,7 +197,7 @@ misuse_text StandardPicture = codes "--picture takes a file, and not -"
 abbrev pub IsOptionFile : Text → List Row → Option (Bor (List ℕ)) → Type 0
 IsOptionFile id rows file = (option_map (λ (p : Bor (List ℕ)). p.now) file ≡ first_of id rows) × (is_option_standard id rows ≡ false)
 
--- what the subcommand and its arguments ask for, or want of memory, whose status is 5
+-- what the subcommand and its arguments ask for, or want of memory for the sheets of `hash`, whose status is 5
 abbrev pub Means : Option (Text × List Row) → Request → Type 0
 Means met Bundle = met ≡ None
 Means met (Check kinds files) = (rows : List Row) × (met ≡ Some (codes "check", rows)) × GiveKinds rows kinds × AreSheetFiles rows files
@@ -217,7 +217,16 @@ Means met (Diff kinds files brief picture) = (rows : List Row) × (met ≡ Some 
 Means met (Draw kinds files out) = (rows : List Row) × (met ≡ Some (codes "draw", rows)) × GiveKinds rows kinds × AreSheetFiles rows files
     × (out.now ≡ value_at (codes "OUT") rows)
 Means met (Misused misuse) = (name : Text) × (rows : List Row) × (met ≡ Some (name, rows)) × IsMisuse name rows misuse
-Means met (Answered status) = status ≡ 5
+Means met (Answered status) = (rows : List Row) × (met ≡ Some (codes "hash", rows)) × (status ≡ 5)
+
+-- whether words in good form can't be meant
+abbrev pub is_misused : Request → Bool
+is_misused (Misused misuse) = true
+is_misused _ = false
+
+-- at most one of the inputs is standard input, if the words can be meant
+abbrev pub ReadsInputOnce : Option (Text × List Row) → Request → Type 0
+ReadsInputOnce met request = is_misused request ≡ false → IfSome met (λ p. standard_count p.1 ≤ 1)
 
 -- 5 without memory, 0 where help was asked for, and else 3
 abbrev pub status_of_kind : ErrorKind → ℕ
@@ -232,7 +241,7 @@ IsRefused words (Answered status) =
     (status ≡ 5) ⊎ ((k : ErrorKind) × IsAmong k (fault_of edicad words) × (status ≡ status_of_kind k))
 IsRefused words _ = ⊥
 
--- what the words ask for: they have no fault and mean it, or they are refused
+-- what the words ask for: they have no fault, mean it and read standard input once at most, or they are refused
 abbrev pub IsAsked : List Text → Request → Type 0
 IsAsked words request =
-    ((fault_of edicad words ≡ []) × Means (subcommand_of edicad words) request) ⊎ IsRefused words request
+    ((fault_of edicad words ≡ []) × Means (subcommand_of edicad words) request × ReadsInputOnce (subcommand_of edicad words) request) ⊎ IsRefused words request

@@ -1,6 +1,7 @@
 //! What the words of a command line ask for.
 #![tactic(auto)]
 
+mod command_line;
 pub mod known;
 pub mod words;
 

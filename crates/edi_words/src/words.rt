@@ -1,12 +1,13 @@
 //! What the words of the command line ask for.
 ghost use Rattle.std.specs.Prelude.{◌≡◌, ◌↔◌, ◌<◌, ◌≤◌, ◌^◌, IsTrue, IfErr, IfOk, MatchOption, OnOk, Some, [], codes, length, map, option_map, string_bytes};
-ghost use Rattle.clap.specs.Words.{HasKind, app_of, fault_of, found_of, kind_of, new_rule, one_of, rows_of, rule_of, subcommand_of, subcommand_rows_of, with_rule};
+ghost use Rattle.clap.specs.Words.{HasKind, fault_of, found_of, kind_of, one_of, rows_of, subcommand_of, subcommand_rows_of};
 ghost use Rattle.edi_schema.specs.Roles.{KindCodes};
-ghost use Rattle.edi_words.specs.Requests.{AreKindsIn, AreKindsOf, AreManyFiles, ArePairFiles, AreSheetFiles, IsAsked, IsFlag, GiveKinds, Means, brief_rule, canon_command, check_command, compare_command, diff_command, draw_command, edicad, explain_command, file_option_rule, file_rule, files_rule, hash_command, is_given, is_standard_path, kinds_rule, output_command, pairing_rule, picture_rule, schema_command, standard_at, standard_count, standard_in, status_of_kind, subject_rule, value_at, values_at, verify_command};
+ghost use Rattle.edi_words.specs.Requests.{AreKindsIn, AreKindsOf, AreManyFiles, ArePairFiles, AreSheetFiles, IsAsked, IsFlag, GiveKinds, Means, ReadsInputOnce, edicad, is_given, is_standard_path, standard_at, standard_count, standard_in, status_of_kind, value_at, values_at};
 ghost use Rattle.edi_words.specs.inner.Requests.{IsOwn};
 
+use crate::command_line::command;
 use clap::error::ErrorKind;
-use clap::{Arg, ArgAction, ArgMatches, Command, Error};
+use clap::{ArgMatches, Error};
 use edi_schema::Kinds;
 use std::alloc::{AllocError, Global};
 
@@ -17,24 +18,8 @@ const MEMORY_STATUS: u8 = 5;
 
 const USAGE_STATUS: u8 = 3;
 
-const SHEET: &str = "The sheet, a file of type VEC";
-
-const DICTIONARY: &str = "The dictionary of the delivery, a file of type DIC";
-
-const VERSION: &str = "0.1.0";
-
-const STATUSES: &str = "\
-    A file named - is standard input, or standard output.\n\
-    \n\
-    Exit status: 0 accepted, the same plan, or a file that pairs\n\
-    \x20            1 different plans, or a file that doesn't pair\n\
-    \x20            2 refused\n\
-    \x20            3 wrong words\n\
-    \x20            4 a file can't be read or written\n\
-    \x20            5 out of memory";
-
 /// The files of a sheet: of classes, of words, and the sheet's own.
-#[derive(Clone, Copy, Debug)]
+#[derive(Clone, Copy)]
 pub struct SheetFiles<'a> {
     pub scd: &'a str,
     pub dic: &'a str,
@@ -42,7 +27,7 @@ pub struct SheetFiles<'a> {
 }
 
 /// The files of two sheets: of classes, of words, and each sheet's own.
-#[derive(Clone, Copy, Debug)]
+#[derive(Clone, Copy)]
 pub struct PairFiles<'a> {
     pub scd: &'a str,
     pub dic: &'a str,
@@ -51,7 +36,7 @@ pub struct PairFiles<'a> {
 }
 
 /// The files of a schema, and sheets under it.
-#[derive(Debug, Drop)]
+#[derive(Drop)]
 pub struct ManyFiles<'a> {
     pub scd: &'a str,
     pub dic: &'a str,
@@ -59,7 +44,7 @@ pub struct ManyFiles<'a> {
 }
 
 /// What is asked for.
-#[derive(Debug, Drop)]
+#[derive(Drop)]
 pub enum Request<'a> {
     /// The canonical file of the bundle on standard input.
     Bundle,
@@ -120,7 +105,7 @@ pub enum Request<'a> {
 }
 
 /// Why words in good form can't be meant.
-#[derive(Clone, Copy, Debug)]
+#[derive(Clone, Copy)]
 pub enum Misuse {
     /// The codes of the kinds are not four codes, of which no two are equal.
     BadKinds,
@@ -153,257 +138,11 @@ fn parsed<'a>(alloc: Global, words: &'a [String]) -> Result<ArgMatches<'a>, Erro
     command(alloc)?.try_get_matches_from(words)
 }
 
-// The command and its subcommands.
-fn command<'a>(alloc: Global) -> Result<Command<'a>, AllocError>
-    ensures { IfOk result (λ c. app_of c ≡ edicad) }
-{
-    Command::new(alloc, "edicad")
-        .version(VERSION)
-        .about(
-            "Reads EDIGeO sheets of the French cadastral plan.\n\nWithout a command, it reads SCD, DIC and VEC one after the other from\nstandard input, and writes the canonical file to standard output.",
-        )
-        .after_help(STATUSES)
-        .subcommand(check(alloc)?)?
-        .subcommand(canon(alloc)?)?
-        .subcommand(compare(alloc)?)?
-        .subcommand(hash(alloc)?)?
-        .subcommand(explain(alloc)?)?
-        .subcommand(verify(alloc)?)?
-        .subcommand(diff(alloc)?)?
-        .subcommand(draw(alloc)?)
-}
-
-// The subcommand that checks a sheet.
-fn check<'a>(alloc: Global) -> Result<Command<'a>, AllocError>
-    ensures { IfOk result (λ c. app_of c ≡ check_command) }
-{
-    let over_schema = over_schema(alloc, "check")?.about(
-        "Says whether a sheet is accepted, or which rule it breaks first",
-    );
-    with_file(alloc, over_schema, "VEC", SHEET)
-}
-
-// The subcommand that writes a sheet's canonical file.
-fn canon<'a>(alloc: Global) -> Result<Command<'a>, AllocError>
-    ensures { IfOk result (λ c. app_of c ≡ canon_command) }
-{
-    let over_schema = over_schema(alloc, "canon")?.about(
-        "Writes the canonical file of a sheet to OUT",
-    );
-    with_output(
-        alloc,
-        over_schema,
-        "The canonical file, which replaces OUT whole or not at all",
-    )
-}
-
-// The subcommand that draws a sheet.
-fn draw<'a>(alloc: Global) -> Result<Command<'a>, AllocError>
-    ensures { IfOk result (λ c. app_of c ≡ draw_command) }
-{
-    let over_schema = over_schema(alloc, "draw")?.about("Draws a sheet, as an SVG file, to OUT");
-    with_output(
-        alloc,
-        over_schema,
-        "The picture, which replaces OUT whole or not at all",
-    )
-}
-
-// A command with a sheet, and the file that something goes to.
-fn with_output<'a>(
-    alloc: Global,
-    command: Command<'a>,
-    help: &'a str,
-) -> Result<Command<'a>, AllocError>
-    ensures { IfOk result (λ c. app_of c ≡ with_rule (with_rule (app_of command.entry) (file_rule (codes "VEC"))) (file_rule (codes "OUT"))) }
-{
-    let with_sheet = with_file(alloc, command, "VEC", SHEET)?;
-    with_file(alloc, with_sheet, "OUT", help)
-}
-
-// The subcommand that compares two sheets.
-fn compare<'a>(alloc: Global) -> Result<Command<'a>, AllocError>
-    ensures { IfOk result (λ c. app_of c ≡ compare_command) }
-{
-    let over_schema = over_schema(alloc, "compare")?.about(
-        "Says whether two sheets state the same plan",
-    );
-    with_pair(alloc, over_schema)?.arg(pairing_option(alloc))
-}
-
-// The subcommand that gives the digests of sheets.
-fn hash<'a>(alloc: Global) -> Result<Command<'a>, AllocError>
-    ensures { IfOk result (λ c. app_of c ≡ hash_command) }
-{
-    let over_schema = over_schema(alloc, "hash")?.about(
-        "Gives the SHA-256 digest of each sheet's canonical file",
-    );
-    over_schema.arg(sheets_argument(alloc))
-}
-
-// The subcommand that checks a pairing's file.
-fn verify<'a>(alloc: Global) -> Result<Command<'a>, AllocError>
-    ensures { IfOk result (λ c. app_of c ≡ verify_command) }
-{
-    let over_schema = over_schema(alloc, "verify")?.about(
-        "Says whether a file pairs two sheets that state the same plan",
-    );
-    let over_pair = with_pair(alloc, over_schema)?;
-    with_file(
-        alloc,
-        over_pair,
-        "FILE",
-        "The pairing, as compare --pairing writes it",
-    )
-}
-
-// The subcommand that reports what differs between two sheets.
-fn diff<'a>(alloc: Global) -> Result<Command<'a>, AllocError>
-    ensures { IfOk result (λ c. app_of c ≡ diff_command) }
-{
-    let over_schema = over_schema(alloc, "diff")?.about("Says what differs between two sheets");
-    with_pair(alloc, over_schema)?
-        .arg(brief_flag(alloc))?
-        .arg(picture_option(alloc))
-}
-
-// A command with two more sheets.
-fn with_pair<'a>(alloc: Global, command: Command<'a>) -> Result<Command<'a>, AllocError>
-    ensures { IfOk result (λ c. app_of c ≡ with_rule (with_rule (app_of command.entry) (file_rule (codes "A"))) (file_rule (codes "B"))) }
-{
-    let with_first = with_file(alloc, command, "A", "The first sheet, a file of type VEC")?;
-    with_file(
-        alloc,
-        with_first,
-        "B",
-        "The second sheet, a file of type VEC",
-    )
-}
-
-// The subcommand that explains a rule or a sheet.
-fn explain<'a>(alloc: Global) -> Result<Command<'a>, AllocError>
-    ensures { IfOk result (λ c. app_of c ≡ explain_command) }
-{
-    let with_kinds = Command::new(alloc, "explain")
-        .about("Says what a rule means, or where and why a sheet is refused")
-        .arg(kinds_option(alloc))?;
-    let with_subject = with_kinds.arg(subject(alloc))?;
-    let with_dic = optional_file(alloc, with_subject, "DIC", DICTIONARY)?;
-    optional_file(alloc, with_dic, "VEC", SHEET)
-}
-
-// A rule's number, or the first file of a schema.
-fn subject<'a>(alloc: Global) -> Arg<'a>
-    ensures { rule_of result ≡ subject_rule }
-{
-    file(alloc, "SCD", "The number of a rule, or a file of type SCD").value_name("RULE|SCD")
-}
-
-// A command with one more file, which may be named.
-fn optional_file<'a>(
-    alloc: Global,
-    command: Command<'a>,
-    id: &'a str,
-    help: &'a str,
-) -> Result<Command<'a>, AllocError>
-    ensures { IfOk result (λ c. app_of c ≡ with_rule (app_of command.entry) (new_rule id.entry.now)) }
-{
-    command.arg(Arg::new(alloc, id).help(help))
-}
-
-// A subcommand over the files of a schema.
-fn over_schema<'a>(alloc: Global, name: &'a str) -> Result<Command<'a>, AllocError>
-    ensures { IfOk result (λ c. app_of c ≡ schema_command name.entry.now) }
-{
-    let with_kinds = Command::new(alloc, name).arg(kinds_option(alloc))?;
-    let with_scd = with_file(
-        alloc,
-        with_kinds,
-        "SCD",
-        "The schema of the delivery, a file of type SCD",
-    )?;
-    with_file(alloc, with_scd, "DIC", DICTIONARY)
-}
-
-// A command with one more file, which has to be named.
-fn with_file<'a>(
-    alloc: Global,
-    command: Command<'a>,
-    id: &'a str,
-    help: &'a str,
-) -> Result<Command<'a>, AllocError>
-    ensures { IfOk result (λ c. app_of c ≡ with_rule (app_of command.entry) (file_rule id.entry.now)) }
-{
-    command.arg(file(alloc, id, help))
-}
-
-// A file that has to be named.
-fn file<'a>(alloc: Global, id: &'a str, help: &'a str) -> Arg<'a>
-    ensures { rule_of result ≡ file_rule id.entry.now }
-{
-    Arg::new(alloc, id).required(true).help(help)
-}
-
-// Sheets, of which at least one has to be named.
-fn sheets_argument<'a>(alloc: Global) -> Arg<'a>
-    ensures { rule_of result ≡ files_rule (codes "VEC") }
-{
-    file(alloc, "VEC", "The sheets, files of type VEC").num_args(1..)
-}
-
-// The option with the codes of the kinds.
-fn kinds_option<'a>(alloc: Global) -> Arg<'a>
-    ensures { rule_of result ≡ kinds_rule }
-{
-    Arg::new(alloc, "kinds")
-        .long("kinds")
-        .value_name("I,F,L,R")
-        .help("Codes of the kinds of link [default: IND,FND,LPO,RPO]")
-}
-
-// The option with the file that a pairing goes to.
-fn pairing_option<'a>(alloc: Global) -> Arg<'a>
-    ensures { rule_of result ≡ pairing_rule }
-{
-    file_option(
-        alloc,
-        "pairing",
-        "Where a pairing goes if the plans are the same",
-    )
-}
-
-// The option with the file that a picture goes to.
-fn picture_option<'a>(alloc: Global) -> Arg<'a>
-    ensures { rule_of result ≡ picture_rule }
-{
-    file_option(
-        alloc,
-        "picture",
-        "Where a picture of what differs goes, as an SVG file",
-    )
-}
-
-// An option with a file that something goes to.
-fn file_option<'a>(alloc: Global, id: &'a str, help: &'a str) -> Arg<'a>
-    ensures { rule_of result ≡ file_option_rule id.entry.now }
-{
-    Arg::new(alloc, id).long(id).value_name("FILE").help(help)
-}
-
-// The flag that asks for the last line alone.
-fn brief_flag<'a>(alloc: Global) -> Arg<'a>
-    ensures { rule_of result ≡ brief_rule }
-{
-    Arg::new(alloc, "brief")
-        .long("brief")
-        .action(ArgAction::SetTrue)
-        .help("Only how many records differ")
-}
-
 // What words in good form ask for.
 fn meant<'a, R: Eprint + AllocGlobal>(rt: &R, matches: &ArgMatches<'a>) -> Request<'a>
     requires { IsOwn (subcommand_rows_of matches.now) }
-    ensures { Means (subcommand_rows_of matches.now) result }
+    ensures means { Means (subcommand_rows_of matches.now) result }
+    ensures once { ReadsInputOnce (subcommand_rows_of matches.now) result }
 {
     let Some((name, given)) = matches.subcommand() else {
         return Request::Bundle;
@@ -414,6 +153,19 @@ fn meant<'a, R: Eprint + AllocGlobal>(rt: &R, matches: &ArgMatches<'a>) -> Reque
     if reads_input_twice(given) {
         return Request::Misused(Misuse::TwoStandard);
     }
+    subcommand_meant(rt, name, given, kinds)
+}
+
+// What a subcommand and its arguments ask for.
+fn subcommand_meant<'a, R: Eprint + AllocGlobal>(
+    rt: &R,
+    name: &str,
+    given: &ArgMatches<'a>,
+    kinds: Kinds<'a>,
+) -> Request<'a>
+    ensures { IsOwn (Some (name.now, rows_of (found_of given.now))) → GiveKinds (rows_of (found_of given.now)) kinds.entry
+        → Means (Some (name.now, rows_of (found_of given.now))) result }
+{
     match name {
         "check" => Request::Check {
             kinds,
@@ -446,8 +198,7 @@ fn meant<'a, R: Eprint + AllocGlobal>(rt: &R, matches: &ArgMatches<'a>) -> Reque
 
 // What the arguments of `compare` ask for.
 fn compared<'a>(given: &ArgMatches<'a>, kinds: Kinds<'a>) -> Request<'a>
-    requires { GiveKinds (rows_of (found_of given.now)) kinds }
-    ensures { Means (Some (codes "compare", rows_of (found_of given.now))) result }
+    ensures { GiveKinds (rows_of (found_of given.now)) kinds.entry → Means (Some (codes "compare", rows_of (found_of given.now))) result }
 {
     if is_standard(path(given, "pairing")) {
         return Request::Misused(Misuse::StandardPairing);
@@ -461,8 +212,7 @@ fn compared<'a>(given: &ArgMatches<'a>, kinds: Kinds<'a>) -> Request<'a>
 
 // What the arguments of `diff` ask for.
 fn differing<'a>(given: &ArgMatches<'a>, kinds: Kinds<'a>) -> Request<'a>
-    requires { GiveKinds (rows_of (found_of given.now)) kinds }
-    ensures { Means (Some (codes "diff", rows_of (found_of given.now))) result }
+    ensures { GiveKinds (rows_of (found_of given.now)) kinds.entry → Means (Some (codes "diff", rows_of (found_of given.now))) result }
 {
     if is_standard(path(given, "picture")) {
         return Request::Misused(Misuse::StandardPicture);
@@ -477,8 +227,7 @@ fn differing<'a>(given: &ArgMatches<'a>, kinds: Kinds<'a>) -> Request<'a>
 
 // What the arguments of `explain` ask for.
 fn explained<'a>(given: &ArgMatches<'a>, kinds: Kinds<'a>) -> Request<'a>
-    requires { GiveKinds (rows_of (found_of given.now)) kinds }
-    ensures { Means (Some (codes "explain", rows_of (found_of given.now))) result }
+    ensures { GiveKinds (rows_of (found_of given.now)) kinds.entry → Means (Some (codes "explain", rows_of (found_of given.now))) result }
 {
     match (is_given(given, "DIC"), is_given(given, "VEC")) {
         (false, _) => Request::Rule {

@@ -1,6 +1,6 @@
 use Rattle.std.proofs.Common.{◌∙◌, refl, sym, subst, map, string_bytes, inl, inr, ap}
 use Rattle.clap.specs.Words.{kind_of, subcommand_of}
-use Rattle.edi_words.specs.Requests.{Means, edicad, status_of_kind}
+use Rattle.edi_words.specs.Requests.{Means, ReadsInputOnce, edicad, status_of_kind}
 use Rattle.edi_words.specs.inner.Requests.{IsOwn}
 use Rattle.edi_words.proofs.Subcommands.{met_is_own}
 use Rattle.edi_words.proofs.words.asked.Goals as goal
@@ -12,7 +12,11 @@ meant-requires g c =
 
 pub returns-in-Ok : goal.returns-in-Ok
 returns-in-Ok g c =
-    inl (c.in-Ok.ensures.taken, subst (λ met. Means met c.meant.result) c.in-Ok.ensures.met c.meant.ensures)
+    inl (
+      c.in-Ok.ensures.taken,
+      subst (λ met. Means met c.meant.result) c.in-Ok.ensures.met c.meant.ensures.means,
+      subst (λ met. ReadsInputOnce met c.meant.result) c.in-Ok.ensures.met c.meant.ensures.once,
+    )
 
 pub returns-in-Err : goal.returns-in-Err
 returns-in-Err g c = inr (elim c.in-Err.ensures.refused [

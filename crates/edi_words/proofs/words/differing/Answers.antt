@@ -5,10 +5,10 @@ use Rattle.edi_words.specs.Requests.{is_standard_path}
 use Rattle.edi_words.proofs.words.differing.Goals as goal
 
 pub returns : goal.returns
-returns c = (
+returns c = λ give. (
   rows_of (found_of c.args.given.now),
   refl,
-  c.requires,
+  give,
   c.pair_files.ensures,
   c.flag.ensures,
   (

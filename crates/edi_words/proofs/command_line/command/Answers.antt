@@ -1,0 +1,18 @@
+use Rattle.std.proofs.Common.{◌≡◌, Ok, ap, codes, refl}
+use Rattle.clap.specs.Words.{app_of, new_app}
+use Rattle.edi_words.specs.Requests.{canon_command, check_command, compare_command, diff_command, draw_command, explain_command, hash_command, verify_command, versioned}
+use Rattle.edi_words.proofs.Plain.{subcommand_added}
+use Rattle.edi_words.proofs.command_line.command.Goals as goal
+
+pub returns : goal.returns
+returns c =
+    let bare : app_of c.after_help-bare.result ≡ versioned (new_app (codes "edicad")) =
+    rw (c.after_help-bare.ensures, c.about.ensures, c.version.ensures) (ap versioned c.new.ensures.app) in
+    let with_check = subcommand_added (Ok c.after_help-bare.result) c.check.result c.with_subcommand-with_check.result _ check_command refl bare c.check.ensures c.with_subcommand-with_check.ensures in
+    let with_canon = subcommand_added c.with_subcommand-with_check.result c.canon.result c.with_subcommand-with_canon.result _ canon_command refl with_check c.canon.ensures c.with_subcommand-with_canon.ensures in
+    let with_compare = subcommand_added c.with_subcommand-with_canon.result c.compare.result c.with_subcommand-with_compare.result _ compare_command refl with_canon c.compare.ensures c.with_subcommand-with_compare.ensures in
+    let with_hash = subcommand_added c.with_subcommand-with_compare.result c.hash.result c.with_subcommand-with_hash.result _ hash_command refl with_compare c.hash.ensures c.with_subcommand-with_hash.ensures in
+    let with_explain = subcommand_added c.with_subcommand-with_hash.result c.explain.result c.with_subcommand-with_explain.result _ explain_command refl with_hash c.explain.ensures c.with_subcommand-with_explain.ensures in
+    let with_verify = subcommand_added c.with_subcommand-with_explain.result c.verify.result c.with_subcommand-with_verify.result _ verify_command refl with_explain c.verify.ensures c.with_subcommand-with_verify.ensures in
+    let with_diff = subcommand_added c.with_subcommand-with_verify.result c.diff.result c.with_subcommand-with_diff.result _ diff_command refl with_verify c.diff.ensures c.with_subcommand-with_diff.ensures in
+    subcommand_added c.with_subcommand-with_diff.result c.draw.result c.with_subcommand.result _ draw_command refl with_diff c.draw.ensures c.with_subcommand.ensures

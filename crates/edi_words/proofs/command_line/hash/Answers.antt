@@ -1,0 +1,8 @@
+use Rattle.std.proofs.Common.{codes, refl}
+use Rattle.edi_words.specs.Requests.{files_rule}
+use Rattle.edi_words.proofs.Plain.{rule_added}
+use Rattle.edi_words.proofs.command_line.hash.Goals as goal
+
+pub returns : goal.returns
+returns c =
+    rule_added c.over_schema-over_schema.result c.with_argument.result c.sheets_argument.result _ (files_rule (codes "VEC")) refl c.over_schema-over_schema.ensures c.sheets_argument.ensures c.with_argument.ensures

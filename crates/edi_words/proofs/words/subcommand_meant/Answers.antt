@@ -1,0 +1,42 @@
+use Rattle.std.proofs.Common.{◌≡◌, codes, Some, sym, ap, subst, inl, inr}
+use Rattle.clap.specs.Words.{found_of, rows_of}
+use Rattle.edi_words.specs.Requests.{Means}
+use Rattle.edi_words.proofs.words.subcommand_meant.Goals as goal
+
+pub returns-in-check : goal.returns-in-check
+returns-in-check g c = λ own give. (rows_of (found_of c.args.given.now), ap (λ name. Some (name, rows_of (found_of c.args.given.now))) c.in-check.is, give, c.sheet_files.ensures)
+
+pub returns-in-canon : goal.returns-in-canon
+returns-in-canon g c = λ own give. (rows_of (found_of c.args.given.now), ap (λ name. Some (name, rows_of (found_of c.args.given.now))) c.in-canon.is, give, c.sheet_files-in-canon.ensures, c.path.ensures)
+
+pub returns-in-compare : goal.returns-in-compare
+returns-in-compare g c = λ own give. subst (λ name. Means (Some (name, rows_of (found_of c.args.given.now))) c.compared.result) (sym c.in-compare.is) (c.compared.ensures give)
+
+pub returns-in-verify : goal.returns-in-verify
+returns-in-verify g c = λ own give. (rows_of (found_of c.args.given.now), ap (λ name. Some (name, rows_of (found_of c.args.given.now))) c.in-verify.is, give, c.pair_files.ensures, c.path-in-verify.ensures)
+
+pub returns-in-diff : goal.returns-in-diff
+returns-in-diff g c = λ own give. subst (λ name. Means (Some (name, rows_of (found_of c.args.given.now))) c.differing.result) (sym c.in-diff.is) (c.differing.ensures give)
+
+pub returns-in-draw : goal.returns-in-draw
+returns-in-draw g c = λ own give. (rows_of (found_of c.args.given.now), ap (λ name. Some (name, rows_of (found_of c.args.given.now))) c.in-draw.is, give, c.sheet_files-in-draw.ensures, c.path-in-draw.ensures)
+
+pub returns-in-Ok : goal.returns-in-Ok
+returns-in-Ok g c = λ own give. (rows_of (found_of c.args.given.now), ap (λ name. Some (name, rows_of (found_of c.args.given.now))) c.in-hash.is, give, c.in-Ok.ensures)
+
+pub returns-in-Err : goal.returns-in-Err
+returns-in-Err g c = λ own give. (rows_of (found_of c.args.given.now), ap (λ name. Some (name, rows_of (found_of c.args.given.now))) c.in-hash.is, c.out_of_memory.ensures)
+
+pub returns-in_default : goal.returns-in_default
+returns-in_default g c = λ own give.
+    let name_is : c.args.name.now ≡ codes "explain" = elim own [
+      | inl e ↦ absurd (c.in_default.not-check e)
+      | inr (inl e) ↦ absurd (c.in_default.not-canon e)
+      | inr (inr (inl e)) ↦ absurd (c.in_default.not-compare e)
+      | inr (inr (inr (inl e))) ↦ absurd (c.in_default.not-hash e)
+      | inr (inr (inr (inr (inl e)))) ↦ e
+      | inr (inr (inr (inr (inr (inl e))))) ↦ absurd (c.in_default.not-verify e)
+      | inr (inr (inr (inr (inr (inr (inl e)))))) ↦ absurd (c.in_default.not-diff e)
+      | inr (inr (inr (inr (inr (inr (inr e)))))) ↦ absurd (c.in_default.not-draw e)
+    ] in
+    subst (λ name. Means (Some (name, rows_of (found_of c.args.given.now))) c.explained.result) (sym name_is) (c.explained.ensures give)

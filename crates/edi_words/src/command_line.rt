@@ -1,0 +1,283 @@
+//! The command line, as clap takes it.
+ghost use Rattle.std.specs.Prelude.{◌≡◌, IfOk, IsOkAnd, codes};
+ghost use Rattle.clap.specs.Words.{AddsArg, AddsSubcommand, app_of, new_app, new_rule, rule_of, with_rule};
+ghost use Rattle.edi_words.specs.Requests.{brief_rule, canon_command, check_command, compare_command, diff_command, draw_command, edicad, explain_command, file_option_rule, file_rule, files_rule, hash_command, kinds_rule, pairing_rule, picture_rule, schema_command, subject_rule, verify_command};
+
+use clap::{Arg, ArgAction, Command};
+use std::alloc::{AllocError, Global};
+
+const SHEET: &str = "The sheet, a file of type VEC";
+
+const DICTIONARY: &str = "The dictionary of the delivery, a file of type DIC";
+
+const VERSION: &str = "0.1.0";
+
+const STATUSES: &str = "\
+    A file named - is standard input, or standard output.\n\
+    \n\
+    Exit status: 0 accepted, the same plan, or a file that pairs\n\
+    \x20            1 different plans, or a file that doesn't pair\n\
+    \x20            2 refused\n\
+    \x20            3 wrong words\n\
+    \x20            4 a file can't be read or written\n\
+    \x20            5 out of memory";
+
+/// The command and its subcommands.
+pub fn command<'a>(alloc: Global) -> Result<Command<'a>, AllocError>
+    ensures { IfOk result (λ c. app_of c ≡ edicad) }
+{
+    let bare = Command::new(alloc, "edicad")
+        .version(VERSION)
+        .about(
+            "Reads EDIGeO sheets of the French cadastral plan.\n\nWithout a command, it reads SCD, DIC and VEC one after the other from\nstandard input, and writes the canonical file to standard output.",
+        )
+        .after_help(STATUSES);
+    let with_check = with_subcommand(Ok(bare), check(alloc));
+    let with_canon = with_subcommand(with_check, canon(alloc));
+    let with_compare = with_subcommand(with_canon, compare(alloc));
+    let with_hash = with_subcommand(with_compare, hash(alloc));
+    let with_explain = with_subcommand(with_hash, explain(alloc));
+    let with_verify = with_subcommand(with_explain, verify(alloc));
+    let with_diff = with_subcommand(with_verify, diff(alloc));
+    with_subcommand(with_diff, draw(alloc))
+}
+
+// A command with one more subcommand, if there was memory for both.
+fn with_subcommand<'a>(
+    command: Result<Command<'a>, AllocError>,
+    added: Result<Command<'a>, AllocError>,
+) -> Result<Command<'a>, AllocError>
+    ensures { IfOk result (λ c. IsOkAnd command.entry (λ b. IsOkAnd added.entry (λ a. AddsSubcommand b a c))) }
+{
+    command?.subcommand(added?)
+}
+
+// A command with one more argument, if there was memory for both.
+fn with_argument<'a>(
+    command: Result<Command<'a>, AllocError>,
+    argument: Arg<'a>,
+) -> Result<Command<'a>, AllocError>
+    ensures { IfOk result (λ c. IsOkAnd command.entry (λ b. AddsArg b argument.entry c)) }
+{
+    command?.arg(argument)
+}
+
+// The subcommand that checks a sheet.
+fn check<'a>(alloc: Global) -> Result<Command<'a>, AllocError>
+    ensures { IfOk result (λ c. app_of c ≡ check_command) }
+{
+    over_sheet(
+        alloc,
+        "check",
+        "Says whether a sheet is accepted, or which rule it breaks first",
+    )
+}
+
+// The subcommand that writes a sheet's canonical file.
+fn canon<'a>(alloc: Global) -> Result<Command<'a>, AllocError>
+    ensures { IfOk result (λ c. app_of c ≡ canon_command) }
+{
+    let over_sheet = over_sheet(
+        alloc,
+        "canon",
+        "Writes the canonical file of a sheet to OUT",
+    );
+    let out = file(
+        alloc,
+        "OUT",
+        "The canonical file, which replaces OUT whole or not at all",
+    );
+    with_argument(over_sheet, out)
+}
+
+// The subcommand that draws a sheet.
+fn draw<'a>(alloc: Global) -> Result<Command<'a>, AllocError>
+    ensures { IfOk result (λ c. app_of c ≡ draw_command) }
+{
+    let over_sheet = over_sheet(alloc, "draw", "Draws a sheet, as an SVG file, to OUT");
+    let out = file(
+        alloc,
+        "OUT",
+        "The picture, which replaces OUT whole or not at all",
+    );
+    with_argument(over_sheet, out)
+}
+
+// The subcommand that compares two sheets.
+fn compare<'a>(alloc: Global) -> Result<Command<'a>, AllocError>
+    ensures { IfOk result (λ c. app_of c ≡ compare_command) }
+{
+    let over_pair = over_pair(
+        alloc,
+        "compare",
+        "Says whether two sheets state the same plan",
+    );
+    with_argument(over_pair, pairing_option(alloc))
+}
+
+// The subcommand that gives the digests of sheets.
+fn hash<'a>(alloc: Global) -> Result<Command<'a>, AllocError>
+    ensures { IfOk result (λ c. app_of c ≡ hash_command) }
+{
+    let over_schema = over_schema(
+        alloc,
+        "hash",
+        "Gives the SHA-256 digest of each sheet's canonical file",
+    );
+    with_argument(over_schema, sheets_argument(alloc))
+}
+
+// The subcommand that explains a rule or a sheet.
+fn explain<'a>(alloc: Global) -> Result<Command<'a>, AllocError>
+    ensures { IfOk result (λ c. app_of c ≡ explain_command) }
+{
+    let with_kinds = with_kinds(
+        alloc,
+        "explain",
+        "Says what a rule means, or where and why a sheet is refused",
+    );
+    let with_subject = with_argument(with_kinds, subject(alloc));
+    let with_dic = with_argument(with_subject, optional_file(alloc, "DIC", DICTIONARY));
+    with_argument(with_dic, optional_file(alloc, "VEC", SHEET))
+}
+
+// The subcommand that checks a pairing's file.
+fn verify<'a>(alloc: Global) -> Result<Command<'a>, AllocError>
+    ensures { IfOk result (λ c. app_of c ≡ verify_command) }
+{
+    let over_pair = over_pair(
+        alloc,
+        "verify",
+        "Says whether a file pairs two sheets that state the same plan",
+    );
+    let pairing = file(alloc, "FILE", "The pairing, as compare --pairing writes it");
+    with_argument(over_pair, pairing)
+}
+
+// The subcommand that reports what differs between two sheets.
+fn diff<'a>(alloc: Global) -> Result<Command<'a>, AllocError>
+    ensures { IfOk result (λ c. app_of c ≡ diff_command) }
+{
+    let over_pair = over_pair(alloc, "diff", "Says what differs between two sheets");
+    let with_brief = with_argument(over_pair, brief_flag(alloc));
+    with_argument(with_brief, picture_option(alloc))
+}
+
+// A subcommand over a sheet.
+fn over_sheet<'a>(alloc: Global, name: &'a str, about: &'a str) -> Result<Command<'a>, AllocError>
+    ensures { IfOk result (λ c. app_of c ≡ with_rule (schema_command name.entry.now) (file_rule (codes "VEC"))) }
+{
+    let over_schema = over_schema(alloc, name, about);
+    with_argument(over_schema, file(alloc, "VEC", SHEET))
+}
+
+// A subcommand over two sheets.
+fn over_pair<'a>(alloc: Global, name: &'a str, about: &'a str) -> Result<Command<'a>, AllocError>
+    ensures { IfOk result (λ c. app_of c ≡ with_rule (with_rule (schema_command name.entry.now) (file_rule (codes "A"))) (file_rule (codes "B"))) }
+{
+    let over_schema = over_schema(alloc, name, about);
+    let first = file(alloc, "A", "The first sheet, a file of type VEC");
+    let with_first = with_argument(over_schema, first);
+    let second = file(alloc, "B", "The second sheet, a file of type VEC");
+    with_argument(with_first, second)
+}
+
+// A subcommand over the files of a schema.
+fn over_schema<'a>(alloc: Global, name: &'a str, about: &'a str) -> Result<Command<'a>, AllocError>
+    ensures { IfOk result (λ c. app_of c ≡ schema_command name.entry.now) }
+{
+    let with_kinds = with_kinds(alloc, name, about);
+    let scd = file(
+        alloc,
+        "SCD",
+        "The schema of the delivery, a file of type SCD",
+    );
+    let with_scd = with_argument(with_kinds, scd);
+    with_argument(with_scd, file(alloc, "DIC", DICTIONARY))
+}
+
+// A subcommand with the option for the codes of the kinds.
+fn with_kinds<'a>(alloc: Global, name: &'a str, about: &'a str) -> Result<Command<'a>, AllocError>
+    ensures { IfOk result (λ c. app_of c ≡ with_rule (new_app name.entry.now) kinds_rule) }
+{
+    Command::new(alloc, name)
+        .about(about)
+        .arg(kinds_option(alloc))
+}
+
+// A rule's number, or the first file of a schema.
+fn subject<'a>(alloc: Global) -> Arg<'a>
+    ensures { rule_of result ≡ subject_rule }
+{
+    file(alloc, "SCD", "The number of a rule, or a file of type SCD").value_name("RULE|SCD")
+}
+
+// A file that may be named.
+fn optional_file<'a>(alloc: Global, id: &'a str, help: &'a str) -> Arg<'a>
+    ensures { rule_of result ≡ new_rule id.entry.now }
+{
+    Arg::new(alloc, id).help(help)
+}
+
+// A file that has to be named.
+fn file<'a>(alloc: Global, id: &'a str, help: &'a str) -> Arg<'a>
+    ensures { rule_of result ≡ file_rule id.entry.now }
+{
+    Arg::new(alloc, id).required(true).help(help)
+}
+
+// Sheets, of which at least one has to be named.
+fn sheets_argument<'a>(alloc: Global) -> Arg<'a>
+    ensures { rule_of result ≡ files_rule (codes "VEC") }
+{
+    file(alloc, "VEC", "The sheets, files of type VEC").num_args(1..)
+}
+
+// The option with the codes of the kinds.
+fn kinds_option<'a>(alloc: Global) -> Arg<'a>
+    ensures { rule_of result ≡ kinds_rule }
+{
+    Arg::new(alloc, "kinds")
+        .long("kinds")
+        .value_name("I,F,L,R")
+        .help("Codes of the kinds of link [default: IND,FND,LPO,RPO]")
+}
+
+// The option with the file that a pairing goes to.
+fn pairing_option<'a>(alloc: Global) -> Arg<'a>
+    ensures { rule_of result ≡ pairing_rule }
+{
+    file_option(
+        alloc,
+        "pairing",
+        "Where a pairing goes if the plans are the same",
+    )
+}
+
+// The option with the file that a picture goes to.
+fn picture_option<'a>(alloc: Global) -> Arg<'a>
+    ensures { rule_of result ≡ picture_rule }
+{
+    file_option(
+        alloc,
+        "picture",
+        "Where a picture of what differs goes, as an SVG file",
+    )
+}
+
+// An option with a file that something goes to.
+fn file_option<'a>(alloc: Global, id: &'a str, help: &'a str) -> Arg<'a>
+    ensures { rule_of result ≡ file_option_rule id.entry.now }
+{
+    Arg::new(alloc, id).long(id).value_name("FILE").help(help)
+}
+
+// The flag that asks for the last line alone.
+fn brief_flag<'a>(alloc: Global) -> Arg<'a>
+    ensures { rule_of result ≡ brief_rule }
+{
+    Arg::new(alloc, "brief")
+        .long("brief")
+        .action(ArgAction::SetTrue)
+        .help("Only how many records differ")
+}
