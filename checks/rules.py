@@ -8,7 +8,7 @@ A rule's sentence is that of the tables of docs/FORMAT.md. Its definition is the
 (specs/inner/ aside) that a comment `-- RULE: ..` stands above or in, or that has a test of
 that number (202 is the test of an identifier, which schemas share). Its code is the sources that name its number (edi_explain aside, which
 explains the rules). Its cases are those in
-crates/conform/data that want its refusal.
+crates/conform/data and program/cases that want its refusal.
 """
 import glob
 import os
@@ -80,7 +80,7 @@ def code():
 def cases():
     """For each rule the files and titles of the cases that want its refusal."""
     found = {}
-    for path in paths("crates/conform/data/*.cases"):
+    for path in paths("crates/conform/data/*.cases") + paths("program/cases/*.cases"):
         for block in read(path).split("--\n")[1:]:
             title = block.split("\n", 1)[0]
             wanted = block.split("->\n", 1)[1]
@@ -94,7 +94,7 @@ def page():
     known, defs, sources, tried = sentences(), definitions(), code(), cases()
     out = ["# The rules", ""]
     out += ["Each rule with its definition, its code and the cases that show it. Made by `checks/rules.py` from",
-            "docs/FORMAT.md, the crates and the cases of `crates/conform/data`; the gate checks that it is current.", ""]
+            "docs/FORMAT.md, the crates and the cases of `crates/conform/data` and `program/cases`; the gate checks that it is current.", ""]
     for rule, (sentence, place) in sorted(known.items()):
         out += [f"## {rule}", "", f"Broken where: {sentence}. Place: {place}.", ""]
         for path, name in defs.get(rule, []):

@@ -180,7 +180,7 @@ def thirds(report):
     tried = [choice.third_of(names, number) for number in (7, 8, 9)]
     report.check("three landings", sorted(it for each in tried for it in each), sorted(names))
     unknown = choice.chosen(HERE, names, choice.Landing(1, "0000000"))
-    report.check("a commit that isn't known", unknown.whole, set(names))
+    report.check("a commit that isn't known", (unknown.whole, unknown.single), (set(names), {}))
 
 
 def main():

@@ -2,6 +2,7 @@
 """Tries the planted bugs of this folder: the prover has to refuse each for what it means.
 
     python3 edits/try.py CRATE ..       from the top: all edits of these crates, and writes their lists (REFUSED.md)
+    python3 edits/try.py CRATE/NAME ..  these edits alone, and writes their rows
     python3 edits/try.py --all          those of all crates
     python3 edits/try.py --landing      as the gate does, right after `rt ci`: those of what has changed since the last landing and of a
                                         third of the other crates; it writes nothing
@@ -35,24 +36,32 @@ def folders():
     return sorted(it for it in os.listdir(HERE) if os.path.isdir(f"{HERE}/{it}") and lists.paths_in(f"{HERE}/{it}"))
 
 
+def listed():
+    """The crates whose edits have a list. The gate tries no others: whoever makes the first list of a crate sees what shows nothing."""
+    return [it for it in folders() if lists.read_list(f"{HERE}/{it}")]
+
+
 def lanes():
     """How many checks run side by side."""
     return max(1, min(kit.RT.processors(), kit.RT.free() // NEED))
 
 
-def try_one(crate, only, from_nothing):
-    """The verdicts on the edits of a crate, or on those of these names, and what can't be planted."""
+def try_one(crate, only, is_landing):
+    """The verdicts on the edits of a crate, or on those of these names, and what can't be planted. Beside a landing it writes the list."""
     folder = f"{HERE}/{crate.name}"
     good, bad = edit.edits_in(folder, crate.folder)
     good = [it for it in good if only is None or it.name in only]
     begun = time.monotonic()
-    verdicts = trying.try_crate(crate, good, say, from_nothing)
+    verdicts = trying.try_crate(crate, good, say, is_landing)
     rows = lists.read_list(folder)
     for name in sorted(verdicts):
         tell(crate.name, name, verdicts[name], rows.get(name))
     for name, why in bad:
         say(f"{crate.name}/{name}: SHOWS NOTHING: {why}")
     say(f"{crate.name}: {len(good)} edits in {time.monotonic() - begun:.0f} s")
+    if not is_landing:
+        kept = {it: rows[it] for it in rows if only is not None and it not in verdicts}
+        lists.write_list(folder, {**kept, **lists.rows_of(folder, verdicts)})
     return verdicts, bad
 
 
@@ -60,32 +69,28 @@ def tell(crate, name, verdict, row):
     """Prints what becomes of an edit, on one line."""
     what = f"`{verdict.goal}` of {verdict.function()}" if verdict.goal else ""
     if verdict.is_refused():
-        other = "" if row and (row.function, row.goal, row.how) == (verdict.function(), verdict.goal, verdict.how) else "; its list has another goal"
+        is_other = row and (row.function, row.goal, row.how) != (verdict.function(), verdict.goal, verdict.how)
+        other = "; its list has another goal" if is_other else ""
         say(f"{crate}/{name}: refused, {verdict.how}: {what}{other}")
     else:
         say(f"{crate}/{name}: SHOWS NOTHING: {verdict.how}: {what} {verdict.said[:200]}")
 
 
-def try_all(names, single, from_nothing):
+def try_all(names, single, is_landing):
     """Tries the edits of these crates side by side, and single ones of others; the verdicts of each, and how many show nothing."""
     crates = kit.crates_of(TOP)
     work = [(crates[it], None) for it in names] + [(crates[it], single[it]) for it in sorted(single)]
     work.sort(key=lambda it: -it[0].count(rb"\n"))
     with ThreadPoolExecutor(lanes()) as pool:
-        found = list(pool.map(lambda it: (it[0].name, *try_one(*it, from_nothing)), work))
+        found = list(pool.map(lambda it: (it[0].name, *try_one(*it, is_landing)), work))
     lost = sum(len(bad) + sum(not it.is_refused() for it in verdicts.values()) for _, verdicts, bad in found)
     return {name: verdicts for name, verdicts, _ in found}, lost
-
-
-def write_lists(found):
-    for name, verdicts in found.items():
-        lists.write_list(f"{HERE}/{name}", lists.rows_of(f"{HERE}/{name}", verdicts))
 
 
 def landing():
     """What the gate tries."""
     now = choice.landing_of(HERE)
-    names = [it for it in kit.crates_of(TOP) if it in folders()]
+    names = [it for it in kit.crates_of(TOP) if it in listed()]
     what = choice.chosen(TOP, names, now)
     say(f"landing {now.number}: {' '.join(sorted(what.whole)) or 'no crate'}; single edits of {' '.join(sorted(what.single)) or 'none'}")
     found, lost = try_all(sorted(what.whole), what.single, True)
@@ -97,18 +102,23 @@ def main(words):
         choice.next_landing(TOP, HERE)
         return 0
     if words == ["--lists"]:
-        found = [why for it in folders() for why in lists.complaints(f"{HERE}/{it}")]
+        found = [why for it in listed() for why in lists.complaints(f"{HERE}/{it}")]
         for why in found:
             say(why)
+        lacking = [it for it in folders() if it not in listed()]
+        if lacking:
+            say(f"no list yet, and not tried by the gate: {' '.join(lacking)}")
         return 1 if found else 0
     if words == ["--landing"]:
         tried, lost = landing()
     else:
-        names = folders() if words == ["--all"] else words
-        if not names or not set(names) <= set(folders()):
+        names = folders() if words == ["--all"] else [it for it in words if "/" not in it]
+        single = {}
+        for crate, _, name in (it.partition("/") for it in words if "/" in it):
+            single.setdefault(crate, set()).add(name)
+        if not words or not {*names, *single} <= set(folders()):
             sys.exit(__doc__)
-        found, lost = try_all(names, {}, False)
-        write_lists(found)
+        found, lost = try_all(names, single, False)
         tried = sum(map(len, found.values()))
     say(f"{tried - lost} refused, {lost} show nothing")
     return 1 if lost else 0

@@ -17,9 +17,12 @@ import tempfile
 
 HERE = os.path.dirname(os.path.abspath(__file__))
 CRATES = os.path.join(HERE, "..", "crates")
-DATA = os.path.join(CRATES, "conform", "data")
+# the cases of conform, and those that program/run.py asks the program, whose calls conform makes too
+FOLDERS = [os.path.abspath(it) for it in (os.path.join(CRATES, "conform", "data"), os.path.join(HERE, "..", "program", "cases"))]
 # these make the calls of other files again for each byte, read or write: too many copies that run on for too long
 LOOPS = {"cuts.cases", "failing_reads.cases", "failing_writes.cases", "pieces.cases"}
+# these are of the program's commands alone
+COMMANDS = {"bundles.cases", "diff.cases", "verify.cases"}
 USUAL = ["conform", "edi_hash"]
 
 
@@ -28,7 +31,7 @@ def sweep(name, program, word, library, files):
     reading, writing = os.pipe()
     environment = dict(os.environ, LD_PRELOAD=library, COUNTS=str(writing), FILES=str(files))
     done = subprocess.Popen([program, word], stdin=subprocess.DEVNULL, stdout=subprocess.PIPE, stderr=subprocess.STDOUT,
-                            env=environment, pass_fds=[writing], cwd=DATA)
+                            env=environment, pass_fds=[writing])
     os.close(writing)
     said, _ = done.communicate()
     with os.fdopen(reading, "rb") as counts:
@@ -50,8 +53,9 @@ def swept(name, library):
     """The growths of a crate's tests, of all files of cases, or of one."""
     if name == "conform" or name.endswith(".cases"):
         program = os.path.abspath(os.path.join(CRATES, "conform", "out", "conform"))
-        files = sorted(it for it in os.listdir(DATA) if it.endswith(".cases") and it not in LOOPS) if name == "conform" else [name]
-        return sum(sweep(it, program, it, library, 1) for it in files)
+        known = {it: os.path.join(folder, it) for folder in FOLDERS for it in os.listdir(folder) if it.endswith(".cases")}
+        files = sorted(set(known) - LOOPS - COMMANDS) if name == "conform" else [name]
+        return sum(sweep(it, program, known[it], library, 1) for it in files)
     program = os.path.abspath(os.path.join(CRATES, name, "out", f"{name}_tests"))
     return sum(sweep(f"{name}: {it}", program, it, library, 0) for it in listed(program))
 

@@ -60,7 +60,7 @@ def chosen(top, names, landing):
     single = {}
     for path in changed:
         found = re.fullmatch(r"edits/(\w+)/([\w.-]+)\.edit", path)
-        if found and found[1] not in whole:
+        if found and found[1] in names and found[1] not in whole:
             single.setdefault(found[1], set()).add(found[2])
     return Choice(whole, single)
 

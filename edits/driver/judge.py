@@ -33,11 +33,13 @@ FAILS_AT = re.compile(r"the goal fails, at|the two sides are `[^`]*` \(left\) an
 class Verdict:
     """What becomes of one edit: how it is refused or why it shows nothing, by which function and goal."""
 
-    def __init__(self, how, path=(), goal="", said=""):
+    def __init__(self, how, path=(), goal="", said="", goals=()):
         self.how = how
         self.path = path
         self.goal = goal
         self.said = said
+        # every goal of the edit's functions that has a fault
+        self.goals = goals
 
     def is_refused(self):
         return self.how in REFUSED
@@ -46,8 +48,8 @@ class Verdict:
         return "::".join(self.path)
 
 
-def by_fault(how, fault):
-    return Verdict(how, fault.function or (), fault.goal, fault.said)
+def by_fault(how, fault, goals=()):
+    return Verdict(how, fault.function or (), fault.goal, fault.said, goals)
 
 
 class Fault:
@@ -144,7 +146,7 @@ def by_faults(edit, faults):
     for how, among in ((UNREAD, faults), *((it, own) for it in REFUSED), (NAME, faults), (TYPE, faults)):
         for fault in among:
             if fault.how == how:
-                return by_fault(how, fault)
+                return by_fault(how, fault, {it.goal for it in own})
     return by_fault(CALL, added[0]) if added else None
 
 
@@ -157,12 +159,13 @@ def without_fault(edit, states, crate):
 
 
 def without_answer(verdict, faults):
-    """The verdict on an edit by which an answer no longer fits, by a check without the answers of its function: whether that goal
+    """The verdict on an edit by which answers no longer fit, by a check without the answers of its function: whether a goal of those
     is open even so."""
-    same = [it for it in faults if it.function == verdict.path and it.goal == verdict.goal]
-    if not same:
-        return Verdict(UNFIT, verdict.path, verdict.goal)
-    return by_fault(FALSE, same[0]) if any(it.how == FALSE for it in same) else verdict
+    same = [it for it in faults if it.function == verdict.path and it.goal in verdict.goals and it.how in REFUSED]
+    false = next((it for it in same if it.how == FALSE), None)
+    if false:
+        return by_fault(FALSE, false)
+    return by_fault(ANSWER, same[0]) if same else Verdict(UNFIT, verdict.path, verdict.goal)
 
 
 def is_of_added_call(goal, edit):

@@ -2,92 +2,79 @@
 
 use crate::case::Case;
 use crate::setting::Setting;
-use crate::{
-    devices, diffs, layers, lines, numbers, pairings, pairs, records, schemas, sheets, texts,
-};
-use anyhow::{Result, bail};
-use std::alloc::Global;
+use crate::{devices, layers, lines, numbers, pairs, records, runs, schemas, sheets, texts};
+use edi_schema::Schema;
+use std::alloc::{AllocError, Global};
 
-/// What a call answers to a case.
+/// What a call answers to a case. The only error is want of memory.
 pub(crate) fn answer(
     alloc: Global,
     call: &str,
     setting: &Setting<'_>,
     case: &Case<'_>,
-) -> Result<String> {
+) -> Result<String, AllocError> {
+    let mut text = String::new(alloc);
+    push_answer(alloc, call, setting, case, &mut text)?;
+    Ok(text)
+}
+
+fn push_answer(
+    alloc: Global,
+    call: &str,
+    setting: &Setting<'_>,
+    case: &Case<'_>,
+    text: &mut String,
+) -> Result<(), AllocError> {
     match call {
-        "numbers" => numbers::numbers(alloc, case),
-        "zones" => lines::cut(alloc, case),
-        "feed" => lines::fed(alloc, case),
-        "zones in pieces" => lines::in_pieces(alloc, case),
-        "texts" => texts::compared(alloc, case),
-        "records" => records::stated(alloc, case),
-        _ => answer_over_devices(alloc, call, setting, case),
+        "numbers" => numbers::push_numbers(alloc, case, text),
+        "zones" => lines::push_cut(alloc, case.input(0), text),
+        "feed" => lines::push_fed(alloc, case, text),
+        "zones in pieces" => lines::push_in_pieces(alloc, case, text),
+        "texts" => texts::push_compared(alloc, case, text),
+        "records" => records::push_records(alloc, case, text),
+        "ranks" => layers::push_ranks(alloc, case, text),
+        "schema" => schemas::push_schema(alloc, setting, case, text),
+        _ => push_over_devices(alloc, call, setting, case, text),
     }
 }
 
 // What a call over readers and writers answers.
-fn answer_over_devices(
+fn push_over_devices(
     alloc: Global,
     call: &str,
     setting: &Setting<'_>,
     case: &Case<'_>,
-) -> Result<String> {
+    text: &mut String,
+) -> Result<(), AllocError> {
     match call {
-        "writers" => devices::passed_on(alloc, case),
-        "read_all" => devices::read(alloc, case),
-        "put_all" => devices::write(alloc, case),
-        "interrupted read" => devices::interrupted_read(alloc),
-        "failing reads" => devices::failing_reads(alloc, setting, case),
-        "failing writes" => devices::failing_writes(alloc, setting, case),
-        _ => answer_over_layers(alloc, call, setting, case),
-    }
-}
-
-// What a call over schemas and layers answers.
-fn answer_over_layers(
-    alloc: Global,
-    call: &str,
-    setting: &Setting<'_>,
-    case: &Case<'_>,
-) -> Result<String> {
-    match call {
-        "kinds" => schemas::kinds(alloc, case),
-        "schema" => schemas::stated(alloc, setting, case),
-        "ranks" => layers::of_keys(alloc, case),
-        "layers" => layers::of_sheet(alloc, setting, case),
-        _ => answer_over_sheets(alloc, call, setting, case),
+        "writers" => devices::push_passed_on(alloc, case, text),
+        "read_all" => devices::push_read(alloc, case, text),
+        "put_all" => devices::push_written(alloc, case, text),
+        "interrupted read" => devices::push_interrupted(alloc, text),
+        "failing reads" => runs::push_reads(alloc, setting, case, text),
+        "failing writes" => runs::push_writes(alloc, setting, case, text),
+        _ => match &setting.schema {
+            Some(schema) => push_over_sheets(alloc, call, setting, schema, case, text),
+            None => text.push_str("no such call, or no schema\n"),
+        },
     }
 }
 
 // What a call over sheets answers, under the schema that the cases share.
-fn answer_over_sheets(
+fn push_over_sheets(
     alloc: Global,
     call: &str,
     setting: &Setting<'_>,
+    schema: &Schema,
     case: &Case<'_>,
-) -> Result<String> {
+    text: &mut String,
+) -> Result<(), AllocError> {
     match call {
-        "canon" => sheets::canonical(alloc, setting, case),
-        "run_bundle" => sheets::of_bundle(alloc, setting, case),
-        "cuts" => sheets::cuts(alloc, setting, case),
-        _ => answer_over_pairs(alloc, call, setting, case),
-    }
-}
-
-// What a call over two sheets answers.
-fn answer_over_pairs(
-    alloc: Global,
-    call: &str,
-    setting: &Setting<'_>,
-    case: &Case<'_>,
-) -> Result<String> {
-    match call {
-        "compare" => pairs::compared(alloc, setting, case),
-        "pairing" => pairs::paired(alloc, setting, case),
-        "check_pairing" => pairs::checked(alloc, setting, case),
-        "diff" => diffs::contents(alloc, setting, case),
-        "verify" => pairings::verified(alloc, setting, case),
-        _ => bail!("no call has the name {call}"),
+        "layers" => layers::push_layers(alloc, schema, case, text),
+        "canon" => sheets::push_canonical(alloc, setting, schema, case, text),
+        "compare" => pairs::push_compared(alloc, setting, schema, case, text),
+        "pairing" => pairs::push_paired(alloc, schema, case, text),
+        "check_pairing" => pairs::push_checked(alloc, schema, case, text),
+        _ => text.push_str("no such call\n"),
     }
 }

@@ -4,22 +4,22 @@
 mod call;
 mod case;
 mod devices;
-mod diffs;
 mod layers;
 mod lines;
 mod numbers;
-mod pairings;
 mod pairs;
 mod phases;
 mod records;
 mod refusals;
+mod runs;
 mod schemas;
 mod setting;
 mod sheets;
+mod text;
 mod texts;
 
 use anyhow::{Context, Result};
-use case::{Case, CaseFile};
+use case::Case;
 use setting::Setting;
 use std::process::ExitCode;
 use std::rt::Runtime;
@@ -42,36 +42,65 @@ fn main(rt: HostRuntime) -> Result<ExitCode> {
 fn run_files<R: Runtime + AllocGlobal>(rt: &R) -> Result<Tally> {
     let mut tally = Tally { run: 0, failed: 0 };
     for path in env::args(rt)?.skip(1) {
-        let text = fs::read_to_string(rt, path.as_str()).context(format_args!("reading {path}"))?;
-        let file = CaseFile::read(text.as_str()).context(format_args!("in {path}"))?;
-        println!(rt; "{path}: {}", file.call)?;
-        run_cases(rt, &file, &mut tally)?;
+        run_file(rt, path.as_str(), &mut tally)?;
     }
     Ok(tally)
 }
 
-// The cases of one file.
+fn run_file<R: Runtime + AllocGlobal>(rt: &R, path: &str, tally: &mut Tally) -> Result<()> {
+    let text = fs::read_to_string(rt, path).context(format_args!("reading {path}"))?;
+    let (head, cases) = text
+        .split_once("--\n")
+        .context(format_args!("no case in {path}"))?;
+    run_cases(rt, path, head, cases, tally)
+}
+
+// The cases of a file. Its head has the name of a call for a title, and what all its cases share.
 fn run_cases<R: Runtime + AllocGlobal>(
     rt: &R,
-    file: &CaseFile<'_>,
+    path: &str,
+    head: &str,
+    cases: &str,
     tally: &mut Tally,
 ) -> Result<()> {
-    let setting = file.setting(rt.alloc())?;
-    for block in file.cases.split("--\n") {
-        let case = Case::read(block)?;
-        let answer = answer(rt, file.call, &setting, &case)?;
-        tally.run = tally.run.saturating_add(1);
-        if answer.as_str() == case.wanted {
-            println!(rt; "  ok      {}", case.title)?;
-        } else {
-            tally.failed = tally.failed.saturating_add(1);
-            println!(rt;
-                "  FAILED  {}\nwanted:\n{}answered:\n{}",
-                case.title, case.wanted, answer
-            )?;
-        }
+    let shared = Case::read(rt.alloc(), head)?;
+    println!(rt; "{path}: {}", shared.title)?;
+    run_under(rt, &shared, cases, tally)
+}
+
+fn run_under<R: Runtime + AllocGlobal>(
+    rt: &R,
+    shared: &Case<'_>,
+    cases: &str,
+    tally: &mut Tally,
+) -> Result<()> {
+    let setting = Setting::of(rt.alloc(), shared)?;
+    run_blocks(rt, shared.title, &setting, cases, tally)
+}
+
+fn run_blocks<R: Runtime + AllocGlobal>(
+    rt: &R,
+    call: &str,
+    setting: &Setting<'_>,
+    cases: &str,
+    tally: &mut Tally,
+) -> Result<()> {
+    for block in cases.split("--\n") {
+        run_case(rt, call, setting, block, tally)?;
     }
     Ok(())
+}
+
+fn run_case<R: Runtime + AllocGlobal>(
+    rt: &R,
+    call: &str,
+    setting: &Setting<'_>,
+    block: &str,
+    tally: &mut Tally,
+) -> Result<()> {
+    let case = Case::read(rt.alloc(), block)?;
+    let answer = answer(rt, call, setting, &case)?;
+    report(rt, &case, answer.as_str(), tally)
 }
 
 // What a call answers to a case. Where memory runs out the call is made once more, under the schema that it borrowed.
@@ -81,11 +110,28 @@ fn answer<R: Runtime + AllocGlobal>(
     setting: &Setting<'_>,
     case: &Case<'_>,
 ) -> Result<String> {
-    match call::answer(rt.alloc(), call, setting, case) {
-        Ok(answer) => Ok(answer),
-        Err(fault) => {
-            println!(rt; "  again   {}: {fault}", case.title)?;
-            call::answer(rt.alloc(), call, setting, case)
-        }
+    if let Ok(answer) = call::answer(rt.alloc(), call, setting, case) {
+        return Ok(answer);
     }
+    println!(rt; "  again   {}: out of memory", case.title)?;
+    Ok(call::answer(rt.alloc(), call, setting, case)?)
+}
+
+// Counts a case, and prints whether it was answered as it should be.
+fn report<R: Runtime + AllocGlobal>(
+    rt: &R,
+    case: &Case<'_>,
+    answer: &str,
+    tally: &mut Tally,
+) -> Result<()> {
+    tally.run = tally.run.saturating_add(1);
+    if answer == case.wanted {
+        println!(rt; "  ok      {}", case.title)?;
+        return Ok(());
+    }
+    tally.failed = tally.failed.saturating_add(1);
+    println!(rt; "  FAILED  {}", case.title)?;
+    print!(rt; "wanted:\n{}", case.wanted)?;
+    print!(rt; "answered:\n{answer}")?;
+    Ok(())
 }

@@ -4,103 +4,120 @@ ghost use Rattle.std.specs.Prelude.{IfOk};
 ghost use Rattle.edi_plan.specs.Agreeing.{HasClasses};
 
 use crate::case::Case;
-use crate::refusals;
+use crate::refusals::{push_pair_fault, push_run_fault, push_sheet_fault};
 use crate::setting::Setting;
-use anyhow::{Context, Result};
-use edi_compare::{Accepted, Pairing, Verdict, accept, check_pairing, compare, run_compare};
+use edi_compare::{Accepted, Fault, Pairing, Verdict, accept, check_pairing, compare, run_compare};
 use edi_line::{ScriptIn, Sequence};
 use edi_schema::Schema;
-use std::alloc::Global;
+use std::alloc::{AllocError, Global};
 
 /// What `compare` answers of two sheets, which `run_compare` has to answer too. A pairing that is found has to carry.
-pub(crate) fn compared(alloc: Global, setting: &Setting<'_>, case: &Case<'_>) -> Result<String> {
-    let schema = setting.schema()?;
-    let first = case.input(alloc, 0)?;
-    let second = case.input(alloc, 1)?;
-    let answer = match compare(alloc, schema, first.as_bytes(), second.as_bytes()) {
-        Ok(Verdict::Same(pairing)) => {
-            if !carries(alloc, schema, first.as_bytes(), second.as_bytes(), &pairing)? {
-                return Ok(String::from_str(alloc, "a pairing that doesn't carry\n")?);
-            }
-            String::from_str(alloc, "same\n")?
-        }
-        Ok(Verdict::Different { line }) => format!(in alloc; "different at line {line}\n")?,
-        Err(fault) => refusals::of_pair(alloc, fault)?,
-    };
-    let run = run(alloc, setting, first.as_bytes(), second.as_bytes())?;
-    if run.as_str() == answer.as_str() {
-        Ok(answer)
+pub(crate) fn push_compared(
+    alloc: Global,
+    setting: &Setting<'_>,
+    schema: &Schema,
+    case: &Case<'_>,
+    text: &mut String,
+) -> Result<(), AllocError> {
+    let first = case.input(0).as_bytes();
+    let second = case.input(1).as_bytes();
+    match compare(alloc, schema, first, second) {
+        Ok(Verdict::Same(pairing)) => push_same(alloc, schema, case, &pairing, text)?,
+        Ok(Verdict::Different { line }) => writeln!(text, "different at line {line}")?,
+        Err(fault) => push_pair_fault(text, fault)?,
+    }
+    let mut run = String::new(alloc);
+    push_run(alloc, setting, first, second, &mut run)?;
+    if run.as_str() == text.as_str() {
+        Ok(())
     } else {
-        Ok(String::from_str(alloc, "run_compare answers something else\n")?)
+        text.push_str("run_compare answers something else\n")
     }
 }
 
+// That two sheets are the same, by a pairing that carries.
+fn push_same(
+    alloc: Global,
+    schema: &Schema,
+    case: &Case<'_>,
+    pairing: &Pairing,
+    text: &mut String,
+) -> Result<(), AllocError> {
+    let mut answer = String::new(alloc);
+    push_carries(alloc, schema, case, pairing, &mut answer)?;
+    text.push_str(if answer.as_str() == "true\n" {
+        "same\n"
+    } else {
+        "a pairing that doesn't carry\n"
+    })
+}
+
 // What `run_compare` answers.
-fn run(alloc: Global, setting: &Setting<'_>, first: &[u8], second: &[u8]) -> Result<String> {
+fn push_run(
+    alloc: Global,
+    setting: &Setting<'_>,
+    first: &[u8],
+    second: &[u8],
+    text: &mut String,
+) -> Result<(), AllocError> {
     let mut scd = ScriptIn::new(setting.scd.as_bytes(), 100, 0, false);
     let mut dic = ScriptIn::new(setting.dic.as_bytes(), 100, 0, false);
     let mut one = ScriptIn::new(first, 100, 0, false);
     let mut other = ScriptIn::new(second, 100, 0, false);
-    match run_compare(
-        alloc,
-        &setting.kinds,
-        &mut scd,
-        &mut dic,
-        &mut one,
-        &mut other,
-    ) {
-        Ok(Verdict::Same(_)) => Ok(String::from_str(alloc, "same\n")?),
-        Ok(Verdict::Different { line }) => Ok(format!(in alloc; "different at line {line}\n")?),
-        Err(fault) => refusals::of_run(alloc, "first ", fault),
+    let kinds = &setting.kinds;
+    match run_compare(alloc, kinds, &mut scd, &mut dic, &mut one, &mut other) {
+        Ok(Verdict::Same(_)) => text.push_str("same\n"),
+        Ok(Verdict::Different { line }) => writeln!(text, "different at line {line}"),
+        Err(fault) => push_run_fault(text, "first ", fault),
     }
 }
 
 /// The pairing that `compare` finds: the record of the second sheet, from 1, that each record of the first goes to, with
 /// an `r` behind it where that is an arc to reverse.
-pub(crate) fn paired(alloc: Global, setting: &Setting<'_>, case: &Case<'_>) -> Result<String> {
-    let schema = setting.schema()?;
-    let first = case.input(alloc, 0)?;
-    let second = case.input(alloc, 1)?;
-    match compare(alloc, schema, first.as_bytes(), second.as_bytes()) {
-        Ok(Verdict::Same(pairing)) => pairing_text(alloc, &pairing),
-        Ok(Verdict::Different { line }) => Ok(format!(in alloc; "different at line {line}\n")?),
-        Err(fault) => refusals::of_pair(alloc, fault),
+pub(crate) fn push_paired(
+    alloc: Global,
+    schema: &Schema,
+    case: &Case<'_>,
+    text: &mut String,
+) -> Result<(), AllocError> {
+    let first = case.input(0).as_bytes();
+    let second = case.input(1).as_bytes();
+    match compare(alloc, schema, first, second) {
+        Ok(Verdict::Same(pairing)) => push_pairing(&pairing, text),
+        Ok(Verdict::Different { line }) => writeln!(text, "different at line {line}"),
+        Err(fault) => push_pair_fault(text, fault),
     }
 }
 
-fn pairing_text(alloc: Global, pairing: &Pairing) -> Result<String> {
-    let mut text = String::new(alloc);
+fn push_pairing(pairing: &Pairing, text: &mut String) -> Result<(), AllocError> {
     let turned = pairing.turned.as_slice();
     for (to, turned) in pairing.to.as_slice().iter().zip(turned) {
         let mark = if *turned { "r" } else { "" };
-        text.push_str(format!(in alloc; " {}{mark}", u64::from(*to).saturating_add(1))?.as_str())?;
+        write!(text, " {}{mark}", u64::from(*to).saturating_add(1))?;
     }
-    text.push_str("\n")?;
-    Ok(text)
+    text.push_str("\n")
 }
 
-/// What `check_pairing` answers of two sheets and a pairing, which is written as `paired` writes it.
-pub(crate) fn checked(alloc: Global, setting: &Setting<'_>, case: &Case<'_>) -> Result<String> {
-    let schema = setting.schema()?;
-    let first = case.input(alloc, 0)?;
-    let second = case.input(alloc, 1)?;
-    let pairing = pairing_of(alloc, case.text(2)?)?;
-    let carries = carries(alloc, schema, first.as_bytes(), second.as_bytes(), &pairing)?;
-    Ok(format!(in alloc; "{carries}\n")?)
+/// What `check_pairing` answers of two sheets and a pairing, which is written as `push_paired` writes it.
+pub(crate) fn push_checked(
+    alloc: Global,
+    schema: &Schema,
+    case: &Case<'_>,
+    text: &mut String,
+) -> Result<(), AllocError> {
+    let pairing = pairing_of(alloc, case.input(2))?;
+    push_carries(alloc, schema, case, &pairing, text)
 }
 
-// The pairing of a text.
-fn pairing_of(alloc: Global, text: &str) -> Result<Pairing> {
+// The pairing of a text. What is no number from 1 stands for a record that no sheet has.
+fn pairing_of(alloc: Global, text: &str) -> Result<Pairing, AllocError> {
     let mut to = Vec::new(alloc);
     let mut turned = Vec::new(alloc);
     for word in text.split_whitespace() {
-        let (number, is_turned) = match word.strip_suffix("r") {
-            Some(number) => (number, true),
-            None => (word, false),
-        };
-        let number = number.parse::<u32>().context("a number of a record")?;
-        to.push(number.checked_sub(1).context("records count from 1")?)?;
-        turned.push(is_turned)?;
+        let number = word.strip_suffix("r");
+        let record = number.unwrap_or(word).parse::<u32>().unwrap_or(0);
+        to.push(record.wrapping_sub(1))?;
+        turned.push(number.is_some())?;
     }
     Ok(Pairing {
         to: Sequence::from_vec(to),
@@ -108,28 +125,57 @@ fn pairing_of(alloc: Global, text: &str) -> Result<Pairing> {
     })
 }
 
-// Whether a pairing carries the plan of the first sheet onto that of the second, both of which are accepted.
-fn carries(
+// Whether a pairing carries the plan of the first sheet onto that of the second, both of which are to be accepted.
+fn push_carries(
     alloc: Global,
     schema: &Schema,
-    first: &[u8],
-    second: &[u8],
+    case: &Case<'_>,
     pairing: &Pairing,
-) -> Result<bool> {
-    let first = accepted(alloc, schema, first)?;
-    let second = accepted(alloc, schema, second)?;
-    match check_pairing(alloc, schema, &first, &second, pairing) {
-        Ok(carries) => Ok(carries),
-        // memory ran out, and may be there again for the same sheets
-        Err(_) => Ok(check_pairing(alloc, schema, &first, &second, pairing)?),
+    text: &mut String,
+) -> Result<(), AllocError> {
+    match accepted(alloc, schema, case.input(0).as_bytes()) {
+        Ok(first) => push_carries_from(alloc, schema, &first, case, pairing, text),
+        Err(fault) => push_sheet_fault(text, "first ", fault),
     }
 }
 
-fn accepted(alloc: Global, schema: &Schema, sheet: &[u8]) -> Result<Accepted>
+// The same of a first sheet that is accepted.
+fn push_carries_from(
+    alloc: Global,
+    schema: &Schema,
+    first: &Accepted,
+    case: &Case<'_>,
+    pairing: &Pairing,
+    text: &mut String,
+) -> Result<(), AllocError>
+    requires { HasClasses schema.now first.now }
+{
+    match accept(alloc, schema, case.input(1).as_bytes()) {
+        Ok(second) => push_answer(alloc, schema, first, &second, pairing, text),
+        Err(fault) => push_sheet_fault(text, "second ", fault),
+    }
+}
+
+fn accepted(alloc: Global, schema: &Schema, sheet: &[u8]) -> Result<Accepted, Fault>
     ensures { IfOk result (HasClasses schema.now) }
 {
-    match accept(alloc, schema, sheet) {
-        Ok(accepted) => Ok(accepted),
-        Err(fault) => Err(fault.into()),
-    }
+    accept(alloc, schema, sheet)
+}
+
+// What `check_pairing` answers. Where memory ran out it may be there again for the same sheets.
+fn push_answer(
+    alloc: Global,
+    schema: &Schema,
+    first: &Accepted,
+    second: &Accepted,
+    pairing: &Pairing,
+    text: &mut String,
+) -> Result<(), AllocError>
+    requires { HasClasses schema.now first.now }
+{
+    let carries = match check_pairing(alloc, schema, first, second, pairing) {
+        Ok(carries) => carries,
+        Err(_) => check_pairing(alloc, schema, first, second, pairing)?,
+    };
+    writeln!(text, "{carries}")
 }

@@ -5,48 +5,77 @@ ghost use Rattle.std.specs.Prelude.{IfOk};
 ghost use Rattle.edi_rank.specs.Labelling.{AreLabels};
 ghost use Rattle.edi_plan.specs.Agreeing.{Agrees};
 
-use crate::refusals;
-use crate::sheets::file_text;
-use anyhow::Result;
+use crate::refusals::{push_lines_fault, push_record, push_records_fault};
+use crate::text::push_file;
 use edi_plan::{Plan, RefFault};
 use edi_rank::{Labels, RankFault};
-use edi_record::{SheetFault, read_sheet};
+use edi_record::{Sheet, SheetFault, read_sheet};
 use edi_schema::Schema;
 use edi_topo::{Sound, TopoFault};
 use edi_write::write_canon;
 use std::alloc::{AllocError, Global};
 
 /// The canonical file of a sheet, or its refusal.
-pub(crate) fn canonical(alloc: Global, schema: &Schema, sheet: &[u8]) -> Result<String> {
-    let sheet = match read_sheet(alloc, sheet) {
-        Ok(sheet) => sheet,
-        Err(SheetFault::Line(fault)) => return refusals::of_lines(alloc, fault),
-        Err(SheetFault::Record(fault)) => return refusals::of_records(alloc, fault),
-    };
-    let plan = match Plan::build(alloc, schema, sheet) {
-        Ok(plan) => plan,
-        Err(RefFault::Memory(fault)) => return Err(fault.into()),
-        Err(RefFault::Broken { rule, at }) => return refusals::of_record(alloc, rule, at),
-    };
+pub(crate) fn push_canonical(
+    alloc: Global,
+    schema: &Schema,
+    sheet: &[u8],
+    text: &mut String,
+) -> Result<(), AllocError> {
+    match read_sheet(alloc, sheet) {
+        Ok(sheet) => push_planned(alloc, schema, sheet, text),
+        Err(SheetFault::Line(fault)) => push_lines_fault(text, fault),
+        Err(SheetFault::Record(fault)) => push_records_fault(text, fault),
+    }
+}
+
+// The canonical file of the plan of records, or their refusal.
+fn push_planned(
+    alloc: Global,
+    schema: &Schema,
+    sheet: Sheet,
+    text: &mut String,
+) -> Result<(), AllocError> {
+    match Plan::build(alloc, schema, sheet) {
+        Ok(plan) => push_checked(alloc, schema, plan, text),
+        Err(RefFault::Memory(fault)) => Err(fault),
+        Err(RefFault::Broken { rule, at }) => push_record(text, "", rule, at),
+    }
+}
+
+// The canonical file of a plan, or its refusal.
+fn push_checked(
+    alloc: Global,
+    schema: &Schema,
+    plan: Plan,
+    text: &mut String,
+) -> Result<(), AllocError>
+    requires { Agrees schema.now plan }
+{
     match Sound::check(alloc, plan) {
-        Ok(sound) => written(alloc, schema, &sound),
-        Err(TopoFault::Memory(fault)) => Err(fault.into()),
-        Err(TopoFault::Broken { rule, at }) => refusals::of_record(alloc, rule, at),
+        Ok(sound) => push_labelled(alloc, schema, &sound, text),
+        Err(TopoFault::Memory(fault)) => Err(fault),
+        Err(TopoFault::Broken { rule, at }) => push_record(text, "", rule, at),
     }
 }
 
 // The canonical file of a sound plan, or the object that is equal to an earlier one.
-fn written(alloc: Global, schema: &Schema, sound: &Sound) -> Result<String>
+fn push_labelled(
+    alloc: Global,
+    schema: &Schema,
+    sound: &Sound,
+    text: &mut String,
+) -> Result<(), AllocError>
     requires { Agrees schema.now sound.now }
 {
-    match labelled(alloc, schema, sound) {
-        Ok(labels) => file_text(alloc, &file_of(alloc, schema, sound, &labels)?),
-        Err(RankFault::Memory(fault)) => Err(fault.into()),
-        Err(RankFault::Broken { rule, at }) => refusals::of_record(alloc, rule, at),
+    match labels_of(alloc, schema, sound) {
+        Ok(labels) => push_written(alloc, schema, sound, &labels, text),
+        Err(RankFault::Memory(fault)) => Err(fault),
+        Err(RankFault::Broken { rule, at }) => push_record(text, "", rule, at),
     }
 }
 
-fn labelled(alloc: Global, schema: &Schema, sound: &Sound) -> Result<Labels, RankFault>
+fn labels_of(alloc: Global, schema: &Schema, sound: &Sound) -> Result<Labels, RankFault>
     requires { Agrees schema.now sound.now }
     ensures { IfOk result (AreLabels schema.now sound.now) }
 {
@@ -54,6 +83,21 @@ fn labelled(alloc: Global, schema: &Schema, sound: &Sound) -> Result<Labels, Ran
         Err(RankFault::Memory(_)) => Labels::of(alloc, schema, sound),
         answer => answer,
     }
+}
+
+// The canonical file of a labelled plan.
+fn push_written(
+    alloc: Global,
+    schema: &Schema,
+    sound: &Sound,
+    labels: &Labels,
+    text: &mut String,
+) -> Result<(), AllocError>
+    requires agrees { Agrees schema.now sound.now }
+    requires labels { AreLabels schema.now sound.now labels.now }
+{
+    let file = file_of(alloc, schema, sound, labels)?;
+    push_file(alloc, text, &file)
 }
 
 fn file_of(

@@ -1,80 +1,72 @@
 //! Records of a sheet, as its zones state them.
 
-ghost use Rattle.std.specs.Prelude.{◌≤◌, length, IfOk};
-
 use crate::case::Case;
-use crate::refusals;
-use anyhow::Result;
+use crate::refusals::{push_lines_fault, push_records_fault};
+use crate::text::push_bytes;
 use edi_line::zones;
 use edi_record::{
-    Attribute, End, Extra, Kind, Name, Point, Record, SheetFault, Value, read_sheet, records,
+    Attribute, End, Extra, Kind, Name, Point, RecordRef, SheetFault, SheetRecords, Value,
+    read_sheet, records,
 };
-use std::alloc::Global;
+use std::alloc::{AllocError, Global};
 
 /// The records of a file: of each its type, identifier, class, points, ends, attributes and extras; or the refusal.
 /// The file is read by its zones and once more line by line, and a second answer that differs is reported too.
-pub(crate) fn stated(alloc: Global, case: &Case<'_>) -> Result<String> {
-    let file = case.input(alloc, 0)?;
-    let mut text = by_zones(alloc, file.as_bytes())?;
-    let by_lines = by_lines(alloc, file.as_bytes())?;
-    if text != by_lines {
-        text.push_str("and line by line\n")?;
-        text.push_str(by_lines.as_str())?;
+pub(crate) fn push_records(
+    alloc: Global,
+    case: &Case<'_>,
+    text: &mut String,
+) -> Result<(), AllocError> {
+    push_by_zones(alloc, case.input(0).as_bytes(), text)?;
+    let mut by_lines = String::new(alloc);
+    push_by_lines(alloc, case.input(0).as_bytes(), &mut by_lines)?;
+    if text.as_str() == by_lines.as_str() {
+        return Ok(());
     }
-    Ok(text)
+    text.push_str("and line by line\n")?;
+    text.push_str(by_lines.as_str())
 }
 
 // The records that the list of all zones states.
-fn by_zones(alloc: Global, file: &[u8]) -> Result<String> {
+fn push_by_zones(alloc: Global, file: &[u8], text: &mut String) -> Result<(), AllocError> {
     let zones = match zones(alloc, file) {
         Ok(zones) => zones,
-        Err(fault) => return refusals::of_lines(alloc, fault),
+        Err(fault) => return push_lines_fault(text, fault),
     };
     match records(alloc, &zones) {
-        Ok(sheet) => records_text(alloc, &sheet.list.into_records(alloc)?),
-        Err(fault) => refusals::of_records(alloc, fault),
+        Ok(sheet) => push_list(&sheet.list, text),
+        Err(fault) => push_records_fault(text, fault),
     }
 }
 
 // The records that are made while the lines are read.
-fn by_lines(alloc: Global, file: &[u8]) -> Result<String> {
+fn push_by_lines(alloc: Global, file: &[u8], text: &mut String) -> Result<(), AllocError> {
     match read_sheet(alloc, file) {
-        Ok(sheet) => records_text(alloc, &sheet.list.into_records(alloc)?),
-        Err(SheetFault::Line(fault)) => refusals::of_lines(alloc, fault),
-        Err(SheetFault::Record(fault)) => refusals::of_records(alloc, fault),
+        Ok(sheet) => push_list(&sheet.list, text),
+        Err(SheetFault::Line(fault)) => push_lines_fault(text, fault),
+        Err(SheetFault::Record(fault)) => push_records_fault(text, fault),
     }
 }
 
-fn records_text(alloc: Global, records: &[Record]) -> Result<String> {
-    let mut text = String::new(alloc);
-    for record in records {
-        text.push_str(record_text(alloc, record)?.as_str())?;
+fn push_list(records: &SheetRecords, text: &mut String) -> Result<(), AllocError> {
+    for place in 0..records.len() {
+        let record = records.record(place);
+        push_head(&record, text)?;
+        push_points(record.points(), text)?;
+        push_ends(record.ends(), text)?;
+        push_attributes(record.attributes(), text)?;
+        push_extras(record.extras(), text)?;
     }
-    Ok(text)
+    Ok(())
 }
 
-// One record, its parts on lines of their own.
-fn record_text(alloc: Global, record: &Record) -> Result<String> {
-    let mut text = String::new(alloc);
-    text.push_str(type_text(record.kind))?;
+fn push_head(record: &RecordRef<'_>, text: &mut String) -> Result<(), AllocError> {
+    text.push_str(type_text(record.kind()))?;
     text.push_str(" ")?;
-    push_bytes(&mut text, record.rid.as_slice())?;
+    push_bytes(text, record.rid())?;
     text.push_str(" of ")?;
-    push_name(&mut text, &record.scp)?;
-    text.push_str("\n")?;
-    for point in record.points.as_slice() {
-        push_point(alloc, &mut text, point)?;
-    }
-    for end in record.ends.as_slice() {
-        push_end(&mut text, end)?;
-    }
-    for attribute in record.attributes.as_slice() {
-        push_attribute(&mut text, attribute)?;
-    }
-    for extra in record.extras.as_slice() {
-        push_extra(alloc, &mut text, extra)?;
-    }
-    Ok(text)
+    push_name(text, record.scp())?;
+    text.push_str("\n")
 }
 
 fn type_text(kind: Kind) -> &'static str {
@@ -87,65 +79,77 @@ fn type_text(kind: Kind) -> &'static str {
     }
 }
 
-fn push_bytes(text: &mut String, bytes: &[u8]) -> Result<()> {
-    Ok(text.push_str(std::str::from_utf8(bytes)?)?)
-}
-
-fn push_name(text: &mut String, name: &Name) -> Result<()> {
+fn push_name(text: &mut String, name: &Name) -> Result<(), AllocError> {
     push_bytes(text, name.rty.as_slice())?;
     text.push_str(";")?;
     push_bytes(text, name.rid.as_slice())
 }
 
-fn push_point(alloc: Global, text: &mut String, point: &Point) -> Result<()> {
-    let x = point.x.millionths();
-    let y = point.y.millionths();
-    let line = match point.z {
-        Some(z) => format!(in alloc; "  at {x} {y} {}\n", z.millionths())?,
-        None => format!(in alloc; "  at {x} {y}\n")?,
-    };
-    Ok(text.push_str(line.as_str())?)
-}
-
-fn push_end(text: &mut String, end: &End) -> Result<()> {
-    text.push_str("  end ")?;
-    push_bytes(text, end.lot.as_slice())?;
-    text.push_str(";")?;
-    push_bytes(text, end.subset.as_slice())?;
-    text.push_str(";")?;
-    push_name(text, &end.target)?;
-    if let Some(sns) = &end.sns {
-        text.push_str(" with ")?;
-        push_bytes(text, sns.as_slice())?;
-    }
-    Ok(text.push_str("\n")?)
-}
-
-fn push_attribute(text: &mut String, attribute: &Attribute) -> Result<()> {
-    text.push_str("  attribute ")?;
-    push_name(text, &attribute.atp)?;
-    if let Some(tex) = &attribute.tex {
-        text.push_str(" in ")?;
-        push_bytes(text, tex.as_slice())?;
-    }
-    text.push_str(" = ")?;
-    push_bytes(text, attribute.atv.as_slice())?;
-    Ok(text.push_str("\n")?)
-}
-
-fn push_extra(alloc: Global, text: &mut String, extra: &Extra) -> Result<()> {
-    text.push_str("  extra ")?;
-    push_bytes(text, &extra.code)?;
-    push_bytes(text, &[extra.nature, extra.format])?;
-    match &extra.value {
-        Value::Number(number) => {
-            let line = format!(in alloc; " number {}\n", number.millionths())?;
-            Ok(text.push_str(line.as_str())?)
+fn push_points(points: &[Point], text: &mut String) -> Result<(), AllocError> {
+    for point in points {
+        write!(
+            text,
+            "  at {} {}",
+            point.x.millionths(),
+            point.y.millionths()
+        )?;
+        if let Some(z) = point.z {
+            write!(text, " {}", z.millionths())?;
         }
+        text.push_str("\n")?;
+    }
+    Ok(())
+}
+
+fn push_ends(ends: &[End], text: &mut String) -> Result<(), AllocError> {
+    for end in ends {
+        text.push_str("  end ")?;
+        push_bytes(text, end.lot.as_slice())?;
+        text.push_str(";")?;
+        push_bytes(text, end.subset.as_slice())?;
+        text.push_str(";")?;
+        push_name(text, &end.target)?;
+        if let Some(sns) = &end.sns {
+            text.push_str(" with ")?;
+            push_bytes(text, sns.as_slice())?;
+        }
+        text.push_str("\n")?;
+    }
+    Ok(())
+}
+
+fn push_attributes(attributes: &[Attribute], text: &mut String) -> Result<(), AllocError> {
+    for attribute in attributes {
+        text.push_str("  attribute ")?;
+        push_name(text, &attribute.atp)?;
+        if let Some(tex) = &attribute.tex {
+            text.push_str(" in ")?;
+            push_bytes(text, tex.as_slice())?;
+        }
+        text.push_str(" = ")?;
+        push_bytes(text, attribute.atv.as_slice())?;
+        text.push_str("\n")?;
+    }
+    Ok(())
+}
+
+fn push_extras(extras: &[Extra], text: &mut String) -> Result<(), AllocError> {
+    for extra in extras {
+        text.push_str("  extra ")?;
+        push_bytes(text, &extra.code)?;
+        push_bytes(text, &[extra.nature, extra.format])?;
+        push_value(&extra.value, text)?;
+    }
+    Ok(())
+}
+
+fn push_value(value: &Value, text: &mut String) -> Result<(), AllocError> {
+    match value {
+        Value::Number(number) => writeln!(text, " number {}", number.millionths()),
         Value::Bytes(bytes) => {
             text.push_str(" ")?;
             push_bytes(text, bytes.as_slice())?;
-            Ok(text.push_str("\n")?)
+            text.push_str("\n")
         }
     }
 }

@@ -1,6 +1,7 @@
 //! The schema under which sheets are read.
 
-use anyhow::{Context, Result};
+use crate::case::Case;
+use anyhow::{Context, Result, bail};
 use edi_schema::{Kinds, Schema};
 use std::alloc::Global;
 
@@ -10,22 +11,17 @@ pub struct Setting<'a> {
     pub scd: &'a str,
     pub dic: &'a str,
     pub kinds: Kinds<'a>,
-    schema: Option<Schema>,
+    pub schema: Option<Schema>,
 }
 
 impl<'a> Setting<'a> {
-    /// The setting of these files. Cases that need no schema name none.
-    pub(crate) fn of(
-        alloc: Global,
-        scd: &'a str,
-        dic: &'a str,
-        kinds: Kinds<'a>,
-    ) -> Result<Setting<'a>> {
-        let schema = if scd.is_empty() {
-            None
-        } else {
-            Some(loaded(alloc, scd, dic, &kinds)?)
-        };
+    /// The setting that the head of a file of cases gives: behind the explanation a schema file and a dictionary, and the
+    /// codes for an answer. Cases that need no schema give none.
+    pub(crate) fn of(alloc: Global, shared: &'a Case<'_>) -> Result<Setting<'a>> {
+        let scd = shared.input(1);
+        let dic = shared.input(2);
+        let kinds = kinds_of(shared.wanted.trim_end()).context("no four codes")?;
+        let schema = schema_of(alloc, scd, dic, &kinds)?;
         Ok(Setting {
             scd,
             dic,
@@ -33,25 +29,23 @@ impl<'a> Setting<'a> {
             schema,
         })
     }
-
-    /// The schema of these files, borrowed.
-    pub(crate) fn schema(&self) -> Result<&Schema> {
-        self.schema.as_ref().context("the cases have no schema")
-    }
 }
 
-// The schema of two files, which is accepted.
-fn loaded(alloc: Global, scd: &str, dic: &str, kinds: &Kinds<'_>) -> Result<Schema> {
+// The schema of two files, which is accepted; none of no file.
+fn schema_of(alloc: Global, scd: &str, dic: &str, kinds: &Kinds<'_>) -> Result<Option<Schema>> {
+    if scd.is_empty() {
+        return Ok(None);
+    }
     match Schema::load(alloc, scd.as_bytes(), dic.as_bytes(), kinds) {
-        Ok(schema) => Ok(schema),
-        Err(fault) => Err(fault.into()),
+        Ok(schema) => Ok(Some(schema)),
+        Err(_) => bail!("the schema that the cases share is refused, or memory ran out"),
     }
 }
 
 /// The kinds of four codes parted by commas, or the usual ones where no code is named.
-pub(crate) fn kinds_of(codes: &str) -> Result<Kinds<'_>> {
+fn kinds_of(codes: &str) -> Option<Kinds<'_>> {
     if codes.is_empty() {
-        return Ok(Kinds::usual());
+        return Some(Kinds::usual());
     }
     let mut parts = codes.split(",");
     let initial = parts.next().unwrap_or("");
@@ -64,5 +58,4 @@ pub(crate) fn kinds_of(codes: &str) -> Result<Kinds<'_>> {
         left.as_bytes(),
         right.as_bytes(),
     )
-    .context("no four codes")
 }

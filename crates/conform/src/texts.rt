@@ -1,38 +1,53 @@
 //! Texts and sequences, compared.
 
 use crate::case::Case;
-use anyhow::Result;
 use edi_line::{Sequence, Text};
-use std::alloc::Global;
-use std::hash::{BuildHasher, BuildHasherDefault, DefaultHasher};
+use std::alloc::{AllocError, Global};
+use std::hash::{BuildHasher, BuildHasherDefault, DefaultHasher, Hash};
 
-/// How two texts compare, and how they compare as sequences of bytes; or what a copy of the first changes.
-pub(crate) fn compared(alloc: Global, case: &Case<'_>) -> Result<String> {
-    let left = case.input(alloc, 0)?;
-    let right = case.input(alloc, 1)?;
-    let first = Text::from_slice(alloc, left.as_bytes())?;
-    let second = Text::from_slice(alloc, right.as_bytes())?;
-    let hasher = BuildHasherDefault::<DefaultHasher>::default();
-    let copy = first.clone()?;
-    if copy != first || hasher.hash_one(&copy) != hasher.hash_one(&first) {
-        return Ok(String::from_str(alloc, "a copy is another text\n")?);
-    }
-    let texts = order_text(first < second, first == second);
-    let first = Sequence::from_vec(first.as_slice().to_vec(alloc)?);
-    let second = Sequence::from_vec(second.as_slice().to_vec(alloc)?);
-    let copy = first.clone()?;
-    if copy != first || hasher.hash_one(&copy) != hasher.hash_one(&first) {
-        return Ok(String::from_str(alloc, "a copy is another sequence\n")?);
-    }
-    let sequences = order_text(first < second, first == second);
-    Ok(format!(in alloc; "{texts}, {sequences}\n")?)
+/// How two texts compare, and how they compare as sequences of bytes; or that a copy of the first is another.
+pub(crate) fn push_compared(
+    alloc: Global,
+    case: &Case<'_>,
+    text: &mut String,
+) -> Result<(), AllocError> {
+    push_texts(alloc, case, text)?;
+    text.push_str(", ")?;
+    push_sequences(alloc, case, text)?;
+    text.push_str("\n")
 }
 
-fn order_text(is_less: bool, is_equal: bool) -> &'static str {
-    match (is_less, is_equal) {
-        (true, false) => "less",
-        (false, true) => "equal",
-        (false, false) => "greater",
-        (true, true) => "less and equal",
+fn push_texts(alloc: Global, case: &Case<'_>, text: &mut String) -> Result<(), AllocError> {
+    let first = Text::from_slice(alloc, case.input(0).as_bytes())?;
+    let second = Text::from_slice(alloc, case.input(1).as_bytes())?;
+    let copy = first.clone()?;
+    let is_same = copy == first && is_hashed_as(&copy, &first);
+    text.push_str(answer_text(is_same, first < second, first == second))
+}
+
+fn push_sequences(alloc: Global, case: &Case<'_>, text: &mut String) -> Result<(), AllocError> {
+    let first = sequence_of(alloc, case.input(0))?;
+    let second = sequence_of(alloc, case.input(1))?;
+    let copy = first.clone()?;
+    let is_same = copy == first && is_hashed_as(&copy, &first);
+    text.push_str(answer_text(is_same, first < second, first == second))
+}
+
+fn sequence_of(alloc: Global, input: &str) -> Result<Sequence<u8>, AllocError> {
+    Ok(Sequence::from_vec(Vec::from_slice(alloc, input.as_bytes())?))
+}
+
+fn is_hashed_as<T: Hash>(copy: &T, value: &T) -> bool {
+    let hasher = BuildHasherDefault::<DefaultHasher>::default();
+    hasher.hash_one(copy) == hasher.hash_one(value)
+}
+
+fn answer_text(is_same: bool, is_less: bool, is_equal: bool) -> &'static str {
+    match (is_same, is_less, is_equal) {
+        (false, _, _) => "a copy is another",
+        (true, true, false) => "less",
+        (true, false, true) => "equal",
+        (true, false, false) => "greater",
+        (true, true, true) => "less and equal",
     }
 }

@@ -1,5 +1,5 @@
 -- The sites of the records of a file.
-use Rattle.std.proofs.Common.{◌≡◌, ℕ, List, [], ◌∷◌, ◌++◌, length, sym, ap, ◌∙◌, refl, subst, unwrap_or, codes}
+use Rattle.std.proofs.Common.{◌≡◌, ℕ, List, [], ◌∷◌, ◌++◌, length, sym, ap, ◌∙◌, subst, unwrap_or, codes}
 use Rattle.std.specs.List.{AllZip}
 use Rattle.edi_line.specs.Entry.{Entry, first}
 use Rattle.edi_line.specs.Zones.{groups_of}
@@ -23,12 +23,7 @@ site_push (x ∷ groups) [] g s h k = absurd h
 site_push (x ∷ groups) (y ∷ sites) g s h k = (h.0, site_push groups sites g s h.1 k)
 
 pub one_site : (group rest : List Entry) (head : Entry) (site : Site) → group ≡ head ∷ rest → site.line ≡ head.line → site.rid ≡ unwrap_or (first (values (codes "RID") group)) [] → IsSite group site
-one_site group rest head site cut line rid = record {
-  whole = record { line = head.line; rty = head.value; rid = first (values (codes "RID") group) };
-  is_site = record { head = head; rest = rest; is = cut; line = refl; rty = refl; rid = refl };
-  line = line;
-  rid = rid;
-}
+one_site group rest head site cut line rid = record { head = head; rest = rest; is = cut; line = line; rid = rid }
 
 pub sites_long : (s : Classes) (b : List ℕ) (p : Drawing) (sites : List Site) → IsPlanOfFile s b p → AreSitesOf b sites → length sites ≡ length p.list
 sites_long s b p sites plan are =

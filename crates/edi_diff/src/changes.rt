@@ -18,7 +18,7 @@ use edi_record::Kind;
 use std::alloc::{AllocError, Global};
 
 /// A record of the first sheet, and one of the second that it may have become.
-#[derive(Clone, Copy, Debug)]
+#[derive(Clone, Copy)]
 pub(crate) struct Proposal {
     pub(crate) place: u32,
     pub(crate) target: u32,
@@ -54,7 +54,7 @@ pub(crate) fn changes_between(
 }
 
 /// By what records are found that became others.
-#[derive(Clone, Copy, Debug)]
+#[derive(Clone, Copy)]
 enum Way {
     Points,
     Contents,

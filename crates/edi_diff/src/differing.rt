@@ -1,18 +1,22 @@
 //! What differs between two sheets.
 
-ghost use Rattle.std.specs.Prelude.{◌≡◌, IfErr, IfOk, OnOk};
+ghost use Rattle.std.specs.Prelude.{◌≡◌, ℕ, List, IfErr, IfOk, OnOk};
 ghost use Rattle.edi_line.specs.FileBytes.{file_bytes};
+ghost use Rattle.edi_schema.specs.Classes.{Classes};
 ghost use Rattle.edi_plan.specs.Agreeing.{HasClasses};
+ghost use Rattle.edi_compare.specs.Laws.{IsAcceptedPlan};
 ghost use Rattle.edi_compare.specs.Refused.{IsPairRefusal};
 ghost use Rattle.edi_compare.specs.Rules.{IsAccepted};
 ghost use Rattle.edi_matching.specs.Matchings.{MatchingHolds};
 ghost use Rattle.edi_diff.specs.Differences.{AreFindings, IsDifference, IsDifferenceText};
 ghost use Rattle.edi_diff.specs.Reports.{HasSites};
+ghost use Rattle.edi_diff.specs.inner.Compared.{AreCompared};
+ghost use Rattle.edi_diff.specs.inner.Sheets.{IsLocatedSheet, IsPackedSheet};
 
 use crate::changes::{Changes, changes_between};
 use crate::parting::parts_of;
 use crate::report::Reporter;
-use crate::sheet::{LocatedSheet, locate_packed};
+use crate::sheet::{LocatedSheet, PackedSheet, locate_packed};
 use crate::totals::is_same;
 use edi_compare::{CompareFault, first_refused, second_refused};
 use edi_line::{FileBytes, Sequence};
@@ -40,6 +44,14 @@ pub struct Findings {
     /// These, and beside them those that became records of the second.
     pub became: Matching,
     pub difference: Difference,
+}
+
+/// What two sheets have in common, and what differs.
+#[derive(Drop)]
+struct ComparedSheets {
+    unchanged: Matching,
+    became: Matching,
+    difference: Difference,
 }
 
 /// A text of what differs, and the records that it tells as changed, beside those that are the same.
@@ -165,25 +177,80 @@ pub fn find_differences(
     ensures second_classes { IfOk result (λ found. HasClasses schema.now found.second.accepted) }
     ensures refusal { IfErr result (IsPairRefusal schema.now (file_bytes a.entry) (file_bytes b.entry)) }
 {
-    let packed = match locate_packed(alloc, schema, a) {
-        Ok(sheet) => sheet,
-        Err(fault) => return Err(first_refused(fault)),
-    };
-    let other = match locate_packed(alloc, schema, b) {
-        Ok(sheet) => sheet,
-        Err(fault) => return Err(second_refused(fault)),
-    };
-    // Reading takes the most memory, so sites are unpacked only when both plans stand.
-    let first = packed.unpack(alloc)?;
-    let second = other.unpack(alloc)?;
-    let unchanged = differences(alloc, schema, &first.accepted, &second.accepted)?;
-    let same = is_same(alloc, &first, &second, &unchanged)?;
-    let ChangesWithText { became, text } = changes_with_text(
-        alloc, schema, &first, &second, &unchanged, brief,
-    )?;
+    let (packed, other) = locate_both(alloc, schema, a, b)?;
+    let (first, second) = unpack_both(alloc, packed, other)?;
+    let ComparedSheets {
+        unchanged,
+        became,
+        difference,
+    } = compare_sheets(alloc, schema, &first, &second, brief)?;
     Ok(Findings {
         first,
         second,
+        unchanged,
+        became,
+        difference,
+    })
+}
+
+/// Two sheets, or the refusal of the first, or that of the second. Reading takes the most memory, so their sites stay packed
+/// until both plans stand.
+#[tactic(auto, using(edi_compare::proofs::Refusals::first_fault, edi_compare::proofs::Refusals::second_fault))]
+fn locate_both(
+    alloc: Global,
+    schema: &Schema,
+    a: FileBytes<'_>,
+    b: FileBytes<'_>,
+) -> Result<(PackedSheet, PackedSheet), CompareFault>
+    ensures first { IfOk result (λ both. IsPackedSheet schema.now (file_bytes a.entry) both.0) }
+    ensures second { IfOk result (λ both. IsPackedSheet schema.now (file_bytes b.entry) both.1) }
+    ensures refusal { IfErr result (IsPairRefusal schema.now (file_bytes a.entry) (file_bytes b.entry)) }
+{
+    let first = match locate_packed(alloc, schema, a) {
+        Ok(sheet) => sheet,
+        Err(fault) => return Err(first_refused(fault)),
+    };
+    match locate_packed(alloc, schema, b) {
+        Ok(second) => Ok((first, second)),
+        Err(fault) => Err(second_refused(fault)),
+    }
+}
+
+/// Both sheets with their sites as lists.
+fn unpack_both(
+    alloc: Global,
+    first: PackedSheet,
+    second: PackedSheet,
+) -> Result<(LocatedSheet, LocatedSheet), AllocError>
+    ensures first { IfOk result (λ both. (s : Classes) (b : List ℕ) → IsPackedSheet s b first → IsLocatedSheet s b both.0) }
+    ensures second { IfOk result (λ both. (s : Classes) (b : List ℕ) → IsPackedSheet s b second → IsLocatedSheet s b both.1) }
+{
+    let first = first.unpack(alloc)?;
+    let second = second.unpack(alloc)?;
+    Ok((first, second))
+}
+
+/// What two sheets have in common, and what differs. The only error is want of memory.
+fn compare_sheets(
+    alloc: Global,
+    schema: &Schema,
+    first: &LocatedSheet,
+    second: &LocatedSheet,
+    brief: bool,
+) -> Result<ComparedSheets, AllocError>
+    requires first { IsAcceptedPlan schema.now first.now.accepted }
+    requires second { IsAcceptedPlan schema.now second.now.accepted }
+    requires classes { HasClasses schema.now first.now.accepted }
+    requires first_sites { HasSites first.now }
+    requires second_sites { HasSites second.now }
+    ensures { IfOk result (AreCompared schema.now first.now second.now brief) }
+{
+    let unchanged = differences(alloc, schema, &first.accepted, &second.accepted)?;
+    let same = is_same(alloc, first, second, &unchanged)?;
+    let ChangesWithText { became, text } = changes_with_text(
+        alloc, schema, first, second, &unchanged, brief,
+    )?;
+    Ok(ComparedSheets {
         unchanged,
         became,
         difference: Difference { same, text },

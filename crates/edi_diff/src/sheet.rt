@@ -1,16 +1,16 @@
 //! Accepted sheets, with where their records stand.
 
 ghost use Rattle.std.specs.Prelude.{◌≡◌, ℕ, List, IfErr, IfOk, OnOk};
+ghost use Rattle.edi_schema.specs.Classes.{Classes};
 ghost use Rattle.edi_line.specs.FileBytes.{file_bytes};
 ghost use Rattle.edi_plan.specs.Agreeing.{HasClasses};
 ghost use Rattle.edi_compare.specs.PlanOfFile.{IsPlanOfFile};
 ghost use Rattle.edi_compare.specs.Refused.{IsRefusal};
 ghost use Rattle.edi_compare.specs.Rules.{IsAccepted};
 ghost use Rattle.edi_plan.specs.Places.{places_of};
-ghost use Rattle.edi_record.specs.Beside.{HasTakenAll};
 ghost use Rattle.edi_diff.specs.Reports.{HasSites};
 ghost use Rattle.edi_diff.specs.Sites.{AreSitesOf};
-ghost use Rattle.edi_diff.specs.inner.PackedSites.{PacksSitesOf};
+ghost use Rattle.edi_diff.specs.inner.Sheets.{IsLocatedSheet, IsPackedSheet};
 
 use crate::packed::PackedSites;
 use crate::site::Site;
@@ -22,11 +22,20 @@ use std::alloc::{AllocError, Global};
 use std::borrow::CowSlice;
 
 /// An accepted sheet, with where its records stand in their file.
-#[derive(Drop)]
 pub struct LocatedSheet {
     pub accepted: Accepted,
     /// The site of each record, in file order.
     pub sites: Sequence<Site>,
+}
+
+impl Drop for LocatedSheet {
+    /// Written out, so that whoever lets a sheet go makes one call, and not one for each list that a plan is made of.
+    fn drop(self) {
+        let LocatedSheet {
+            accepted: _,
+            sites: _,
+        } = self;
+    }
 }
 
 impl LocatedSheet {
@@ -73,21 +82,29 @@ pub fn locate_from(
 }
 
 /// An accepted sheet, with where its records stand in their file, packed.
-#[derive(Drop)]
 pub(crate) struct PackedSheet {
     accepted: Accepted,
     sites: PackedSites,
 }
 
+impl Drop for PackedSheet {
+    /// Written out for the same reason as that of a `LocatedSheet`.
+    fn drop(self) {
+        let PackedSheet {
+            accepted: _,
+            sites: _,
+        } = self;
+    }
+}
+
 impl PackedSheet {
     /// The sheet with its sites as a list.
     pub(crate) fn unpack(self, alloc: Global) -> Result<LocatedSheet, AllocError>
-        ensures accepted { IfOk result (λ sheet. sheet.accepted ≡ self.accepted) }
-        ensures sites { IfOk result (λ sheet. (b : List ℕ) → HasTakenAll b (PacksSitesOf self.sites) → AreSitesOf b sheet.sites) }
+        ensures { IfOk result (λ sheet. (s : Classes) (b : List ℕ) → IsPackedSheet s b self → IsLocatedSheet s b sheet) }
     {
-        let PackedSheet { accepted, sites } = self;
-        let count = accepted.sound().plan().len();
-        let sites = sites.unpack(alloc, count as usize)?;
+        let count = self.accepted.sound().plan().len();
+        let sites = self.sites.unpack(alloc, count as usize)?;
+        let PackedSheet { accepted, sites: _ } = self;
         Ok(LocatedSheet {
             accepted,
             sites: Sequence::from_vec(sites),
@@ -101,10 +118,7 @@ pub(crate) fn locate_packed(
     schema: &Schema,
     bytes: FileBytes<'_>,
 ) -> Result<PackedSheet, Fault>
-    ensures accepted { OnOk result (IsAccepted schema.now (file_bytes bytes.entry)) }
-    ensures plan { IfOk result (λ sheet. IsPlanOfFile schema.now (file_bytes bytes.entry) sheet.accepted) }
-    ensures classes { IfOk result (λ sheet. HasClasses schema.now sheet.accepted) }
-    ensures sites { IfOk result (λ sheet. HasTakenAll (file_bytes bytes.entry) (PacksSitesOf sheet.sites)) }
+    ensures packed { IfOk result (IsPackedSheet schema.now (file_bytes bytes.entry)) }
     ensures refusal { IfErr result (IsRefusal schema.now (file_bytes bytes.entry)) }
 {
     let (accepted, sites) = accept_beside(alloc, schema, bytes, PackedSites::new(alloc))?;

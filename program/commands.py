@@ -1,0 +1,314 @@
+"""Commands with good and bad words, and what they write where."""
+import os
+import pty
+import re
+import subprocess
+
+from cases import digest_of
+from room import drafts, line, unread, unwritten
+
+HERE = os.path.dirname(os.path.abspath(__file__))
+
+
+def words(room):
+    """Commands with good and bad words."""
+    report = room.report
+    for bad in (["paint"], ["check"], ["check", "s"], ["check", "s", "d"], ["canon", "s", "d", "v"], ["compare", "s", "d", "v"],
+                ["hash", "s", "d"], ["explain"], ["explain", "s", "d", "v", "v"], ["verify", "s", "d", "v", "v"], ["verify", "s", "d", "v", "v", "p", "p"], ["compare", "--pairing", "s", "d", "v", "v"],
+                ["verify", "--pairing", "p", "s", "d", "v", "v", "p"], ["diff", "s", "d", "v"], ["diff", "--brief=yes", "s", "d", "v", "v"], ["diff", "--brief", "--brief", "s", "d", "v", "v"], ["compare", "--brief", "s", "d", "v", "v"], ["check", "s", "d", "v", "v"], ["draw", "s", "d", "v"], ["draw", "s", "d", "v", "o", "o"], ["draw", "--picture", "o", "s", "d", "v"],
+                ["diff", "--picture", "s", "d", "v", "v"], ["diff", "--picture", "p", "--picture", "q", "s", "d", "v", "v"], ["compare", "--picture", "p", "s", "d", "v", "v"], ["--paint"], ["check", "--paint", "s", "d", "v"], ["check", "--kinds"], ["help", "paint"]):
+        status, out, err = room.run(bad)
+        report.check(f"{bad}: status and output", (status, out), (3, b""))
+        report.holds(f"{bad}: says what is wrong", err.startswith(b"error: ") and err.endswith(b"\n"))
+    for asked in (["--help"], ["-h"], ["help"], ["help", "check"], ["check", "--help"], ["canon", "-h"], ["compare", "--help"], ["hash", "--help"], ["explain", "--help"], ["verify", "--help"], ["diff", "--help"], ["draw", "--help"], ["help", "draw"]):
+        status, out, err = room.run(asked)
+        report.check(f"{asked}: status and output", (status, out), (0, b""))
+        report.holds(f"{asked}: has the usage", b"Usage: edicad" in err and err.endswith(b"\n"))
+        report.check(f"{asked}: lines of more than 80 columns", [it for it in err.decode().splitlines() if len(it) > 80], [])
+    status, out, err = room.run(["--version"])
+    report.check("--version", (status, out, err), (0, b"", b"edicad 0.1.0\n"))
+    for kinds in ("A,B,C", "A,B,C,D,E", "A,A,B,C", "A,B,C,A", "A,,B,C", "A,,C,D", ""):
+        for command in (["check", "absent", "absent", "absent"], ["canon", "absent", "absent", "absent", "o"], ["compare", "absent", "absent", "absent", "absent"], ["hash", "absent", "absent", "absent"], ["verify", *["absent"] * 5], ["diff", *["absent"] * 4], ["diff", "--picture", "p", *["absent"] * 4], ["draw", "absent", "absent", "absent", "o"]):
+            room.expect(f"{command[0]} with the kinds {kinds!r}", [command[0], "--kinds", kinds, *command[1:]], (3, b"", b"bad kinds\n"))
+    for twice in (["check", "-", "-", "v"], ["check", "-", "d", "-"], ["canon", "s", "-", "-", "o"], ["compare", "s", "d", "-", "-"], ["verify", "s", "d", "-", "v", "-"], ["verify", "-", "d", "v", "v", "-"], ["diff", "s", "d", "-", "-"], ["diff", "--picture", "p", "s", "d", "-", "-"], ["draw", "s", "-", "-", "o"],
+                  ["hash", "s", "d", "-", "v", "-"], ["hash", "s", "-", "v", "-"]):
+        room.expect(f"{twice}", twice, (3, b"", b"only one input can be -\n"))
+    status, out, err = room.run([b"\xff"])
+    report.check("words that are no text", (status, out, err), (3, b"", b"error: the words are not all UTF-8\n"))
+
+
+def files(room, sheet, canonical):
+    """Files that are missing, made, kept, and links."""
+    report = room.report
+    room.write("v", sheet)
+    for name, command in (("s", ["check", "x", "d", "v"]), ("d", ["check", "s", "x", "v"]), ("v", ["check", "s", "d", "x"]),
+                          ("first", ["compare", "s", "d", "x", "v"]), ("second", ["compare", "s", "d", "v", "x"]), ("canon", ["canon", "s", "d", "x", "o"])):
+        room.expect(f"a missing file, {name}", command, (4, b"", unread("x")))
+    room.expect("the first missing file is named", ["check", "s", "x", "y"], (4, b"", unread("x")))
+    room.expect("all are opened before one is read", ["check", ".", "d", "y"], (4, b"", unread("y")))
+    room.expect("a folder can't be read", ["check", "s", "d", "."], (4, b"", unread(".", "is a folder")))
+    room.expect("a file where a folder is named", ["check", "s", "s/x", "v"], (4, b"", unread("s/x", "no such folder")))
+    room.expect("a file in a folder that is missing", ["check", "s", "none/x", "v"], (4, b"", unread("none/x")))
+    report.check("no OUT of missing files", room.read("o"), None)
+    room.expect("OUT is made", ["canon", "s", "d", "v", "o"], (0, b"accepted\n", b""))
+    report.check("OUT that is made", room.read("o"), canonical)
+    room.write("o", "kept" * 10000)
+    os.chmod(room.path("o"), 0o640)
+    room.expect("OUT is replaced", ["canon", "s", "d", "v", "o"], (0, b"accepted\n", b""))
+    report.check("OUT that is replaced", room.read("o"), canonical)
+    report.check("the permissions of OUT", os.stat(room.path("o")).st_mode & 0o777, 0o640)
+    os.mkdir(room.path("folder"))
+    room.expect("OUT in a folder", ["canon", "s", "d", "v", "folder/o"], (0, b"accepted\n", b""))
+    report.check("OUT in a folder: bytes", room.read("folder/o"), canonical)
+    room.expect("OUT is a folder", ["canon", "s", "d", "v", "folder"], (4, b"", unwritten("folder", "is a folder")))
+    room.expect("OUT in a file", ["canon", "s", "d", "v", "s/o"], (4, b"", unwritten("s/o", "no such folder")))
+    room.expect("OUT in no folder", ["canon", "s", "d", "v", "none/o"], (4, b"", unwritten("none/o", "no such folder")))
+    for name in ("s", "d", "v"):
+        before = room.read(name)
+        for out in (name, "./" + name, "folder/../" + name):
+            room.expect(f"OUT is the input {out}", ["canon", "s", "d", "v", out], (4, b"", line("cannot write " + out)))
+        os.symlink(name, room.path("to_" + name))
+        os.link(room.path(name), room.path("also_" + name))
+        for out in ("to_" + name, "also_" + name):
+            room.expect(f"OUT is a link to an input, {out}", ["canon", "s", "d", "v", out], (4, b"", line("cannot write " + out)))
+        room.expect(f"OUT is an input that is named by a link, {name}", ["canon", "to_s", "to_d" if name != "s" else "d", "to_v" if name == "v" else "v", name]
+                    if name != "s" else ["canon", "to_s", "d", "v", "s"], (4, b"", line("cannot write " + name)))
+        report.check(f"the input {name} stays", room.read(name), before)
+        room.expect("an OUT that is an input is refused before a file is opened", ["canon", "absent", "absent", name, name], (4, b"", line("cannot write " + name)))
+    room.write("far", "old")
+    os.symlink("far", room.path("near"))
+    room.expect("OUT is a link", ["canon", "s", "d", "v", "near"], (0, b"accepted\n", b""))
+    report.check("a link stays, and its file is replaced", (os.path.islink(room.path("near")), room.read("far")), (True, canonical))
+    os.symlink("nowhere", room.path("broken"))
+    room.expect("OUT is a link to nothing", ["canon", "s", "d", "v", "broken"], (4, b"", unwritten("broken", "no such file")))
+    room.write(".edicad-0.tmp", "left behind")
+    room.expect("what a stopped run left is no hindrance", ["canon", "s", "d", "v", "o2"], (0, b"accepted\n", b""))
+    report.check("OUT beside what a stopped run left", (room.read("o2"), room.read(".edicad-0.tmp")), (canonical, b"left behind"))
+    os.remove(room.path(".edicad-0.tmp"))
+    report.check("no draft stays", drafts(room.folder), [])
+
+
+def standard_streams(room, sheet, canonical):
+    """Standard input and output by `-`, closed and full streams, devices and pipes."""
+    report = room.report
+    room.write("v", sheet)
+    schema, dictionary = room.read("s"), room.read("d")
+    room.expect("the sheet on standard input", ["check", "s", "d", "-"], (0, b"accepted\n", b""), sheet)
+    room.expect("the schema on standard input", ["check", "-", "d", "v"], (0, b"accepted\n", b""), schema)
+    room.expect("the dictionary on standard input", ["check", "s", "-", "v"], (0, b"accepted\n", b""), dictionary)
+    room.expect("one of two sheets on standard input", ["compare", "s", "d", "-", "v"], (0, b"same\n", b""), sheet)
+    room.expect("the canonical file to standard output", ["canon", "s", "d", "v", "-"], (0, canonical, b""))
+    room.expect("from standard input to standard output", ["canon", "s", "d", "-", "-"], (0, canonical, b""), sheet)
+    room.expect("a refused sheet has its line there", ["canon", "s", "d", "-", "-"], (2, b"refused 106 line 1\n", b""))
+    report.check("no file of the name -", room.read("-"), None)
+    room.expect("a file of the name -", ["canon", "s", "d", "v", "./-"], (0, b"accepted\n", b""))
+    report.check("the file of the name -", room.read("-"), canonical)
+    room.expect("a file of the name - is read", ["check", "s", "d", "./-"], (0, b"accepted\n", b""))
+    os.remove(room.path("-"))
+    bundle = schema + dictionary + sheet
+    room.expect("the bundle", [], (0, canonical, b""), bundle)
+    with open("/dev/full", "wb") as full:
+        room.expect("the bundle to a full output", [], (4, None, b"cannot write standard output\n"), bundle, stdout=full)
+        room.expect("the canonical file to a full output", ["canon", "s", "d", "v", "-"], (4, None, b"cannot write standard output\n"), stdout=full)
+        report.check("accepted to a full output", room.run(["check", "s", "d", "v"], stdout=full)[0], 4)
+        report.check("refused to a full output", room.run(["check", "s", "d", "s"], stdout=full)[0], 4)
+        report.check("different to a full output", room.run(["compare", "s", "d", "v", "v"], stdout=full)[0], 4)
+        report.check("errors to a full stream", room.run(["check", "s", "d", "x"], stderr=full)[0], 4)
+    report.check("a closed output", room.run(["check", "s", "d", "v"], preexec_fn=lambda: os.close(1))[0], 4)
+    report.check("a closed stream of errors", room.run(["check", "s", "d", "x"], preexec_fn=lambda: os.close(2))[0], 4)
+    room.expect("a closed input", ["check", "s", "d", "-"], (4, b"", b"cannot read standard input\n"), preexec_fn=lambda: os.close(0))
+    room.expect("a closed input of the bundle", [], (4, b"", b"cannot read standard input\n"), preexec_fn=lambda: os.close(0))
+    room.expect("OUT is a full device", ["canon", "s", "d", "v", "/dev/full"], (4, b"", unwritten("/dev/full", "no space left")))
+    room.expect("OUT is a device", ["canon", "s", "d", "v", "/dev/null"], (0, b"accepted\n", b""))
+    report.holds("a device stays", not os.path.isfile("/dev/null"))
+    os.mkfifo(room.path("pipe"))
+    reader = subprocess.Popen(["cat", room.path("pipe")], stdout=subprocess.PIPE)
+    room.expect("OUT is a pipe", ["canon", "s", "d", "v", "pipe"], (0, b"accepted\n", b""))
+    report.check("a pipe gets the bytes", reader.communicate(timeout=20)[0], canonical)
+    report.check("no draft of a stream", drafts(room.folder), [])
+
+
+def hashes(room, sheet, canonical):
+    """Digests of many sheets: what is refused before a sheet is opened, full streams, and the greatest status."""
+    report = room.report
+    room.write("v", sheet)
+    room.write("w", canonical)
+    room.write("bad", b"")
+    one = digest_of(canonical)
+    both = one + b"  v\n" + one + b"  w\n"
+    room.expect("a sheet and its canonical file have one digest", ["hash", "s", "d", "v", "w"], (0, both, b""))
+    checked = subprocess.run(["sha256sum", "-c"], cwd=room.folder, input=one + b"  w\n", capture_output=True).stdout
+    report.check("sha256sum -c takes the line of a canonical file", checked, b"w: OK\n")
+    room.expect("the first missing file of a schema", ["hash", "x", "y", "v"], (4, b"", unread("x")))
+    room.expect("the second missing file of a schema", ["hash", "s", "y", "v"], (4, b"", unread("y")))
+    room.expect("a refused schema", ["hash", "bad", "d", "x"], (2, b"refused scd 106 line 1\n", b""))
+    room.expect("the greatest status", ["hash", "s", "d", "x", "bad", "v"], (4, one + b"  v\n", b"x: cannot read\nedicad: x: no such file\nbad: refused 106 line 1\n"))
+    room.expect("a folder among the sheets", ["hash", "s", "d", ".", "v"], (4, one + b"  v\n", b".: cannot read\nedicad: .: is a folder\n"))
+    room.expect("a reason is that of its own sheet", ["hash", "s", "d", "x", ".", "s/x", "v"],
+                (4, one + b"  v\n", b"x: cannot read\nedicad: x: no such file\n.: cannot read\nedicad: .: is a folder\ns/x: cannot read\nedicad: s/x: no such folder\n"))
+    room.expect("the name of a reason has its escapes", ["hash", "s", "d", "a\nb"], (4, b"", b"\\a\\nb: cannot read\nedicad: a\\nb: no such file\n"))
+    room.expect("the schema on standard input", ["hash", "-", "d", "v", "w"], (0, both, b""), room.read("s"))
+    room.expect("a closed input", ["hash", "s", "d", "-", "v"], (4, one + b"  v\n", b"-: cannot read\n"), preexec_fn=lambda: os.close(0))
+    many = ["v"] * 3000
+    room.expect("many sheets", ["hash", "s", "d", *many], (0, (one + b"  v\n") * 3000, b""))
+    with open("/dev/full", "wb") as full:
+        room.expect("digests to a full output", ["hash", "s", "d", "x", "v", "bad"], (4, None, b"x: cannot read\nedicad: x: no such file\ncannot write standard output\n"), stdout=full)
+        report.check("faults to a full stream", room.run(["hash", "s", "d", "bad", "v"], stderr=full)[:2], (2, one + b"  v\n"))
+        report.check("a refused schema to a full output", room.run(["hash", "bad", "d", "v"], stdout=full)[0], 4)
+    report.check("a closed output", room.run(["hash", "s", "d", "v"], preexec_fn=lambda: os.close(1))[0], 4)
+
+
+def pairings(room, sheet):
+    """Pairings that are written and verified: each line and status of both commands, what is missing, kept and replaced."""
+    report = room.report
+    node = "RTYSA03:PNO\nRIDSA01:{0}\nSCPCP22:EDAB01;SeSD;PGE;NOD_id\nCORCC04:{1};0;\n"
+    of = lambda *nodes: "BOMT 01:X\n" + "".join(node.format(*it) for it in nodes) + "EOMT 00:\n"
+    room.write("a", of(("a", 7), ("b", 8)))
+    room.write("b", of(("c", 8), ("d", 7)))
+    room.write("c", of(("c", 8), ("d", 9)))
+    room.write("bad", "")
+    pairing = b"edicad pairing 1\nPNO;a;d\nPNO;b;c\n"
+    sheets = ["s", "d", "a", "b"]
+    same = (0, b"same\n", b"")
+    room.expect("a pairing is written", ["compare", "--pairing", "p", *sheets], same)
+    report.check("the pairing", room.read("p"), pairing)
+    room.write("p", "old" * 1000)
+    os.chmod(room.path("p"), 0o640)
+    room.expect("a pairing replaces FILE", ["compare", *sheets, "--pairing=p"], same)
+    report.check("FILE that is replaced", (room.read("p"), os.stat(room.path("p")).st_mode & 0o777), (pairing, 0o640))
+    for name, text, wanted in (
+        ("the pairing", pairing, (0, b"pairs\n", b"")),
+        ("one that exchanges the nodes", b"edicad pairing 1\nPNO;a;c\nPNO;b;d\n", (1, b"does not pair\n", b"")),
+        ("one with both nodes to one", b"edicad pairing 1\nPNO;a;d\nPNO;b;d\n", (1, b"does not pair\n", b"")),
+        ("one that reverses a node", b"edicad pairing 1\nPNO;a;d;reversed\nPNO;b;c\n", (1, b"does not pair\n", b"")),
+        ("an empty file", b"", (2, b"refused pairing line 1\n", b"")),
+        ("another version", b"edicad pairing 2\nPNO;a;d\nPNO;b;c\n", (2, b"refused pairing line 1\n", b"")),
+        ("a carriage return", b"edicad pairing 1\r\nPNO;a;d\nPNO;b;c\n", (2, b"refused pairing line 1\n", b"")),
+        ("no record of A", b"edicad pairing 1\nPNO;x;d\nPNO;b;c\n", (2, b"refused pairing line 2\n", b"")),
+        ("no record of B", b"edicad pairing 1\nPNO;a;d\nPNO;b;x\n", (2, b"refused pairing line 3\n", b"")),
+        ("another type", b"edicad pairing 1\nPAR;a;d\nPNO;b;c\n", (2, b"refused pairing line 2\n", b"")),
+        ("a line repeated", b"edicad pairing 1\nPNO;a;d\nPNO;a;d\nPNO;b;c\n", (2, b"refused pairing line 3\n", b"")),
+        ("a line after the last", pairing + b"PNO;b;c\n", (2, b"refused pairing line 4\n", b"")),
+        ("lines in another order", b"edicad pairing 1\nPNO;b;c\nPNO;a;d\n", (2, b"refused pairing line 2\n", b"")),
+        ("a line too few", pairing[:-8], (2, b"refused pairing line 3\n", b"")),
+        ("no end of the last line", pairing[:-1], (2, b"refused pairing line 3\n", b"")),
+        ("a sheet", room.read("a"), (2, b"refused pairing line 1\n", b"")),
+    ):
+        room.write("q", text)
+        room.expect(f"verify of {name}", ["verify", *sheets, "q"], wanted)
+        room.expect(f"verify of {name} on standard input", ["verify", *sheets, "-"], wanted, text)
+    room.expect("verify of other sheets", ["verify", "s", "d", "a", "c", "p"], (1, b"does not pair\n", b""))
+    room.expect("verify with A and B exchanged", ["verify", "s", "d", "b", "a", "p"], (2, b"refused pairing line 2\n", b""))
+    for at, name in enumerate(("s", "d", "a", "b", "p")):
+        words = [*sheets, "p"]
+        words[at] = "-"
+        room.expect(f"verify with {name} on standard input", ["verify", *words], (0, b"pairs\n", b""), room.read(name))
+        words[at] = "x"
+        room.expect(f"verify without {name}", ["verify", *words], (4, b"", unread("x")))
+        words[at] = "."
+        room.expect(f"verify with a folder for {name}", ["verify", *words], (4, b"", unread(".", "is a folder")))
+        if name != "p":
+            room.expect(f"all are opened before one is read, {name}", ["verify", *words[:4], "y"], (4, b"", unread("y")))
+    refusals = ((["bad", "d", "a", "b"], b"refused scd 106 line 1\n"), (["s", "bad", "a", "b"], b"refused dic 106 line 1\n"),
+                (["s", "d", "bad", "bad"], b"refused first 106 line 1\n"), (["s", "d", "a", "bad"], b"refused second 106 line 1\n"),
+                (["--kinds", "XA,XB,XC,IND", "s", "d", "a", "b"], b"refused kinds 604\n"))
+    room.write("kept", "kept")
+    for words, said in refusals:
+        room.expect(f"verify of {words}", ["verify", *words, "bad"], (2, said, b""))
+        room.expect(f"a pairing of {words}", ["compare", "--pairing", "kept", *words], (2, said, b""))
+    room.expect("a pairing of different sheets", ["compare", "--pairing", "kept", "s", "d", "a", "c"], (1, b"different at line 5\n", b""))
+    room.expect("a pairing of a missing sheet", ["compare", "--pairing", "kept", "s", "d", "a", "x"], (4, b"", unread("x")))
+    room.expect("a pairing to -", ["compare", "--pairing", "-", *sheets], (3, b"", b"--pairing takes a file, and not -\n"))
+    report.check("FILE of other answers", (room.read("kept"), room.read("-")), (b"kept", None))
+    room.expect("a new FILE of different sheets", ["compare", "--pairing", "new", "s", "d", "a", "c"], (1, b"different at line 5\n", b""))
+    report.check("no FILE of different sheets", room.read("new"), None)
+    for name in sheets:
+        before = room.read(name)
+        os.symlink(name, room.path("to_" + name))
+        for file in (name, "./" + name, "to_" + name):
+            room.expect(f"FILE is the input {file}", ["compare", "--pairing", file, *sheets], (4, b"", line("cannot write " + file)))
+        room.expect(f"FILE is the input {name}, before a file is opened", ["compare", "--pairing", name, *["absent" if it != name else it for it in sheets]], (4, b"", line("cannot write " + name)))
+        report.check(f"the input {name} stays", room.read(name), before)
+    room.expect("a FILE of the name -", ["compare", "--pairing", "./-", *sheets], same)
+    report.check("the FILE of the name -", room.read("-"), pairing)
+    room.expect("a sheet on standard input", ["compare", "--pairing", "p", "s", "d", "-", "b"], same, room.read("a"))
+    room.expect("FILE in no folder", ["compare", "--pairing", "none/p", *sheets], (4, b"", unwritten("none/p", "no such folder")))
+    room.expect("FILE is a full device", ["compare", "--pairing", "/dev/full", *sheets], (4, b"", unwritten("/dev/full", "no space left")))
+    room.expect("FILE is the device of standard output", ["compare", "--pairing", "/dev/stdout", *sheets], (0, pairing + b"same\n", b""))
+    with open("/dev/full", "wb") as full:
+        for words in (["compare", "--pairing", "p", *sheets], ["verify", *sheets, "p"], ["verify", *sheets, "a"]):
+            report.check(f"{words} to a full output", room.run(words, stdout=full)[0], 4)
+        report.check("FILE where the answer didn't go out", room.read("p"), pairing)
+    report.check("no draft of a pairing stays", drafts(room.folder), [])
+    room.write("v", sheet)
+    room.expect("a pairing of a sheet with itself", ["compare", "--pairing", "p", "s", "d", "v", "v"], same)
+    report.check("the pairing of a sheet with itself", room.read("p"), b"edicad pairing 1\nPNO;Noeud_1;Noeud_1\n")
+
+
+def as_compare(room, words, status, **how):
+    """What diff answers where compare has this status, 2 or more: the same, with --brief too."""
+    wanted = room.run(["compare", *words], **how)
+    room.report.check(f"compare of {words}, status", wanted[0], status)
+    for flag in ([], ["--brief"]):
+        room.expect(f"diff of {[*flag, *words]}", ["diff", *flag, *words], wanted, **how)
+
+
+def differences(room):
+    """What differs between two sheets: the lines, the statuses and what is missing or refused."""
+    parcel = os.path.join(HERE, "..", "examples", "parcel")
+    for name, file in (("s", "schema.scd"), ("d", "dictionary.dic"), ("a", "sheet.vec"), ("same", "same_plan.vec")):
+        with open(os.path.join(parcel, file), "rb") as source:
+            room.write(name, source.read())
+    room.write("b", room.read("a").replace(b"ATVSA04:A 12", b"ATVSA04:A 13"))
+    room.write("bad", "")
+    sheets = ["s", "d", "a", "b"]
+    nothing = (0, b"0 only in A, 0 only in B, 0 changed\n", b"")
+    counts = b"0 only in A, 0 only in B, 2 changed\n"
+    found = (1, b"~ FEA Objet_1 Objet_1 (lines 39 and 39): attributes\n~ LNK Lien_7 Lien_7 (lines 98 and 98): linked records\n" + counts, b"")
+    room.expect("no difference", ["diff", "s", "d", "a", "a"], nothing)
+    room.expect("no difference between two exports", ["diff", "s", "d", "a", "same"], nothing)
+    room.expect("no difference, in brief", ["diff", "--brief", "s", "d", "a", "same"], nothing)
+    room.expect("another value", ["diff", *sheets], found)
+    room.expect("another value, in brief", ["diff", *sheets, "--brief"], (1, counts, b""))
+    room.expect("another value, with the usual kinds", ["diff", "--kinds", "IND,FND,LPO,RPO", *sheets], found)
+    room.write("set", room.read("a").replace(b"CSET 03:IRV\n", b""))
+    room.expect("another character set", ["diff", "s", "d", "a", "set"], (1, b"~ CSE IRV none\n" + nothing[1], b""))
+    room.expect("another character set, in brief", ["diff", "--brief", "s", "d", "a", "set"], (1, nothing[1], b""))
+    for at, name in enumerate(sheets):
+        words = list(sheets)
+        words[at] = "-"
+        room.expect(f"diff with {name} on standard input", ["diff", *words], found, room.read(name))
+        for other in ("x", "."):
+            words[at] = other
+            as_compare(room, words, 4)
+            as_compare(room, [*words[:3], "y"], 4)
+    for words in (["bad", "d", "a", "b"], ["s", "bad", "a", "b"], ["s", "d", "bad", "bad"], ["s", "d", "a", "bad"], ["--kinds", "XA,XB,XC,IND", *sheets]):
+        as_compare(room, words, 2)
+    room.expect("the second sheet is refused", ["diff", "s", "d", "a", "bad"], (2, b"refused second 106 line 1\n", b""))
+    with open("/dev/full", "wb") as full:
+        for words in (sheets, ["s", "d", "a", "same"], ["--brief", *sheets]):
+            status, _, err = room.run(["diff", *words], stdout=full)
+            room.report.check(f"diff of {words} to a full output", (status, err.split(b"\n")[0]), (4, b"cannot write standard output"))
+        as_compare(room, ["s", "d", "bad", "b"], 4, stdout=full)
+
+
+def terminal(room):
+    """Without words on a terminal, a line says what is awaited."""
+    awaited = b"reading SCD, DIC and VEC from the terminal, one after the other; edicad --help says more\n"
+    for words, wanted in (([], (2, b"refused scd 106 line 1\n", awaited)), (["check", "s", "d", "-"], (2, b"refused 106 line 1\n", b""))):
+        master, slave = pty.openpty()
+        os.write(master, b"\x04")
+        room.report.check(f"{words} on a terminal that gives nothing", room.run(words, stdin=slave), wanted)
+        os.close(slave)
+        os.close(master)
+    room.report.check("no words on a device", room.run([], stdin=subprocess.DEVNULL), (2, b"refused scd 106 line 1\n", b""))
+
+
+def manual(room):
+    """The manual page has the usage lines that the program prints."""
+    with open(os.path.join(HERE, "..", "docs", "edicad.1"), encoding="utf-8") as file:
+        page = [re.sub(r"\\f[BIR]|\\&", "", it).replace("\\-", "-").strip() for it in file]
+    for words in (["--help"], ["check", "--help"], ["canon", "--help"], ["compare", "--help"], ["hash", "--help"], ["explain", "--help"], ["verify", "--help"], ["diff", "--help"], ["draw", "--help"]):
+        usage = [it[len("Usage: "):] for it in room.run(words)[2].decode().splitlines() if it.startswith("Usage: ")]
+        room.report.check(f"{words}: its usage is on the manual page", [it for it in usage if it not in page], [])
+        room.report.check(f"{words}: one line of usage", len(usage), 1)

@@ -1,0 +1,145 @@
+"""What `explain` says of sheets and schemas: the place, the earlier record, hints, and what an accepted sheet holds."""
+from room import unread
+
+
+def explains(room, sheet):
+    """Explanations with their whole text, of rules too; words, files and streams that are bad."""
+    report = room.report
+    room.write("v", sheet)
+    held = b"accepted\nnodes: 1\narcs: 0\nfaces: 0\nobjects: 0\nlinks: 0\nx: 10.5 to 10.5\ny: 20 to 20\ncharacter set: IRV\nquality zones left out: 0\nremarks left out: 0\n"
+    room.expect("what an accepted sheet holds", ["explain", "s", "d", "v"], (0, held, b""))
+    room.expect("the sheet on standard input, explained", ["explain", "s", "d", "-"], (0, held, b""), room.read("v"))
+    room.write("empty", "BOMT 01:X\nEOMT 00:\n")
+    none = b"accepted\nnodes: 0\narcs: 0\nfaces: 0\nobjects: 0\nlinks: 0\ncharacter set: none\nquality zones left out: 0\nremarks left out: 0\n"
+    room.expect("what a sheet without records holds", ["explain", "s", "d", "empty"], (0, none, b""))
+    node = "RTYSA03:PNO\nRIDSA0{0}:{1}\nSCPCP22:EDAB01;SeSD;PGE;NOD_id\nCORCC0{2}:{3};0;\n"
+    spread = "BOMT 01:X\n" + node.format(1, "a", 8, "-0.50") + node.format(1, "b", 4, "7") + "EOMT 00:\n"
+    room.write("spread", spread)
+    report.holds("the extent has decimals", b"\nx: -0.5 to 7\ny: 0 to 0\n" in room.run(["explain", "s", "d", "spread"])[1])
+    room.write("two", "BOMT 01:X\n" + node.format(1, "a", 4, "7") + "\n" + node.format(2, "bb", 4, "8") + node.format(1, "a", 4, "9") + "EOMT 00:\n")
+    named = ("refused 301 record 3\ntwo:11: PNO a: type and identifier of an earlier record [301]\ntwo:2: PNO a: the earlier record [301]\n").encode()
+    room.expect("a record with the name of an earlier one", ["explain", "s", "d", "two"], (2, named, b""))
+    dashed = named.replace(b"two:", b"standard input:")
+    room.expect("the same from standard input", ["explain", "s", "d", "-"], (2, dashed, b""), room.read("two"))
+    room.write("equal", "BOMT 01:X\n" + node.format(1, "a", 4, "7") + node.format(1, "b", 4, "8") + node.format(1, "c", 4, "7") + "EOMT 00:\n")
+    node_line = b"a node with the position, class, attributes and extras of an earlier node [403]\n"
+    room.expect("a node equal to an earlier one", ["explain", "s", "d", "equal"], (2, b"refused 403 record 3\nequal:10: PNO c: " + node_line + b"equal:2: PNO a: the earlier node [403]\n", b""))
+    arc = "RTYSA03:PAR\nRIDSA01:{0}\nSCPCP22:EDAB01;SeSD;PGE;ARC_id\nCORCC04:{1};0;\nCORCC04:{2};0;\n"
+    room.write("arcs", "BOMT 01:X\n" + arc.format("a", 1, 2) + arc.format("b", 2, 1) + "EOMT 00:\n")
+    arcs = b"refused 405 record 2\narcs:7: PAR b: an arc with an earlier arc's points, in either direction [405]\narcs:2: PAR a: the earlier arc [405]\n"
+    room.expect("an arc with the points of an earlier one", ["explain", "s", "d", "arcs"], (2, arcs, b""))
+    room.write("cut", "BOMT 01:X\nRTYSA03:PNO\n")
+    room.expect("a rule of lines", ["explain", "s", "d", "cut"], (2, b"refused 106 line 3\ncut:3: there is no EOM [106]\n", b""))
+    room.write("twice", room.read("s").replace(b"RIDSA06:FAC_id", b"RIDSA06:NOD_id"))
+    twice = b"refused scd 602 record 3\ntwice:7: PGE NOD_id: type and identifier of an earlier record of the file [602]\ntwice:3: PGE NOD_id: the earlier record [602]\n"
+    room.expect("a refused schema", ["explain", "twice", "d", "v"], (2, twice, b""))
+    lone = ["explain", "--kinds", "XA,XB,XC,IND", "s", "d", "v"]
+    status, out, err = room.run(lone)
+    report.check("a refusal of the kinds", (status, out.split(b"\n")[0], out.split(b"\n")[1][:3], err), (2, b"refused kinds 604", b"s: ", b""))
+    for name, command in (("s", ["x", "d", "v"]), ("d", ["s", "x", "v"]), ("v", ["s", "d", "x"])):
+        room.expect(f"explain without {name}", ["explain", *command], (4, b"", unread("x")))
+    room.expect("two inputs by -", ["explain", "-", "d", "-"], (3, b"", b"only one input can be -\n"))
+    room.expect("two files of three", ["explain", "s", "d"], (3, b"", b"explain takes RULE, or SCD, DIC and VEC\n"))
+    room.expect("bad kinds", ["explain", "--kinds", "A", "s", "d", "v"], (3, b"", b"bad kinds\n"))
+    status, out, err = room.run(["explain", "403"])
+    report.check("a rule: status", (status, err), (0, b""))
+    page = out.decode().split("\n")
+    report.check("a rule: its sentence", page[0], "403: a node with the position, class, attributes and extras of an earlier node")
+    report.check("a rule: its lines", [it.split(":")[0] for it in page[1:]], ["Why", "Usual cause", "What to do", ""])
+    for word in ("999", "0403", "+403", "403 ", "", "rule", "65939"):
+        room.expect(f"no rule {word!r}", ["explain", word], (3, b"", b"no rule has this number\n"))
+    for rule in (*range(101, 111), *range(201, 209), *range(301, 308), *range(401, 407), 501, 601, 602, 603, 604):
+        report.holds(f"rule {rule} has a page", room.run(["explain", str(rule)])[1].startswith(b"%d: " % rule))
+    with open("/dev/full", "wb") as full:
+        for command in (["s", "d", "v"], ["s", "d", "two"], ["403"]):
+            report.check(f"{command} explained to a full output", room.run(["explain", *command], stdout=full)[0], 4)
+
+
+def explains_partners(room):
+    """The earlier records of rules 307 and 501."""
+    front = "BOMT 01:X\nRTYSA03:PNO\nRIDSA01:a\nSCPCP22:EDAB01;SeSD;PGE;NOD_id\nCORCC04:0;0;\n"
+    front += "RTYSA03:PAR\nRIDSA01:c\nSCPCP22:EDAB01;SeSD;PGE;ARC_id\nCORCC04:0;0;\nCORCC04:1;0;\n"
+    link = "RTYSA03:LNK\nRIDSA01:{0}\nSCPCP22:EDAB01;SeSD;REL;{1}_id\nFTPCP17:EDAB01;SeT1;PAR;c\nFTPCP17:EDAB01;SeT1;PNO;a\n"
+    room.write("sides", front + link.format("k", "FIN") + link.format("m", "INI") + link.format("n", "INI") + "EOMT 00:\n")
+    sides = b"refused 307 record 5\nsides:21: LNK n: a link of a kind whose arc has an earlier link of that kind [307]\nsides:16: LNK m: the earlier link [307]\n"
+    room.expect("an arc with two links of a kind", ["explain", "s", "d", "sides"], (2, sides, b""))
+    record = "RTYSA03:FEA\nRIDSA01:{0}\nSCPCP27:EDAB01;SeSD;OBJ;PARCELLE_id\n"
+    full = record.format("o") + "ATPCP22:EDAB01;SeSD;ATT;NOM_id\nATVSA01:x\n"
+    room.write("objects", "BOMT 01:X\n" + full + record.format("p") + record.format("q") + "EOMT 00:\n")
+    objects = b"refused 501 record 3\nobjects:10: FEA q: an object with the class, attributes, extras and pieces of an earlier object [501]\nobjects:7: FEA p: the earlier object [501]\n"
+    room.expect("an object equal to an earlier one", ["explain", "s", "d", "objects"], (2, objects, b""))
+    room.write("ends", "BOMT 01:X\n\nREMT 03:EOM\nEOMT 00:\n\nEOMT 00:\n")
+    ends = b"refused 107 line 6\nends:6: a zone after the first EOM [107]\nends:4: the earlier line [107]\n"
+    room.expect("a zone behind the end", ["explain", "s", "d", "ends"], (2, ends, b""))
+    room.write("sets", "BOMT 01:X\nRTYSA03:PNO\nRTYSA03:PNO\nCSET 03:IRV\nEOMT 00:\n")
+    sets = b"BOM after a BOM; a CSE after a CSE or after an RTY [108]\n"
+    room.expect("a character set behind a record", ["explain", "s", "d", "sets"], (2, b"refused 108 line 4\nsets:4: a " + sets + b"sets:2: the earlier line [108]\n", b""))
+    room.write("twice", "BOMT 01:X\nBOMT 01:X\nEOMT 00:\n")
+    room.expect("classes with two heads", ["explain", "twice", "d", "ends"], (2, b"refused scd 108 line 2\ntwice:2: a " + sets + b"twice:1: the earlier line [108]\n", b""))
+
+
+def explains_hints(room, sheet):
+    """The usual causes of a refusal that the files show, and how many zones of quality and remarks an accepted sheet has."""
+    report = room.report
+    room.write("v", sheet)
+    node = "RTYSA03:PNO\nRIDSA01:a\nSCPCP22:EDAB01;SeSD;PGE;NOD_id\nCORCC04:7;0;\nQACSN02:00\nQAPSA02:NE\nNEXT 02:XT\n"
+    room.write("quality", "BOMT 01:X\nREMT 03:QAC\n" + node + "EOMT 00:\n")
+    report.holds("zones of quality", room.run(["explain", "s", "d", "quality"])[1].endswith(b"\nquality zones left out: 2\nremarks left out: 1\n"))
+    room.write("remarks", "REMT 03:BOM\nBOMT 01:X\n\n" + node.replace("NEXT", "REMT 00:  \r\nREMT 02:QA\nNEXT") + "REMT 03:END\nEOMT 00:\nREMT 03:REM\n\nREMT 00:")
+    report.holds("remarks", room.run(["explain", "s", "d", "remarks"])[1].endswith(b"\nquality zones left out: 2\nremarks left out: 6\n"))
+
+    def hinted(name, words, wanted):
+        status, out, err = room.run(["explain", *words])
+        lines = [it for it in out.decode("latin-1").split("\n") if it.startswith("hint: ")]
+        report.check(name, (status, lines, err), (2, wanted, b""))
+
+    mark, end = " begins with a byte order mark, which has to go", " ends in a byte 0x1A, which has to go"
+    room.write("marked", b"\xef\xbb\xbf" + room.read("v"))
+    room.write("closed", room.read("v") + b"\x1a")
+    room.write("thf", "BOMT 01:X\nRTYSA03:GTS\nRIDSA01:a\nEOMT 00:\n")
+    room.write("odd", "BOMT 01:X\nRTYSA03:XXX\nRIDSA01:a\nEOMT 00:\n")
+    other = " is {0} by its first record, and was given as {1}"
+    hinted("a byte order mark", ["s", "d", "marked"], ["hint: marked" + mark])
+    hinted("a byte order mark before a sheet in the place of the classes", ["marked", "d", "v"], ["hint: marked" + mark, "hint: marked" + other.format("VEC", "SCD")])
+    hinted("a closing 0x1A", ["s", "d", "closed"], ["hint: closed" + end])
+    both = ["hint: marked" + mark, "hint: marked" + other.format("VEC", "SCD"), "hint: closed" + end, "hint: closed" + other.format("VEC", "DIC")]
+    hinted("both", ["marked", "closed", "v"], both)
+    room.write("marked classes", b"\xef\xbb\xbf" + room.read("s"))
+    hinted("a byte order mark before the classes", ["marked classes", "d", "v"], ["hint: marked classes" + mark])
+    hinted("classes and words exchanged", ["d", "s", "v"], ["hint: d" + other.format("DIC", "SCD"), "hint: s" + other.format("SCD", "DIC")])
+    hinted("words and sheet exchanged", ["s", "v", "d"], ["hint: v" + other.format("VEC", "DIC"), "hint: d" + other.format("DIC", "VEC")])
+    hinted("another file of the delivery", ["s", "d", "thf"], ["hint: thf" + other.format("THF", "VEC")])
+    hinted("no known type", ["s", "d", "odd"], [])
+    room.write("broken", "BOMT 01:X\nRTYSA04:GTS\nRTYSA03:QUP\nRTYSA03:GTS\n")
+    hinted("a file that breaks a rule of lines before its first type", ["s", "d", "broken"], ["hint: broken" + other.format("QAL", "VEC")])
+    room.write("odd first", "BOMT 01:X\nRTYSA03:XXX\nRTYSA03:GTS\nRIDSA01:a\nEOMT 00:\n")
+    hinted("a known type behind one that isn't known", ["s", "d", "odd first"], [])
+    room.write("short", "BOMT 01:X\nRTYSA03:GT")
+    hinted("a type of two bytes", ["s", "d", "short"], [])
+    room.write("cut", "BOMT 01:X\nRTYSA03:PNO\n")
+    hinted("nothing to hint at", ["s", "d", "cut"], [])
+
+
+def explains_lengths(room):
+    """Files that were turned into UTF-8 and kept their lengths, and others that 103 refuses."""
+    hint = b" seems to have been turned into UTF-8: its lengths count characters, so take the file as it was delivered\n"
+    broken = b":3: a byte other than a space follows the value [103]\n"
+    front, end = "BOMT 01:X\nRTYSA03:PNO\n", "\nEOMT 00:\n"
+
+    def hinted(name, value, hints):
+        room.write("turned", (front + value + end).encode("utf-8"))
+        hinted = b"hint: turned" + hint if hints else b""
+        room.expect(name, ["explain", "s", "d", "turned"], (2, b"refused 103 line 3\nturned" + broken + hinted, b""))
+
+    hinted("a length that counts characters", "RIDSA07:Ch\u00e2teau", True)
+    hinted("the same with spaces behind the value", "RIDSA07:Ch\u00e2teau  \r", True)
+    hinted("characters of three and four bytes", "RIDSA03:\u20ac\u20ac\U0001f600", True)
+    hinted("a value that ends in a space", "RIDSA04:\u00e9\u00e9\u00e9 ", True)
+    hinted("fewer than the characters", "RIDSA06:Ch\u00e2teau", False)
+    hinted("fewer than the characters, and a space behind them", "RIDSA06:Ch\u00e2teau ", False)
+    hinted("as many bytes as characters", "RIDSA06:Chateau", False)
+    room.write("counted", (front + "RIDSA08:Ch\u00e2teau\n").encode("utf-8"))
+    room.expect("a length that counts bytes", ["explain", "s", "d", "counted"], (2, b"refused 106 line 4\ncounted:4: there is no EOM [106]\n", b""))
+    room.write("classes", room.read("s").replace(b"\n", "\nREMT 03:\u00e9t\u00e9\n".encode("utf-8"), 1))
+    status, out, err = room.run(["explain", "classes", "d", "counted"])
+    room.report.check("classes that were turned into UTF-8", (status, out.split(b"\n")[0], out.endswith(b" [103]\nhint: classes" + hint), err), (2, b"refused scd 103 line 2", True, b""))

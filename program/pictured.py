@@ -1,0 +1,176 @@
+"""Pictures of sheets, and of what differs between two."""
+import os
+import re
+import xml.etree.ElementTree as xml
+
+from room import drafts, line, unread, unwritten
+
+HERE = os.path.dirname(os.path.abspath(__file__))
+
+
+SVG = "{http://www.w3.org/2000/svg}"
+
+
+MARKS = {"#777777": "in both", "#D55E00": "- ", "#0072B2": "+ ", "#E69F00": "~ "}
+
+
+def drawn(picture):
+    """The faces, arcs and nodes of a picture: the colour, the title and the points or the path of each."""
+    groups = xml.fromstring(picture).findall(f"{SVG}svg/{SVG}g")
+    rows = lambda kind, group, colour, where: [(kind, it.get(colour), it.findtext(SVG + "title"), it.get(where)) for it in group]
+    faces, arcs, nodes = groups if groups else ([], [], [])
+    return rows("PFE", faces, "fill", "d") + rows("PAR", arcs, "stroke", "points") + rows("PNO", nodes, "stroke", "d")
+
+
+def count_of(room, name, kind):
+    return len(re.findall(rb"(?m)^RTYSA03:%s\r?$" % kind.encode(), room.read(name)))
+
+
+def draw_case(room, name, words, wanted):
+    """What draw says of a sheet, which is what a check says, and its picture: each arc and each node of the sheet, once."""
+    report = room.report
+    room.write("o", "kept")
+    room.expect(name + ": drawn", ["draw", *words, "o"], wanted)
+    if wanted[0] != 0:
+        report.check(name + ": OUT of draw", room.read("o"), b"kept")
+        os.remove(room.path("o"))
+        room.expect(name + ": drawn to -", ["draw", *words, "-"], wanted)
+        return
+    picture = room.read("o")
+    found = drawn(picture)
+    report.check(name + ": arcs and nodes", [sum(it[0] == kind for it in found) for kind in ("PAR", "PNO")], [count_of(room, words[-1], kind) for kind in ("PAR", "PNO")])
+    report.holds(name + ": no more faces than there are", sum(it[0] == "PFE" for it in found) <= count_of(room, words[-1], "PFE"))
+    report.check(name + ": titles of other types", [it for it in found if not it[2].startswith(it[0] + " ")], [])
+    report.check(name + ": colours of one sheet", {it[1] for it in found} - {"#777777"}, set())
+    room.expect(name + ": drawn to -", ["draw", *words, "-"], (0, picture, b""))
+    os.remove(room.path("o"))
+
+
+def listed(rows):
+    """Which faces, arcs and nodes the lines of diff list: the mark, the type and the identifier; of A and of B where it changed."""
+    found = []
+    for row in rows:
+        mark, kind, rest = row[:2], row[2:5], row[6:]
+        if mark in ("- ", "+ ", "~ ") and kind in ("PFE", "PAR", "PNO"):
+            names = rest[: rest.rindex(" (line")]
+            found += [(mark, kind, it) for it in (names.split(" ") if mark == "~ " else [names])]
+    return sorted(found)
+
+
+def picture_case(room, name, kinds, wanted):
+    """What diff says with a picture: the same as without one, and colours exactly for the records that its lines list."""
+    report = room.report
+    wanted_answer = room.run(["diff", *kinds, "s", "d", "a", "b"])
+    room.write("p", "kept")
+    room.expect(name + ": with a picture", ["diff", *kinds, "--picture", "p", "s", "d", "a", "b"], wanted_answer)
+    if wanted[0] > 1:
+        report.check(name + ": FILE of a picture", room.read("p"), b"kept")
+        os.remove(room.path("p"))
+        return
+    picture = room.read("p")
+    found = drawn(picture)
+    marked = sorted((MARKS[it[1]], it[0], it[2].split(" ")[1]) for it in found if it[1] != "#777777" and it[0] != "PFE")
+    rows = listed(wanted_answer[1].decode("latin-1").splitlines())
+    report.check(name + ": the arcs and nodes in colours", marked, [it for it in rows if it[1] != "PFE"])
+    faces = [(MARKS[it[1]], it[0], it[2].split(" ")[1]) for it in found if it[1] != "#777777" and it[0] == "PFE"]
+    report.check(name + ": faces in colours that no line lists", [it for it in faces if it not in rows], [])
+    for kind in ("PAR", "PNO"):
+        more = sum(it[:2] == ("+ ", kind) for it in rows) + sum(it[:2] == ("~ ", kind) for it in rows) // 2
+        report.check(f"{name}: {kind} drawn", sum(it[0] == kind for it in found), count_of(room, "a", kind) + more)
+    brief = room.run(["diff", *kinds, "--brief", "s", "d", "a", "b"])
+    room.expect(name + ": with a picture, in brief", ["diff", *kinds, "--brief", "--picture=p", "s", "d", "a", "b"], brief)
+    report.check(name + ": the picture in brief", room.read("p"), picture)
+    os.remove(room.path("p"))
+
+
+def pictures(room):
+    """Pictures of the example, and where they go."""
+    report = room.report
+    parcel = os.path.join(HERE, "..", "examples", "parcel")
+    for name, file in (("s", "schema.scd"), ("d", "dictionary.dic"), ("a", "sheet.vec"), ("same", "same_plan.vec")):
+        with open(os.path.join(parcel, file), "rb") as source:
+            room.write(name, source.read())
+    room.write("b", room.read("a").replace(b"ATVSA04:A 12", b"ATVSA04:A 13"))
+    room.write("moved", room.read("a").replace(CORNER[0], CORNER[1]))
+    room.write("bad", "")
+    sheet, sheets = ["s", "d", "a"], ["s", "d", "a", "b"]
+    accepted = (0, b"accepted\n", b"")
+    room.expect("OUT of draw is made", ["draw", *sheet, "o"], accepted)
+    picture = room.read("o")
+    report.check("the example, drawn", drawn(picture), EXAMPLE)
+    room.write("o", "old" * 10000)
+    os.chmod(room.path("o"), 0o640)
+    room.expect("OUT of draw is replaced", ["draw", *sheet, "o"], accepted)
+    report.check("OUT of draw that is replaced", (room.read("o"), os.stat(room.path("o")).st_mode & 0o777), (picture, 0o640))
+    room.expect("a picture to standard output", ["draw", *sheet, "-"], (0, picture, b""))
+    room.expect("a picture to a file of the name -", ["draw", *sheet, "./-"], accepted)
+    report.check("the picture of the name -", room.read("-"), picture)
+    os.remove(room.path("-"))
+    for at, name in enumerate(sheet):
+        words = list(sheet)
+        words[at] = "-"
+        room.expect(f"draw with {name} on standard input", ["draw", *words, "-"], (0, picture, b""), room.read(name))
+        words[at] = "x"
+        room.expect(f"draw without {name}", ["draw", *words, "o"], (4, b"", unread("x")))
+        words[at] = "bad"
+        said = (b"refused scd 106 line 1\n", b"refused dic 106 line 1\n", b"refused 106 line 1\n")[at]
+        room.write("o", "kept")
+        room.expect(f"draw with a bad {name}", ["draw", *words, "o"], (2, said, b""))
+        report.check(f"OUT of a bad {name}", room.read("o"), b"kept")
+        room.expect(f"draw with a bad {name} to -", ["draw", *words, "-"], (2, said, b""))
+    for name in sheets:
+        before = room.read(name)
+        os.symlink(name, room.path("to_" + name))
+        for file in (name, "./" + name, "to_" + name):
+            if name != "b":
+                room.expect(f"OUT of draw is the input {file}", ["draw", *sheet, file], (4, b"", line("cannot write " + file)))
+            room.expect(f"FILE of a picture is the input {file}", ["diff", "--picture", file, *sheets], (4, b"", line("cannot write " + file)))
+        absent = ["absent" if it != name else it for it in sheets]
+        room.expect(f"FILE of a picture is the input {name}, before a file is opened", ["diff", "--picture", name, *absent], (4, b"", line("cannot write " + name)))
+        report.check(f"the input {name} stays beside pictures", room.read(name), before)
+    for out, why in (("none/o", "no such folder"), ("/dev/full", "no space left"), (".", "is a folder")):
+        room.expect(f"draw to {out}", ["draw", *sheet, out], (4, b"", unwritten(out, why)))
+        room.expect(f"a picture of what differs to {out}", ["diff", "--picture", out, *sheets], (4, b"", unwritten(out, why)))
+    differing(room, sheets)
+    report.check("no draft of a picture stays", drafts(room.folder), [])
+
+
+CORNER = (b"CORCC12:+5.00;+5.00;", b"CORCC12:+5.00;+6.00;")
+
+
+GREY = "#777777"
+
+
+EXAMPLE = [
+    ("PFE", GREY, "PFE Face_1 PGE;FAC_id", "M 0,5 10,5 0,5ZM 10,5 5,0 0,5 0,5Z"),
+    ("PAR", GREY, "PAR Arc_1 PGE;ARC_id", " 0,5 10,5"),
+    ("PAR", GREY, "PAR Arc_2 PGE;ARC_id", " 10,5 5,0 0,5"),
+    ("PNO", GREY, "PNO Noeud_1 PGE;NOD_id", "M 0,5h0"),
+    ("PNO", GREY, "PNO Noeud_2 PGE;NOD_id", "M 10,5h0"),
+]
+
+
+def differing(room, sheets):
+    """A picture of what differs: with the lines of diff, for both answers, and for none where there is another."""
+    report = room.report
+    for second in ("b", "same", "a", "moved"):
+        wanted = room.run(["diff", *sheets[:3], second])
+        room.write("b2", room.read("b"))
+        room.write("b", room.read(second))
+        picture_case(room, f"the example and {second}", [], wanted)
+        room.write("b", room.read("b2"))
+    room.write("p", "kept")
+    room.expect("a picture to -", ["diff", "--picture", "-", *sheets], (3, b"", b"--picture takes a file, and not -\n"))
+    for words in (["bad", "d", "a", "b"], ["s", "bad", "a", "b"], ["s", "d", "bad", "bad"], ["s", "d", "a", "bad"], ["--kinds", "XA,XB,XC,IND", *sheets], ["s", "d", "a", "x"], ["s", "d", "a", "."]):
+        wanted = room.run(["diff", *words])
+        report.holds(f"diff of {words} has no answer", wanted[0] in (2, 4))
+        room.expect(f"a picture of {words}", ["diff", "--picture", "p", *words], wanted)
+    report.check("FILE where there is no answer", (room.read("p"), room.read("-")), (b"kept", None))
+    room.expect("a picture with a sheet on standard input", ["diff", "--picture", "p", "s", "d", "-", "b"], room.run(["diff", *sheets]), room.read("a"))
+    picture = room.read("p")
+    with open("/dev/full", "wb") as full:
+        room.write("p", "old")
+        status, _, err = room.run(["diff", "--picture", "p", *sheets], stdout=full)
+        report.check("a picture beside a full output", (status, err.split(b"\n")[0], room.read("p")), (4, b"cannot write standard output", picture))
+        status, _, err = room.run(["draw", *sheets[:3], "-"], stdout=full)
+        report.check("draw to a full output", (status, err.split(b"\n")[0]), (4, b"cannot write standard output"))
