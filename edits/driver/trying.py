@@ -113,7 +113,8 @@ class Trial:
         groups = groups_of(edits)
         for number, group in enumerate(groups):
             found = self.try_group(group)
-            unfit = [it for it in group if found[it.name].how == judge.ANSWER]
+            # (a lemma that no longer holds, of no function, has no answer that could go)
+            unfit = [it for it in group if found[it.name].how == judge.ANSWER and found[it.name].path]
             if unfit:
                 found.update(self.try_without_answers(unfit, found))
             for edit in group:
