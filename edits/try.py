@@ -60,7 +60,8 @@ def try_one(crate, only, is_landing):
         say(f"{crate.name}/{name}: SHOWS NOTHING: {why}")
     say(f"{crate.name}: {len(good)} edits in {time.monotonic() - begun:.0f} s")
     if not is_landing:
-        kept = {it: rows[it] for it in rows if only is not None and it not in verdicts}
+        there = {edit.name_of(it) for it in lists.paths_in(folder)}
+        kept = {it: rows[it] for it in rows if only is not None and it in there and it not in verdicts}
         lists.write_list(folder, {**kept, **lists.rows_of(folder, verdicts)})
     return verdicts, bad
 

@@ -158,14 +158,17 @@ def without_fault(edit, states, crate):
     return Verdict(PROVED if own and all(state == "proved" for state, _ in own) else ELSEWHERE)
 
 
-def without_answer(verdict, faults):
+def without_answer(verdict, faults, states, crate):
     """The verdict on an edit by which answers no longer fit, by a check without the answers of its function: whether a goal of those
-    is open even so."""
+    is open even so, or the function is proved."""
     same = [it for it in faults if it.function == verdict.path and it.goal in verdict.goals and it.how in REFUSED]
     false = next((it for it in same if it.how == FALSE), None)
     if false:
         return by_fault(FALSE, false)
-    return by_fault(ANSWER, same[0]) if same else Verdict(UNFIT, verdict.path, verdict.goal)
+    if same:
+        return by_fault(ANSWER, same[0])
+    state, _ = states.get("::".join((crate, *verdict.path)), ("", ""))
+    return Verdict(UNFIT, verdict.path, verdict.goal) if state == "proved" else verdict
 
 
 def is_of_added_call(goal, edit):

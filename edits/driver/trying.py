@@ -102,10 +102,10 @@ class Trial:
     def try_without_answers(self, edits, verdicts):
         """The verdicts on edits by which an answer no longer fits, from a check without the answers of those functions."""
         try:
-            faults, _ = self.judged(edits, [verdicts[it.name].path for it in edits])
+            faults, states = self.judged(edits, [verdicts[it.name].path for it in edits])
         except Unfinished:
             return {it.name: verdicts[it.name] for it in edits}
-        return {it.name: judge.without_answer(verdicts[it.name], faults) for it in edits}
+        return {it.name: judge.without_answer(verdicts[it.name], faults, states, self.crate.name) for it in edits}
 
     def all_verdicts(self, edits):
         """The verdict on each edit, by its name."""
