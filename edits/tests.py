@@ -9,6 +9,8 @@ import tempfile
 
 HERE = os.path.dirname(os.path.abspath(__file__))
 sys.path.insert(0, HERE)
+# (the modules leave nothing behind)
+sys.dont_write_bytecode = True
 
 from driver import choice, edit, judge, kit, lists, trying  # noqa: E402
 

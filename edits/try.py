@@ -18,6 +18,8 @@ from concurrent.futures import ThreadPoolExecutor
 HERE = os.path.dirname(os.path.abspath(__file__))
 TOP = os.path.dirname(HERE)
 sys.path.insert(0, HERE)
+# (the modules leave nothing behind)
+sys.dont_write_bytecode = True
 
 from driver import choice, edit, kit, lists, trying  # noqa: E402
 
