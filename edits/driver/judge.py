@@ -27,7 +27,6 @@ NAMES = re.compile(r"is not in scope|has no field|has no `|is no name|was not ad
 TYPES = re.compile(r"error\[mismatched-")
 READS = re.compile(r"operand is missing|expected the end|cannot continue|error\[")
 ALLOWS = "the facts known there allow values at which this goal is false"
-FAILS_AT = re.compile(r"the goal fails, at|the two sides are `[^`]*` \(left\) and `⊥`|`⊥` \(expected\)|expected type `⊥`")
 
 
 class Verdict:
@@ -100,7 +99,7 @@ def faults_in(text, functions):
 
 def how_of(said):
     """What an error in a written answer, or one without a goal, amounts to."""
-    for words, how in ((NAMES, NAME), (TYPES, TYPE), (READS, UNREAD), (FAILS_AT, FALSE)):
+    for words, how in ((NAMES, NAME), (TYPES, TYPE), (READS, UNREAD)):
         if words.search(said):
             return how
     return ANSWER
