@@ -4,6 +4,8 @@
     python3 edits/tests.py      its last line is `N passed, M failed`
 """
 import os
+import shutil
+import subprocess
 import sys
 import tempfile
 
@@ -176,6 +178,24 @@ def pages(report, folder, found):
     report.check("a list behind an edit that is gone", [it for it in lists.complaints(folder) if "not there" in it], ["trial/wrong: it is on the list and not there"])
 
 
+def beside(report, top):
+    """Beside a command, the edits of a crate are tried once the command says that the crates below are proved, of which this one has none; a
+    crate that it doesn't say to be proved fails."""
+    for path in lists.paths_in(f"{top}/edits/trial"):
+        if edit.name_of(path) != "first_of_a_function":
+            os.remove(path)
+    for name in ("try.py", "LANDING"):
+        shutil.copy2(f"{HERE}/{name}", f"{top}/edits/{name}")
+    shutil.copytree(f"{HERE}/driver", f"{top}/edits/driver", ignore=shutil.ignore_patterns("__pycache__"))
+    for said, status, wanted in (
+        ("rt: trial proved", 0, "edits: trial/first_of_a_function: refused, false: `returns` of after_next"),
+        ("rt: trial NOT PROVED", 1, "edits: not proved: trial"),
+    ):
+        words = [sys.executable, f"{top}/edits/try.py", "--beside", "echo", said]
+        ran = subprocess.run(words, capture_output=True, text=True, cwd=top)
+        report.check(f"beside a command that says {said!r}", (ran.returncode, wanted in ran.stdout), (status, True))
+
+
 def thirds(report):
     """Three landings try every crate; a commit that isn't known has all of them tried."""
     names = [f"crate_{it}" for it in range(20)]
@@ -196,6 +216,7 @@ def main():
         found = verdicts(report, crate, good)
         limits(report, crate, good)
         pages(report, f"{top}/edits/trial", found)
+        beside(report, top)
     thirds(report)
     print(f"{report.passed} passed, {report.failed} failed")
     return 1 if report.failed else 0

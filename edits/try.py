@@ -4,12 +4,16 @@
     python3 edits/try.py CRATE ..       from the top: all edits of these crates, and writes their lists (REFUSED.md)
     python3 edits/try.py CRATE/NAME ..  these edits alone, and writes their rows
     python3 edits/try.py --all          those of all crates
-    python3 edits/try.py --landing      as the gate does, right after `rt ci`: those of what has changed since the last landing and of a
-                                        third of the other crates; it writes nothing
+    python3 edits/try.py --beside WORD ..
+                                        as the gate does: runs the command, which is `rt ci`, and tries the edits of what has changed since
+                                        the last landing and of a third of the other crates, those of each crate as soon as the command says
+                                        that the crates below it are proved; it writes nothing
     python3 edits/try.py --lists        looks whether the lists name the edits that are here
     python3 edits/try.py --next         writes LANDING anew: a session begins with it
 """
 import os
+import re
+import subprocess
 import sys
 import threading
 import time
@@ -23,10 +27,12 @@ sys.dont_write_bytecode = True
 
 from driver import choice, edit, kit, lists, trying  # noqa: E402
 
-# what a check of the dearest crate takes at its most, in bytes
-NEED = 5_000_000_000
+# what the command says of a crate that is proved
+PROVED = re.compile(r"rt: (\w+) (?:proved$|is kept: )")
 
 printing = threading.Lock()
+# what has been said of edits that show nothing; it is said again at the end, where it is found
+nothing = []
 
 
 def say(text):
@@ -43,11 +49,6 @@ def listed():
     return [it for it in folders() if lists.read_list(f"{HERE}/{it}")]
 
 
-def lanes():
-    """How many checks run side by side."""
-    return max(1, min(kit.RT.processors(), kit.RT.free() // NEED))
-
-
 def try_one(crate, only, is_landing):
     """The verdicts on the edits of a crate, or on those of these names, and what can't be planted. Beside a landing it writes the list."""
     folder = f"{HERE}/{crate.name}"
@@ -59,7 +60,7 @@ def try_one(crate, only, is_landing):
     for name in sorted(verdicts):
         tell(crate.name, name, verdicts[name], rows.get(name))
     for name, why in bad:
-        say(f"{crate.name}/{name}: SHOWS NOTHING: {why}")
+        tell_nothing(f"{crate.name}/{name}: SHOWS NOTHING: {why}")
     say(f"{crate.name}: {len(good)} edits in {time.monotonic() - begun:.0f} s")
     if not is_landing:
         there = {edit.name_of(it) for it in lists.paths_in(folder)}
@@ -76,28 +77,64 @@ def tell(crate, name, verdict, row):
         other = "; its list has another goal" if is_other else ""
         say(f"{crate}/{name}: refused, {verdict.how}: {what}{other}")
     else:
-        say(f"{crate}/{name}: SHOWS NOTHING: {verdict.how}: {what} {verdict.said[:200]}")
+        tell_nothing(f"{crate}/{name}: SHOWS NOTHING: {verdict.how}: {what} {verdict.said[:200]}")
 
 
-def try_all(names, single, is_landing):
-    """Tries the edits of these crates side by side, and single ones of others; the verdicts of each, and how many show nothing."""
+def tell_nothing(text):
+    say(text)
+    nothing.append(text)
+
+
+def try_all(names, single):
+    """Tries the edits of these crates side by side, and single ones of others; how many were tried, and how many show nothing."""
     crates = kit.crates_of(TOP)
     work = [(crates[it], None) for it in names] + [(crates[it], single[it]) for it in sorted(single)]
     work.sort(key=lambda it: -it[0].count(rb"\n"))
-    with ThreadPoolExecutor(lanes()) as pool:
-        found = list(pool.map(lambda it: (it[0].name, *try_one(*it, is_landing)), work))
-    lost = sum(len(bad) + sum(not it.is_refused() for it in verdicts.values()) for _, verdicts, bad in found)
-    return {name: verdicts for name, verdicts, _ in found}, lost
+    with ThreadPoolExecutor(kit.RT.processors()) as pool:
+        return counted(pool.map(lambda it: try_one(*it, False), work))
+
+
+def counted(found):
+    """How many edits were tried, and how many show nothing."""
+    found = list(found)
+    lost = sum(len(bad) + sum(not it.is_refused() for it in verdicts.values()) for verdicts, bad in found)
+    return sum(len(verdicts) + len(bad) for verdicts, bad in found), lost
 
 
 def landing():
-    """What the gate tries."""
+    """What the gate tries: for each crate the names of its edits, or None where all of them are tried."""
     now = choice.landing_of(HERE)
     names = [it for it in kit.crates_of(TOP) if it in listed()]
     what = choice.chosen(TOP, names, now)
     say(f"landing {now.number}: {' '.join(sorted(what.whole)) or 'no crate'}; single edits of {' '.join(sorted(what.single)) or 'none'}")
-    found, lost = try_all(sorted(what.whole), what.single, True)
-    return sum(map(len, found.values())), lost
+    return {**dict.fromkeys(what.whole), **what.single}
+
+
+def beside(words):
+    """Runs a command that proves the crates, and tries a crate's edits once it says that the crates below are proved. Its status, how many
+    edits were tried, and how many show nothing."""
+    crates, left, proved, tried = kit.crates_of(TOP), landing(), set(), []
+    wanted = set(left)
+
+    def begin():
+        for name in [it for it in left if all(below.name in proved for below in crates[it].below())]:
+            tried.append(pool.submit(try_one, crates[name], left.pop(name), True))
+
+    with ThreadPoolExecutor(kit.RT.processors()) as pool:
+        begin()
+        run = subprocess.Popen(words, cwd=TOP, stdout=subprocess.PIPE, stderr=subprocess.STDOUT, text=True, errors="replace")
+        for line in run.stdout:
+            with printing:
+                print(line, end="", flush=True)
+            found = PROVED.match(line)
+            if found:
+                proved.add(found[1])
+                begin()
+        status = run.wait()
+        count, lost = counted(it.result() for it in tried)
+    if wanted - proved:
+        say(f"not proved: {' '.join(sorted(wanted - proved))}")
+    return status or (1 if wanted - proved else 0), count, lost
 
 
 def main(words):
@@ -112,8 +149,9 @@ def main(words):
         if lacking:
             say(f"no list yet, and not tried by the gate: {' '.join(lacking)}")
         return 1 if found else 0
-    if words == ["--landing"]:
-        tried, lost = landing()
+    status = 0
+    if words[:1] == ["--beside"] and len(words) > 1:
+        status, tried, lost = beside(words[1:])
     else:
         names = folders() if words == ["--all"] else [it for it in words if "/" not in it]
         single = {}
@@ -121,10 +159,11 @@ def main(words):
             single.setdefault(crate, set()).add(name)
         if not words or not {*names, *single} <= set(folders()):
             sys.exit(__doc__)
-        found, lost = try_all(names, single, False)
-        tried = sum(map(len, found.values()))
+        tried, lost = try_all(names, single)
+    for text in nothing:
+        say(text)
     say(f"{tried - lost} refused, {lost} show nothing")
-    return 1 if lost else 0
+    return status or (1 if lost else 0)
 
 
 if __name__ == "__main__":

@@ -123,8 +123,15 @@ def functions_of(file, text):
         closed = next((it + 1 for it in range(at, behind) if lines[it] == head[1] + "}" or lines[it].startswith(head[1] + "} ")), behind)
         within = bisect.bisect(starts, at) - 1
         owner = [blocks[within][1]] if head[1] and within >= 0 else []
-        found.append(Function(file, (*module, *owner, head[2]), at, closed))
+        found.append(Function(file, (*module, *owner, head[2]), first_attribute(lines, at), closed))
     return found
+
+
+def first_attribute(lines, at):
+    """The line of the first attribute of the function with this head."""
+    while at > 0 and lines[at - 1].lstrip().startswith("#["):
+        at -= 1
+    return at
 
 
 def functions_changed(change, functions):

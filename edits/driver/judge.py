@@ -13,6 +13,7 @@ NAME = "a name that is gone"
 TYPE = "a type that doesn't fit"
 CALLEE = "a callee without a proof"
 CALL = "a condition of a call that the edit adds"
+SAFETY = "only a sum, a cast or the like that isn't safe any more"
 TIME = "no end in time"
 UNREAD = "the prover can't read it"
 ELSEWHERE = "no error of its own"
@@ -26,6 +27,7 @@ UNPROVED = re.compile(r"it is not proved that (.*?) \(`([^`]+)`\)(.*)")
 NAMES = re.compile(r"is not in scope|has no field|has no `|is no name|was not admitted|error\[unknown-")
 TYPES = re.compile(r"error\[mismatched-")
 READS = re.compile(r"operand is missing|expected the end|cannot continue|error\[")
+UNSAFE = re.compile(r"(?:overflow|cast|div|rem|shl|shr|neg)_")
 ALLOWS = "the facts known there allow values at which this goal is false"
 
 
@@ -141,12 +143,16 @@ def by_faults(edit, faults):
     """The verdict by these faults: what can't be read comes first, then goals, then what isn't there and what doesn't fit."""
     goals = [it for it in faults if it.how in REFUSED and it.goal]
     added = [it for it in goals if is_of_added_call(it.goal, edit)]
-    own = [it for it in goals if it not in added]
+    unsafe = [it for it in goals if UNSAFE.match(it.goal)]
+    own = [it for it in goals if it not in added and it not in unsafe]
     for how, among in ((UNREAD, faults), *((it, own) for it in REFUSED), (NAME, faults), (TYPE, faults)):
         for fault in among:
             if fault.how == how:
                 return by_fault(how, fault, {it.goal for it in own})
-    return by_fault(CALL, added[0]) if added else None
+    for how, among in ((CALL, added), (SAFETY, unsafe)):
+        if among:
+            return by_fault(how, among[0])
+    return None
 
 
 def without_fault(edit, states, crate):

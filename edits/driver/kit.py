@@ -1,12 +1,16 @@
 """The toolchain's `rt` as a module, and one check of a crate whose files were changed."""
+import contextlib
 import importlib.machinery
 import importlib.util
+import math
 import os
 import shutil
 import signal
 import subprocess
 import sys
 import tempfile
+import threading
+import time
 
 sys.dont_write_bytecode = True
 
@@ -29,6 +33,10 @@ RT = load()
 def crates_of(top):
     """The repository's crates by their names."""
     return {it.name: it for it in RT.rtlib.crates_below(top)}
+
+
+# how often a check is begun that the system kills
+TRIES = 3
 
 
 class Checked:
@@ -56,15 +64,62 @@ def check(crate, texts, without, kept, seconds):
             if os.path.isfile(answers):
                 os.remove(answers)
         words = [RT.rtlib.RATTLE, "check", *crate.words(["--jobs", "1"], keeps=False), "--incremental", kept]
-        return ended_within([*RT.rtlib.guarded(), *words], room, seconds)
+        for _ in range(TRIES):
+            with ROOM.taken():
+                said = ended_within([*RT.rtlib.guarded(), *words], room, seconds)
+            if said:
+                return said
+        return Checked("", False)
+
+
+class Room:
+    """Memory for checks: one begins while none is running, or when there is as much as the dearest takes at its most, for it and for each
+    that has just begun."""
+
+    NEED = 5_000_000_000
+    SECONDS_TO_FILL = 60
+
+    def __init__(self):
+        self.lock = threading.Lock()
+        self.running = 0
+        self.begun = []
+
+    @contextlib.contextmanager
+    def taken(self):
+        while not self.take():
+            time.sleep(2)
+        try:
+            yield
+        finally:
+            with self.lock:
+                self.running -= 1
+
+    def take(self):
+        with self.lock:
+            now = time.monotonic()
+            self.begun = [it for it in self.begun if now - it < Room.SECONDS_TO_FILL]
+            fits = self.running == 0 or RT.free() >= Room.NEED * (1 + len(self.begun))
+            if fits:
+                self.running += 1
+                self.begun.append(now)
+            return fits
+
+
+ROOM = Room()
 
 
 def ended_within(words, folder, seconds):
+    """What a command says that may take so many seconds of a processor, or None where the system killed it, most likely for memory. It
+    gives way to other work, as the proofs of `rt ci` beside it, and so may take four times as many by the clock."""
+    most = math.ceil(seconds)
+    words = ["nice", "-n", "10", "prlimit", f"--cpu={most}:{most + 60}", *words]
     with tempfile.TemporaryFile("w+", errors="replace") as said:
         how = {"cwd": folder, "stdin": subprocess.DEVNULL, "stdout": said, "stderr": subprocess.STDOUT}
         run = subprocess.Popen(words, **how)
         try:
-            run.wait(timeout=seconds)
+            run.wait(timeout=4 * seconds)
+            if run.returncode == -signal.SIGKILL:
+                return None
             ended = run.returncode >= 0
         except subprocess.TimeoutExpired:
             os.kill(run.pid, signal.SIGKILL)

@@ -5,7 +5,7 @@ ghost use Rattle.edi_line.specs.inner.Lines.{lines_of};
 ghost use Rattle.edi_compare.specs.Bundle.{AreParts, first_file, later_files};
 
 /// The files of a bundle, each empty where the bundle ends before it.
-#[derive(Clone, Copy, Debug)]
+#[derive(Clone, Copy)]
 pub struct Bundle<'a> {
     pub scd: &'a [u8],
     pub dic: &'a [u8],

@@ -11,7 +11,7 @@ use edi_plan::PlanEnd;
 use std::alloc::{AllocError, Global};
 
 /// An end by the place of what it names, with its SNS borrowed from the plan. Ends go by place, then SNS.
-#[derive(Debug, Drop, PartialEq, Eq, PartialOrd, Ord)]
+#[derive(Drop, PartialEq, Eq, PartialOrd, Ord)]
 pub(crate) struct MovedEnd<'a> {
     target: u32,
     sns: Option<BorrowedList<'a, u8>>,

@@ -13,7 +13,6 @@ use edi_record::Kind;
 use std::alloc::{AllocError, Global};
 
 /// The records of a sheet, by place.
-#[derive(Drop)]
 pub struct NumberedRecords {
     /// The type of each.
     pub kinds: Vec<Kind>,
@@ -21,6 +20,16 @@ pub struct NumberedRecords {
     pub numbers: Sequence<u32>,
     /// Whether each is an arc that is turned.
     pub turned: Sequence<bool>,
+}
+
+impl Drop for NumberedRecords {
+    fn drop(self) {
+        let NumberedRecords {
+            kinds: _,
+            numbers: _,
+            turned: _,
+        } = self;
+    }
 }
 
 /// The records of a plan, by its labels.

@@ -6,13 +6,13 @@ use Rattle.edi_schema.specs.Classes.{Classes}
 use Rattle.edi_plan.specs.Plans.{Drawing}
 use Rattle.edi_matching.specs.Matchings.{GoesTo, IsMatched, IsTotal, MatchingHolds}
 use Rattle.edi_matching.specs.declared.matching.Matching.{Matching}
+use Rattle.edi_report.specs.Lines.{is_reached, text_of_report, went_to}
+use Rattle.edi_report.specs.Reports.{HasSites}
+use Rattle.edi_report.specs.declared.parts.Parts.{Parts}
+use Rattle.edi_report.specs.declared.sheet.LocatedSheet.{LocatedSheet}
+use Rattle.edi_report.specs.Tables.{AreMarks, IsFitting}
 use Rattle.edi_diff.specs.Changes.{AreChanges, ArePartsOfEach}
 use Rattle.edi_diff.specs.Differences.{IsDifferenceText}
-use Rattle.edi_diff.specs.Lines.{is_reached, text_of_report, went_to}
-use Rattle.edi_diff.specs.Reports.{HasSites}
-use Rattle.edi_diff.specs.declared.parts.Parts.{Parts}
-use Rattle.edi_diff.specs.declared.sheet.LocatedSheet.{LocatedSheet}
-use Rattle.edi_diff.specs.inner.Tables.{AreMarks, IsFitting}
 
 -- nothing but the records that are the same
 pub no_changes : (s : Classes) (p q : Drawing) (m : Matching) → MatchingHolds s p q m → AreChanges p q m m

@@ -12,9 +12,9 @@ use Rattle.edi_rank.specs.Same.{moved}
 use Rattle.edi_matching.specs.Matchings.{GoesTo, IsMatched, targets_of}
 use Rattle.edi_matching.specs.declared.matching.Matching.{Matching}
 use Rattle.edi_schema.specs.Classes.{Classes}
+use Rattle.edi_report.specs.Reports.{parts_at}
+use Rattle.edi_report.specs.declared.parts.Parts.{Parts}
 use Rattle.edi_diff.specs.Changes.{AreChangedParts, ArePartsOfEach, HasEndsOf}
-use Rattle.edi_diff.specs.Reports.{parts_at}
-use Rattle.edi_diff.specs.declared.parts.Parts.{Parts}
 use Rattle.edi_diff.specs.inner.Comparisons.{Comparison, became}
 
 pub not_so : {P : Type 0} (b : Bool) → (IsTrue b ↔ P) → IsTrue (not b) ↔ ¬ P

@@ -8,10 +8,10 @@ use Rattle.edi_schema.specs.Classes.{Classes}
 use Rattle.edi_plan.specs.Plans.{Drawing, IsPlace, record_at}
 use Rattle.edi_matching.specs.Matchings.{GoesTo, MatchingHolds}
 use Rattle.edi_matching.specs.declared.matching.Matching.{Matching}
+use Rattle.edi_report.specs.Lines.{is_reached}
+use Rattle.edi_report.specs.Tables.{AreMarks}
 use Rattle.edi_diff.specs.Changes.{AreChanges}
-use Rattle.edi_diff.specs.Lines.{is_reached}
 use Rattle.edi_diff.specs.inner.Steps.{AreSteps, MayGo}
-use Rattle.edi_diff.specs.inner.Tables.{AreMarks}
 use Rattle.edi_diff.proofs.Outcomes.{goes_reached, no_changes, reached_goes}
 
 module _ (p q : Drawing) (unchanged : Matching) (to : List (Option ℕ)) (turned reached : List Bool) (are : AreSteps p q unchanged to turned reached)

@@ -9,8 +9,8 @@ use Rattle.edi_rank.specs.Labelling.{turned_at}
 use Rattle.edi_rank.specs.Same.{class_after, directed, moved}
 use Rattle.edi_matching.specs.Matchings.{GoesTo, IsMatched, targets_of}
 use Rattle.edi_matching.specs.declared.matching.Matching.{Matching}
-use Rattle.edi_diff.specs.Reports.{parts_at}
-use Rattle.edi_diff.specs.declared.parts.Parts.{Parts}
+use Rattle.edi_report.specs.Reports.{parts_at}
+use Rattle.edi_report.specs.declared.parts.Parts.{Parts}
 
 -- Beside the records of p that are matched, some others go to records of q of their types, which they became; no two go to one.
 -- Those of them that are reversed are arcs.

@@ -2,17 +2,16 @@
 use Rattle.std.specs.Prelude.{◌≡◌, ◌↔◌, ℕ, Bool, List, IsTrue}
 use Rattle.edi_schema.specs.Classes.{Classes}
 use Rattle.edi_rank.specs.Same.{Same}
-use Rattle.edi_compare.specs.PlanOfFile.{IsPlanOfFile}
 use Rattle.edi_matching.specs.Differences.{IsTotalIfSame, MatchesPartners}
 use Rattle.edi_matching.specs.Matchings.{MatchingHolds}
 use Rattle.edi_matching.specs.declared.matching.Matching.{Matching}
+use Rattle.edi_report.specs.Lines.{text_of_report}
+use Rattle.edi_report.specs.Located.{IsLocated}
+use Rattle.edi_report.specs.declared.parts.Parts.{Parts}
+use Rattle.edi_report.specs.declared.sheet.LocatedSheet.{LocatedSheet}
 use Rattle.edi_diff.specs.Changes.{AreChanges, ArePartsOfEach}
-use Rattle.edi_diff.specs.Lines.{text_of_report}
-use Rattle.edi_diff.specs.Sites.{AreSitesOf}
 use Rattle.edi_diff.specs.declared.differing.Difference.{Difference}
 use Rattle.edi_diff.specs.declared.differing.Findings.{Findings}
-use Rattle.edi_diff.specs.declared.parts.Parts.{Parts}
-use Rattle.edi_diff.specs.declared.sheet.LocatedSheet.{LocatedSheet}
 
 -- The text of what differs, or its last line alone, by a matching of the records that are the same: of the other records some
 -- became others, and the text names the parts in which these differ.
@@ -22,11 +21,6 @@ pub record IsDifferenceText (s : Classes) (first second : LocatedSheet) (unchang
   pub changes : AreChanges first.accepted second.accepted unchanged became
   pub are_parts : ArePartsOfEach s first.accepted second.accepted unchanged became parts
   pub is_text : text ≡ text_of_report brief (record { first = first; second = second; unchanged = unchanged.to; became = became.to; parts = parts })
-
--- the plan of a file, and where its records stand
-pub record IsLocated (s : Classes) (b : List ℕ) (sheet : LocatedSheet) : Type 0 where
-  pub plan : IsPlanOfFile s b sheet.accepted
-  pub sites : AreSitesOf b sheet.sites
 
 -- What differs between two files: the text, by a matching that holds between their plans, that leaves nothing out exactly if
 -- these and their character sets are the same, and leaves out no node and no arc that has a partner; and whether the plans are

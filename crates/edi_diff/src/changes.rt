@@ -6,15 +6,15 @@ ghost use Rattle.edi_plan.specs.Plans.{record_at};
 ghost use Rattle.edi_schema.specs.Classes.{Classes};
 ghost use Rattle.edi_matching.specs.Matchings.{MatchingHolds};
 ghost use Rattle.edi_matching.specs.declared.matching.Matching.{Matching as UnchangedMatching};
+ghost use Rattle.edi_report.specs.Tables.{AreMarks};
 ghost use Rattle.edi_diff.specs.inner.Steps.{AreSteps, MayGo};
-ghost use Rattle.edi_diff.specs.inner.Tables.{AreMarks};
 
-use crate::marks::marks_of;
 use crate::proposing::Open;
 use edi_compare::contents::same_points;
 use edi_matching::Matching;
 use edi_plan::Plan;
 use edi_record::Kind;
+use edi_report::marks_of;
 use std::alloc::{AllocError, Global};
 
 /// A record of the first sheet, and one of the second that it may have become.

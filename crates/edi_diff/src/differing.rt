@@ -1,6 +1,6 @@
 //! What differs between two sheets.
 
-ghost use Rattle.std.specs.Prelude.{◌≡◌, ℕ, List, IfErr, IfOk, OnOk};
+ghost use Rattle.std.specs.Prelude.{◌≡◌, IfErr, IfOk, OnOk};
 ghost use Rattle.edi_line.specs.FileBytes.{file_bytes};
 ghost use Rattle.edi_schema.specs.Classes.{Classes};
 ghost use Rattle.edi_plan.specs.Agreeing.{HasClasses};
@@ -8,25 +8,23 @@ ghost use Rattle.edi_compare.specs.Laws.{IsAcceptedPlan};
 ghost use Rattle.edi_compare.specs.Refused.{IsPairRefusal};
 ghost use Rattle.edi_compare.specs.Rules.{IsAccepted};
 ghost use Rattle.edi_matching.specs.Matchings.{MatchingHolds};
+ghost use Rattle.edi_report.specs.Reports.{HasSites};
 ghost use Rattle.edi_diff.specs.Differences.{AreFindings, IsDifference, IsDifferenceText};
-ghost use Rattle.edi_diff.specs.Reports.{HasSites};
 ghost use Rattle.edi_diff.specs.inner.Compared.{AreCompared};
-ghost use Rattle.edi_diff.specs.inner.Sheets.{IsLocatedSheet, IsPackedSheet};
 
 use crate::changes::{Changes, changes_between};
 use crate::parting::parts_of;
-use crate::report::Reporter;
-use crate::sheet::{LocatedSheet, PackedSheet, locate_packed};
 use crate::totals::is_same;
-use edi_compare::{CompareFault, first_refused, second_refused};
+use edi_compare::CompareFault;
 use edi_line::{FileBytes, Sequence};
 use edi_matching::{Matching, differences};
+use edi_report::{LocatedSheet, Reporter, locate_both};
 use edi_schema::Schema;
 use std::alloc::{AllocError, Global};
 use std::borrow::CowSlice;
 
 /// What differs between two sheets.
-#[derive(Debug, Drop)]
+#[derive(Drop)]
 pub struct Difference {
     /// Whether they state the same plan.
     pub same: bool,
@@ -59,26 +57,6 @@ struct ComparedSheets {
 struct ChangesWithText {
     became: Matching,
     text: Vec<u8>,
-}
-
-/// The text of what differs between two sheets (docs/FORMAT.md, "Differences"), by a matching of the records that are the
-/// same; or its last line alone. The only error is want of memory.
-pub fn difference_text(
-    alloc: Global,
-    schema: &Schema,
-    first: &LocatedSheet,
-    second: &LocatedSheet,
-    matching: &Matching,
-    brief: bool,
-) -> Result<Vec<u8>, AllocError>
-    requires classes { HasClasses schema.now first.now.accepted }
-    requires first_sites { HasSites first.now }
-    requires second_sites { HasSites second.now }
-    requires holds { MatchingHolds schema.now first.now.accepted second.now.accepted matching.now }
-    ensures { IfOk result (λ text. IsDifferenceText schema.now first.now second.now matching.now brief text.items) }
-{
-    let reporter = changes_with_text(alloc, schema, first, second, matching, brief)?;
-    Ok(reporter.text)
 }
 
 /// That text, and what became of the records of the first sheet.
@@ -177,8 +155,7 @@ pub fn find_differences(
     ensures second_classes { IfOk result (λ found. HasClasses schema.now found.second.accepted) }
     ensures refusal { IfErr result (IsPairRefusal schema.now (file_bytes a.entry) (file_bytes b.entry)) }
 {
-    let (packed, other) = locate_both(alloc, schema, a, b)?;
-    let (first, second) = unpack_both(alloc, packed, other)?;
+    let (first, second) = locate_both(alloc, schema, a, b)?;
     let ComparedSheets {
         unchanged,
         became,
@@ -191,43 +168,6 @@ pub fn find_differences(
         became,
         difference,
     })
-}
-
-/// Two sheets, or the refusal of the first, or that of the second. Reading takes the most memory, so their sites stay packed
-/// until both plans stand.
-#[tactic(auto, using(edi_compare::proofs::Refusals::first_fault, edi_compare::proofs::Refusals::second_fault))]
-fn locate_both(
-    alloc: Global,
-    schema: &Schema,
-    a: FileBytes<'_>,
-    b: FileBytes<'_>,
-) -> Result<(PackedSheet, PackedSheet), CompareFault>
-    ensures first { IfOk result (λ both. IsPackedSheet schema.now (file_bytes a.entry) both.0) }
-    ensures second { IfOk result (λ both. IsPackedSheet schema.now (file_bytes b.entry) both.1) }
-    ensures refusal { IfErr result (IsPairRefusal schema.now (file_bytes a.entry) (file_bytes b.entry)) }
-{
-    let first = match locate_packed(alloc, schema, a) {
-        Ok(sheet) => sheet,
-        Err(fault) => return Err(first_refused(fault)),
-    };
-    match locate_packed(alloc, schema, b) {
-        Ok(second) => Ok((first, second)),
-        Err(fault) => Err(second_refused(fault)),
-    }
-}
-
-/// Both sheets with their sites as lists.
-fn unpack_both(
-    alloc: Global,
-    first: PackedSheet,
-    second: PackedSheet,
-) -> Result<(LocatedSheet, LocatedSheet), AllocError>
-    ensures first { IfOk result (λ both. (s : Classes) (b : List ℕ) → IsPackedSheet s b first → IsLocatedSheet s b both.0) }
-    ensures second { IfOk result (λ both. (s : Classes) (b : List ℕ) → IsPackedSheet s b second → IsLocatedSheet s b both.1) }
-{
-    let first = first.unpack(alloc)?;
-    let second = second.unpack(alloc)?;
-    Ok((first, second))
 }
 
 /// What two sheets have in common, and what differs. The only error is want of memory.

@@ -3,10 +3,9 @@
 ghost use Rattle.std.specs.Prelude.{◌≡◌, ◌↔◌, ◌<◌, ℕ, IfOk, IsTrue, false, length, slice_index_or, true};
 ghost use Rattle.edi_matching.specs.Matchings.{IsMatched, IsTotal};
 
-use crate::marks::marks_of;
-use crate::sheet::LocatedSheet;
 use edi_compare::contents::same_texts;
 use edi_matching::Matching;
+use edi_report::{LocatedSheet, marks_of};
 use std::alloc::{AllocError, Global};
 
 /// Whether a matching leaves nothing out of two sheets with one character set.

@@ -2,10 +2,10 @@
 use Rattle.std.proofs.Common.{◌≡◌, ◌↔◌, ℕ, Bool, true, false, List, [], Option, Some, None, get_or, refl, sym, ap, ◌∙◌, if◌then◌else◌, codes}
 use Rattle.edi_matching.specs.Matchings.{GoesTo, IsMatched}
 use Rattle.edi_matching.specs.declared.matching.Matching.{Matching}
+use Rattle.edi_report.specs.Lines.{is_reached, line_by, lone_line}
+use Rattle.edi_report.specs.Reports.{Report}
+use Rattle.edi_report.specs.declared.sheet.LocatedSheet.{LocatedSheet}
 use Rattle.edi_diff.specs.Changes.{AreChanges}
-use Rattle.edi_diff.specs.Lines.{is_reached, line_by, lone_line}
-use Rattle.edi_diff.specs.Reports.{Report}
-use Rattle.edi_diff.specs.declared.sheet.LocatedSheet.{LocatedSheet}
 use Rattle.edi_diff.proofs.Outcomes.{goes_reached, reached_goes}
 use Rattle.edi_plan.specs.Plans.{Drawing}
 use Rattle.edi_picture.specs.declared.mark.Mark.TheVariants.{Plain, OnlySecond, Changed, Hidden}

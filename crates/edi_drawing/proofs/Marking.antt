@@ -5,7 +5,7 @@ use Rattle.std.proofs.lemmas.List.Folds.{list_any-append}
 use Rattle.std.proofs.lemmas.List.FromFn.{get_or-map-range_with_len, length-map-range_with_len, map-range_with_len_more}
 use Rattle.std.specs.List.{list_any, range_with_len}
 use Rattle.edi_matching.specs.declared.matching.Matching.{Matching}
-use Rattle.edi_diff.specs.Lines.{is_reached, went_to}
+use Rattle.edi_report.specs.Lines.{is_reached, went_to}
 use Rattle.edi_drawing.specs.Marked.{second_mark}
 use Rattle.edi_picture.specs.declared.mark.Mark.{Mark}
 use Rattle.edi_picture.specs.declared.mark.Mark.TheVariants.{OnlySecond, Changed, Hidden}

@@ -1,8 +1,9 @@
 -- Pictures of files.
 use Rattle.std.specs.Prelude.{ℕ, Bool, List, [], ◌∷◌}
 use Rattle.edi_schema.specs.Classes.{Classes}
-use Rattle.edi_diff.specs.Differences.{IsDifference, IsLocated}
-use Rattle.edi_diff.specs.declared.sheet.LocatedSheet.{LocatedSheet}
+use Rattle.edi_report.specs.Located.{IsLocated}
+use Rattle.edi_report.specs.declared.sheet.LocatedSheet.{LocatedSheet}
+use Rattle.edi_diff.specs.Differences.{IsDifference}
 use Rattle.edi_picture.specs.Pictures.{IsPicture}
 use Rattle.edi_drawing.specs.Marked.{marked_sheets, plain_sheet}
 use Rattle.edi_drawing.specs.declared.drawn.DrawnDifference.{DrawnDifference}

@@ -2,11 +2,11 @@
 use Rattle.std.specs.Prelude.{◌≡◌, ◌↔◌, ℕ, List, []}
 use Rattle.edi_matching.specs.Matchings.{GoesTo, IsMatched}
 use Rattle.edi_matching.specs.declared.matching.Matching.{Matching}
+use Rattle.edi_report.specs.Lines.{first_line, second_line}
+use Rattle.edi_report.specs.Reports.{Report}
+use Rattle.edi_report.specs.declared.parts.Parts.{Parts}
+use Rattle.edi_report.specs.declared.sheet.LocatedSheet.{LocatedSheet}
 use Rattle.edi_diff.specs.Changes.{AreChanges}
-use Rattle.edi_diff.specs.Lines.{first_line, second_line}
-use Rattle.edi_diff.specs.Reports.{Report}
-use Rattle.edi_diff.specs.declared.parts.Parts.{Parts}
-use Rattle.edi_diff.specs.declared.sheet.LocatedSheet.{LocatedSheet}
 use Rattle.edi_picture.specs.declared.mark.Mark.TheVariants.{Plain, OnlySecond, Changed}
 use Rattle.edi_drawing.specs.Marked.{first_mark, second_mark}
 

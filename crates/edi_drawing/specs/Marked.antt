@@ -2,8 +2,8 @@
 use Rattle.std.specs.Prelude.{ℕ, List, [], ◌∷◌, Option, Some, None, length, map, slice_index_or, if◌then◌else◌}
 use Rattle.std.specs.List.{range_with_len}
 use Rattle.edi_matching.specs.declared.matching.Matching.{Matching}
-use Rattle.edi_diff.specs.Lines.{is_reached}
-use Rattle.edi_diff.specs.declared.sheet.LocatedSheet.{LocatedSheet}
+use Rattle.edi_report.specs.Lines.{is_reached}
+use Rattle.edi_report.specs.declared.sheet.LocatedSheet.{LocatedSheet}
 use Rattle.edi_picture.specs.Sheets.{Sheet}
 use Rattle.edi_picture.specs.declared.mark.Mark.{Mark}
 use Rattle.edi_picture.specs.declared.mark.Mark.TheVariants.{Plain, OnlyFirst, OnlySecond, Changed, Hidden}

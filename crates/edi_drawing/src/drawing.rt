@@ -9,8 +9,9 @@ ghost use Rattle.edi_drawing.specs.Drawn.{IsDrawnDifference, IsPictureOfFile};
 use crate::drawn::DrawnDifference;
 use crate::pictures::{picture_of, picture_of_both};
 use edi_compare::{CompareFault, Fault};
-use edi_diff::{find_differences, locate_from};
+use edi_diff::find_differences;
 use edi_line::FileBytes;
+use edi_report::locate_from;
 use edi_schema::Schema;
 use std::alloc::Global;
 

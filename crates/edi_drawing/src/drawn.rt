@@ -3,7 +3,7 @@
 use edi_diff::Difference;
 
 /// What differs between two sheets, and a picture of both that shows it.
-#[derive(Debug, Drop)]
+#[derive(Drop)]
 pub struct DrawnDifference {
     pub difference: Difference,
     /// The text of an SVG file (docs/FORMAT.md, "Pictures").

@@ -2,7 +2,7 @@
 
 ghost use Rattle.std.specs.Prelude.{◌≡◌, IfOk, map};
 
-use edi_diff::LocatedSheet;
+use edi_report::LocatedSheet;
 use std::alloc::{AllocError, Global};
 
 /// The identifiers of the records of a sheet, in file order.

@@ -2,7 +2,7 @@
 
 ghost use Rattle.std.specs.Prelude.{◌≡◌, ◌<◌, ℕ, IfOk, if◌then◌else◌, length, map, slice_index_or};
 ghost use Rattle.std.specs.List.{range_with_len};
-ghost use Rattle.edi_diff.specs.Lines.{is_reached, went_to};
+ghost use Rattle.edi_report.specs.Lines.{is_reached, went_to};
 ghost use Rattle.edi_drawing.specs.Marked.{first_mark, mark_by, second_mark};
 ghost use Rattle.edi_picture.specs.declared.mark.Mark.TheVariants.{Hidden};
 

@@ -7,8 +7,9 @@ ghost use Rattle.edi_drawing.specs.Marked.{marked_sheets, plain_sheet};
 
 use crate::identifiers::identifiers_of;
 use crate::marks::{first_marks, one_mark_each, second_marks};
-use edi_diff::{Findings, LocatedSheet};
+use edi_diff::Findings;
 use edi_picture::{Mark, Shown, picture};
+use edi_report::LocatedSheet;
 use edi_schema::Schema;
 use std::alloc::{AllocError, Global};
 

@@ -25,7 +25,7 @@ use edi_topo::{Sound, TopoFault};
 use std::alloc::{AllocError, Global};
 
 /// Why a sheet is refused.
-#[derive(Debug, Drop)]
+#[derive(Drop)]
 pub struct Found {
     pub fault: Fault,
     /// The place of the earlier record that the rule speaks of, counted from 0.

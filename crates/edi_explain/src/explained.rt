@@ -27,7 +27,7 @@ use itoa::Buffer;
 use std::alloc::{AllocError, Global};
 
 /// A file of a schema, and its name in lines.
-#[derive(Clone, Copy, Debug)]
+#[derive(Clone, Copy)]
 pub struct NamedFile<'a> {
     pub name: &'a [u8],
     pub bytes: &'a [u8],

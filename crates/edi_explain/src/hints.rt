@@ -8,7 +8,7 @@ use crate::explained::NamedFile;
 use std::alloc::{AllocError, Global};
 
 /// Which file of a delivery a file is.
-#[derive(Clone, Copy, Debug, PartialEq, Eq)]
+#[derive(Clone, Copy, PartialEq, Eq)]
 pub enum Part {
     /// The list of what is delivered.
     Thf,

@@ -27,7 +27,7 @@ use edi_schema::Schema;
 use std::alloc::{AllocError, Global};
 
 /// Where the record of a refusal stands, and the earlier record that its rule speaks of.
-#[derive(Debug, Drop)]
+#[derive(Drop)]
 pub struct Refused {
     pub here: Option<RecordSite>,
     pub earlier: Option<RecordSite>,
@@ -295,22 +295,6 @@ pub(crate) fn refused_with(
     let _ = schema;
     let _ = rule;
     sites_of(alloc, bytes, number, earlier)
-}
-
-/// Where the record of a refusal stands, and the earlier record that its rule speaks of. The zones of one record are in
-/// memory at a time, and not beside the records or the plan.
-pub fn refused_record(
-    alloc: Global,
-    schema: &Schema,
-    bytes: &[u8],
-    rule: u16,
-    number: u64,
-) -> Result<Refused, AllocError>
-    requires { IsRefusal schema.now bytes.now (AtRecord rule number) }
-    ensures { IfOk result (IsRefusedAt schema.now bytes.now rule number) }
-{
-    let earlier = earlier_record(alloc, schema, bytes, rule, number)?;
-    refused_with(alloc, schema, bytes, rule, number, earlier)
 }
 
 /// The place of the earlier record of a schema's file that rule 602 speaks of, in a file that breaks no rule of lines.

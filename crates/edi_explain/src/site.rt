@@ -8,14 +8,12 @@ ghost use Rattle.edi_line.specs.Zones.{groups_of};
 ghost use Rattle.edi_explain.specs.Sites.{IsSiteIfAny};
 ghost use Rattle.edi_explain.specs.inner.Sites.{IsGroupSite};
 
-use crate::seeking::sites_in;
 use edi_line::codes::{RID, RTY};
 use edi_line::{LineFault, Text, Zone};
 use edi_record::{first_value, group_here};
 use std::alloc::{AllocError, Global};
 
 /// Where a record of a file stands, and what it calls itself.
-#[derive(Debug, Drop)]
 pub struct RecordSite {
     /// The line of its RTY, counted from 1.
     pub line: u64,
@@ -23,6 +21,16 @@ pub struct RecordSite {
     pub rty: Text,
     /// The value of its first RID, if it has one.
     pub rid: Option<Text>,
+}
+
+impl Drop for RecordSite {
+    fn drop(self) {
+        let RecordSite {
+            line: _,
+            rty: _,
+            rid: _,
+        } = self;
+    }
 }
 
 impl RecordSite {
@@ -76,20 +84,4 @@ pub(crate) fn site_of(alloc: Global, group: &[Zone<'_>]) -> Result<Option<Record
         rty: Text::from_slice(alloc, head.value.as_slice())?,
         rid,
     }))
-}
-
-/// Where the record with this number stands in a file, counted from 1 as refusals count them; `None`
-/// where there is no such record. The fault is that of the file's lines (docs/FORMAT.md, "The rules
-/// of a sheet"): the least line that breaks one of the rules 101 to 110.
-pub fn record_site(
-    alloc: Global,
-    bytes: &[u8],
-    number: u64,
-) -> Result<Option<RecordSite>, LineFault>
-    ensures site { IfOk result (λ found. (zones : List Entry) × IsZonesOf bytes.now zones × IsSiteIfAny zones number found) }
-    ensures sound { OnOk result (IsUnbroken (BreaksLineRule bytes.now)) }
-    ensures least { IfErr result (IsLineRefusal (BreaksLineRule bytes.now)) }
-{
-    let sites = sites_in(alloc, bytes, number, None)?;
-    Ok(sites.here)
 }

@@ -6,7 +6,7 @@ ghost use Rattle.edi_explain.specs.Rules.{IsTextIfAny, rules};
 use crate::texts::{of_lines, of_objects, of_records, of_references, of_schemas, of_topology};
 
 /// A rule in words.
-#[derive(Clone, Copy, Debug)]
+#[derive(Clone, Copy)]
 pub struct RuleText {
     /// Its number, 101 to 604.
     pub rule: u16,

@@ -7,7 +7,7 @@ use std::cmp::Ordering;
 use std::marker::Model;
 
 /// A borrowed list, compared and ordered as its elements in their order. Contracts see the list alone.
-#[derive(Debug, Drop)]
+#[derive(Drop)]
 pub struct BorrowedList<'a, T> {
     items: &'a [T],
 }
@@ -76,7 +76,7 @@ impl<'a, T: Ord> Ord for BorrowedList<'a, T> {
 
 /// A list of borrowed elements, compared and ordered as these in their order. Contracts see the list of the
 /// elements. The first, which mostly decides, lies in the value itself too, so that the vector need not be fetched.
-#[derive(Debug, Drop)]
+#[derive(Drop)]
 pub struct ListOfBorrowed<'a, T> {
     first: Option<&'a T>,
     vec: Vec<&'a T>,

@@ -22,7 +22,7 @@ use std::alloc::{AllocError, Global};
 use std::marker::Model;
 
 /// Why a feed takes no more.
-#[derive(Clone, Copy, Debug)]
+#[derive(Clone, Copy)]
 enum Refusal {
     Memory,
     Broken { rule: u16, at: u64 },
@@ -53,12 +53,22 @@ impl Refusal {
 
 /// A file on its way, in pieces that may be cut anywhere. It stores the zones so far and the bytes of
 /// the line that hasn't ended.
-#[derive(Drop)]
 pub struct Feed {
     alloc: Global,
     reader: Reader<'static>,
     pending: Vec<u8>,
     refused: Option<Refusal>,
+}
+
+impl Drop for Feed {
+    fn drop(self) {
+        let Feed {
+            alloc: _,
+            reader: _,
+            pending: _,
+            refused: _,
+        } = self;
+    }
 }
 
 impl Model for Feed {

@@ -12,12 +12,21 @@ use std::marker::Model;
 
 /// The bytes of a file in pieces, cut behind lines, so that each can be let go once its lines are read. They are fewer than
 /// 2^64 - 1.
-#[derive(Drop)]
 pub struct Pieces {
     /// Each ends with a line feed.
     ended: Vec<Vec<u8>>,
     last: Vec<u8>,
     len: u64,
+}
+
+impl Drop for Pieces {
+    fn drop(self) {
+        let Pieces {
+            ended: _,
+            last: _,
+            len: _,
+        } = self;
+    }
 }
 
 impl Model for Pieces {
@@ -85,7 +94,12 @@ impl Pieces {
         ensures ended { EachEnded result.0.items }
         ensures short { length self < 2 ^ 64 - 1 }
     {
-        (self.ended, self.last)
+        let Pieces {
+            ended,
+            last,
+            len: _,
+        } = self;
+        (ended, last)
     }
 }
 

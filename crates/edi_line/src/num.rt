@@ -11,7 +11,7 @@ use std::marker::Model;
 
 /// A decimal number of at most nine whole and six fraction digits, so a whole count of millionths,
 /// at most 999999999999999 either way. Contracts see that count.
-#[derive(Clone, Copy, Debug, PartialEq, Eq, PartialOrd, Ord, Hash)]
+#[derive(Clone, Copy, PartialEq, Eq, PartialOrd, Ord, Hash)]
 pub struct Num {
     millionths: i64,
 }

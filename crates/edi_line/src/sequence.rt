@@ -13,7 +13,7 @@ use std::marker::Model;
 
 /// A list that owns its memory, compared, ordered and hashed as its elements in their order.
 /// Contracts see the list alone.
-#[derive(Debug, Drop)]
+#[derive(Drop)]
 pub struct Sequence<T> {
     vec: Vec<T>,
 }

@@ -18,18 +18,31 @@ use std::marker::Model;
 const SHORT: usize = 14;
 
 /// Where the bytes of a text lie. It has 16 bytes itself, since a sheet's records consist of texts for the most part.
-#[derive(Debug, Drop)]
 enum Bytes {
     Short { len: u8, bytes: [u8; SHORT] },
     Long(Box<Vec<u8>>),
 }
 
+impl Drop for Bytes {
+    fn drop(self) {
+        match self {
+            Bytes::Short { len: _, bytes: _ } => {}
+            Bytes::Long(_) => {}
+        }
+    }
+}
+
 /// A byte string that owns its memory, compared, ordered and hashed as its bytes in their order.
 /// Up to 14 bytes lie in the value itself. Contracts see the list of the bytes alone.
-#[derive(Debug, Drop)]
 pub struct Text {
     alloc: Global,
     bytes: Bytes,
+}
+
+impl Drop for Text {
+    fn drop(self) {
+        let Text { alloc: _, bytes: _ } = self;
+    }
 }
 
 impl Model for Text {

@@ -8,7 +8,6 @@ use std::alloc::{AllocError, Global};
 use std::borrow::CowSlice;
 
 /// A zone of a file. Its value is that of its head and of the NEX lines that continue it.
-#[derive(Debug, Drop)]
 pub struct Zone<'a> {
     /// The line of its head, counted from 1.
     pub line: u64,
@@ -21,6 +20,18 @@ pub struct Zone<'a> {
     /// The value's bytes; as `zones` gives them, borrowed from the file where no NEX line continues them,
     /// and as `Feed` gives them, owned.
     pub value: CowSlice<'a, u8>,
+}
+
+impl Drop for Zone<'_> {
+    fn drop(self) {
+        let Zone {
+            line: _,
+            code: _,
+            nature: _,
+            format: _,
+            value: _,
+        } = self;
+    }
 }
 
 impl<'a> Zone<'a> {

@@ -52,7 +52,7 @@ impl Checksum for Extra {
 }
 
 /// What a record holds but for its ends, whatever the order of its parts and the direction of its points.
-#[derive(Clone, Copy, Debug, PartialEq, Eq, Hash)]
+#[derive(Clone, Copy, PartialEq, Eq, Hash)]
 struct Summary {
     kind: Kind,
     class: Option<ClassRef>,

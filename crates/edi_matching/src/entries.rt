@@ -13,18 +13,34 @@ use edi_schema::{ClassRef, Schema};
 use std::alloc::{AllocError, Global};
 
 /// What an object is found by: the class of a link that names it, and a matched record that this link names too.
-#[derive(Debug, Drop, PartialEq, Eq, PartialOrd, Ord)]
+#[derive(PartialEq, Eq, PartialOrd, Ord)]
 pub(crate) struct NeighbourKey<'a> {
     class: ClassRef,
     end: NumberedEnd<'a>,
 }
 
+impl Drop for NeighbourKey<'_> {
+    fn drop(self) {
+        let NeighbourKey { class: _, end: _ } = self;
+    }
+}
+
 /// What a record holds beside its points and its ends.
-#[derive(Debug, Drop, PartialEq, Eq, PartialOrd, Ord)]
+#[derive(PartialEq, Eq, PartialOrd, Ord)]
 pub(crate) struct ContentKey<'a> {
     class: ClassRef,
     attributes: ListOfBorrowed<'a, PlanAttribute>,
     extras: BorrowedList<'a, Extra>,
+}
+
+impl Drop for ContentKey<'_> {
+    fn drop(self) {
+        let ContentKey {
+            class: _,
+            attributes: _,
+            extras: _,
+        } = self;
+    }
 }
 
 /// The links that aren't plain and whose ends are all matched, in the order of what they hold after the reversals.

@@ -26,12 +26,22 @@ use std::cmp::Ordering;
 use std::marker::Model;
 
 /// Two sound plans, with the nodes and the arcs of the second in the order of their keys.
-#[derive(Drop)]
 pub(crate) struct Partners<'a> {
     plan: &'a Plan,
     other: &'a Plan,
     nodes: Vec<(NodeKey<'a>, u32)>,
     arcs: Vec<(ForwardPoints<'a>, u32)>,
+}
+
+impl Drop for Partners<'_> {
+    fn drop(self) {
+        let Partners {
+            plan: _,
+            other: _,
+            nodes: _,
+            arcs: _,
+        } = self;
+    }
 }
 
 impl<'a> Model for Partners<'a> {

@@ -13,7 +13,7 @@ use std::alloc::{AllocError, Global};
 
 /// A plain link by its class after the reversals, and the places where its origin and its other end go. Their types are
 /// those of the records there.
-#[derive(Clone, Copy, Debug, PartialEq, Eq, PartialOrd, Ord)]
+#[derive(Clone, Copy, PartialEq, Eq, PartialOrd, Ord)]
 pub(crate) struct PlainLink {
     class: ClassRef,
     origin: u32,

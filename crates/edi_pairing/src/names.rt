@@ -7,16 +7,26 @@ use edi_record::Kind;
 use std::marker::Model;
 
 /// The type and the identifier of a record.
-#[derive(Debug, Drop)]
 pub struct RecordName {
     pub kind: Kind,
     pub rid: Text,
 }
 
+impl Drop for RecordName {
+    fn drop(self) {
+        let RecordName { kind: _, rid: _ } = self;
+    }
+}
+
 /// The names of the records of an accepted sheet, in file order.
-#[derive(Drop)]
 pub struct RecordNames {
     list: Sequence<RecordName>,
+}
+
+impl Drop for RecordNames {
+    fn drop(self) {
+        let RecordNames { list: _ } = self;
+    }
 }
 
 impl Model for RecordNames {

@@ -17,7 +17,7 @@ use std::hash::{Hash, Hasher};
 use std::marker::Model;
 
 /// A type and an identifier, borrowed.
-#[derive(Clone, Copy, Debug, PartialEq, Eq)]
+#[derive(Clone, Copy, PartialEq, Eq)]
 pub(crate) struct BorrowedName<'a> {
     pub(crate) kind: Kind,
     pub(crate) rid: &'a [u8],

@@ -16,10 +16,18 @@ use edi_schema::Schema;
 use std::alloc::{AllocError, Global};
 
 /// An accepted sheet, with the names of its records.
-#[derive(Drop)]
 pub struct NamedSheet {
     pub accepted: Accepted,
     pub names: RecordNames,
+}
+
+impl Drop for NamedSheet {
+    fn drop(self) {
+        let NamedSheet {
+            accepted: _,
+            names: _,
+        } = self;
+    }
 }
 
 /// The names of records.

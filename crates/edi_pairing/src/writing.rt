@@ -14,7 +14,7 @@ use edi_schema::Schema;
 use std::alloc::{AllocError, Global};
 
 /// Whether two sheets state the same plan, with a pairing as a file.
-#[derive(Debug, Drop)]
+#[derive(Drop)]
 pub enum Compared {
     /// They do, and this file states a pairing that carries the first onto the second.
     Same { file: Vec<u8> },

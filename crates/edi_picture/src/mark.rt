@@ -4,7 +4,7 @@ ghost use Rattle.std.specs.Prelude.{◌≡◌};
 ghost use Rattle.edi_picture.specs.Marks.{colour, is_hidden as hides};
 
 /// What a picture says of a record, by the colour in which it is drawn.
-#[derive(Clone, Copy, Debug, PartialEq, Eq)]
+#[derive(Clone, Copy, PartialEq, Eq)]
 pub enum Mark {
     /// Nothing: the record of a sheet that stands alone, or one that both sheets have. It is grey.
     Plain,

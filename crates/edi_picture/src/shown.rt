@@ -7,11 +7,20 @@ use edi_plan::Plan;
 use std::marker::Model;
 
 /// A plan that is drawn, with the identifier and the mark of each of its records, by their places.
-#[derive(Drop)]
 pub struct Shown<'a> {
     plan: &'a Plan,
     identifiers: Vec<&'a [u8]>,
     marks: Vec<Mark>,
+}
+
+impl Drop for Shown<'_> {
+    fn drop(self) {
+        let Shown {
+            plan: _,
+            identifiers: _,
+            marks: _,
+        } = self;
+    }
 }
 
 impl<'a> Model for Shown<'a> {

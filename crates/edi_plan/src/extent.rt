@@ -10,14 +10,14 @@ use edi_line::Num;
 use edi_record::Point;
 
 /// The least and the greatest of some numbers, in millionths of the file's unit.
-#[derive(Clone, Copy, Debug)]
+#[derive(Clone, Copy)]
 pub struct Span {
     pub least: Num,
     pub greatest: Num,
 }
 
 /// The least and the greatest coordinates of some points.
-#[derive(Clone, Copy, Debug)]
+#[derive(Clone, Copy)]
 pub struct Extent {
     pub x: Span,
     pub y: Span,

@@ -7,7 +7,7 @@ use std::alloc::{AllocError, AllocFailed};
 pub use edi_record::RecordFault as RefFault;
 
 /// Why a record has no place in a plan: the least rule that it breaks, or want of memory.
-#[derive(Debug, Drop)]
+#[derive(Drop)]
 pub(crate) enum Unresolved {
     Memory(AllocError),
     Broken(u16),

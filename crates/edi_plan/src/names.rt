@@ -17,7 +17,7 @@ use std::alloc::{AllocError, Global};
 use std::hash::{Hash, Hasher};
 
 /// The type and the identifier of a record, borrowed from it.
-#[derive(Clone, Copy, Debug, PartialEq, Eq)]
+#[derive(Clone, Copy, PartialEq, Eq)]
 pub(crate) struct RecordNameRef<'a> {
     pub(crate) kind: Kind,
     pub(crate) rid: &'a [u8],
@@ -35,10 +35,18 @@ impl<'a> Hash for RecordNameRef<'a> {
 }
 
 /// The place of the first record of each name, and that of the first record with the name of an earlier one.
-#[derive(Drop)]
 pub(crate) struct Names<'a> {
     pub(crate) places: IndexMap<RecordNameRef<'a>, u32, NameHash>,
     pub(crate) repeat: Option<usize>,
+}
+
+impl Drop for Names<'_> {
+    fn drop(self) {
+        let Names {
+            places: _,
+            repeat: _,
+        } = self;
+    }
 }
 
 /// The name of the record at a place, from 0.

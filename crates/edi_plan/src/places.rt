@@ -13,7 +13,6 @@ use std::alloc::{AllocError, Global};
 
 /// The type of each record, by place, and the places of the records of each type, in file order. The types lie apart from
 /// the records, where they take one byte each, since they are often asked for out of order.
-#[derive(Drop)]
 pub(crate) struct Places {
     kinds: Vec<Kind>,
     nodes: Vec<u32>,
@@ -21,6 +20,19 @@ pub(crate) struct Places {
     faces: Vec<u32>,
     objects: Vec<u32>,
     links: Vec<u32>,
+}
+
+impl Drop for Places {
+    fn drop(self) {
+        let Places {
+            kinds: _,
+            nodes: _,
+            arcs: _,
+            faces: _,
+            objects: _,
+            links: _,
+        } = self;
+    }
 }
 
 impl Places {

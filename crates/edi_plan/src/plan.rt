@@ -14,12 +14,22 @@ use std::alloc::Global;
 use std::marker::Model;
 
 /// The plan that the records of a sheet state.
-#[derive(Drop)]
 pub struct Plan {
     cse: Option<Text>,
     list: RecordList,
     sides: Sequence<ByRole<Option<u32>>>,
     places: Places,
+}
+
+impl Drop for Plan {
+    fn drop(self) {
+        let Plan {
+            cse: _,
+            list: _,
+            sides: _,
+            places: _,
+        } = self;
+    }
 }
 
 impl Model for Plan {

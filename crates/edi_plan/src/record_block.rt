@@ -23,13 +23,24 @@ pub(crate) struct Head {
 }
 
 /// The records by their places, with the lists of what they have.
-#[derive(Drop)]
 pub(crate) struct RecordBlock {
     pub(crate) heads: Vec<Head>,
     pub(crate) points: Vec<Point>,
     pub(crate) attributes: Vec<PlanAttribute>,
     pub(crate) extras: Vec<Extra>,
     pub(crate) ends: Vec<PlanEnd>,
+}
+
+impl Drop for RecordBlock {
+    fn drop(self) {
+        let RecordBlock {
+            heads: _,
+            points: _,
+            attributes: _,
+            extras: _,
+            ends: _,
+        } = self;
+    }
 }
 
 /// A length in four bytes, or want of memory where it has more.
@@ -128,12 +139,19 @@ impl RecordBlock {
         ensures records { records_in result ≡ records_in self }
         ensures within { ArePartsWithin result }
     {
+        let RecordBlock {
+            heads,
+            points,
+            attributes,
+            extras,
+            ends,
+        } = self;
         RecordBlock {
-            heads: shrunk(self.heads),
-            points: shrunk(self.points),
-            attributes: shrunk(self.attributes),
-            extras: shrunk(self.extras),
-            ends: shrunk(self.ends),
+            heads: shrunk(heads),
+            points: shrunk(points),
+            attributes: shrunk(attributes),
+            extras: shrunk(extras),
+            ends: shrunk(ends),
         }
     }
 

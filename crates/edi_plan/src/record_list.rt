@@ -18,11 +18,20 @@ use std::mem;
 const BLOCK: usize = 256;
 
 /// The records by their places: those of closed blocks, and the last.
-#[derive(Drop)]
 pub(crate) struct RecordList {
     pub(crate) alloc: Global,
     pub(crate) closed: Vec<RecordBlock>,
     pub(crate) last: RecordBlock,
+}
+
+impl Drop for RecordList {
+    fn drop(self) {
+        let RecordList {
+            alloc: _,
+            closed: _,
+            last: _,
+        } = self;
+    }
 }
 
 impl RecordList {

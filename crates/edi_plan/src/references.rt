@@ -12,19 +12,33 @@ use edi_record::{End, SheetRecords};
 use std::alloc::{AllocError, Global};
 
 /// The lot and the subset of an end.
-#[derive(Debug, Drop)]
 pub(crate) struct Subset {
     pub(crate) lot: Text,
     pub(crate) subset: Text,
 }
 
+impl Drop for Subset {
+    fn drop(self) {
+        let Subset { lot: _, subset: _ } = self;
+    }
+}
+
 /// The place of the first record with the name of an earlier one, the targets of all ends in their order,
 /// and the lot and the subset of the first end.
-#[derive(Debug, Drop)]
 pub(crate) struct References {
     pub(crate) repeat: Option<usize>,
     pub(crate) targets: Vec<Option<Target>>,
     pub(crate) subset: Option<Subset>,
+}
+
+impl Drop for References {
+    fn drop(self) {
+        let References {
+            repeat: _,
+            targets: _,
+            subset: _,
+        } = self;
+    }
 }
 
 /// The first end of all records.

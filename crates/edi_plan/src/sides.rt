@@ -15,7 +15,7 @@ use edi_schema::{ByRole, Role};
 use std::alloc::{AllocError, Global};
 
 /// The arc of a link, and the node or the face that it joins with it.
-#[derive(Clone, Copy, Debug, PartialEq, Eq)]
+#[derive(Clone, Copy, PartialEq, Eq)]
 pub(crate) struct Join {
     pub(crate) arc: u32,
     pub(crate) other: u32,

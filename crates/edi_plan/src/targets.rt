@@ -13,7 +13,7 @@ use edi_record::{End, Kind, SheetRecords};
 use std::alloc::{AllocError, Global};
 
 /// A node, an arc, a face or an object, by its place.
-#[derive(Clone, Copy, Debug, PartialEq, Eq)]
+#[derive(Clone, Copy, PartialEq, Eq)]
 pub(crate) struct Target {
     pub(crate) place: u32,
     pub(crate) kind: Kind,
@@ -34,7 +34,7 @@ fn kind_coded(code: &[u8]) -> Option<Kind>
 
 /// The places of the records that ends named last, by type. What an end names mostly stands there or just behind, since
 /// links go through a sheet in its order. It decides where a record is looked for first, and never what is found.
-#[derive(Clone, Copy, Debug)]
+#[derive(Clone, Copy)]
 struct LastNamed {
     node: u32,
     arc: u32,

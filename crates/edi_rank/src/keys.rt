@@ -10,7 +10,7 @@ use std::cmp::Ordering;
 
 /// An end by the type and the number of what it names, with its SNS borrowed from the plan. Ends go by
 /// type, number and SNS.
-#[derive(Debug, Drop, PartialEq, Eq, PartialOrd, Ord)]
+#[derive(Drop, PartialEq, Eq, PartialOrd, Ord)]
 pub struct NumberedEnd<'a> {
     pub kind: Kind,
     pub number: u32,
@@ -18,14 +18,14 @@ pub struct NumberedEnd<'a> {
 }
 
 /// A side of an arc that a face is on.
-#[derive(Clone, Copy, Debug, PartialEq, Eq, PartialOrd, Ord)]
+#[derive(Clone, Copy, PartialEq, Eq, PartialOrd, Ord)]
 pub struct FaceKey {
     pub arc: u32,
     pub side: Role,
 }
 
 /// What orders links. The origin stands first, and the other ends in order.
-#[derive(Debug, Drop, PartialEq, Eq, PartialOrd, Ord)]
+#[derive(PartialEq, Eq, PartialOrd, Ord)]
 pub struct LinkKey<'a> {
     pub class: ClassRef,
     pub ends: Sequence<NumberedEnd<'a>>,
@@ -33,13 +33,35 @@ pub struct LinkKey<'a> {
     pub extras: BorrowedList<'a, Extra>,
 }
 
+impl Drop for LinkKey<'_> {
+    fn drop(self) {
+        let LinkKey {
+            class: _,
+            ends: _,
+            attributes: _,
+            extras: _,
+        } = self;
+    }
+}
+
 /// What orders objects.
-#[derive(Debug, Drop, PartialEq, Eq, PartialOrd, Ord)]
+#[derive(PartialEq, Eq, PartialOrd, Ord)]
 pub struct ObjectKey<'a> {
     pub class: ClassRef,
     pub attributes: ListOfBorrowed<'a, PlanAttribute>,
     pub extras: BorrowedList<'a, Extra>,
     pub pieces: Sequence<LinkKey<'a>>,
+}
+
+impl Drop for ObjectKey<'_> {
+    fn drop(self) {
+        let ObjectKey {
+            class: _,
+            attributes: _,
+            extras: _,
+            pieces: _,
+        } = self;
+    }
 }
 
 /// Faces go by the number of the arc, then left before right.

@@ -8,9 +8,9 @@ ghost use Rattle.edi_rank.specs.EndOrder.{OthersInOrder};
 ghost use Rattle.edi_rank.specs.inner.Pieces.{IsObjectRanking};
 ghost use Rattle.edi_record.specs.RecordRefusal.{IsRecordRefusal};
 ghost use Rattle.edi_topo.specs.NodeKeys.{IsNodeRanking};
-ghost use Rattle.edi_record.specs.declared.record.Kind.TheVariants.{Fea};
+ghost use Rattle.edi_record.specs.declared.record.Kind.TheVariants.{Pno, Par, Pfe, Fea, Lnk};
 ghost use Rattle.edi_topo.specs.Arcs.{IsForwardRanking};
-ghost use Rattle.edi_rank.specs.inner.Layers.{IsFaceRanking, IsLinkRanking};
+ghost use Rattle.edi_rank.specs.inner.Layers.{AreNumbersOf, ArePlacesBy, IsFaceRanking, IsLinkRanking};
 ghost use Rattle.edi_rank.specs.Labelling.{NumbersEach, turned_at};
 ghost use Rattle.edi_rank.specs.Turned.{is_backward};
 ghost use Rattle.edi_line.specs.Refusal.{IsUnbroken};
@@ -31,7 +31,6 @@ use std::alloc::{AllocError, Global};
 use std::marker::Model;
 
 /// The numbers of a plan's records, which of its arcs are turned, and the order of the other ends of its links.
-#[derive(Drop)]
 pub struct Labels {
     numbers: Sequence<u32>,
     turned: Sequence<bool>,
@@ -41,6 +40,21 @@ pub struct Labels {
     faces: Sequence<u32>,
     objects: Sequence<u32>,
     links: Sequence<u32>,
+}
+
+impl Drop for Labels {
+    fn drop(self) {
+        let Labels {
+            numbers: _,
+            turned: _,
+            others: _,
+            nodes: _,
+            arcs: _,
+            faces: _,
+            objects: _,
+            links: _,
+        } = self;
+    }
 }
 
 impl Model for Labels {
@@ -70,16 +84,25 @@ impl Labels {
         let unnamed = lower_numbers(alloc, plan, lower.nodes, lower.arcs, &lower.faces)?;
         let named = name_objects(alloc, sound, unnamed)?;
         let links = link_ranks(alloc, schema, plan, &turned, &named.numbers, &named.others)?;
+        let orders = orders_by_number(
+            alloc,
+            plan,
+            lower.nodes,
+            lower.arcs,
+            &lower.faces,
+            &named.objects,
+            &links,
+        )?;
         let numbers = number_kind(plan, Kind::Lnk, &links, named.numbers);
         Ok(Labels {
             numbers: Sequence::from_vec(numbers),
             turned: Sequence::from_vec(turned),
             others: Sequence::from_vec(named.others),
-            nodes: kind_by_number(alloc, plan, Kind::Pno, lower.nodes)?,
-            arcs: kind_by_number(alloc, plan, Kind::Par, lower.arcs)?,
-            faces: kind_by_number(alloc, plan, Kind::Pfe, &lower.faces)?,
-            objects: kind_by_number(alloc, plan, Kind::Fea, &named.objects)?,
-            links: kind_by_number(alloc, plan, Kind::Lnk, &links)?,
+            nodes: orders.nodes,
+            arcs: orders.arcs,
+            faces: orders.faces,
+            objects: orders.objects,
+            links: orders.links,
         })
     }
 
@@ -110,7 +133,17 @@ impl Labels {
         ensures numbers { result.0 ≡ self.numbers }
         ensures turned { result.1 ≡ self.turned }
     {
-        (self.numbers, self.turned)
+        let Labels {
+            numbers,
+            turned,
+            others: _,
+            nodes: _,
+            arcs: _,
+            faces: _,
+            objects: _,
+            links: _,
+        } = self;
+        (numbers, turned)
     }
 
     /// Whether a record is an arc that is turned.
@@ -262,11 +295,20 @@ fn link_ranks(
 }
 
 /// The numbers of the nodes, the arcs and the faces.
-#[derive(Drop)]
 struct LowerRanks<'a> {
     nodes: &'a Ranks,
     arcs: &'a Ranks,
     faces: Ranks,
+}
+
+impl Drop for LowerRanks<'_> {
+    fn drop(self) {
+        let LowerRanks {
+            nodes: _,
+            arcs: _,
+            faces: _,
+        } = self;
+    }
 }
 
 fn lower_ranks<'a>(
@@ -286,7 +328,47 @@ fn lower_ranks<'a>(
     Ok(LowerRanks { nodes, arcs, faces })
 }
 
-/// The places of the records of a kind, by number.
+/// The places of the records of each type, by number.
+#[derive(Drop)]
+struct Orders {
+    nodes: Sequence<u32>,
+    arcs: Sequence<u32>,
+    faces: Sequence<u32>,
+    objects: Sequence<u32>,
+    links: Sequence<u32>,
+}
+
+/// The places of the records of each type, by these numbers.
+fn orders_by_number(
+    alloc: Global,
+    plan: &Plan,
+    nodes: &Ranks,
+    arcs: &Ranks,
+    faces: &Ranks,
+    objects: &Ranks,
+    links: &Ranks,
+) -> Result<Orders, AllocError>
+    requires nodes { AreNumbersOf plan.now Pno nodes.now }
+    requires arcs { AreNumbersOf plan.now Par arcs.now }
+    requires faces { AreNumbersOf plan.now Pfe faces.now }
+    requires objects { AreNumbersOf plan.now Fea objects.now }
+    requires links { AreNumbersOf plan.now Lnk links.now }
+    ensures nodes { IfOk result (λ orders. ArePlacesBy plan.now Pno nodes.now orders.nodes) }
+    ensures arcs { IfOk result (λ orders. ArePlacesBy plan.now Par arcs.now orders.arcs) }
+    ensures faces { IfOk result (λ orders. ArePlacesBy plan.now Pfe faces.now orders.faces) }
+    ensures objects { IfOk result (λ orders. ArePlacesBy plan.now Fea objects.now orders.objects) }
+    ensures links { IfOk result (λ orders. ArePlacesBy plan.now Lnk links.now orders.links) }
+{
+    Ok(Orders {
+        nodes: kind_by_number(alloc, plan, Kind::Pno, nodes)?,
+        arcs: kind_by_number(alloc, plan, Kind::Par, arcs)?,
+        faces: kind_by_number(alloc, plan, Kind::Pfe, faces)?,
+        objects: kind_by_number(alloc, plan, Kind::Fea, objects)?,
+        links: kind_by_number(alloc, plan, Kind::Lnk, links)?,
+    })
+}
+
+/// The places of the records of a type, by number.
 fn kind_by_number(
     alloc: Global,
     plan: &Plan,

@@ -24,13 +24,24 @@ use std::alloc::{AllocError, Global};
 use std::marker::Model;
 
 /// The objects of a plan, in file order, by their classes, what they hold, and their pieces.
-#[derive(Drop)]
 pub struct ObjectLayer<'a> {
     plan: &'a Plan,
     numbers: Vec<u32>,
     orders: Vec<Sequence<usize>>,
     places: &'a [u32],
     links: Vec<Vec<u32>>,
+}
+
+impl Drop for ObjectLayer<'_> {
+    fn drop(self) {
+        let ObjectLayer {
+            plan: _,
+            numbers: _,
+            orders: _,
+            places: _,
+            links: _,
+        } = self;
+    }
 }
 
 impl<'a> Model for ObjectLayer<'a> {
@@ -121,7 +132,14 @@ impl<'a> ObjectLayer<'a> {
         ensures ordered { length result.1.items ≡ length self.entry.plan.list }
         ensures orders { (k : ℕ) → IsPlace self.entry.plan k → object_count self.entry.plan (others_of (record_at self.entry.plan k)) ≤ 1 → OthersInOrder self.entry.plan (slice_index self.entry.numbers) result.1.items k }
     {
-        (self.numbers, self.orders)
+        let ObjectLayer {
+            plan: _,
+            numbers,
+            orders,
+            places: _,
+            links: _,
+        } = self;
+        (numbers, orders)
     }
 
     /// The place of an object.

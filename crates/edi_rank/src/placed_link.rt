@@ -17,21 +17,21 @@ use std::cmp::Ordering;
 use std::marker::Model;
 
 /// An end without SNS: the type and the number of what it names.
-#[derive(Clone, Copy, Debug, PartialEq, Eq, PartialOrd, Ord)]
+#[derive(Clone, Copy, PartialEq, Eq, PartialOrd, Ord)]
 pub(crate) struct PlainEnd {
     pub(crate) kind: Kind,
     pub(crate) number: u32,
 }
 
 /// The ends of a link that has two, without SNS. Such pairs go by the origin, and then by the other end.
-#[derive(Clone, Copy, Debug, PartialEq, Eq, PartialOrd, Ord)]
+#[derive(Clone, Copy, PartialEq, Eq, PartialOrd, Ord)]
 pub(crate) struct PlainPair {
     pub(crate) origin: PlainEnd,
     pub(crate) other: PlainEnd,
 }
 
 /// What the key of a link holds beside its class.
-#[derive(Debug, Drop)]
+#[derive(Drop)]
 pub(crate) enum LinkParts<'a> {
     /// Two ends without SNS, and nothing else.
     Pair(PlainPair),
@@ -43,11 +43,20 @@ pub(crate) enum LinkParts<'a> {
 }
 
 /// The key of a link, and its place.
-#[derive(Debug, Drop)]
 pub(crate) struct PlacedLink<'a> {
     class: ClassRef,
     place: u32,
     parts: LinkParts<'a>,
+}
+
+impl Drop for PlacedLink<'_> {
+    fn drop(self) {
+        let PlacedLink {
+            class: _,
+            place: _,
+            parts: _,
+        } = self;
+    }
 }
 
 impl<'a> Model for PlacedLink<'a> {

@@ -32,7 +32,7 @@ pub enum SheetFault {
 }
 
 /// Why the zones of one record state none: want of memory, or the least rule that they break.
-#[derive(Debug, Drop)]
+#[derive(Drop)]
 pub(crate) enum GroupFault {
     Memory(AllocError),
     Broken(u16),

@@ -105,25 +105,6 @@ pub(crate) fn handed_over<T: Drop>(alloc: Global, mut exact: Vec<T>, list: &mut 
     exact
 }
 
-/// The next elements, so many, in a list of their own.
-pub(crate) fn taken<T: Drop>(
-    alloc: Global,
-    rest: &mut IntoIter<T>,
-    many: u32,
-) -> Result<Vec<T>, AllocError>
-    requires { many ≤ length (into_iter_items rest.old) }
-    ensures items { IfOk result (λ own. into_iter_items rest.old ≡ own.items ++ into_iter_items rest.new) }
-    ensures long { IfOk result (λ own. length own.items ≡ many) }
-{
-    let mut own = Vec::with_capacity(alloc, many as usize)?;
-    for _ in 0..many {
-        if let Some(item) = rest.next() {
-            own.push(item)?;
-        }
-    }
-    Ok(own)
-}
-
 /// A part of a list, borrowed.
 pub(crate) fn part<T>(list: &Vec<T>, from: u32, to: u32) -> &[T]
     requires rises { from ≤ to }

@@ -10,7 +10,7 @@ use edi_line::Text;
 use std::alloc::{AllocError, Global};
 
 /// The four parts of a pointer.
-#[derive(Clone, Copy, Debug)]
+#[derive(Clone, Copy)]
 pub struct Pointer<'a> {
     pub lot: &'a [u8],
     pub subset: &'a [u8],

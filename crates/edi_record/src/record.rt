@@ -10,7 +10,7 @@ use edi_line::{Num, Sequence, Text};
 use std::alloc::AllocError;
 
 /// The type of a record of a sheet.
-#[derive(Clone, Copy, Debug, PartialEq, Eq, PartialOrd, Ord, Hash)]
+#[derive(Clone, Copy, PartialEq, Eq, PartialOrd, Ord, Hash)]
 pub enum Kind {
     /// A node.
     Pno,
@@ -82,7 +82,7 @@ impl Kind {
 
 /// A place: two coordinates, and a third or none. Places go by x, y and z, and none comes before a
 /// third coordinate.
-#[derive(Clone, Copy, Debug, PartialEq, Eq, PartialOrd, Ord, Hash)]
+#[derive(Clone, Copy, PartialEq, Eq, PartialOrd, Ord, Hash)]
 pub struct Point {
     pub x: Num,
     pub y: Num,
@@ -90,27 +90,56 @@ pub struct Point {
 }
 
 /// What an attribute or an extra zone holds. Numbers come before bytes.
-#[derive(Clone, Debug, Drop, PartialEq, Eq, PartialOrd, Ord)]
+#[derive(PartialEq, Eq, PartialOrd, Ord)]
 pub enum Value {
     Number(Num),
     Bytes(Text),
 }
 
+impl Drop for Value {
+    fn drop(self) {
+        match self {
+            Value::Number(_) => {}
+            Value::Bytes(_) => {}
+        }
+    }
+}
+
 /// An attribute as it was read.
-#[derive(Clone, Debug, Drop, PartialEq, Eq, PartialOrd, Ord)]
 pub struct Attribute {
     pub atp: Name,
     pub tex: Option<Text>,
     pub atv: Text,
 }
 
+impl Drop for Attribute {
+    fn drop(self) {
+        let Attribute {
+            atp: _,
+            tex: _,
+            atv: _,
+        } = self;
+    }
+}
+
 /// A zone whose code isn't known in its record.
-#[derive(Clone, Debug, Drop, PartialEq, Eq, PartialOrd, Ord)]
+#[derive(PartialEq, Eq, PartialOrd, Ord)]
 pub struct Extra {
     pub code: [u8; 3],
     pub nature: u8,
     pub format: u8,
     pub value: Value,
+}
+
+impl Drop for Extra {
+    fn drop(self) {
+        let Extra {
+            code: _,
+            nature: _,
+            format: _,
+            value: _,
+        } = self;
+    }
 }
 
 impl Extra {
@@ -132,7 +161,6 @@ impl Extra {
 }
 
 /// An end of a link.
-#[derive(Clone, Debug, Drop, PartialEq, Eq, PartialOrd, Ord)]
 pub struct End {
     pub lot: Text,
     pub subset: Text,
@@ -140,8 +168,19 @@ pub struct End {
     pub sns: Option<Text>,
 }
 
+impl Drop for End {
+    fn drop(self) {
+        let End {
+            lot: _,
+            subset: _,
+            target: _,
+            sns: _,
+        } = self;
+    }
+}
+
 /// A record as its zones state it.
-#[derive(Debug, Drop, PartialEq, Eq)]
+#[derive(Drop)]
 pub struct Record {
     pub kind: Kind,
     pub rid: Text,

@@ -5,7 +5,7 @@ ghost use Rattle.std.specs.Prelude.{◌≡◌, ◌<◌, ◌∷◌, ◌++◌, [],
 ghost use Rattle.edi_record.specs.Shapes.{stated_at};
 ghost use Rattle.edi_record.specs.inner.SheetBlocks.{no_stops, stops_before, records_in, AreParts, AreSame, HasRoom, AreStopsOf};
 
-use crate::flat_lists::{append, exact_room, handed_over, make_room, part, push_behind, taken};
+use crate::flat_lists::{append, exact_room, handed_over, make_room, part, push_behind};
 use crate::name::Name;
 use crate::record::{Attribute, End, Extra, Kind, Point, Record};
 use crate::record_ref::RecordRef;
@@ -42,13 +42,24 @@ pub(crate) struct SheetHead {
 }
 
 /// The records by their places, with the lists of what they have.
-#[derive(Drop)]
 pub(crate) struct SheetBlock {
     pub(crate) heads: Vec<SheetHead>,
     pub(crate) points: Vec<Point>,
     pub(crate) ends: Vec<End>,
     pub(crate) attributes: Vec<Attribute>,
     pub(crate) extras: Vec<Extra>,
+}
+
+impl Drop for SheetBlock {
+    fn drop(self) {
+        let SheetBlock {
+            heads: _,
+            points: _,
+            ends: _,
+            attributes: _,
+            extras: _,
+        } = self;
+    }
 }
 
 impl SheetBlock {
@@ -199,39 +210,5 @@ impl SheetBlock {
             attributes: part(&self.attributes, from.attributes, to.attributes),
             extras: part(&self.extras, from.extras, to.extras),
         }
-    }
-
-    /// Moves the records, each with lists of its own, behind those of a list.
-    pub(crate) fn into_records(
-        self,
-        alloc: Global,
-        records: &mut Vec<Record>,
-    ) -> Result<(), AllocError>
-        requires { AreParts self no_stops self.heads.items }
-        ensures { OnOk result (records.new.items ≡ records.old.items ++ records_in self) }
-    {
-        let mut points = self.points.into_iter();
-        let mut ends = self.ends.into_iter();
-        let mut attributes = self.attributes.into_iter();
-        let mut extras = self.extras.into_iter();
-        let mut from = Stops::NONE;
-        for head in self.heads {
-            let to = head.stops;
-            let points = taken(alloc, &mut points, to.points - from.points)?;
-            let ends = taken(alloc, &mut ends, to.ends - from.ends)?;
-            let attributes = taken(alloc, &mut attributes, to.attributes - from.attributes)?;
-            let extras = taken(alloc, &mut extras, to.extras - from.extras)?;
-            records.push(Record {
-                kind: head.kind,
-                rid: head.rid,
-                scp: head.scp,
-                points: Sequence::from_vec(points),
-                ends: Sequence::from_vec(ends),
-                attributes: Sequence::from_vec(attributes),
-                extras: Sequence::from_vec(extras),
-            })?;
-            from = to;
-        }
-        Ok(())
     }
 }

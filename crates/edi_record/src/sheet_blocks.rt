@@ -136,18 +136,4 @@ impl SheetBlocks {
             self.last.record(place % BLOCK)
         }
     }
-
-    /// The records, each with lists of its own.
-    #[tactic(auto, unfolding(crate::specs::inner::BlockLists::records_of))]
-    pub(crate) fn into_records(self, alloc: Global) -> Result<Vec<Record>, AllocError>
-        requires { AreWithin self }
-        ensures { IfOk result (λ records. records.items ≡ records_of self) }
-    {
-        let mut records = Vec::with_capacity(alloc, self.len())?;
-        for block in self.closed {
-            block.into_records(alloc, &mut records)?;
-        }
-        self.last.into_records(alloc, &mut records)?;
-        Ok(records)
-    }
 }

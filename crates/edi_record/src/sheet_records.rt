@@ -12,9 +12,14 @@ use std::alloc::{AllocError, Global};
 use std::marker::Model;
 
 /// The records of a sheet, in file order. Contracts see the list of records alone.
-#[derive(Drop)]
 pub struct SheetRecords {
     blocks: SheetBlocks,
+}
+
+impl Drop for SheetRecords {
+    fn drop(self) {
+        let SheetRecords { blocks: _ } = self;
+    }
 }
 
 impl Model for SheetRecords {
@@ -107,13 +112,7 @@ impl SheetRecords {
     pub fn into_rest(self) -> SheetRest
         ensures { result ≡ self }
     {
-        SheetRest::new(self.blocks)
-    }
-
-    /// The records, each with memory of its own.
-    pub fn into_records(self, alloc: Global) -> Result<Vec<Record>, AllocError>
-        ensures { IfOk result (λ records. records.items ≡ self) }
-    {
-        self.blocks.into_records(alloc)
+        let SheetRecords { blocks } = self;
+        SheetRest::new(blocks)
     }
 }

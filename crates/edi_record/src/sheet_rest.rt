@@ -14,11 +14,20 @@ use std::mem;
 use std::vec::IntoIter;
 
 /// The blocks ahead: closed ones, and the last, which has no records once it has been taken.
-#[derive(Drop)]
 pub(crate) struct BlocksAhead {
     pub(crate) alloc: Global,
     pub(crate) closed: IntoIter<SheetBlock>,
     pub(crate) last: SheetBlock,
+}
+
+impl Drop for BlocksAhead {
+    fn drop(self) {
+        let BlocksAhead {
+            alloc: _,
+            closed: _,
+            last: _,
+        } = self;
+    }
 }
 
 impl BlocksAhead {
@@ -39,11 +48,20 @@ impl BlocksAhead {
 }
 
 /// The records of a sheet that are left, in file order. Contracts see the list of them alone.
-#[derive(Drop)]
 pub struct SheetRest {
     ahead: BlocksAhead,
     block: SheetBlock,
     place: usize,
+}
+
+impl Drop for SheetRest {
+    fn drop(self) {
+        let SheetRest {
+            ahead: _,
+            block: _,
+            place: _,
+        } = self;
+    }
 }
 
 impl Model for SheetRest {

@@ -6,7 +6,7 @@ ghost use Rattle.edi_schema.specs.ByRole.{of_role, no_values, IsWith};
 use crate::role::Role;
 
 /// A value for each of the four kinds of link.
-#[derive(Clone, Copy, Debug, PartialEq, Eq)]
+#[derive(Clone, Copy, PartialEq, Eq)]
 pub struct ByRole<T> {
     pub initial: T,
     pub final_node: T,

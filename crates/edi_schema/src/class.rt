@@ -4,7 +4,7 @@ use crate::role::Role;
 use std::marker::Model;
 
 /// What a schema says of a class.
-#[derive(Clone, Copy, Debug, PartialEq, Eq)]
+#[derive(Clone, Copy, PartialEq, Eq)]
 pub struct Class {
     pub role: Role,
     pub letter: u8,
@@ -12,7 +12,7 @@ pub struct Class {
 }
 
 /// A class of one schema, by its place there.
-#[derive(Clone, Copy, Debug, PartialEq, Eq, PartialOrd, Ord, Hash)]
+#[derive(Clone, Copy, PartialEq, Eq, PartialOrd, Ord, Hash)]
 pub struct ClassRef {
     place: u32,
 }

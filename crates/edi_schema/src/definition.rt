@@ -17,7 +17,7 @@ const KIND: [u8; 3] = *b"KND";
 const TYPE: [u8; 3] = *b"TYP";
 
 /// What is read of a record of either file: its name, and the first DIP, KND and TYP.
-#[derive(Clone, Copy, Debug)]
+#[derive(Clone, Copy)]
 pub(crate) struct Definition<'a> {
     pub(crate) title: Title<'a>,
     pub(crate) lacks_identifier: bool,

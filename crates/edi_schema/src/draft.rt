@@ -18,7 +18,7 @@ use indexmap::IndexSet;
 use std::alloc::Global;
 
 /// A class, with its name borrowed from its file.
-#[derive(Clone, Copy, Debug)]
+#[derive(Clone, Copy)]
 pub(crate) struct ClassDraft<'a> {
     pub(crate) title: Title<'a>,
     pub(crate) class: Class,

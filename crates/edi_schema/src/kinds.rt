@@ -6,7 +6,7 @@ use crate::role::Role;
 use std::marker::Model;
 
 /// The codes of the four kinds of link.
-#[derive(Debug, Drop)]
+#[derive(Drop)]
 pub struct Kinds<'a> {
     codes: ByRole<&'a [u8]>,
 }

@@ -25,10 +25,18 @@ use std::alloc::Global;
 use std::marker::Model;
 
 /// The classes of a schema, in the order of their names.
-#[derive(Drop)]
 pub struct Schema {
     classes: IndexMap<Name, Class, NameHash>,
     places: ByRole<Option<u32>>,
+}
+
+impl Drop for Schema {
+    fn drop(self) {
+        let Schema {
+            classes: _,
+            places: _,
+        } = self;
+    }
 }
 
 impl Model for Schema {

@@ -11,7 +11,7 @@ use edi_line::codes::{RID, RTY};
 use edi_record::first_value;
 
 /// The type and the identifier of a record, borrowed from its zones.
-#[derive(Clone, Copy, Debug, PartialEq, Eq, PartialOrd, Ord, Hash)]
+#[derive(Clone, Copy, PartialEq, Eq, PartialOrd, Ord, Hash)]
 pub(crate) struct Title<'a> {
     pub(crate) rty: &'a [u8],
     pub(crate) rid: &'a [u8],

@@ -15,7 +15,7 @@ use std::marker::Model;
 
 /// Points in their forward direction, borrowed. They are compared and ordered as these in their order, and
 /// contracts see the list of these.
-#[derive(Debug, Drop)]
+#[derive(Drop)]
 pub struct ForwardPoints<'a> {
     points: &'a [Point],
     backward: bool,

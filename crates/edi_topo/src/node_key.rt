@@ -13,12 +13,23 @@ use std::alloc::{AllocError, Global};
 use std::cmp::Ordering;
 
 /// What orders nodes: the place, the class, the attributes in order, and the extras.
-#[derive(Debug, Drop, PartialEq, Eq, PartialOrd, Ord)]
+#[derive(PartialEq, Eq, PartialOrd, Ord)]
 pub struct NodeKey<'a> {
     pub point: Point,
     pub class: ClassRef,
     pub attributes: ListOfBorrowed<'a, PlanAttribute>,
     pub extras: BorrowedList<'a, Extra>,
+}
+
+impl Drop for NodeKey<'_> {
+    fn drop(self) {
+        let NodeKey {
+            point: _,
+            class: _,
+            attributes: _,
+            extras: _,
+        } = self;
+    }
 }
 
 /// Nodes go by place, then class, then attributes, then extras.

@@ -18,13 +18,6 @@ impl Model for Ranks {
 }
 
 impl Ranks {
-    /// The numbers of the members, in their order.
-    pub fn into_numbers(self) -> Sequence<u32>
-        ensures { result ≡ self }
-    {
-        self.numbers
-    }
-
     pub(crate) fn from_numbers(numbers: Sequence<u32>) -> Ranks
         ensures { result ≡ numbers }
     {

@@ -12,11 +12,20 @@ use std::alloc::Global;
 use std::marker::Model;
 
 /// A plan that breaks no rule of topology, with the numbers of its nodes and of its arcs.
-#[derive(Drop)]
 pub struct Sound {
     plan: Plan,
     nodes: Ranks,
     arcs: Ranks,
+}
+
+impl Drop for Sound {
+    fn drop(self) {
+        let Sound {
+            plan: _,
+            nodes: _,
+            arcs: _,
+        } = self;
+    }
 }
 
 impl Model for Sound {

@@ -3,7 +3,7 @@
 ghost use Rattle.std.specs.Prelude.{◌≡◌, codes};
 
 /// What stands before the length of a value.
-#[derive(Clone, Copy, Debug)]
+#[derive(Clone, Copy)]
 pub(crate) struct ZoneHead {
     pub(crate) code: [u8; 3],
     pub(crate) nature: u8,

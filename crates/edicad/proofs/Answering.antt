@@ -13,8 +13,8 @@ use Rattle.edi_compare.specs.declared.fault.RunFault.{RunFault}
 use Rattle.edi_compare.specs.declared.fault.RunFault.TheVariants.{Memory, Read, TooLong, Schema, First, Second, Write}
 use Rattle.edicad.specs.Hashes.{AreAnswered, IsCutOff, IsStep, RefusesFiles, SchemaFault, Step, TriesSchema, worst_of}
 use Rattle.edicad.specs.inner.Hashes.{StepsOn, StopsAt}
-use Rattle.edicad.specs.Outcome.{ended, schema_text, status_of_fault, words_of_fault}
-use Rattle.edicad.specs.Reasons.{Why}
+use Rattle.edi_files.specs.Reasons.{Why, ended}
+use Rattle.edicad.specs.Outcome.{schema_text, status_of_fault, words_of_fault}
 use Rattle.edicad.specs.SheetRuns.{Inputs}
 use Rattle.edicad.specs.Statuses.{GoesOut, IsSheetStatus, Prints}
 use Rattle.edi_words.specs.declared.words.ManyFiles.{ManyFiles}

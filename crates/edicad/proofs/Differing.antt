@@ -9,9 +9,9 @@ use Rattle.edi_diff.specs.declared.differing.Difference.{Difference}
 use Rattle.edi_drawing.specs.Runs.{IsDrawnDifferenceUnder}
 use Rattle.edi_drawing.specs.declared.drawn.DrawnDifference.{DrawnDifference}
 use Rattle.edi_words.specs.declared.words.PairFiles.{PairFiles}
-use Rattle.edicad.specs.Outcome.{ended, status_of_fault, words_of_fault}
+use Rattle.edi_files.specs.Reasons.{Why, ended}
+use Rattle.edicad.specs.Outcome.{status_of_fault, words_of_fault}
 use Rattle.edicad.specs.SheetRuns.{Inputs, IsPictureOfPair, OfMadePair, OfPair, PairFileFault, PutPairFault, ShowsDifference}
-use Rattle.edicad.specs.Reasons.{Why}
 use Rattle.edicad.specs.Statuses.{IsDiffStatus, IsPictureStatus, IsAnsweredAs, Prints, Warns, WarnsWhy, pair_paths_of}
 use Rattle.edicad.specs.declared.outcome.Outcome.TheVariants as outcome
 use Rattle.edicad.proofs.Refusals.{fault_status, means_fault, not_one, pair_refused, pair_tried, known_fault}

@@ -19,7 +19,8 @@ use Rattle.edi_explain.specs.Hints.{AreHintsOfSheet}
 use Rattle.edi_explain.specs.Skipped.{DescribesSkipped}
 use Rattle.edi_words.specs.declared.words.SheetFiles.{SheetFiles}
 use Rattle.edicad.specs.Explains.{GiveHints, TellsAccepted, TellsCause, TellsPlan, TellsRefusal}
-use Rattle.edicad.specs.Outcome.{ended, input_name, schema_text, sheet_text}
+use Rattle.edi_files.specs.Reasons.{ended}
+use Rattle.edicad.specs.Outcome.{input_name, schema_text, sheet_text}
 
 module _ (kinds : KindCodes) (files : SheetFiles) (scd dic b : List ℕ) (said : Bool) (text : List ℕ) where
   abbrev pub Tells : Type 0

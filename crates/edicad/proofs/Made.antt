@@ -7,10 +7,10 @@ use Rattle.edi_compare.specs.declared.fault.RunFault.TheVariants.{Memory, Read, 
 use Rattle.edi_compare.specs.Runs.{MatchFault, IfFourKnown, IfThreeKnown}
 use Rattle.edi_words.specs.declared.words.PairFiles.{PairFiles}
 use Rattle.edi_words.specs.declared.words.SheetFiles.{SheetFiles}
-use Rattle.edicad.specs.Folders.{Leavings}
-use Rattle.edicad.specs.Outputs.{IsWholeOrNew}
+use Rattle.edi_files.specs.Folders.{Leavings}
+use Rattle.edi_files.specs.Outputs.{IsWholeOrNew}
+use Rattle.edi_files.specs.declared.product.Product.{Product}
 use Rattle.edicad.specs.SheetRuns.{AreFourThere, AreThere, FileFault, Inputs, IsMadeOf, OfFiles, OfMade, OfMadePair, OfPair, PairFileFault}
-use Rattle.edicad.specs.declared.product.Product.{Product}
 
 pub on_ok_map : {T E : Type 0} (r : Result T E) (P Q : Type 0) → (P → Q) → OnOk r P → OnOk r Q
 on_ok_map (Ok v) P Q f h = f h

@@ -1,24 +1,21 @@
 -- The status of a run that puts a pairing, and of one that checks it.
-use Rattle.std.proofs.Common.{◌≡◌, ◌⊎◌, ◌<◌, ◌≤◌, ℕ, zero, suc, Bool, true, false, List, Option, Some, None, IsTrue, codes, length, inl, inr, refl, sym, ◌∙◌, ap, subst, ⊎_elim, arith, Bor, Result, Ok, Err, IfOk, IfErr}
+use Rattle.std.proofs.Common.{◌≡◌, ◌⊎◌, ◌<◌, ◌≤◌, ℕ, zero, suc, Bool, true, false, List, Option, Some, None, IsTrue, codes, length, inl, inr, refl, sym, ap, subst, arith, Bor, Result, Ok, Err, IfOk, IfErr}
 use Rattle.std.specs.Prelude.{MatchOption, ⊤}
 use Rattle.edi_schema.specs.Roles.{KindCodes}
 use Rattle.edi_compare.specs.declared.fault.RunFault.{RunFault}
 use Rattle.edi_compare.specs.declared.fault.RunFault.TheVariants.{Memory, Read, TooLong, Schema, First, Second, Write}
 use Rattle.edi_compare.specs.declared.pairing.Verdict.TheVariants.{Different}
-use Rattle.edi_compare.specs.Runs.{IsTooLong, IsVerdictOf, MatchFault, Seen}
-use Rattle.edi_pairing.specs.CompareRuns.{IsPairingFileOf}
+use Rattle.edi_compare.specs.Runs.{IsTooLong, IsVerdictOf, Seen}
 use Rattle.edi_pairing.specs.VerifyRuns.{VerifyInputs as Five, IsVerifiedUnder, UntouchedByVerify, MatchRun, OfVerifyInput, RefusesFile, VerifyingFault}
 use Rattle.edi_pairing.specs.declared.fault.VerifyRunFault.{VerifyRunFault}
 use Rattle.edi_pairing.specs.declared.fault.VerifyRunFault.TheVariants.{Run, Pairing as OfPairingFile}
 use Rattle.edi_words.specs.declared.words.PairFiles.{PairFiles}
-use Rattle.edicad.specs.Folders.{Leavings}
-use Rattle.edicad.specs.Outcome.{FaultHasNames, HasNames, ended, status_for, status_of_fault, words_for, words_of_fault}
+use Rattle.edi_files.specs.Reasons.{Why, ended}
+use Rattle.edicad.specs.Outcome.{FaultHasNames, HasNames, status_for, status_of_fault, words_for, words_of_fault}
 use Rattle.edicad.specs.inner.Outcome.{paired_outcome, verified_outcome}
-use Rattle.edicad.specs.Outputs.{IsWholeOrNew}
-use Rattle.edicad.specs.Reasons.{Why}
 use Rattle.edicad.specs.SheetRuns.{AreFiveThere, AreFourThere, FirstOfFiveMissing, FirstOfFourMissing, Gives, HoldsTooMuch, Inputs, IsNoPairInput, IsPairInput, OfFive, OfPair, OfPairing, PairFileFault, PutPairFault, VerifyFileFault, verify_path_at}
 use Rattle.edicad.specs.Statuses.{IsPairingStatus, IsAnsweredAs, IsVerifyStatus, Prints, SaysPairRefusal, SaysVerifyRefusal, Warns, WarnsWhy, pair_paths_of, verify_paths_of}
-use Rattle.edicad.proofs.Made.{pair_map, were_four}
+use Rattle.edicad.proofs.Made.{were_four}
 use Rattle.edicad.proofs.Faults.{if_err_map, both_of_four, three_of_four}
 use Rattle.edicad.proofs.Refusals.{fault_status, match_refused, means_answer, means_fault, not_one, not_one_of_zero, not_zero_of_one, pair_refused, pair_tried, known_fault}
 

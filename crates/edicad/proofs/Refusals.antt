@@ -13,9 +13,9 @@ use Rattle.edi_compare.specs.Bundle.{OfParts}
 use Rattle.edi_compare.specs.Runs.{BeforeWriting, InputFault, IsVerdictOf, Seen}
 use Rattle.edi_words.specs.declared.words.PairFiles.{PairFiles}
 use Rattle.edi_words.specs.declared.words.SheetFiles.{SheetFiles}
-use Rattle.edicad.specs.Outcome.{FaultHasNames, HasNames, ended, first_text, sheet_text, status_for, status_of_fault, status_of_schema, status_of_sheet, words_for, words_of_fault}
+use Rattle.edi_files.specs.Reasons.{Why, ended}
+use Rattle.edicad.specs.Outcome.{FaultHasNames, HasNames, first_text, sheet_text, status_for, status_of_fault, status_of_schema, status_of_sheet, words_for, words_of_fault}
 use Rattle.edicad.specs.inner.Outcome.{outcome_for}
-use Rattle.edicad.specs.Reasons.{Why}
 use Rattle.edicad.specs.declared.outcome.Outcome.TheVariants as outcome
 use Rattle.edicad.specs.SheetRuns.{AreFourThere, PutFault, FileFault, FirstOfFourMissing, Inputs, IsInput, MatchPairFault, OfFiles, OfPair, PairFileFault}
 use Rattle.edicad.specs.Statuses.{AreTried, IsCompareStatus, IsAnsweredAs, MeansStatus, Prints, SaysPairRefusal, SaysRefusal, Warns, WarnsWhy, pair_paths_of}

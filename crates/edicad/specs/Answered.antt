@@ -4,13 +4,12 @@ use Rattle.std.specs.Bool.{MatchBool}
 use Rattle.edi_compare.specs.Runs.{Seen}
 use Rattle.edicad.specs.Explains.{IsExplainStatus, IsRuleStatus}
 use Rattle.edicad.specs.Hashes.{IsHashStatus}
-use Rattle.edicad.specs.Outcome.{ended}
-use Rattle.edicad.specs.Reasons.{Why}
+use Rattle.edi_files.specs.Reasons.{Why, ended}
+use Rattle.edi_files.specs.declared.product.Product.{Product}
+use Rattle.edi_files.specs.declared.product.Product.TheVariants.{Canonical, Picture}
 use Rattle.edi_words.specs.Requests.{is_standard_path, misuse_text}
 use Rattle.edicad.specs.SheetRuns.{Inputs}
 use Rattle.edicad.specs.Statuses.{IsBundleStatus, IsCompareStatus, IsDiffStatus, IsFileStatus, IsPairingStatus, IsPictureStatus, IsPutStatus, IsSendStatus, IsVerifyStatus, Warns}
-use Rattle.edicad.specs.declared.product.Product.{Product}
-use Rattle.edicad.specs.declared.product.Product.TheVariants.{Canonical, Picture}
 use Rattle.edi_schema.specs.Roles.{KindCodes}
 use Rattle.edi_words.specs.declared.words.SheetFiles.{SheetFiles}
 use Rattle.edi_words.specs.declared.words.Request.{Request}

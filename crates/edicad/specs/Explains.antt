@@ -15,8 +15,8 @@ use Rattle.edi_explain.specs.Hints.{AreHintsOfSheet}
 use Rattle.edi_explain.specs.Skipped.{DescribesSkipped}
 use Rattle.edi_explain.specs.declared.text.RuleText.{RuleText}
 use Rattle.edi_words.specs.declared.words.SheetFiles.{SheetFiles}
-use Rattle.edicad.specs.Outcome.{ended, input_name, schema_text, sheet_text}
-use Rattle.edicad.specs.Reasons.{Why}
+use Rattle.edi_files.specs.Reasons.{Why, ended}
+use Rattle.edicad.specs.Outcome.{input_name, schema_text, sheet_text}
 use Rattle.edicad.specs.SheetRuns.{FileFault, Inputs, OfFiles}
 use Rattle.edicad.specs.Statuses.{AreTried, MeansStatus, Prints, Warns, paths_of}
 

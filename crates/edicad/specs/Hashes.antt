@@ -16,9 +16,10 @@ use Rattle.edi_compare.specs.Runs.{MatchFault, RefusesSchema, Seen, IfBothKnown}
 use Rattle.edi_compare.specs.Under.{OfTwo}
 use Rattle.edi_compare.specs.declared.fault.RunFault.{RunFault}
 use Rattle.edi_compare.specs.declared.fault.RunFault.TheVariants.{Read}
-use Rattle.edicad.specs.Outcome.{ended, schema_text, sheet_fault_text, status_of_fault}
-use Rattle.edicad.specs.Reasons.{IsReasonOf, Why, reason_line}
-use Rattle.edicad.specs.declared.reason.Reason.{Reason}
+use Rattle.edi_files.specs.Reasons.{Why, ended, reason_line}
+use Rattle.edi_files.specs.declared.reason.Reason.{Reason}
+use Rattle.edicad.specs.Outcome.{schema_text, sheet_fault_text, status_of_fault}
+use Rattle.edicad.specs.Reasons.{IsReasonOf}
 use Rattle.edicad.specs.SheetRuns.{Gives, HoldsTooMuch, Inputs, IsMissing, IsThere}
 use Rattle.edicad.specs.Statuses.{MeansStatus, Prints, Warns}
 use Rattle.edi_words.specs.declared.words.ManyFiles.{ManyFiles}

@@ -2,7 +2,6 @@
 use Rattle.std.specs.Prelude.{ℕ, ◌-◌, ◌<◌, List, [], ◌∷◌, ◌++◌, ◌||◌, length, codes, ⊤, map, zero, suc, ◌==◌, if◌then◌else◌}
 use Rattle.std.proofs.Common.{Bor}
 use Rattle.std.specs.Fmt.{decimal}
-use Rattle.edi_line.specs.Bytes.{line_feed}
 use Rattle.edi_schema.specs.declared.fault.Source.{Source}
 use Rattle.edi_schema.specs.declared.fault.Source.TheVariants.{Scd, Dic}
 use Rattle.edi_schema.specs.declared.fault.SchemaFault.{SchemaFault}
@@ -11,6 +10,7 @@ use Rattle.edi_compare.specs.declared.fault.Fault.{Fault as SheetFault}
 use Rattle.edi_compare.specs.declared.fault.Fault.TheVariants as sheet
 use Rattle.edi_compare.specs.declared.fault.RunFault.{RunFault}
 use Rattle.edi_compare.specs.declared.fault.RunFault.TheVariants.{Memory, Read, TooLong, Schema, First, Second, Write}
+use Rattle.edi_files.specs.Reasons.{ended}
 use Rattle.edi_words.specs.Requests.{is_standard_path}
 use Rattle.edicad.specs.declared.outcome.Outcome.{Outcome}
 use Rattle.edicad.specs.declared.outcome.Outcome.TheVariants.{Accepted, Same, Different, Pairs, Unpaired, WrongPairing, Fault}
@@ -127,10 +127,6 @@ path_for (Fault fault) paths = path_of_fault fault paths
 
 abbrev pub texts : List (Bor (List ℕ)) → List (List ℕ)
 texts paths = map (λ (path : Bor (List ℕ)). path.now) paths
-
--- with a line feed
-abbrev pub ended : List ℕ → List ℕ
-ended words = words ++ line_feed ∷ []
 
 abbrev pub line_for : Outcome → List (Bor (List ℕ)) → List ℕ
 line_for outcome paths = ended (words_for outcome (texts paths))

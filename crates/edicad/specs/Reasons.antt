@@ -1,34 +1,14 @@
--- Why a path can't be read or written.
-use Rattle.std.specs.Prelude.{◌≡◌, ◌++◌, ℕ, List, [], Option, Some, None, codes}
+-- Which faults have a reason, and the line that says it.
+use Rattle.std.specs.Prelude.{◌≡◌, ◌++◌, ℕ, List, Option, None}
 use Rattle.std.specs.Bool.{MatchBool}
 use Rattle.edi_compare.specs.declared.fault.RunFault.{RunFault}
 use Rattle.edi_compare.specs.declared.fault.RunFault.TheVariants.{Memory, Read, TooLong, Schema, First, Second, Write}
+use Rattle.edi_files.specs.Reasons.{Why, ended, reason_line}
+use Rattle.edi_files.specs.declared.reason.Reason.{Reason}
 use Rattle.edi_words.specs.Requests.{is_standard_path}
-use Rattle.edicad.specs.Outcome.{ended, path_for, path_of_fault, words_for}
+use Rattle.edicad.specs.Outcome.{path_for, path_of_fault, words_for}
 use Rattle.edicad.specs.declared.outcome.Outcome.{Outcome}
 use Rattle.edicad.specs.declared.outcome.Outcome.TheVariants.{Accepted, Same, Different, Pairs, Unpaired, WrongPairing, Fault}
-use Rattle.edicad.specs.declared.reason.Reason.{Reason}
-use Rattle.edicad.specs.declared.reason.Reason.TheVariants.{NoFile, NoFolder, IsFolder, NotPermitted, ReadOnly, NoSpace, NoQuota, TooLarge}
-
--- the words of a reason
-abbrev pub reason_text : Reason → List ℕ
-reason_text NoFile = codes "no such file"
-reason_text NoFolder = codes "no such folder"
-reason_text IsFolder = codes "is a folder"
-reason_text NotPermitted = codes "not permitted"
-reason_text ReadOnly = codes "read-only file system"
-reason_text NoSpace = codes "no space left"
-reason_text NoQuota = codes "no quota left"
-reason_text TooLarge = codes "file too large"
-
--- the line that says why, by the name of the path, where a reason is known
-abbrev pub reason_line : List ℕ → Option Reason → List ℕ
-reason_line name None = []
-reason_line name (Some reason) = ended (codes "edicad: " ++ name ++ codes ": " ++ reason_text reason)
-
--- what a folder may give as the reason of a path
-abbrev pub Why : Type 1
-Why = List ℕ → Option Reason → Type 0
 
 -- a standard stream has no reason, and a path the one that the folder gives
 abbrev pub IsReasonAt : Why → List ℕ → Option Reason → Type 0

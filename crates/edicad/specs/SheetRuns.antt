@@ -13,8 +13,8 @@ use Rattle.edi_pairing.specs.VerifyRuns.{IfFiveKnown}
 use Rattle.edi_words.specs.Requests.{is_standard_path}
 use Rattle.edi_words.specs.declared.words.PairFiles.{PairFiles}
 use Rattle.edi_words.specs.declared.words.SheetFiles.{SheetFiles}
-use Rattle.edicad.specs.declared.product.Product.{Product}
-use Rattle.edicad.specs.declared.product.Product.TheVariants.{Canonical, Picture}
+use Rattle.edi_files.specs.declared.product.Product.{Product}
+use Rattle.edi_files.specs.declared.product.Product.TheVariants.{Canonical, Picture}
 
 -- what is known of the inputs
 pub record Inputs : Type 1 where

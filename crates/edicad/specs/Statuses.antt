@@ -10,17 +10,18 @@ use Rattle.edi_compare.specs.declared.pairing.Pairing.{Pairing}
 use Rattle.edi_compare.specs.declared.pairing.Verdict.TheVariants.{Same, Different}
 use Rattle.edi_compare.specs.Bundle.{OfParts}
 use Rattle.edi_compare.specs.Runs.{InputFault, IsSheetUnder, IsVerdictOf, RefusesSchema, RefusesSecond, RefusesSheet, Seen, WritesAll, WritesFirst}
-use Rattle.edicad.specs.Outcome.{ended, schema_text, sheet_text, status_of_fault}
-use Rattle.edicad.specs.Reasons.{IsReason, Why, lines_for}
+use Rattle.edi_files.specs.Reasons.{Why, ended}
+use Rattle.edi_files.specs.declared.product.Product.{Product}
+use Rattle.edi_files.specs.declared.reason.Reason.{Reason}
+use Rattle.edicad.specs.Outcome.{schema_text, sheet_text, status_of_fault}
+use Rattle.edicad.specs.Reasons.{IsReason, lines_for}
 use Rattle.edicad.specs.declared.outcome.Outcome.{Outcome}
 use Rattle.edicad.specs.declared.outcome.Outcome.TheVariants as outcome
-use Rattle.edicad.specs.declared.reason.Reason.{Reason}
 use Rattle.edi_diff.specs.Runs.{IsDifferenceUnder}
 use Rattle.edi_diff.specs.declared.differing.Difference.{Difference}
 use Rattle.edi_words.specs.Requests.{IsAsked, usual_kinds}
 use Rattle.edi_pairing.specs.VerifyRuns.{IsVerifiedUnder, RefusesFile}
 use Rattle.edicad.specs.SheetRuns.{AreFiveThere, AreFourThere, AreThere, FileFault, FirstMissing, FirstOfFiveMissing, FirstOfFourMissing, Inputs, IsInput, IsPairInput, IsPictureOfPair, OfFiles, OfFive, OfMade, OfMadePair, OfPair, OfPairing, PairFileFault, PutFault, PutPairFault, ShowsDifference, VerifyFileFault}
-use Rattle.edicad.specs.declared.product.Product.{Product}
 use Rattle.edi_words.specs.declared.words.PairFiles.{PairFiles}
 use Rattle.edi_words.specs.declared.words.SheetFiles.{SheetFiles}
 use Rattle.edi_words.specs.declared.words.Request.{Request}

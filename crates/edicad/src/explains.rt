@@ -12,11 +12,11 @@ ghost use Rattle.edi_explain.specs.Explained.{DescribesPlan, ExplainsSchema, Exp
 ghost use Rattle.edi_explain.specs.Found.{IsFound};
 ghost use Rattle.edi_explain.specs.Skipped.{DescribesSkipped};
 ghost use Rattle.edicad.specs.Explains.{GiveHints, IsExplainStatus, IsRuleStatus, TellsAccepted, TellsCause, TellsPlan, TellsRefusal};
-ghost use Rattle.edicad.specs.Outcome.{FaultHasNames, ended, schema_text, sheet_text, status_of_fault};
+ghost use Rattle.edi_files.specs.Reasons.{ended};
+ghost use Rattle.edicad.specs.Outcome.{FaultHasNames, schema_text, sheet_text, status_of_fault};
 ghost use Rattle.edicad.specs.SheetRuns.{FileFault, OfFiles, inputs_of};
 ghost use Rattle.edicad.specs.Statuses.{IsPageStatus, IsSheetStatus};
 
-use crate::folder::Folder;
 use crate::outcome::{Outcome, input_name, line_of_fault, line_of_schema};
 use crate::report;
 use crate::sheets::opened;
@@ -25,6 +25,7 @@ use edi_explain::{
     Found, NamedFile, describe_plan, describe_skipped, examine, explain_schema, explain_sheet,
     hints_of, page_of, rule_of_word,
 };
+use edi_files::Folder;
 use edi_line::ByteOut;
 use edi_plan::Plan;
 use edi_schema::{Kinds, Schema, SchemaFault};
@@ -37,18 +38,35 @@ const WRITE_STATUS: u8 = 4;
 const REFUSED_STATUS: u8 = 2;
 
 // What the three files of a sheet hold.
-#[derive(Drop)]
 struct SheetBytes {
     scd: Vec<u8>,
     dic: Vec<u8>,
     vec: Vec<u8>,
 }
 
+impl Drop for SheetBytes {
+    fn drop(self) {
+        let SheetBytes {
+            scd: _,
+            dic: _,
+            vec: _,
+        } = self;
+    }
+}
+
 // What is said of a sheet.
-#[derive(Drop)]
 struct Account {
     is_accepted: bool,
     text: Vec<u8>,
+}
+
+impl Drop for Account {
+    fn drop(self) {
+        let Account {
+            is_accepted: _,
+            text: _,
+        } = self;
+    }
 }
 
 /// Says of a sheet what a check says, and then where and why it is refused, or what it holds. Gives the status of the

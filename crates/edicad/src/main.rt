@@ -2,18 +2,13 @@
 #![tactic(auto)]
 
 mod command;
-mod disk;
 mod explains;
-mod folder;
 mod hashes;
 mod known;
 mod outcome;
-mod output;
-mod product;
 mod reason;
 mod report;
 mod sheets;
-mod system;
 
 use std::env;
 use std::io::IsTerminal;

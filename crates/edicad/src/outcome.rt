@@ -1,7 +1,8 @@
 //! What a run came to, its line and its status.
 ghost use Rattle.std.specs.Prelude.{◌≡◌, ◌<◌, length, ◌∷◌, ◌++◌, [], codes, IfOk};
 ghost use Rattle.std.specs.Fmt.{decimal};
-ghost use Rattle.edicad.specs.Outcome.{HasNames, ended, first_text, input_name, line_for, output_name, path_in, path_of_fault, schema_text, sheet_fault_text, sheet_text, source_text, status_for, status_of_fault, status_of_schema, status_of_sheet, texts};
+ghost use Rattle.edi_files.specs.Reasons.{ended};
+ghost use Rattle.edicad.specs.Outcome.{HasNames, first_text, input_name, line_for, output_name, path_in, path_of_fault, schema_text, sheet_fault_text, sheet_text, source_text, status_for, status_of_fault, status_of_schema, status_of_sheet, texts};
 
 use edi_compare::{Fault, RunFault};
 use edi_schema::{SchemaFault, Source};
@@ -9,7 +10,7 @@ use edi_words::is_standard;
 use std::alloc::{AllocError, Global};
 
 /// What a run came to.
-#[derive(Debug, Drop)]
+#[derive(Drop)]
 pub enum Outcome {
     /// The sheet is accepted.
     Accepted,

@@ -2,17 +2,18 @@
 ghost use Rattle.std.specs.Prelude.{◌≡◌, ◌⊎◌, ◌++◌, ◌<◌, ◌≤◌, IsTrue, Option, codes};
 ghost use Rattle.std.specs.Io.KnownBytes.{Appends};
 ghost use Rattle.edi_compare.specs.Runs.{seen};
-ghost use Rattle.edicad.specs.Outcome.{HasNames, ended, line_for, path_of_fault, status_for, texts};
-ghost use Rattle.edicad.specs.Reasons.{IsReasonOf, reason_line};
+ghost use Rattle.edi_files.specs.Reasons.{ended, reason_line};
+ghost use Rattle.edi_files.specs.declared.reason.Reason.{Reason};
+ghost use Rattle.edicad.specs.Outcome.{HasNames, line_for, path_of_fault, status_for, texts};
+ghost use Rattle.edicad.specs.Reasons.{IsReasonOf};
 ghost use Rattle.edi_words.specs.Requests.{misuse_text};
 ghost use Rattle.edicad.specs.Statuses.{GoesOut, IsAnsweredAs, WarnsWhy};
 ghost use Rattle.edicad.specs.declared.outcome.Outcome.{Outcome};
-ghost use Rattle.edicad.specs.declared.reason.Reason.{Reason};
 
-use crate::folder::Folder;
 use crate::outcome::{Outcome, line_of, path_of_fault, status_of};
 use crate::reason::add_reason;
 use edi_compare::RunFault;
+use edi_files::Folder;
 use edi_line::ByteOut;
 use edi_words::Misuse;
 use edi_write::put_all;

@@ -9,7 +9,7 @@ use edi_line::{ByteIn, Feed, LineFault, Zone};
 use std::alloc::Global;
 
 /// Why a stream has no zones.
-#[derive(Debug, Drop)]
+#[derive(Drop)]
 pub enum StreamFault {
     /// A line breaks a rule, or memory is wanting.
     Line(LineFault),

@@ -34,7 +34,7 @@ pub fn count_records(alloc: Global, schema: &Schema, sheet: &[u8]) -> Result<u32
 }
 
 /// Why a canonical file was not written, or not to its end.
-#[derive(Debug, Drop)]
+#[derive(Drop)]
 pub enum Unwritten {
     /// The sheet is refused, and nothing was written.
     Refused(Fault),

@@ -4,9 +4,9 @@ use Rattle.edi_schema.specs.Classes.{Classes}
 use Rattle.edi_rank.specs.Same.{Same}
 use Rattle.edi_matching.specs.Differences.{IsTotalIfSame, MatchesPartners}
 use Rattle.edi_matching.specs.Matchings.{MatchingHolds}
+use Rattle.edi_report.specs.declared.sheet.LocatedSheet.{LocatedSheet}
 use Rattle.edi_diff.specs.Differences.{IsDifferenceText}
 use Rattle.edi_diff.specs.declared.differing.ComparedSheets.{ComparedSheets}
-use Rattle.edi_diff.specs.declared.sheet.LocatedSheet.{LocatedSheet}
 
 -- the matching of two sheets, what became of the records that it leaves out, and the text and the answer by these
 pub record AreCompared (s : Classes) (first second : LocatedSheet) (brief : Bool) (compared : ComparedSheets) : Type 0 where

@@ -2,8 +2,8 @@
 use Rattle.std.specs.Prelude.{◌≡◌, ℕ, Bool, List, Option, length}
 use Rattle.edi_plan.specs.Plans.{Drawing, IsPlace, record_at}
 use Rattle.edi_matching.specs.declared.matching.Matching.{Matching}
+use Rattle.edi_report.specs.Tables.{AreMarks}
 use Rattle.edi_diff.specs.Changes.{AreChanges}
-use Rattle.edi_diff.specs.inner.Tables.{AreMarks}
 
 -- both are records of one type
 pub record MayGo (p q : Drawing) (i j : ℕ) : Type 0 where

@@ -4,7 +4,7 @@ use Rattle.std.proofs.Common.{Ok}
 use Rattle.edi_schema.specs.Classes.{Classes}
 use Rattle.edi_compare.specs.Runs.{Seen}
 use Rattle.edicad.specs.Hashes.{IsAnswerOf, IsStep, Step, digest_line}
-use Rattle.edicad.specs.Reasons.{Why}
+use Rattle.edi_files.specs.Reasons.{Why}
 use Rattle.edicad.specs.SheetRuns.{Inputs}
 use Rattle.edicad.specs.Statuses.{Prints, Warns}
 

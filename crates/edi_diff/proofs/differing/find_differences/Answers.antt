@@ -9,22 +9,17 @@ pub compare_sheets-requires : goal.compare_sheets-requires
 compare_sheets-requires c =
     let a = file_bytes c.args.a in
     let b = file_bytes c.args.b in
-    let here = c.in_ok-first.ensures.first c.args.schema.now a c.in_ok-packed.ensures.first in
-    let there = c.in_ok-first.ensures.second c.args.schema.now b c.in_ok-packed.ensures.second in
+    let here = c.in_ok-first.ensures.first in
+    let there = c.in_ok-first.ensures.second in
     record { first = (a, here.accepted, here.located.plan); second = (b, there.accepted, there.located.plan); classes = here.classes; first_sites = here.all; second_sites = there.all }
-
-pub returns-in_err-first-clause-refusal : goal.returns-in_err-first-clause-refusal
-returns-in_err-first-clause-refusal c = err_kept _ (Memory alloc_error) (IsPairRefusal c.args.schema.now (file_bytes c.args.a) (file_bytes c.args.b)) c.from_residual-in_err-first.ensures.1 tt
 
 pub returns-in_err-unchanged-clause-refusal : goal.returns-in_err-unchanged-clause-refusal
 returns-in_err-unchanged-clause-refusal c = err_kept _ (Memory alloc_error) (IsPairRefusal c.args.schema.now (file_bytes c.args.a) (file_bytes c.args.b)) c.from_residual-in_err-unchanged.ensures.1 tt
 
 pub returns : goal.returns
 returns c =
-    let a = file_bytes c.args.a in
-    let b = file_bytes c.args.b in
-    let here = c.in_ok-first.ensures.first c.args.schema.now a c.in_ok-packed.ensures.first in
-    let there = c.in_ok-first.ensures.second c.args.schema.now b c.in_ok-packed.ensures.second in
+    let here = c.in_ok-first.ensures.first in
+    let there = c.in_ok-first.ensures.second in
     let compared = c.in_ok-unchanged.ensures in
     record {
       first = here.accepted;

@@ -1,5 +1,5 @@
 use Rattle.std.proofs.Common.{◌≡◌, ◌∙◌, ℕ, Bool, List, Option, length, ap, sym, subst, true≢false}
-use Rattle.edi_diff.specs.inner.Tables.{AreMarks}
+use Rattle.edi_report.specs.Tables.{AreMarks}
 use Rattle.edi_plan.specs.Plans.{Drawing}
 use Rattle.edi_diff.proofs.Outcomes.{all_matched, not_true, total_reported, total_went, total_marked}
 use Rattle.edi_diff.proofs.totals.is_total.Goals as goal

@@ -1,5 +1,5 @@
 use Rattle.std.proofs.Common.{◌≡◌, ◌<◌, ℕ, List, Option, if◌then◌else◌, length, get_or, subst}
-use Rattle.edi_diff.specs.Lines.{is_reached}
+use Rattle.edi_report.specs.Lines.{is_reached}
 use Rattle.edi_picture.specs.declared.mark.Mark.TheVariants.{Changed, Hidden}
 use Rattle.edi_drawing.proofs.Marking.{second_marked}
 use Rattle.edi_drawing.proofs.marks.second_marks.Goals as goal

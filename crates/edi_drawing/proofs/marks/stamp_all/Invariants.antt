@@ -1,5 +1,5 @@
 use Rattle.std.proofs.Common.{◌≡◌, ◌<◌, ℕ, if◌then◌else◌, length, get_or, take}
-use Rattle.edi_diff.specs.Lines.{is_reached}
+use Rattle.edi_report.specs.Lines.{is_reached}
 use Rattle.edi_picture.specs.declared.mark.Mark.TheVariants.{Hidden}
 use Rattle.edi_drawing.proofs.marks.stamp_all.Given as goal
 

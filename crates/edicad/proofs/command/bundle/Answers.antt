@@ -2,7 +2,8 @@ use Rattle.std.proofs.Common.{ℕ, List, [], ◌∷◌, ◌≡◌, Option, IfSom
 use Rattle.edi_compare.specs.Bundle.{OfParts}
 use Rattle.edi_compare.specs.Runs.{InputFault, WritesFirst, seen}
 use Rattle.std.specs.Io.KnownBytes.{Appends}
-use Rattle.edicad.specs.Outcome.{ended, words_of_fault}
+use Rattle.edi_files.specs.Reasons.{ended}
+use Rattle.edicad.specs.Outcome.{words_of_fault}
 use Rattle.edi_words.specs.Requests.{usual_kinds}
 use Rattle.edicad.specs.Statuses.{SaysRefusal}
 use Rattle.edicad.proofs.Refusals.{input_refused, means_fault, unwritten}

@@ -1,6 +1,7 @@
 use Rattle.std.proofs.Common.{◌<◌, ◌≤◌, ◌≡◌, IsTrue, codes, refl, subst}
 use Rattle.edi_compare.specs.Runs.{seen}
-use Rattle.edicad.specs.Outcome.{ended, status_for, words_for}
+use Rattle.edi_files.specs.Reasons.{ended}
+use Rattle.edicad.specs.Outcome.{status_for, words_for}
 use Rattle.edicad.specs.SheetRuns.{inputs_of}
 use Rattle.edicad.specs.Statuses.{IsAnsweredAs, Prints, WarnsWhy, pair_paths_of}
 use Rattle.edicad.proofs.Refusals.{compare_names, compare_status}

@@ -1,5 +1,5 @@
 use Rattle.edi_compare.specs.Runs.{seen}
-use Rattle.edicad.specs.Outputs.{IsUnmade, Reaches, Stops}
+use Rattle.edi_files.specs.Outputs.{IsUnmade, Reaches, Stops}
 use Rattle.edicad.specs.SheetRuns.{inputs_of}
 use Rattle.edicad.proofs.Differing.{drawn_status, undrawn_status}
 use Rattle.edicad.proofs.command.draw_difference.Goals as goal

@@ -1,7 +1,8 @@
 use Rattle.std.proofs.Common.{◌<◌, ◌≤◌, ◌≡◌, IsTrue, refl, subst}
 use Rattle.edi_compare.specs.Runs.{seen}
-use Rattle.edicad.specs.Outcome.{ended, status_for, words_for}
-use Rattle.edicad.specs.Outputs.{IsUnmade, Reaches, Stops}
+use Rattle.edi_files.specs.Outputs.{IsUnmade, Reaches, Stops}
+use Rattle.edi_files.specs.Reasons.{ended}
+use Rattle.edicad.specs.Outcome.{status_for, words_for}
 use Rattle.edicad.specs.SheetRuns.{inputs_of}
 use Rattle.edicad.specs.Statuses.{IsAnsweredAs, Prints, WarnsWhy, pair_paths_of}
 use Rattle.edicad.proofs.Pairings.{paired_names, pairing_status}

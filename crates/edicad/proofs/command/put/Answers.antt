@@ -1,6 +1,6 @@
 use Rattle.std.proofs.Common.{ℕ, refl, arith}
 use Rattle.edi_compare.specs.Runs.{seen}
-use Rattle.edicad.specs.Outputs.{IsUnmade, Stops}
+use Rattle.edi_files.specs.Outputs.{IsUnmade, Stops}
 use Rattle.edicad.specs.SheetRuns.{OfFiles, OfMade, PutFault, inputs_of}
 use Rattle.edicad.specs.Statuses.{SaysRefusal, paths_of}
 use Rattle.edicad.proofs.Refusals.{means_fault, put_refused, put_tried}

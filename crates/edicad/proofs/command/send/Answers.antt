@@ -1,7 +1,8 @@
 use Rattle.std.proofs.Common.{ℕ, ◌≡◌, ◌≤◌, IsTrue, codes, length, take, refl, subst, sym, arith}
 use Rattle.edi_compare.specs.Runs.{seen}
 use Rattle.std.specs.Io.KnownBytes.{Appends}
-use Rattle.edicad.specs.Outcome.{ended, words_of_fault}
+use Rattle.edi_files.specs.Reasons.{ended}
+use Rattle.edicad.specs.Outcome.{words_of_fault}
 use Rattle.edicad.specs.SheetRuns.{FileFault, OfFiles, OfMade, inputs_of}
 use Rattle.edicad.specs.Statuses.{SaysRefusal, paths_of}
 use Rattle.edicad.proofs.Refusals.{file_refused, file_tried, means_fault, unwritten}

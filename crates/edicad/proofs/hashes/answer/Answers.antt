@@ -1,8 +1,8 @@
 use Rattle.std.proofs.Common.{◌≡◌, ◌∙◌, ◌++◌, [], refl, inl, inr, sym, ap, subst, codes, Ok, Err}
 use Rattle.std.specs.Io.KnownBytes.{Appends}
 use Rattle.edicad.specs.Hashes.{digest_line, fault_line, shown_name}
-use Rattle.edicad.specs.Outcome.{ended, status_of_fault}
-use Rattle.edicad.specs.Reasons.{reason_line}
+use Rattle.edi_files.specs.Reasons.{ended, reason_line}
+use Rattle.edicad.specs.Outcome.{status_of_fault}
 use Rattle.edicad.proofs.Answering.{appends_nothing}
 use Rattle.edicad.proofs.hashes.answer.Goals as goal
 

@@ -3,7 +3,7 @@ use Rattle.std.specs.Prelude.{max}
 use Rattle.edi_compare.specs.Runs.{seen}
 use Rattle.edicad.specs.Hashes.{AreAnswered}
 use Rattle.edicad.specs.SheetRuns.{inputs_of}
-use Rattle.edicad.specs.Outcome.{ended}
+use Rattle.edi_files.specs.Reasons.{ended}
 use Rattle.edicad.specs.Statuses.{GoesOut, IsSheetStatus}
 use Rattle.edicad.proofs.Answering.{all_paths, answered_more, cut_off, max_status, none_answered, one_more_path, ord_max_is, paths_of, split_at_path}
 use Rattle.edicad.proofs.hashes.answer_all.Goals as goal

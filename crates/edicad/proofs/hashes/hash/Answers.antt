@@ -1,7 +1,8 @@
 use Rattle.std.proofs.Common.{ℕ, List, inl, inr, subst, arith, map, Bor}
 use Rattle.edi_compare.specs.Runs.{seen}
 use Rattle.edicad.specs.Hashes.{AnswersAll, RefusesFiles, SchemaFault, schema_paths_of}
-use Rattle.edicad.specs.Outcome.{ended, schema_text}
+use Rattle.edi_files.specs.Reasons.{ended}
+use Rattle.edicad.specs.Outcome.{schema_text}
 use Rattle.edicad.specs.SheetRuns.{inputs_of}
 use Rattle.edicad.specs.Statuses.{Prints}
 use Rattle.edicad.proofs.Answering.{schema_refused, schema_tried}

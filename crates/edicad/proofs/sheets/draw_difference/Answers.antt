@@ -1,10 +1,10 @@
 use Rattle.std.proofs.Common.{inr}
-use Rattle.edicad.specs.Outputs.{IsUnmade, Reaches, Stops}
+use Rattle.edi_files.specs.Outputs.{IsUnmade, Reaches, Stops}
+use Rattle.edi_files.proofs.Steps.{goes_map}
 use Rattle.edicad.specs.SheetRuns.{IsPictureOfPair, OfMadePair, ShowsDifference, inputs_of}
 use Rattle.edicad.proofs.Made.{of_made_pair, pair_put_fault, whole_pair}
 use Rattle.edicad.proofs.Differing.{shown, shown_of_some}
 use Rattle.edicad.proofs.Pairings.{pair_unwritten}
-use Rattle.edicad.proofs.Steps.{goes_map}
 use Rattle.edicad.proofs.sheets.draw_difference.Goals as goal
 
 pub returns-in-Ok-put-clause-ok : goal.returns-in-Ok-put-clause-ok

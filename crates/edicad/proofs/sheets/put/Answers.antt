@@ -1,9 +1,9 @@
 use Rattle.std.proofs.Common.{inr}
-use Rattle.edicad.specs.Outputs.{IsUnmade, Reaches, Stops}
+use Rattle.edi_files.specs.Outputs.{IsUnmade, Reaches, Stops}
+use Rattle.edi_files.proofs.Steps.{goes_map}
 use Rattle.edicad.specs.SheetRuns.{OfMade, inputs_of}
 use Rattle.edicad.proofs.Made.{of_made, on_ok_map, put_fault, whole}
 use Rattle.edicad.proofs.Faults.{fault_unwritten, if_err_map}
-use Rattle.edicad.proofs.Steps.{goes_map}
 use Rattle.edicad.proofs.sheets.put.Goals as goal
 
 pub returns-in-Err-clause-err : goal.returns-in-Err-clause-err

@@ -1,6 +1,6 @@
 use Rattle.std.proofs.Common.{◌≡◌, ◌+◌, [], ◌∷◌, ◌++◌, List, ap, arith, length, length-append, subst, sym}
 use Rattle.edi_matching.proofs.Totals.{goes_within}
-use Rattle.edi_diff.specs.declared.parts.Parts.{Parts}
+use Rattle.edi_report.specs.declared.parts.Parts.{Parts}
 use Rattle.edi_diff.proofs.PartsReported.{ArePartsUpTo, parts_more}
 use Rattle.edi_diff.proofs.parting.PlanComparison.all_parts.Goals as goal
 

@@ -18,7 +18,7 @@ use Rattle.edi_rank.specs.Keys.{face_key_cmp, object_key, object_key_cmp}
 use Rattle.edi_rank.specs.Labelling.{Labelling, AreLabels, order_of}
 use Rattle.edi_topo.specs.Arcs.{forward_keys, IsForwardRanking}
 use Rattle.edi_rank.specs.Layers.{face_keys, no_side, number_by, ranked}
-use Rattle.edi_rank.specs.inner.Layers.{placed_link_cmp, placed_link_key, LinkSource, IsFaceRanking, IsLinkRanking}
+use Rattle.edi_rank.specs.inner.Layers.{AreNumbersOf, placed_link_cmp, placed_link_key, LinkSource, IsFaceRanking, IsLinkRanking}
 use Rattle.edi_rank.proofs.LabelsMade.{KindLabels, Ranked, ranks_of, kind_labels, lower_ranked, link_or_not, no_link, labels_made}
 use Rattle.edi_rank.proofs.LinksApart.{placed_total}
 use Rattle.edi_rank.proofs.LowerNumbers.{lower_apart, objects_zero}
@@ -28,28 +28,50 @@ use Rattle.edi_rank.proofs.OthersSorted.{no_object}
 use Rattle.edi_rank.proofs.Rankings.{ranks_each}
 use Rattle.edi_rank.proofs.labels.Labels.of.Goals as goal
 
-pub kind_by_number-requires-clause-each : goal.kind_by_number-requires-clause-each
-kind_by_number-requires-clause-each c =
-    ranks_each node_key_cmp node_key_total (λ m. get_or (node_keys c.args.sound.now) m no_node) (length (places_of Pno c.args.sound.now)) c.in_ok-lower.lower.nodes.now c.in_ok-lower.ensures.nodes
-
-pub kind_by_number-requires-2-clause-each : goal.kind_by_number-requires-2-clause-each
-kind_by_number-requires-2-clause-each c =
-    ranks_each points_cmp points_total (λ m. get_or (forward_keys c.args.sound.now) m []) (length (places_of Par c.args.sound.now)) c.in_ok-lower.lower.arcs.now c.in_ok-lower.ensures.arcs
-
-pub kind_by_number-requires-3-clause-each : goal.kind_by_number-requires-3-clause-each
-kind_by_number-requires-3-clause-each c =
-    ranks_each face_key_cmp face_key_total (λ m. get_or (face_keys c.args.sound.now c.in_ok-lower.lower.arcs.now) m no_side) (length (places_of Pfe c.args.sound.now)) c.in_ok-lower.lower.faces c.in_ok-lower.ensures.faces
-
-pub kind_by_number-requires-4-clause-each : goal.kind_by_number-requires-4-clause-each
-kind_by_number-requires-4-clause-each c =
+pub orders_by_number-requires-clause-nodes : goal.orders_by_number-requires-clause-nodes
+orders_by_number-requires-clause-nodes c =
     let p = c.args.sound.now in
-    ranks_each object_key_cmp object_key_total (λ m. object_key p (λ k. get_or c.in_ok-unnamed.unnamed.items k 0) (get_or (places_of Fea p) m 0)) (length (places_of Fea p)) c.in_ok-named.named.objects c.in_ok-named.ensures.ranks
+    let numbers = c.in_ok-lower.lower.nodes.now in
+    subst (λ (q : Drawing). AreNumbersOf q Pno numbers) (sym c.plan-plan.ensures.plan) (record {
+      all = c.in_ok-lower.ensures.nodes.all;
+      each = ranks_each node_key_cmp node_key_total (λ m. get_or (node_keys p) m no_node) (length (places_of Pno p)) numbers c.in_ok-lower.ensures.nodes;
+    })
 
-pub kind_by_number-requires-5-clause-each : goal.kind_by_number-requires-5-clause-each
-kind_by_number-requires-5-clause-each c =
+pub orders_by_number-requires-clause-arcs : goal.orders_by_number-requires-clause-arcs
+orders_by_number-requires-clause-arcs c =
+    let p = c.args.sound.now in
+    let numbers = c.in_ok-lower.lower.arcs.now in
+    subst (λ (q : Drawing). AreNumbersOf q Par numbers) (sym c.plan-plan.ensures.plan) (record {
+      all = c.in_ok-lower.ensures.arcs.all;
+      each = ranks_each points_cmp points_total (λ m. get_or (forward_keys p) m []) (length (places_of Par p)) numbers c.in_ok-lower.ensures.arcs;
+    })
+
+pub orders_by_number-requires-clause-faces : goal.orders_by_number-requires-clause-faces
+orders_by_number-requires-clause-faces c =
+    let p = c.args.sound.now in
+    let numbers = c.in_ok-lower.lower.faces in
+    subst (λ (q : Drawing). AreNumbersOf q Pfe numbers) (sym c.plan-plan.ensures.plan) (record {
+      all = c.in_ok-lower.ensures.faces.all;
+      each = ranks_each face_key_cmp face_key_total (λ m. get_or (face_keys p c.in_ok-lower.lower.arcs.now) m no_side) (length (places_of Pfe p)) numbers c.in_ok-lower.ensures.faces;
+    })
+
+pub orders_by_number-requires-clause-objects : goal.orders_by_number-requires-clause-objects
+orders_by_number-requires-clause-objects c =
+    let p = c.args.sound.now in
+    let numbers = c.in_ok-named.named.objects in
+    subst (λ (q : Drawing). AreNumbersOf q Fea numbers) (sym c.plan-plan.ensures.plan) (record {
+      all = c.in_ok-named.ensures.ranks.all;
+      each = ranks_each object_key_cmp object_key_total (λ m. object_key p (λ k. get_or c.in_ok-unnamed.unnamed.items k 0) (get_or (places_of Fea p) m 0)) (length (places_of Fea p)) numbers c.in_ok-named.ensures.ranks;
+    })
+
+pub orders_by_number-requires-clause-links : goal.orders_by_number-requires-clause-links
+orders_by_number-requires-clause-links c =
     let p = c.plan-plan.result.now in
     let source : LinkSource = record { plan = p; classes = c.args.schema.now; turned = c.deref-2.result.now; numbers = c.deref-3.result.now } in
-    ranks_each placed_link_cmp placed_total (λ m. placed_link_key source (get_or (places_of Lnk p) m 0)) (length (places_of Lnk p)) c.in_ok-links.links c.in_ok-links.ensures
+    record {
+      all = c.in_ok-links.ensures.all;
+      each = ranks_each placed_link_cmp placed_total (λ m. placed_link_key source (get_or (places_of Lnk p) m 0)) (length (places_of Lnk p)) c.in_ok-links.links c.in_ok-links.ensures;
+    }
 
 pub returns-clause-labels : goal.returns-clause-labels
 returns-clause-labels c =
@@ -73,11 +95,11 @@ returns-clause-labels c =
       numbers = c.number_kind-numbers.result.items;
       turned = turned;
       others = others;
-      nodes = c.in_ok-kind_by_number.field-0;
-      arcs = c.in_ok-kind_by_number-2.field-0;
-      faces = c.in_ok-kind_by_number-3.field-0;
-      objects = c.in_ok-kind_by_number-4.field-0;
-      links = c.in_ok-kind_by_number-5.field-0;
+      nodes = c.in_ok-orders.orders.nodes;
+      arcs = c.in_ok-orders.orders.arcs;
+      faces = c.in_ok-orders.orders.faces;
+      objects = c.in_ok-orders.orders.objects;
+      links = c.in_ok-orders.orders.links;
     } in
     let by_node : IsNodeRanking p lower.nodes.now = subst (λ q. IsNodeRanking q lower.nodes.now) (sym is) c.in_ok-lower.ensures.nodes in
     let by_arc : IsForwardRanking p lower.arcs.now = subst (λ q. IsForwardRanking q lower.arcs.now) (sym is) c.in_ok-lower.ensures.arcs in
@@ -95,14 +117,14 @@ returns-clause-labels c =
     subst (λ (q : Drawing). (k : ℕ) → IsPlace q k → OthersInOrder q (λ j. get_or unlinked j 0) others k) (sym is) c.in_ok-named.ensures.others in
     let ordered_long : length others ≡ length p.list = subst (λ (q : Drawing). length others ≡ length q.list) (sym is) c.in_ok-named.ensures.ordered in
     let objects : KindLabels p Fea r.objects l.objects = kind_labels object_key_cmp object_key_total (λ m. object_key p (λ k. get_or unnamed k 0) (get_or (places_of Fea p) m 0)) p Fea r.objects l.objects by_object
-    c.in_ok-kind_by_number-4.ensures.length c.in_ok-kind_by_number-4.ensures.places in
+    c.in_ok-orders.ensures.objects.all c.in_ok-orders.ensures.objects.each in
     let made : AreLabels s p l = labels_made s p whole joined sound l r unlinked numbering.length c.in_ok-turned.ensures.length c.in_ok-turned.ensures.turned
     (kinds p r l
-    (kind_labels node_key_cmp node_key_total (λ m. get_or (node_keys p) m no_node) p Pno lower.nodes.now l.nodes by_node c.in_ok-kind_by_number.ensures.length c.in_ok-kind_by_number.ensures.places)
-    (kind_labels points_cmp points_total (λ m. get_or (forward_keys p) m []) p Par lower.arcs.now l.arcs by_arc c.in_ok-kind_by_number-2.ensures.length c.in_ok-kind_by_number-2.ensures.places)
-    (kind_labels face_key_cmp face_key_total (λ m. get_or (face_keys p lower.arcs.now) m no_side) p Pfe lower.faces l.faces by_face c.in_ok-kind_by_number-3.ensures.length c.in_ok-kind_by_number-3.ensures.places)
+    (kind_labels node_key_cmp node_key_total (λ m. get_or (node_keys p) m no_node) p Pno lower.nodes.now l.nodes by_node c.in_ok-orders.ensures.nodes.all c.in_ok-orders.ensures.nodes.each)
+    (kind_labels points_cmp points_total (λ m. get_or (forward_keys p) m []) p Par lower.arcs.now l.arcs by_arc c.in_ok-orders.ensures.arcs.all c.in_ok-orders.ensures.arcs.each)
+    (kind_labels face_key_cmp face_key_total (λ m. get_or (face_keys p lower.arcs.now) m no_side) p Pfe lower.faces l.faces by_face c.in_ok-orders.ensures.faces.all c.in_ok-orders.ensures.faces.each)
     objects
-    (kind_labels placed_link_cmp placed_total (λ m. placed_link_key source (get_or (places_of Lnk p) m 0)) p Lnk c.in_ok-links.links l.links by_link c.in_ok-kind_by_number-5.ensures.length c.in_ok-kind_by_number-5.ensures.places))
+    (kind_labels placed_link_cmp placed_total (λ m. placed_link_key source (get_or (places_of Lnk p) m 0)) p Lnk c.in_ok-links.links l.links by_link c.in_ok-orders.ensures.links.all c.in_ok-orders.ensures.links.each))
     (λ k h. number_is p r l.numbers unlinked unnamed k h (numbering.each k h) (numbering.others k h) (named_each k h) (named_rest k h) (c.in_ok-unnamed.ensures.ranked k h) (link_or_not (record_at p k).kind) (object_or_not (record_at p k).kind))
     (λ k h e. numbering.others k h (no_link (record_at p k).kind e))
     by_node by_arc by_face by_link ordered_long in_order

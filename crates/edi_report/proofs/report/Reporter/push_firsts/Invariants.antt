@@ -1,0 +1,7 @@
+use Rattle.std.proofs.Common.{◌≡◌, ◌++◌, take}
+use Rattle.std.specs.List.{flat_map}
+use Rattle.edi_report.specs.Lines.{first_line}
+use Rattle.edi_report.proofs.report.Reporter.push_firsts.Given as goal
+
+abbrev pub invariant-loop-place : goal.invariant-loop-place
+invariant-loop-place l = l.text.items ≡ l.initial.text.items ++ flat_map (first_line l.self) (take l.place-index l.place-items)

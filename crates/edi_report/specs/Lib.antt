@@ -1,0 +1,6 @@
+pub mod Sites
+pub mod Reports
+pub mod Located
+pub mod Lines
+pub mod Tables
+pub mod inner

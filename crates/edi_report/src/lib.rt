@@ -1,0 +1,17 @@
+//! The text of what differs between two sheets, by what became of the records of the one in the other.
+#![tactic(auto)]
+
+mod lines;
+pub mod marks;
+mod numbers;
+mod packed;
+pub mod parts;
+pub mod report;
+pub mod sheet;
+pub mod site;
+
+pub use marks::marks_of;
+pub use parts::{NO_PARTS, Parts};
+pub use report::Reporter;
+pub use sheet::{LocatedSheet, locate_both, locate_from};
+pub use site::Site;
