@@ -120,7 +120,8 @@ def diff_case(room, name, kinds, wanted):
     check(name + ": diff, status and errors", (status, err), (wanted[0], b""))
     check(name + ": diff, last line", rows[-1:], [line(last)])
     check(name + ": diff, more than a line", len(rows) > 1, wanted[0] == 1)
-    check(name + ": diff, brief", brief, (status, line(last), b""))
+    charsets = b"".join(it for it in rows if it.startswith(b"~ CSE "))
+    check(name + ": diff, brief", brief, (status, charsets + line(last), b""))
 
 
 def sheet_case(room, case, sheet):
@@ -143,8 +144,8 @@ def sheet_case(room, case, sheet):
         room.write("w", canonical)
         room.expect(name + ": the canonical file again", ["canon", *kinds, "s", "d", "w", "-"], (0, canonical, b""))
     else:
-        of_schema = answer.startswith((b"refused scd", b"refused dic", b"refused kinds"))
-        hashed = wanted if of_schema else (2, b"", b"v: " + answer)
+        file = b"d" if answer.startswith(b"refused dic") else b"s" if answer.startswith((b"refused scd", b"refused kinds")) else b"v"
+        hashed = (2, b"", file + b": " + answer)
     room.expect(name + ": hash", ["hash", *kinds, "s", "d", "v"], hashed)
     if not kinds and b"EOM" in room.read("s") and b"EOM" in room.read("d"):
         bundle = room.read("s") + room.read("d") + room.read("v")

@@ -99,7 +99,8 @@ def standard_streams(room, sheet, canonical):
     room.expect("one of two sheets on standard input", ["compare", "s", "d", "-", "v"], (0, b"same\n", b""), sheet)
     room.expect("the canonical file to standard output", ["canon", "s", "d", "v", "-"], (0, canonical, b""))
     room.expect("from standard input to standard output", ["canon", "s", "d", "-", "-"], (0, canonical, b""), sheet)
-    room.expect("a refused sheet has its line there", ["canon", "s", "d", "-", "-"], (2, b"refused 106 line 1\n", b""))
+    room.expect("a refused sheet has its line on standard error", ["canon", "s", "d", "-", "-"], (2, b"", b"refused 106 line 1\n"))
+    room.expect("a refused dictionary has its line on standard error", ["canon", "s", "v", "v", "-"], (2, b"", room.run(["canon", "s", "v", "v", "o"])[1]))
     report.check("no file of the name -", room.read("-"), None)
     room.expect("a file of the name -", ["canon", "s", "d", "v", "./-"], (0, b"accepted\n", b""))
     report.check("the file of the name -", room.read("-"), canonical)
@@ -110,11 +111,14 @@ def standard_streams(room, sheet, canonical):
     with open("/dev/full", "wb") as full:
         room.expect("the bundle to a full output", [], (4, None, b"cannot write standard output\n"), bundle, stdout=full)
         room.expect("the canonical file to a full output", ["canon", "s", "d", "v", "-"], (4, None, b"cannot write standard output\n"), stdout=full)
-        report.check("accepted to a full output", room.run(["check", "s", "d", "v"], stdout=full)[0], 4)
-        report.check("refused to a full output", room.run(["check", "s", "d", "s"], stdout=full)[0], 4)
-        report.check("different to a full output", room.run(["compare", "s", "d", "v", "v"], stdout=full)[0], 4)
+        unsaid = (4, None, b"cannot write standard output\n")
+        room.expect("accepted to a full output", ["check", "s", "d", "v"], unsaid, stdout=full)
+        room.expect("refused to a full output", ["check", "s", "d", "s"], unsaid, stdout=full)
+        room.expect("the same to a full output", ["compare", "s", "d", "v", "v"], unsaid, stdout=full)
+        room.expect("accepted, with OUT, to a full output", ["canon", "s", "d", "v", "o"], unsaid, stdout=full)
+        room.expect("refused beside a full output", ["canon", "s", "d", "s", "-"], (2, None, b"refused 105 line 1\n"), stdout=full)
         report.check("errors to a full stream", room.run(["check", "s", "d", "x"], stderr=full)[0], 4)
-    report.check("a closed output", room.run(["check", "s", "d", "v"], preexec_fn=lambda: os.close(1))[0], 4)
+    room.expect("a closed output", ["check", "s", "d", "v"], unsaid, preexec_fn=lambda: os.close(1))
     report.check("a closed stream of errors", room.run(["check", "s", "d", "x"], preexec_fn=lambda: os.close(2))[0], 4)
     room.expect("a closed input", ["check", "s", "d", "-"], (4, b"", b"cannot read standard input\n"), preexec_fn=lambda: os.close(0))
     room.expect("a closed input of the bundle", [], (4, b"", b"cannot read standard input\n"), preexec_fn=lambda: os.close(0))
@@ -126,6 +130,28 @@ def standard_streams(room, sheet, canonical):
     room.expect("OUT is a pipe", ["canon", "s", "d", "v", "pipe"], (0, b"accepted\n", b""))
     report.check("a pipe gets the bytes", reader.communicate(timeout=20)[0], canonical)
     report.check("no draft of a stream", drafts(room.folder), [])
+    redirected_streams(room)
+
+
+def redirected_streams(room):
+    """An OUT or FILE that is the file of standard output or standard error is refused, and the file keeps what it had."""
+    report, why = room.report, "is standard output or standard error"
+    commands = {
+        "canon": lambda out: ["canon", "s", "d", "v", out],
+        "draw": lambda out: ["draw", "s", "d", "v", out],
+        "compare --pairing": lambda out: ["compare", "--pairing", out, "s", "d", "v", "v"],
+        "diff --picture": lambda out: ["diff", "--picture", out, "s", "d", "v", "v"],
+    }
+    for name, words_of in commands.items():
+        for out in ("/dev/stdout", "log"):
+            room.write("log", "before\n")
+            with open(room.path("log"), "ab") as log:
+                room.expect(f"{name} to {out}, the file of standard output", words_of(out), (4, None, unwritten(out, why)), stdout=log)
+            report.check(f"{name} to {out}: what the file had", room.read("log"), b"before\n")
+    room.write("log", "before\n")
+    with open(room.path("log"), "ab") as log:
+        report.check("the file of standard error", room.run(["canon", "s", "d", "v", "/dev/stderr"], stderr=log), (4, b"", None))
+    report.check("what the file of standard error had", room.read("log"), b"before\n" + unwritten("/dev/stderr", why))
 
 
 def hashes(room, sheet, canonical):
@@ -139,9 +165,13 @@ def hashes(room, sheet, canonical):
     room.expect("a sheet and its canonical file have one digest", ["hash", "s", "d", "v", "w"], (0, both, b""))
     checked = subprocess.run(["sha256sum", "-c"], cwd=room.folder, input=one + b"  w\n", capture_output=True).stdout
     report.check("sha256sum -c takes the line of a canonical file", checked, b"w: OK\n")
-    room.expect("the first missing file of a schema", ["hash", "x", "y", "v"], (4, b"", unread("x")))
-    room.expect("the second missing file of a schema", ["hash", "s", "y", "v"], (4, b"", unread("y")))
-    room.expect("a refused schema", ["hash", "bad", "d", "x"], (2, b"refused scd 106 line 1\n", b""))
+    room.expect("the first missing file of a schema", ["hash", "x", "y", "v"], (4, b"", b"x: cannot read\nedicad: x: no such file\n"))
+    room.expect("the second missing file of a schema", ["hash", "s", "y", "v"], (4, b"", b"y: cannot read\nedicad: y: no such file\n"))
+    room.expect("a refused schema", ["hash", "bad", "d", "x"], (2, b"", b"bad: refused scd 106 line 1\n"))
+    room.expect("a refused dictionary", ["hash", "s", "bad", "x"], (2, b"", b"bad: refused dic 106 line 1\n"))
+    room.expect("refused kinds", ["hash", "--kinds", "XA,XB,XC,IND", "s", "d", "x"], (2, b"", b"s: refused kinds 604\n"))
+    room.write("b\\d", b"")
+    room.expect("the name of a refused schema has its escapes", ["hash", "b\\d", "d", "x"], (2, b"", b"\\b\\\\d: refused scd 106 line 1\n"))
     room.expect("the greatest status", ["hash", "s", "d", "x", "bad", "v"], (4, one + b"  v\n", b"x: cannot read\nedicad: x: no such file\nbad: refused 106 line 1\n"))
     room.expect("a folder among the sheets", ["hash", "s", "d", ".", "v"], (4, one + b"  v\n", b".: cannot read\nedicad: .: is a folder\n"))
     room.expect("a reason is that of its own sheet", ["hash", "s", "d", "x", ".", "s/x", "v"],
@@ -154,8 +184,8 @@ def hashes(room, sheet, canonical):
     with open("/dev/full", "wb") as full:
         room.expect("digests to a full output", ["hash", "s", "d", "x", "v", "bad"], (4, None, b"x: cannot read\nedicad: x: no such file\ncannot write standard output\n"), stdout=full)
         report.check("faults to a full stream", room.run(["hash", "s", "d", "bad", "v"], stderr=full)[:2], (2, one + b"  v\n"))
-        report.check("a refused schema to a full output", room.run(["hash", "bad", "d", "v"], stdout=full)[0], 4)
-    report.check("a closed output", room.run(["hash", "s", "d", "v"], preexec_fn=lambda: os.close(1))[0], 4)
+        room.expect("a refused schema beside a full output", ["hash", "bad", "d", "v"], (2, None, b"bad: refused scd 106 line 1\n"), stdout=full)
+    room.expect("a closed output", ["hash", "s", "d", "v"], (4, None, b"cannot write standard output\n"), preexec_fn=lambda: os.close(1))
 
 
 def pairings(room, sheet):
@@ -237,7 +267,7 @@ def pairings(room, sheet):
     room.expect("FILE is the device of standard output", ["compare", "--pairing", "/dev/stdout", *sheets], (0, pairing + b"same\n", b""))
     with open("/dev/full", "wb") as full:
         for words in (["compare", "--pairing", "p", *sheets], ["verify", *sheets, "p"], ["verify", *sheets, "a"]):
-            report.check(f"{words} to a full output", room.run(words, stdout=full)[0], 4)
+            room.expect(f"{words} to a full output", words, (4, None, b"cannot write standard output\n"), stdout=full)
         report.check("FILE where the answer didn't go out", room.read("p"), pairing)
     report.check("no draft of a pairing stays", drafts(room.folder), [])
     room.write("v", sheet)
@@ -273,7 +303,7 @@ def differences(room):
     room.expect("another value, with the usual kinds", ["diff", "--kinds", "IND,FND,LPO,RPO", *sheets], found)
     room.write("set", room.read("a").replace(b"CSET 03:IRV\n", b""))
     room.expect("another character set", ["diff", "s", "d", "a", "set"], (1, b"~ CSE IRV none\n" + nothing[1], b""))
-    room.expect("another character set, in brief", ["diff", "--brief", "s", "d", "a", "set"], (1, nothing[1], b""))
+    room.expect("another character set, in brief", ["diff", "--brief", "s", "d", "a", "set"], (1, b"~ CSE IRV none\n" + nothing[1], b""))
     for at, name in enumerate(sheets):
         words = list(sheets)
         words[at] = "-"

@@ -52,7 +52,7 @@ def explains(room, sheet):
         report.holds(f"rule {rule} has a page", room.run(["explain", str(rule)])[1].startswith(b"%d: " % rule))
     with open("/dev/full", "wb") as full:
         for command in (["s", "d", "v"], ["s", "d", "two"], ["403"]):
-            report.check(f"{command} explained to a full output", room.run(["explain", *command], stdout=full)[0], 4)
+            room.expect(f"{command} explained to a full output", ["explain", *command], (4, None, b"cannot write standard output\n"), stdout=full)
 
 
 def explains_partners(room):

@@ -34,7 +34,7 @@ def draw_case(room, name, words, wanted):
     if wanted[0] != 0:
         report.check(name + ": OUT of draw", room.read("o"), b"kept")
         os.remove(room.path("o"))
-        room.expect(name + ": drawn to -", ["draw", *words, "-"], wanted)
+        room.expect(name + ": drawn to -", ["draw", *words, "-"], (wanted[0], b"", wanted[1]))
         return
     picture = room.read("o")
     found = drawn(picture)
@@ -117,7 +117,7 @@ def pictures(room):
         room.write("o", "kept")
         room.expect(f"draw with a bad {name}", ["draw", *words, "o"], (2, said, b""))
         report.check(f"OUT of a bad {name}", room.read("o"), b"kept")
-        room.expect(f"draw with a bad {name} to -", ["draw", *words, "-"], (2, said, b""))
+        room.expect(f"draw with a bad {name} to -", ["draw", *words, "-"], (2, b"", said))
     for name in sheets:
         before = room.read(name)
         os.symlink(name, room.path("to_" + name))

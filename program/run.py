@@ -38,7 +38,7 @@ PARTS = {
     "cases": 3305,
     "words": 164,
     "files": 52,
-    "standard streams": 28,
+    "standard streams": 46,
     "hashes": 16,
     "explains": 66,
     "pairings": 106,

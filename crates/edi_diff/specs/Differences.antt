@@ -13,7 +13,7 @@ use Rattle.edi_diff.specs.Changes.{AreChanges, ArePartsOfEach}
 use Rattle.edi_diff.specs.declared.differing.Difference.{Difference}
 use Rattle.edi_diff.specs.declared.differing.Findings.{Findings}
 
--- The text of what differs, or its last line alone, by a matching of the records that are the same: of the other records some
+-- The text of what differs, all of it or without the lines of records, by a matching of the records that are the same: of the other records some
 -- became others, and the text names the parts in which these differ.
 pub record IsDifferenceText (s : Classes) (first second : LocatedSheet) (unchanged : Matching) (brief : Bool) (text : List ℕ) : Type 0 where
   pub became : Matching

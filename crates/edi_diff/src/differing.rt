@@ -98,7 +98,7 @@ fn changes_with_text(
     Ok(ChangesWithText { became, text })
 }
 
-/// What differs between two sheets under a schema, or its last line alone; or the refusal that `edi_compare::compare`
+/// What differs between two sheets under a schema, or that without the lines of records; or the refusal that `edi_compare::compare`
 /// gives: `CompareFault::First` where the first sheet is refused, `CompareFault::Second` where the first is accepted and
 /// the second is refused.
 pub fn diff(

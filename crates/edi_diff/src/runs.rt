@@ -12,7 +12,7 @@ use edi_schema::Kinds;
 use std::alloc::Global;
 
 /// Reads four files, and answers what differs between the third and the fourth, two sheets under the schema of the first
-/// two; or the last line of that alone. All are read before one is looked at, and the second sheet is looked at only if the
+/// two; or that without the lines of records. All are read before one is looked at, and the second sheet is looked at only if the
 /// first is accepted. The faults are those of `edi_compare::run_compare`.
 pub fn run_diff<S: ByteIn, D: ByteIn, A: ByteIn, B: ByteIn>(
     alloc: Global,

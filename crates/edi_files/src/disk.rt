@@ -8,7 +8,7 @@ use crate::reason::Reason;
 use edi_line::{ByteOut, FromRead};
 use std::alloc::AllocError;
 use std::cell::Cell;
-use std::fs::{OpenFile, OpenOptions};
+use std::fs::{Metadata, OpenFile, OpenOptions};
 use std::io::{Input, Read, Write};
 use std::os::unix::fs::MetadataExt;
 use std::path::{Path, PathBuf};
@@ -17,6 +17,11 @@ use std::{fs, io};
 
 // How many names a draft tries: one for each run that goes on or was stopped.
 const MOST_DRAFTS: u32 = 1_000_000;
+
+// What standard output and standard error lead to, where the system says.
+const OUTPUT: &str = "/proc/self/fd/1";
+
+const ERRORS: &str = "/proc/self/fd/2";
 
 /// The files of the system.
 #[derive(Drop)]
@@ -175,6 +180,10 @@ impl<R: Files + Input + AllocGlobal> Folder for Disk<'_, R, R::File> {
 
     fn target(&self, path: &str) -> Option<Destination> {
         match fs::metadata(self.rt, path) {
+            Ok(found) if found.is_file() && is_standard(self.rt, &found) => {
+                self.why.set(Some(Reason::IsStandard));
+                None
+            }
             Ok(found) if found.is_file() => Some(Destination::File),
             Ok(found) if found.is_dir() => None,
             Ok(_) => Some(Destination::Stream),
@@ -241,6 +250,18 @@ impl<R: Files + Input + AllocGlobal> Folder for Disk<'_, R, R::File> {
             (None, Ok(found)) if found.is_dir() => Some(Reason::IsFolder),
             (None, _) => None,
         }
+    }
+}
+
+// Whether a file is the one to which standard output or standard error goes, which would be lost if it were replaced.
+fn is_standard<R: Files>(rt: &R, found: &Metadata) -> bool {
+    is_file_of(rt, found, OUTPUT) || is_file_of(rt, found, ERRORS)
+}
+
+fn is_file_of<R: Files>(rt: &R, found: &Metadata, path: &str) -> bool {
+    match fs::metadata(rt, path) {
+        Ok(other) => found.dev() == other.dev() && found.ino() == other.ino(),
+        Err(_) => false,
     }
 }
 

@@ -15,6 +15,8 @@ pub enum Reason {
     NoSpace,
     NoQuota,
     TooLarge,
+    /// It is the file to which standard output or standard error goes.
+    IsStandard,
 }
 
 /// The words of a reason.
@@ -30,6 +32,7 @@ pub fn reason_text(reason: Reason) -> &'static [u8]
         Reason::NoSpace => b"no space left",
         Reason::NoQuota => b"no quota left",
         Reason::TooLarge => b"file too large",
+        Reason::IsStandard => b"is standard output or standard error",
     }
 }
 

@@ -106,6 +106,10 @@ totals_line r = counted (gone_count r) (codes " only in A, ") ++ counted (added_
 abbrev pub report_text : Report → List ℕ
 report_text r = charset_change_line r.first.accepted.cse r.second.accepted.cse ++ lines_of r Fea ++ lines_of r Pfe ++ lines_of r Par ++ lines_of r Pno ++ lines_of r Lnk ++ totals_line r
 
--- that text, or its last line alone
+-- the short text: the character sets, where they differ, and how many records do
+abbrev pub brief_text : Report → List ℕ
+brief_text r = charset_change_line r.first.accepted.cse r.second.accepted.cse ++ totals_line r
+
+-- the whole text, or the short one
 abbrev pub text_of_report : Bool → Report → List ℕ
-text_of_report brief r = if brief then totals_line r else report_text r
+text_of_report brief r = if brief then brief_text r else report_text r

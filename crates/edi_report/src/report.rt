@@ -2,7 +2,7 @@
 
 ghost use Rattle.std.specs.Prelude.{◌≡◌, ◌++◌, ◌<◌, IfOk, OnOk, count_by, length, not};
 ghost use Rattle.edi_plan.specs.Plans.{IsPlace};
-ghost use Rattle.edi_report.specs.Lines.{added_count, changed_count, changed_line, first_line, gone_count, lines_of, report_text, second_line, text_of_report, totals_line};
+ghost use Rattle.edi_report.specs.Lines.{added_count, brief_text, changed_count, changed_line, charset_change_line, first_line, gone_count, lines_of, report_text, second_line, text_of_report, totals_line};
 ghost use Rattle.edi_report.specs.Reports.{parts_at};
 ghost use Rattle.edi_plan.specs.Places.{places_of};
 ghost use Rattle.std.specs.List.{flat_map};
@@ -45,22 +45,23 @@ impl<'a> Model for Reporter<'a> {
 }
 
 impl<'a> Reporter<'a> {
-    /// The text, or its last line alone.
+    /// The text: all lines, or without those of records.
     pub fn text(&self, alloc: Global, brief: bool) -> Result<Vec<u8>, AllocError>
         ensures { IfOk result (λ text. text.items ≡ text_of_report brief self.now) }
     {
         if brief {
-            self.counts(alloc)
+            self.short(alloc)
         } else {
             self.whole(alloc)
         }
     }
 
-    /// The last line.
-    fn counts(&self, alloc: Global) -> Result<Vec<u8>, AllocError>
-        ensures { IfOk result (λ text. text.items ≡ totals_line self.now) }
+    /// The line of the character sets, where they differ, and that of the counts.
+    fn short(&self, alloc: Global) -> Result<Vec<u8>, AllocError>
+        ensures { IfOk result (λ text. text.items ≡ brief_text self.now) }
     {
         let mut text = Vec::new(alloc);
+        self.push_charsets(&mut text)?;
         self.push_counts(&mut text)?;
         Ok(text)
     }
@@ -70,9 +71,7 @@ impl<'a> Reporter<'a> {
         ensures { IfOk result (λ text. text.items ≡ report_text self.now) }
     {
         let mut text = Vec::new(alloc);
-        let plan = self.first.accepted.sound().plan();
-        let other = self.second.accepted.sound().plan();
-        push_charset(&mut text, plan.cse(), other.cse())?;
+        self.push_charsets(&mut text)?;
         self.push_type(&mut text, Kind::Fea)?;
         self.push_type(&mut text, Kind::Pfe)?;
         self.push_type(&mut text, Kind::Par)?;
@@ -80,6 +79,15 @@ impl<'a> Reporter<'a> {
         self.push_type(&mut text, Kind::Lnk)?;
         self.push_counts(&mut text)?;
         Ok(text)
+    }
+
+    /// Appends the line of the character sets, where they differ.
+    fn push_charsets(&self, text: &mut Vec<u8>) -> Result<(), AllocError>
+        ensures { OnOk result (text.new.items ≡ text.old.items ++ charset_change_line self.now.first.accepted.cse self.now.second.accepted.cse) }
+    {
+        let plan = self.first.accepted.sound().plan();
+        let other = self.second.accepted.sound().plan();
+        push_charset(text, plan.cse(), other.cse())
     }
 
     /// Appends the lines of the records of a type.
@@ -162,7 +170,7 @@ impl<'a> Reporter<'a> {
         }
     }
 
-    /// Appends the last line.
+    /// Appends the line of the counts.
     fn push_counts(&self, text: &mut Vec<u8>) -> Result<(), AllocError>
         ensures { OnOk result (text.new.items ≡ text.old.items ++ totals_line self.now) }
     {

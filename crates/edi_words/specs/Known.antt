@@ -28,7 +28,7 @@ pairing_files_of line = option_map (λ met. first_of (codes "pairing") met.1 ∷
 abbrev pub picture_of : Text → Option (Option Text)
 picture_of line = option_map (λ met. first_of (codes "picture") met.1) (subcommand_of edicad (words_in line))
 
--- the value of a line's flag for the last line alone
+-- the value of a line's flag for the short text
 abbrev pub brief_of : Text → Option (Option Text)
 brief_of line = option_map (λ met. one_of (codes "brief") met.1) (subcommand_of edicad (words_in line))
 

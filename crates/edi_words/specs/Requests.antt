@@ -33,7 +33,7 @@ pairing_rule = file_option_rule (codes "pairing")
 abbrev pub picture_rule : Rule
 picture_rule = file_option_rule (codes "picture")
 
--- the flag for the last line alone, which has no value
+-- the flag for the short text of what differs, which has no value
 abbrev pub brief_rule : Rule
 brief_rule = record (new_rule (codes "brief")) { long = Some (codes "brief"); action = Some SetTrue }
 

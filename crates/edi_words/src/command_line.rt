@@ -272,12 +272,12 @@ fn file_option<'a>(alloc: Global, id: &'a str, help: &'a str) -> Arg<'a>
     Arg::new(alloc, id).long(id).value_name("FILE").help(help)
 }
 
-// The flag that asks for the last line alone.
+// The flag that asks for the text without the lines of records.
 fn brief_flag<'a>(alloc: Global) -> Arg<'a>
     ensures { rule_of result ≡ brief_rule }
 {
     Arg::new(alloc, "brief")
         .long("brief")
         .action(ArgAction::SetTrue)
-        .help("Only how many records differ")
+        .help("Leaves out the lines of records")
 }

@@ -6,18 +6,12 @@ use Rattle.std.specs.declared.cmp.Ordering.TheVariants.{Less, Equal, Greater}
 use Rattle.std.specs.Io.KnownBytes.{Appends}
 use Rattle.std.proofs.lemmas.List.Sums.{fold-append}
 use Rattle.edi_schema.specs.Classes.{Classes}
-use Rattle.edi_schema.specs.Roles.{KindCodes}
-use Rattle.edi_schema.specs.declared.fault.SchemaFault.{SchemaFault as SchemaRefusal}
-use Rattle.edi_compare.specs.Runs.{RefusesSchema, Seen, IfBothKnown, seen}
-use Rattle.edi_compare.specs.declared.fault.RunFault.{RunFault}
-use Rattle.edi_compare.specs.declared.fault.RunFault.TheVariants.{Memory, Read, TooLong, Schema, First, Second, Write}
-use Rattle.edicad.specs.Hashes.{AreAnswered, IsCutOff, IsStep, RefusesFiles, SchemaFault, Step, TriesSchema, worst_of}
+use Rattle.edi_compare.specs.Runs.{Seen, seen}
+use Rattle.edicad.specs.Hashes.{AreAnswered, IsCutOff, IsStep, Step, worst_of}
 use Rattle.edicad.specs.inner.Hashes.{StepsOn, StopsAt}
 use Rattle.edi_files.specs.Reasons.{Why, ended}
-use Rattle.edicad.specs.Outcome.{schema_text, status_of_fault, words_of_fault}
-use Rattle.edicad.specs.SheetRuns.{Inputs}
-use Rattle.edicad.specs.Statuses.{GoesOut, IsSheetStatus, Prints}
-use Rattle.edi_words.specs.declared.words.ManyFiles.{ManyFiles}
+use Rattle.edicad.specs.Effects.{Inputs}
+use Rattle.edicad.specs.Statuses.{GoesOut, IsSheetStatus}
 use Rattle.edi_explain.proofs.Zipped.{zip_push}
 
 abbrev pub paths_of : List (Bor (List ℕ)) → List (List ℕ)
@@ -114,32 +108,6 @@ module _ (inputs : Inputs) (why : Why) (s : Classes) (o p q : Option (List ℕ))
     four,
   )
 
-both_refused : (a b : Option (List ℕ)) (P Q : List ℕ → List ℕ → SchemaRefusal → Type 0) (f : SchemaRefusal) → ((x y : List ℕ) (h : SchemaRefusal) → P x y h → h ≡ f → Q x y h)
-    → IfBothKnown a b (λ x y. (h : SchemaRefusal) × P x y h × (h ≡ f)) → IfBothKnown a b (λ x y. (h : SchemaRefusal) × P x y h × Q x y h)
-both_refused None b P Q f to h = tt
-both_refused (Some x) None P Q f to h = tt
-both_refused (Some x) (Some y) P Q f to h = (h.0, h.1, to x y h.0 h.1 h.2)
-
--- a refused schema is said as its line
-pub schema_refused : (inputs : Inputs) (kinds : KindCodes) (files : ManyFiles) (out : Seen) (names : List (List ℕ)) (e : RunFault) → SchemaFault inputs kinds files e → status_of_fault e ≡ 2
-    → Prints out (ended (words_of_fault e names)) → RefusesFiles inputs kinds files (λ f. Prints out (ended (schema_text f)))
-schema_refused inputs kinds files out names e (inl missing) two line = absurd (omega (arith, ap status_of_fault missing.2, two))
-schema_refused inputs kinds files out names (Memory e) (inr h) two line = absurd (omega (arith, two))
-schema_refused inputs kinds files out names (Read n) (inr h) two line = absurd (omega (arith, two))
-schema_refused inputs kinds files out names (TooLong n) (inr h) two line = absurd (omega (arith, two))
-schema_refused inputs kinds files out names (Schema f) (inr h) two line =
-    let r = h.2 in (
-      r.0,
-      r.1,
-      r.2,
-      r.3,
-      both_refused r.0 r.1 (λ a b g. RefusesSchema kinds a b g) (λ a b g. Prints out (ended (schema_text g))) f
-          (λ a b g refused is. subst (λ g. Prints out (ended (schema_text g))) (sym is) line) r.4,
-    )
-schema_refused inputs kinds files out names (First f) (inr h) two line = absurd h.2
-schema_refused inputs kinds files out names (Second f) (inr h) two line = absurd h.2
-schema_refused inputs kinds files out names (Write w) (inr h) two line = absurd h.2
-
 picked : (a b : ℕ) (p q : Bool) → (p ≡ true → b < a) → (p ≡ false → a ≤ b) → cond (is_lt (cond p Less (cond q Equal Greater))) a b ≡ max a b
 picked a b true q less rest = omega (arith, less refl)
 picked a b false true less rest = omega (arith, rest refl)
@@ -148,8 +116,3 @@ picked a b false false less rest = omega (arith, rest refl)
 -- the greater of two numbers
 pub ord_max_is : (a b : ℕ) → ord_max nat_cmp a b ≡ max a b
 ord_max_is a b = picked a b (nat_lt b a) (b == a) (ltb-true b a) (ltb-false b a)
-
--- the files of the schema were tried
-pub schema_tried : (inputs : Inputs) (kinds : KindCodes) (files : ManyFiles) (e : RunFault) → SchemaFault inputs kinds files e → TriesSchema inputs files
-schema_tried inputs kinds files e (inl missing) = inr (missing.0, missing.1)
-schema_tried inputs kinds files e (inr h) = inl (h.0, h.1)

@@ -1,5 +1,5 @@
 -- The status of a run that reports what differs between two sheets.
-use Rattle.std.proofs.Common.{◌≡◌, ◌≢◌, ◌⊎◌, ◌<◌, ◌≤◌, ℕ, Bool, true, false, List, IsTrue, codes, refl, inl, inr, arith}
+use Rattle.std.proofs.Common.{◌≡◌, ◌≢◌, ◌⊎◌, ◌<◌, ℕ, Bool, true, false, List, codes, refl, inl, inr, arith}
 use Rattle.std.specs.Bool.{MatchBool}
 use Rattle.edi_schema.specs.Roles.{KindCodes}
 use Rattle.edi_compare.specs.declared.fault.RunFault.{RunFault}
@@ -9,10 +9,10 @@ use Rattle.edi_diff.specs.declared.differing.Difference.{Difference}
 use Rattle.edi_drawing.specs.Runs.{IsDrawnDifferenceUnder}
 use Rattle.edi_drawing.specs.declared.drawn.DrawnDifference.{DrawnDifference}
 use Rattle.edi_words.specs.declared.words.PairFiles.{PairFiles}
-use Rattle.edi_files.specs.Reasons.{Why, ended}
-use Rattle.edicad.specs.Outcome.{status_of_fault, words_of_fault}
-use Rattle.edicad.specs.SheetRuns.{Inputs, IsPictureOfPair, OfMadePair, OfPair, PairFileFault, PutPairFault, ShowsDifference}
-use Rattle.edicad.specs.Statuses.{IsDiffStatus, IsPictureStatus, IsAnsweredAs, Prints, Warns, WarnsWhy, pair_paths_of}
+use Rattle.edicad.specs.Outcome.{status_of_fault}
+use Rattle.edicad.specs.Effects.{Effects, Inputs}
+use Rattle.edicad.specs.SheetRuns.{IsPairPut, IsPairReplaced, IsPictureOfPair, OfPair, PairFileFault, PutPairFault, ShowsDifference}
+use Rattle.edicad.specs.Statuses.{Answers, IsDiffStatus, IsPictureStatus, IsSaid, IsUnsaid, pair_paths_of}
 use Rattle.edicad.specs.declared.outcome.Outcome.TheVariants as outcome
 use Rattle.edicad.proofs.Refusals.{fault_status, means_fault, not_one, pair_refused, pair_tried, known_fault}
 use Rattle.edicad.proofs.Made.{pair_map, were_four}
@@ -42,30 +42,27 @@ never_five b s (inl four) five = absurd (omega (arith, four, five))
 never_five true s (inr h) five = absurd (omega (arith, h, five))
 never_five false s (inr h) five = absurd (omega (arith, h, five))
 
-module _ (inputs : Inputs) (why : Why) (out err : Seen) (kinds : KindCodes) (files : PairFiles) (brief : Bool) (s : ℕ) where
-  pub put_status : (difference : Difference) → OfPair inputs files (λ scd dic a b. IsDifferenceUnder kinds scd dic a b brief difference)
-      → IsPutAs difference.same s → (s < 3 → Prints out difference.text.items) → (s ≡ 4 → IsTrue out.failed) → IsDiffStatus inputs why out err kinds files brief s
-  put_status difference h status written failed = record {
-    tried = inl (were_four inputs files _ h);
+module _ (run : Effects) (out err : Seen) (kinds : KindCodes) (files : PairFiles) (brief : Bool) (s : ℕ) where
+  pub put_status : (difference : Difference) → OfPair run.inputs files (λ scd dic a b. IsDifferenceUnder kinds scd dic a b brief difference)
+      → IsPutAs difference.same s → (s < 3 → Answers out err difference.text.items) → (s ≡ 4 → IsUnsaid out err) → IsDiffStatus run out err kinds files brief s
+  put_status difference h status written unsaid = record {
+    tried = inl (were_four run.inputs files _ h);
     different = λ one. (difference, h, other_of_one difference.same s status one, written (omega (arith, one)));
     means = record {
       done = λ zero. (difference, h, same_of_zero difference.same s status zero, written (omega (arith, zero)));
       refused = λ two. absurd (never_two difference.same s status two);
-      failed = λ four. inl (failed four);
+      failed = λ four. inl (unsaid four);
       memory = λ five. absurd (never_five difference.same s status five);
     };
   }
 
-  pub unanswered_status : (e : RunFault) → PairFileFault inputs kinds files (λ _. ⊥) e
-      → IsAnsweredAs (status_of_fault e) s → (s < 3 → Prints out (ended (words_of_fault e (pair_paths_of files (codes "-"))))) → (status_of_fault e < 3 → s ≡ 4 → IsTrue out.failed)
-      → (3 ≤ status_of_fault e → s ≡ 4 → WarnsWhy why err (outcome.Fault e) (pair_paths_of files (codes "-"))) → (s ≡ 5 → Warns err (ended (codes "out of memory")))
-      → IsDiffStatus inputs why out err kinds files brief s
-  unanswered_status e h contents line stopped warned memory = record {
-    tried = pair_tried inputs kinds files (λ _. ⊥) e h;
-    different = λ one. absurd (not_one s (known_fault (status_of_fault e) s (fault_status e) contents) one);
-    means = means_fault _ _ _ why (pair_paths_of files (codes "-")) out err s e (λ big four. h)
-        (λ is two. pair_refused out kinds (pair_paths_of files (codes "-")) refl inputs files (λ _. ⊥) e h is (line (omega (arith, two)))) contents
-        stopped warned memory;
+  pub unanswered_status : (e : RunFault) → PairFileFault run.inputs kinds files (λ _. ⊥) e
+      → IsSaid run.why out err (outcome.Fault e) (pair_paths_of files (codes "-")) s → IsDiffStatus run out err kinds files brief s
+  unanswered_status e h said = record {
+    tried = pair_tried run.inputs kinds files (λ _. ⊥) e h;
+    different = λ one. absurd (not_one s (known_fault (status_of_fault e) s (fault_status e) said.status) one);
+    means = means_fault _ _ _ run.why (pair_paths_of files (codes "-")) out err s e (λ silent. (h, silent))
+        (λ is line. pair_refused (Answers out err) kinds (pair_paths_of files (codes "-")) refl run.inputs files (λ _. ⊥) e h is line) said;
   }
 
 -- a picture that was drawn shows what differs
@@ -79,30 +76,28 @@ pub shown_of_some : (inputs : Inputs) (kinds : KindCodes) (files : PairFiles) (b
 shown_of_some inputs kinds files brief difference bytes h = pair_map inputs files _ _ (λ s d a b shows. (difference, shows)) h
 
 -- the same with a picture that is put
-module _ (inputs : Inputs) (is_one : List ℕ → List ℕ → Bool → Type 0) (why : Why) (out err : Seen) (kinds : KindCodes) (files : PairFiles) (brief : Bool) (path : List ℕ)
-    (Puts : List ℕ → Type 0) (Stops : ℕ → List ℕ → Type 0) (s : ℕ) where
-  pub drawn_status : (difference : Difference) → OfMadePair inputs (ShowsDifference kinds brief difference) files Puts
-      → IsPutAs difference.same s → (s < 3 → Prints out difference.text.items) → (s ≡ 4 → IsTrue out.failed)
-      → IsPictureStatus inputs is_one why out err kinds files brief path Puts Stops s
-  drawn_status difference h status written failed = record {
-    tried = inr (inl (were_four inputs files _ h));
+module _ (run : Effects) (out err : Seen) (kinds : KindCodes) (files : PairFiles) (brief : Bool) (path : List ℕ) (s : ℕ)
+    (replaced : IsPairReplaced run (IsPictureOfPair kinds brief) files path) where
+  pub drawn_status : (difference : Difference) → IsPairPut run (ShowsDifference kinds brief difference) files path
+      → IsPutAs difference.same s → (s < 3 → Answers out err difference.text.items) → (s ≡ 4 → IsUnsaid out err) → IsPictureStatus run out err kinds files brief path s
+  drawn_status difference h status written unsaid = record {
+    tried = inr (inl (were_four run.inputs files _ h.1));
     different = λ one. (difference, h, other_of_one difference.same s status one, written (omega (arith, one)));
     means = record {
       done = λ zero. (difference, h, same_of_zero difference.same s status zero, written (omega (arith, zero)));
       refused = λ two. absurd (never_two difference.same s status two);
-      failed = λ four. inl (failed four);
+      failed = λ four. inl (unsaid four);
       memory = λ five. absurd (never_five difference.same s status five);
     };
+    replaced = replaced;
   }
 
-  pub undrawn_status : (e : RunFault) → PutPairFault inputs is_one kinds files path (λ count. OfMadePair inputs (IsPictureOfPair kinds brief) files (Stops count)) e
-      → IsAnsweredAs (status_of_fault e) s → (s < 3 → Prints out (ended (words_of_fault e (pair_paths_of files path)))) → (status_of_fault e < 3 → s ≡ 4 → IsTrue out.failed)
-      → (3 ≤ status_of_fault e → s ≡ 4 → WarnsWhy why err (outcome.Fault e) (pair_paths_of files path)) → (s ≡ 5 → Warns err (ended (codes "out of memory")))
-      → IsPictureStatus inputs is_one why out err kinds files brief path Puts Stops s
-  undrawn_status e h contents line stopped warned memory = record {
-    tried = put_pair_tried inputs is_one kinds files path _ e h;
-    different = λ one. absurd (not_one s (known_fault (status_of_fault e) s (fault_status e) contents) one);
-    means = means_fault _ _ _ why (pair_paths_of files path) out err s e (λ big four. h)
-        (λ is two. put_pair_refused inputs is_one kinds files path _ out e h is (line (omega (arith, two)))) contents
-        stopped warned memory;
+  pub undrawn_status : (e : RunFault) → PutPairFault run (IsPictureOfPair kinds brief) kinds files path e
+      → IsSaid run.why out err (outcome.Fault e) (pair_paths_of files path) s → IsPictureStatus run out err kinds files brief path s
+  undrawn_status e h said = record {
+    tried = put_pair_tried run _ kinds files path e h;
+    different = λ one. absurd (not_one s (known_fault (status_of_fault e) s (fault_status e) said.status) one);
+    means = means_fault _ _ _ run.why (pair_paths_of files path) out err s e (λ silent. (h, silent))
+        (λ is line. put_pair_refused run _ kinds files path (Answers out err) e h is line) said;
+    replaced = replaced;
   }

@@ -6,12 +6,17 @@ use Rattle.edi_compare.specs.declared.fault.RunFault.TheVariants.{Memory, Read, 
 use Rattle.edi_compare.specs.Runs.{ComparingFault, FilesFault, IsTooLong, Untouched, OfInput, OfInputOfFour, OfThree, Seen, IfBothKnown, IfFourKnown, IfThreeKnown}
 use Rattle.edi_words.specs.declared.words.PairFiles.{PairFiles}
 use Rattle.edi_words.specs.declared.words.SheetFiles.{SheetFiles}
-use Rattle.edicad.specs.SheetRuns.{FileFault, Gives, HoldsTooMuch, Inputs, PairFileFault, pair_path_at, path_at}
+use Rattle.edicad.specs.Effects.{Inputs}
+use Rattle.edicad.specs.SheetRuns.{FileFault, Gives, HoldsTooMuch, PairFileFault, pair_path_at, path_at}
 
 -- what follows from each error holds of the result
 pub if_err_map : {T E : Type 0} (r : Result T E) (P Q : E → Type 0) → ((e : E) → P e → Q e) → IfErr r P → IfErr r Q
 if_err_map (Ok v) P Q f h = tt
 if_err_map (Err e) P Q f h = f e h
+
+pub if_err_both : {T E : Type 0} (r : Result T E) (P Q R : E → Type 0) → ((e : E) → P e → Q e → R e) → IfErr r P → IfErr r Q → IfErr r R
+if_err_both (Ok v) P Q R f h k = tt
+if_err_both (Err e) P Q R f h k = f e h k
 
 -- a fact of one of three inputs
 of_three : (n : ℕ) (A B P Q R C : Type 0) → (P → C) → (Q → C) → (R → C) → OfThree n A B P Q R → C

@@ -4,13 +4,14 @@ use Rattle.edi_schema.specs.Roles.{KindCodes}
 use Rattle.edi_compare.specs.Bundle.{OfParts}
 use Rattle.edi_compare.specs.declared.fault.RunFault.{RunFault}
 use Rattle.edi_compare.specs.declared.fault.RunFault.TheVariants.{Memory, Read, TooLong, Schema, First, Second, Write}
-use Rattle.edi_compare.specs.Runs.{MatchFault, IfFourKnown, IfThreeKnown}
+use Rattle.edi_compare.specs.Runs.{BeforeWriting, MatchFault, IfFourKnown, IfThreeKnown}
 use Rattle.edi_words.specs.declared.words.PairFiles.{PairFiles}
 use Rattle.edi_words.specs.declared.words.SheetFiles.{SheetFiles}
 use Rattle.edi_files.specs.Folders.{Leavings}
 use Rattle.edi_files.specs.Outputs.{IsWholeOrNew}
 use Rattle.edi_files.specs.declared.product.Product.{Product}
-use Rattle.edicad.specs.SheetRuns.{AreFourThere, AreThere, FileFault, Inputs, IsMadeOf, OfFiles, OfMade, OfMadePair, OfPair, PairFileFault}
+use Rattle.edicad.specs.Effects.{Inputs}
+use Rattle.edicad.specs.SheetRuns.{AreFourThere, AreThere, FileFault, IsMadeOf, OfFiles, OfMade, OfMadePair, OfPair, PairFileFault}
 
 pub on_ok_map : {T E : Type 0} (r : Result T E) (P Q : Type 0) → (P → Q) → OnOk r P → OnOk r Q
 on_ok_map (Ok v) P Q f h = f h
@@ -41,6 +42,16 @@ four_known_map a b c (Some w) P Q f h = known_map a b c _ _ (λ s t u. f s t u w
 pub pair_map : (inputs : Inputs) (files : PairFiles) (P Q : List ℕ → List ℕ → List ℕ → List ℕ → Type 0) → ((s d a b : List ℕ) → P s d a b → Q s d a b)
     → OfPair inputs files P → OfPair inputs files Q
 pair_map inputs files P Q f h = (h.0, h.1, h.2, h.3, h.4, h.5, h.6, h.7, four_known_map h.0 h.1 h.2 h.3 P Q f h.8)
+
+-- what holds anyway holds before writing
+pub before_writing : (e : RunFault) (P : Type 0) → P → BeforeWriting e P
+before_writing (Memory e) P h = h
+before_writing (Read n) P h = h
+before_writing (TooLong n) P h = h
+before_writing (Schema f) P h = h
+before_writing (First f) P h = h
+before_writing (Second f) P h = h
+before_writing (Write w) P h = tt
 
 -- the files were there
 pub were_there : (inputs : Inputs) (files : SheetFiles) (P : List ℕ → List ℕ → List ℕ → Type 0) → OfFiles inputs files P → AreThere inputs files

@@ -6,18 +6,21 @@ use Rattle.edi_compare.specs.declared.fault.RunFault.{RunFault}
 use Rattle.edi_compare.specs.declared.fault.RunFault.TheVariants.{Memory, Read, TooLong, Schema, First, Second, Write}
 use Rattle.edi_compare.specs.declared.pairing.Verdict.TheVariants.{Different}
 use Rattle.edi_compare.specs.Runs.{IsTooLong, IsVerdictOf, Seen}
+use Rattle.edi_pairing.specs.CompareRuns.{IsPairingFileOf}
 use Rattle.edi_pairing.specs.VerifyRuns.{VerifyInputs as Five, IsVerifiedUnder, UntouchedByVerify, MatchRun, OfVerifyInput, RefusesFile, VerifyingFault}
 use Rattle.edi_pairing.specs.declared.fault.VerifyRunFault.{VerifyRunFault}
 use Rattle.edi_pairing.specs.declared.fault.VerifyRunFault.TheVariants.{Run, Pairing as OfPairingFile}
 use Rattle.edi_words.specs.declared.words.PairFiles.{PairFiles}
-use Rattle.edi_files.specs.Reasons.{Why, ended}
-use Rattle.edicad.specs.Outcome.{FaultHasNames, HasNames, status_for, status_of_fault, words_for, words_of_fault}
+use Rattle.edi_files.specs.Reasons.{ended}
+use Rattle.edicad.specs.Outcome.{FaultHasNames, HasNames, status_of_fault, words_of_fault}
 use Rattle.edicad.specs.inner.Outcome.{paired_outcome, verified_outcome}
-use Rattle.edicad.specs.SheetRuns.{AreFiveThere, AreFourThere, FirstOfFiveMissing, FirstOfFourMissing, Gives, HoldsTooMuch, Inputs, IsNoPairInput, IsPairInput, OfFive, OfPair, OfPairing, PairFileFault, PutPairFault, VerifyFileFault, verify_path_at}
-use Rattle.edicad.specs.Statuses.{IsPairingStatus, IsAnsweredAs, IsVerifyStatus, Prints, SaysPairRefusal, SaysVerifyRefusal, Warns, WarnsWhy, pair_paths_of, verify_paths_of}
+use Rattle.edicad.specs.Effects.{Effects, Inputs}
+use Rattle.edicad.specs.SheetRuns.{AreFiveThere, FirstOfFiveMissing, Gives, HoldsTooMuch, IsNoPairInput, IsPairInput, IsPairPut, IsPairReplaced, OfFive, OfPair, PairFileFault, PutPairFault, VerifyFileFault, verify_path_at}
+use Rattle.edicad.specs.Statuses.{Answers, AreFourTried, IsAnsweredAs, IsPairingStatus, IsSaid, IsVerifyStatus, SaysPairRefusal, SaysVerifyRefusal, pair_paths_of, verify_paths_of}
 use Rattle.edicad.proofs.Made.{were_four}
 use Rattle.edicad.proofs.Faults.{if_err_map, both_of_four, three_of_four}
-use Rattle.edicad.proofs.Refusals.{fault_status, match_refused, means_answer, means_fault, not_one, not_one_of_zero, not_zero_of_one, pair_refused, pair_tried, known_fault}
+use Rattle.edicad.specs.declared.outcome.Outcome.TheVariants as outcome
+use Rattle.edicad.proofs.Refusals.{fault_status, known_fault, match_refused, means_answer, means_fault, not_one, not_one_of_zero, not_zero_of_one, pair_refused, pair_tried, unwritten}
 
 -- ---- a pairing, put at a path
 
@@ -38,44 +41,43 @@ paired_names (Ok None) names five h = tt
 paired_names (Ok (Some line)) names five h = tt
 paired_names (Err e) names five h = subst (FaultHasNames e) (sym five) h
 
-pub put_pair_tried : (inputs : Inputs) (is_one : List ℕ → List ℕ → Bool → Type 0) (kinds : KindCodes) (files : PairFiles) (path : List ℕ) (W : ℕ → Type 0) (e : RunFault)
-    → PutPairFault inputs is_one kinds files path W e → IsPairInput is_one files path ⊎ (AreFourThere inputs files ⊎ ((n : ℕ) × FirstOfFourMissing inputs files n))
-put_pair_tried inputs is_one kinds files path W e (inl input) = inl input.0
-put_pair_tried inputs is_one kinds files path W e (inr h) = inr (pair_tried inputs kinds files W e h.1)
+pub put_pair_tried : (run : Effects) (IsMade : List ℕ → List ℕ → List ℕ → List ℕ → List ℕ → Type 0) (kinds : KindCodes) (files : PairFiles) (path : List ℕ) (e : RunFault)
+    → PutPairFault run IsMade kinds files path e → IsPairInput run.is_one files path ⊎ AreFourTried run.inputs files
+put_pair_tried run IsMade kinds files path e (inl input) = inl input.0
+put_pair_tried run IsMade kinds files path e (inr h) = inr (pair_tried run.inputs kinds files _ e h.1)
 
-pub put_pair_refused : (inputs : Inputs) (is_one : List ℕ → List ℕ → Bool → Type 0) (kinds : KindCodes) (files : PairFiles) (path : List ℕ) (W : ℕ → Type 0) (out : Seen) (e : RunFault)
-    → PutPairFault inputs is_one kinds files path W e → status_of_fault e ≡ 2 → Prints out (ended (words_of_fault e (pair_paths_of files path)))
-    → OfPair inputs files (SaysPairRefusal out kinds)
-put_pair_refused inputs is_one kinds files path W out e (inl input) two line = absurd (omega (arith, ap status_of_fault input.1, two))
-put_pair_refused inputs is_one kinds files path W out e (inr h) two line = pair_refused out kinds (pair_paths_of files path) refl inputs files W e h.1 two line
+pub put_pair_refused : (run : Effects) (IsMade : List ℕ → List ℕ → List ℕ → List ℕ → List ℕ → Type 0) (kinds : KindCodes) (files : PairFiles) (path : List ℕ)
+    (Says : List ℕ → Type 0) (e : RunFault) → PutPairFault run IsMade kinds files path e → status_of_fault e ≡ 2 → Says (ended (words_of_fault e (pair_paths_of files path)))
+    → OfPair run.inputs files (SaysPairRefusal Says kinds) × run.untouched
+put_pair_refused run IsMade kinds files path Says e (inl input) two line = absurd (omega (arith, ap status_of_fault input.1, two))
+put_pair_refused run IsMade kinds files path Says e (inr h) two line =
+    (pair_refused Says kinds (pair_paths_of files path) refl run.inputs files _ e h.1 two line, unwritten e _ h.2 two)
 
 -- the status of a comparison to a pairing's file
-module _ (inputs : Inputs) (is_one : List ℕ → List ℕ → Bool → Type 0) (why : Why) (out err : Seen) (kinds : KindCodes) (files : PairFiles) (path : List ℕ)
-    (Puts : List ℕ → Type 0) (Stops : ℕ → List ℕ → Type 0) (Untouched : Type 0) (s : ℕ) where
+module _ (run : Effects) (out err : Seen) (kinds : KindCodes) (files : PairFiles) (path : List ℕ) (s : ℕ) where
   pub pairing_status : (r : Result (Option ℕ) RunFault)
-      → IfOk r (λ line. IsNoPairInput is_one files path × MatchOption line (OfPairing inputs kinds files Puts)
-      (λ at. OfPair inputs files (λ scd dic a b. IsVerdictOf kinds scd dic a b (Different at)) × Untouched))
-      → IfErr r (PutPairFault inputs is_one kinds files path (λ count. OfPairing inputs kinds files (Stops count)))
-      → IsAnsweredAs (status_for (paired_outcome r)) s
-      → (s < 3 → Prints out (ended (words_for (paired_outcome r) (pair_paths_of files path)))) → (status_for (paired_outcome r) < 3 → s ≡ 4 → IsTrue out.failed)
-      → (3 ≤ status_for (paired_outcome r) → s ≡ 4 → WarnsWhy why err (paired_outcome r) (pair_paths_of files path)) → (s ≡ 5 → Warns err (ended (codes "out of memory")))
-      → IsPairingStatus inputs is_one why out err kinds files path Puts Stops s
-  pairing_status (Ok None) h fault contents line stopped warned memory = record {
-    tried = inr (inl (were_four inputs files _ h.1));
-    different = λ one. absurd (not_one_of_zero s one contents);
-    means = means_answer _ _ _ why (pair_paths_of files path) out err s 0 (omega arith) (λ zero. (h.1, line (omega (arith, zero)))) contents stopped memory;
+      → IfOk r (λ line. MatchOption line (IsPairPut run (IsPairingFileOf kinds) files path)
+      (λ at. OfPair run.inputs files (λ scd dic a b. IsVerdictOf kinds scd dic a b (Different at)) × IsNoPairInput run.is_one files path × run.untouched))
+      → IfErr r (PutPairFault run (IsPairingFileOf kinds) kinds files path) → IsPairReplaced run (IsPairingFileOf kinds) files path
+      → IsSaid run.why out err (paired_outcome r) (pair_paths_of files path) s → IsPairingStatus run out err kinds files path s
+  pairing_status (Ok None) h fault replaced said = record {
+    tried = inr (inl (were_four run.inputs files _ h.1));
+    different = λ one. absurd (not_one_of_zero s one said.status);
+    means = means_answer _ _ _ run.why (pair_paths_of files path) out err s outcome.Same (omega arith) (λ zero. (h, said.answer (omega (arith, zero)))) said;
+    replaced = replaced;
   }
-  pairing_status (Ok (Some at)) h fault contents line stopped warned memory = record {
-    tried = inr (inl (were_four inputs files _ h.1.0));
-    different = λ one. (at, h.1.0, line (omega (arith, one)));
-    means = means_answer _ _ _ why (pair_paths_of files path) out err s 1 (omega arith) (λ zero. absurd (not_zero_of_one s zero contents)) contents stopped memory;
+  pairing_status (Ok (Some at)) h fault replaced said = record {
+    tried = inr (inl (were_four run.inputs files _ h.0));
+    different = λ one. ((at, h.0, said.answer (omega (arith, one))), h.2);
+    means = means_answer _ _ _ run.why (pair_paths_of files path) out err s (outcome.Different at) (omega arith) (λ zero. absurd (not_zero_of_one s zero said.status)) said;
+    replaced = replaced;
   }
-  pairing_status (Err e) ok h contents line stopped warned memory = record {
-    tried = put_pair_tried inputs is_one kinds files path _ e h;
-    different = λ one. absurd (not_one s (known_fault (status_of_fault e) s (fault_status e) contents) one);
-    means = means_fault _ _ _ why (pair_paths_of files path) out err s e (λ big four. h)
-        (λ is two. put_pair_refused inputs is_one kinds files path _ out e h is (line (omega (arith, two)))) contents
-        stopped warned memory;
+  pairing_status (Err e) ok h replaced said = record {
+    tried = put_pair_tried run _ kinds files path e h;
+    different = λ one. absurd (not_one s (known_fault (status_of_fault e) s (fault_status e) said.status) one);
+    means = means_fault _ _ _ run.why (pair_paths_of files path) out err s e (λ silent. (h, silent))
+        (λ is line. put_pair_refused run _ kinds files path (Answers out err) e h is line) said;
+    replaced = replaced;
   }
 
 -- ---- a pairing's file, checked
@@ -175,14 +177,15 @@ verify_tried : (inputs : Inputs) (kinds : KindCodes) (files : PairFiles) (pairin
 verify_tried inputs kinds files pairing e (inl missing) = inr (missing.0, missing.1)
 verify_tried inputs kinds files pairing e (inr h) = inl h.0
 
-verify_refused : (inputs : Inputs) (kinds : KindCodes) (files : PairFiles) (pairing : List ℕ) (out : Seen) (e : RunFault) → VerifyFileFault inputs kinds files pairing e
-    → status_of_fault e ≡ 2 → Prints out (ended (words_of_fault e (verify_paths_of files pairing))) → SaysVerifyRefusal inputs out kinds files pairing
-verify_refused inputs kinds files pairing out e (inl missing) two line = absurd (omega (arith, ap status_of_fault missing.2, two))
-verify_refused inputs kinds files pairing out e (inr h) two line = inl (match_refused out kinds (verify_paths_of files pairing) refl inputs files _ _ (λ _. ⊥) e h.1 two line)
+verify_refused : (inputs : Inputs) (kinds : KindCodes) (files : PairFiles) (pairing : List ℕ) (out err : Seen) (e : RunFault) → VerifyFileFault inputs kinds files pairing e
+    → status_of_fault e ≡ 2 → Answers out err (ended (words_of_fault e (verify_paths_of files pairing))) → SaysVerifyRefusal inputs out err kinds files pairing
+verify_refused inputs kinds files pairing out err e (inl missing) two line = absurd (omega (arith, ap status_of_fault missing.2, two))
+verify_refused inputs kinds files pairing out err e (inr h) two line =
+    inl (match_refused (Answers out err) kinds (verify_paths_of files pairing) refl inputs files _ _ (λ _. ⊥) e h.1 two line)
 
 -- the status of a pairing's check
-module _ (inputs : Inputs) (why : Why) (out err : Seen) (kinds : KindCodes) (files : PairFiles) (pairing : List ℕ) (s : ℕ) where
-  were_five : (P : List ℕ → List ℕ → List ℕ → List ℕ → List ℕ → Type 0) → OfFive inputs files pairing P → AreFiveThere inputs files pairing
+module _ (run : Effects) (out err : Seen) (kinds : KindCodes) (files : PairFiles) (pairing : List ℕ) (s : ℕ) where
+  were_five : (P : List ℕ → List ℕ → List ℕ → List ℕ → List ℕ → Type 0) → OfFive run.inputs files pairing P → AreFiveThere run.inputs files pairing
   were_five P h = (((h.0, h.5), (h.1, h.6), (h.2, h.7), (h.3, h.8)), (h.4, h.9))
 
   not_small_of_two : s < 2 → IsAnsweredAs 2 s → ⊥
@@ -190,36 +193,32 @@ module _ (inputs : Inputs) (why : Why) (out err : Seen) (kinds : KindCodes) (fil
   not_small_of_two small (inr (inl e)) = absurd (omega (arith, e, small))
   not_small_of_two small (inr (inr e)) = absurd (omega (arith, e.1, small))
 
-  pub verify_status : (r : Result Bool VerifyRunFault) → IfOk r (λ answer. OfFive inputs files pairing (λ scd dic a b f. IsVerifiedUnder kinds scd dic a b f answer))
-      → IfErr r (λ e. MatchRun e (VerifyFileFault inputs kinds files pairing) (λ at. OfFive inputs files pairing (λ s d a b f. RefusesFile kinds s d a b f at)))
-      → IsAnsweredAs (status_for (verified_outcome r)) s
-      → (s < 3 → Prints out (ended (words_for (verified_outcome r) (verify_paths_of files pairing)))) → (status_for (verified_outcome r) < 3 → s ≡ 4 → IsTrue out.failed)
-      → (3 ≤ status_for (verified_outcome r) → s ≡ 4 → WarnsWhy why err (verified_outcome r) (verify_paths_of files pairing)) → (s ≡ 5 → Warns err (ended (codes "out of memory")))
-      → IsVerifyStatus inputs why out err kinds files pairing s
-  verify_status (Ok true) h fault contents line stopped warned memory = record {
+  pub verify_status : (r : Result Bool VerifyRunFault) → IfOk r (λ answer. OfFive run.inputs files pairing (λ scd dic a b f. IsVerifiedUnder kinds scd dic a b f answer))
+      → IfErr r (λ e. MatchRun e (VerifyFileFault run.inputs kinds files pairing) (λ at. OfFive run.inputs files pairing (λ s d a b f. RefusesFile kinds s d a b f at)))
+      → IsSaid run.why out err (verified_outcome r) (verify_paths_of files pairing) s → IsVerifyStatus run out err kinds files pairing s
+  verify_status (Ok true) h fault said = record {
     tried = inl (were_five _ h);
-    unpaired = λ one. absurd (not_one_of_zero s one contents);
-    means = means_answer _ _ _ why (verify_paths_of files pairing) out err s 0 (omega arith) (λ zero. (h, line (omega (arith, zero)))) contents stopped memory;
+    unpaired = λ one. absurd (not_one_of_zero s one said.status);
+    means = means_answer _ _ _ run.why (verify_paths_of files pairing) out err s outcome.Pairs (omega arith) (λ zero. (h, said.answer (omega (arith, zero)))) said;
   }
-  verify_status (Ok false) h fault contents line stopped warned memory = record {
+  verify_status (Ok false) h fault said = record {
     tried = inl (were_five _ h);
-    unpaired = λ one. (h, line (omega (arith, one)));
-    means = means_answer _ _ _ why (verify_paths_of files pairing) out err s 1 (omega arith) (λ zero. absurd (not_zero_of_one s zero contents)) contents stopped memory;
+    unpaired = λ one. (h, said.answer (omega (arith, one)));
+    means = means_answer _ _ _ run.why (verify_paths_of files pairing) out err s outcome.Unpaired (omega arith) (λ zero. absurd (not_zero_of_one s zero said.status)) said;
   }
-  verify_status (Err (Run e)) ok h contents line stopped warned memory = record {
-    tried = verify_tried inputs kinds files pairing e h;
-    unpaired = λ one. absurd (not_one s (known_fault (status_of_fault e) s (fault_status e) contents) one);
-    means = means_fault _ _ _ why (verify_paths_of files pairing) out err s e (λ big four. h)
-        (λ is two. verify_refused inputs kinds files pairing out e h is (line (omega (arith, two)))) contents
-        stopped warned memory;
+  verify_status (Err (Run e)) ok h said = record {
+    tried = verify_tried run.inputs kinds files pairing e h;
+    unpaired = λ one. absurd (not_one s (known_fault (status_of_fault e) s (fault_status e) said.status) one);
+    means = means_fault _ _ _ run.why (verify_paths_of files pairing) out err s e (λ silent. (h, silent))
+        (λ is line. verify_refused run.inputs kinds files pairing out err e h is line) said;
   }
-  verify_status (Err (OfPairingFile at)) ok h contents line stopped warned memory = record {
+  verify_status (Err (OfPairingFile at)) ok h said = record {
     tried = inl (were_five _ h);
-    unpaired = λ one. absurd (not_small_of_two (omega (arith, one)) contents);
+    unpaired = λ one. absurd (not_small_of_two (omega (arith, one)) said.status);
     means = record {
-      done = λ zero. absurd (not_small_of_two (omega (arith, zero)) contents);
-      refused = λ two. inr (at, h, line (omega (arith, two)));
-      failed = λ four. inl (stopped (omega arith) four);
-      memory = memory;
+      done = λ zero. absurd (not_small_of_two (omega (arith, zero)) said.status);
+      refused = λ two. inr (at, h, said.answer (omega (arith, two)));
+      failed = λ four. inl (said.unsaid (omega arith) four);
+      memory = said.memory;
     };
   }

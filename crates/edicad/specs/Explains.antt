@@ -1,5 +1,5 @@
 -- What is said of a sheet and of a rule.
-use Rattle.std.specs.Prelude.{◌≡◌, ◌⊎◌, ◌++◌, ℕ, List, [], IsTrue, codes}
+use Rattle.std.specs.Prelude.{◌≡◌, ◌⊎◌, ◌++◌, ℕ, List, [], codes}
 use Rattle.edi_schema.specs.Classes.{Classes}
 use Rattle.edi_schema.specs.Roles.{KindCodes}
 use Rattle.edi_schema.specs.SchemaRefusal.{IsGoodSchema}
@@ -15,10 +15,11 @@ use Rattle.edi_explain.specs.Hints.{AreHintsOfSheet}
 use Rattle.edi_explain.specs.Skipped.{DescribesSkipped}
 use Rattle.edi_explain.specs.declared.text.RuleText.{RuleText}
 use Rattle.edi_words.specs.declared.words.SheetFiles.{SheetFiles}
-use Rattle.edi_files.specs.Reasons.{Why, ended}
+use Rattle.edi_files.specs.Reasons.{ended}
 use Rattle.edicad.specs.Outcome.{input_name, schema_text, sheet_text}
-use Rattle.edicad.specs.SheetRuns.{FileFault, Inputs, OfFiles}
-use Rattle.edicad.specs.Statuses.{AreTried, MeansStatus, Prints, Warns, paths_of}
+use Rattle.edicad.specs.Effects.{Effects}
+use Rattle.edicad.specs.SheetRuns.{FileFault, OfFiles}
+use Rattle.edicad.specs.Statuses.{Answers, AreTried, Complains, IsUnsaid, LacksMemory, MeansStatus, Prints, paths_of}
 
 -- an accepted sheet: that it is accepted, and the lines on its plan
 abbrev pub TellsPlan : KindCodes → List ℕ → List ℕ → List ℕ → List ℕ → Type 0
@@ -52,15 +53,15 @@ abbrev pub TellsRefusal : KindCodes → SheetFiles → List ℕ → List ℕ →
 TellsRefusal kinds files scd dic b text = (cause hints : List ℕ) × TellsCause kinds files scd dic b cause × GiveHints files scd dic b hints × (text ≡ cause ++ hints)
 
 -- The status of a run that explains a sheet, as that of a check; the output gets the check's line and what explains it.
-pub record IsExplainStatus (inputs : Inputs) (why : Why) (out err : Seen) (kinds : KindCodes) (files : SheetFiles) (s : ℕ) : Type 0 where
-  pub tried : AreTried inputs files
-  pub means : MeansStatus (OfFiles inputs files (λ scd dic b. (text : List ℕ) × TellsAccepted kinds scd dic b text × Prints out text))
-      (OfFiles inputs files (λ scd dic b. (text : List ℕ) × TellsRefusal kinds files scd dic b text × Prints out text))
-      (FileFault inputs kinds files (λ _. ⊥)) why (paths_of files (codes "-")) out err s
+pub record IsExplainStatus (run : Effects) (out err : Seen) (kinds : KindCodes) (files : SheetFiles) (s : ℕ) : Type 0 where
+  pub tried : AreTried run.inputs files
+  pub means : MeansStatus (OfFiles run.inputs files (λ scd dic b. (text : List ℕ) × TellsAccepted kinds scd dic b text × Answers out err text))
+      (OfFiles run.inputs files (λ scd dic b. (text : List ℕ) × TellsRefusal kinds files scd dic b text × Answers out err text))
+      (λ e. FileFault run.inputs kinds files (λ _. ⊥) e × Prints out []) run.why (paths_of files (codes "-")) out err s
 
 -- The status of a run that explains a rule: 0 only where its page went out, 3 only where the word is no rule's number.
 pub record IsRuleStatus (out err : Seen) (word : List ℕ) (s : ℕ) : Type 0 where
-  pub done : s ≡ 0 → (text : RuleText) × IsRuleWord word text.rule × Prints out (rule_page text)
-  pub unknown : s ≡ 3 → ((rule : ℕ) → ¬ IsRuleWord word rule) × Warns err (ended (codes "no rule has this number"))
-  pub failed : s ≡ 4 → IsTrue out.failed
-  pub memory : s ≡ 5 → Warns err (ended (codes "out of memory"))
+  pub done : s ≡ 0 → (text : RuleText) × IsRuleWord word text.rule × Answers out err (rule_page text)
+  pub unknown : s ≡ 3 → ((rule : ℕ) → ¬ IsRuleWord word rule) × Complains out err (ended (codes "no rule has this number"))
+  pub failed : s ≡ 4 → IsUnsaid out err
+  pub memory : s ≡ 5 → LacksMemory err

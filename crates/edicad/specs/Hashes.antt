@@ -9,19 +9,22 @@ use Rattle.edi_schema.specs.Classes.{Classes, IsSchema}
 use Rattle.edi_schema.specs.Roles.{KindCodes}
 use Rattle.edi_schema.specs.SchemaRefusal.{IsGoodSchema}
 use Rattle.edi_schema.specs.declared.fault.SchemaFault.{SchemaFault as SchemaRefusal}
+use Rattle.edi_schema.specs.declared.fault.SchemaFault.TheVariants as schema
+use Rattle.edi_schema.specs.declared.fault.Source.TheVariants.{Scd, Dic}
 use Rattle.edi_compare.specs.Headline.{IsFormOf}
 use Rattle.edi_compare.specs.PlanOfFile.{StateSame}
 use Rattle.edi_compare.specs.Refused.{IsProper, IsRefusal}
 use Rattle.edi_compare.specs.Runs.{MatchFault, RefusesSchema, Seen, IfBothKnown}
 use Rattle.edi_compare.specs.Under.{OfTwo}
 use Rattle.edi_compare.specs.declared.fault.RunFault.{RunFault}
-use Rattle.edi_compare.specs.declared.fault.RunFault.TheVariants.{Read}
+use Rattle.edi_compare.specs.declared.fault.RunFault.TheVariants.{Memory, Read, TooLong, Schema, First, Second, Write}
 use Rattle.edi_files.specs.Reasons.{Why, ended, reason_line}
 use Rattle.edi_files.specs.declared.reason.Reason.{Reason}
-use Rattle.edicad.specs.Outcome.{schema_text, sheet_fault_text, status_of_fault}
+use Rattle.edicad.specs.Outcome.{sheet_fault_text, status_of_fault}
 use Rattle.edicad.specs.Reasons.{IsReasonOf}
-use Rattle.edicad.specs.SheetRuns.{Gives, HoldsTooMuch, Inputs, IsMissing, IsThere}
-use Rattle.edicad.specs.Statuses.{MeansStatus, Prints, Warns}
+use Rattle.edicad.specs.Effects.{Effects, Inputs}
+use Rattle.edicad.specs.SheetRuns.{Gives, HoldsTooMuch, IsMissing, IsThere}
+use Rattle.edicad.specs.Statuses.{LacksMemory, Prints, Warns}
 use Rattle.edi_words.specs.declared.words.ManyFiles.{ManyFiles}
 
 -- the digest of the canonical file of the sheet b
@@ -142,34 +145,50 @@ abbrev pub schema_path_at : ManyFiles → ℕ → List ℕ
 schema_path_at files n = if n == 1 then files.scd.now else files.dic.now
 
 -- the two files of the schema, where their contents are known, are refused
-abbrev pub RefusesFiles : Inputs → KindCodes → ManyFiles → (SchemaRefusal → Type 0) → Type 0
-RefusesFiles inputs kinds files P = (scd dic : Option (List ℕ)) × Gives inputs files.scd.now scd × Gives inputs files.dic.now dic
-    × IfBothKnown scd dic (λ a b. (f : SchemaRefusal) × RefusesSchema kinds a b f × P f)
+abbrev pub RefusesFiles : Inputs → KindCodes → ManyFiles → SchemaRefusal → Type 0
+RefusesFiles inputs kinds files f = (scd dic : Option (List ℕ)) × Gives inputs files.scd.now scd × Gives inputs files.dic.now dic
+    × IfBothKnown scd dic (λ a b. RefusesSchema kinds a b f)
 
 -- Why there is no schema. One of the two files is missing; or both were opened, and one failed or is too long, or the
 -- schema is refused.
-abbrev pub SchemaFault : Inputs → KindCodes → ManyFiles → RunFault → Type 0
-SchemaFault inputs kinds files e =
+abbrev pub LoadFault : Inputs → KindCodes → ManyFiles → RunFault → Type 0
+LoadFault inputs kinds files e =
     ((n : ℕ) × OfTwo n (IsThere inputs files.scd.now) (IsMissing inputs files.scd.now) (IsMissing inputs files.dic.now) × (e ≡ Read n))
     ⊎ (IsThere inputs files.scd.now × IsThere inputs files.dic.now × MatchFault e
     (λ n. (1 ≤ n) × (n ≤ 2) × inputs.failed)
     (λ n. (1 ≤ n) × (n ≤ 2) × HoldsTooMuch inputs (schema_path_at files n))
-    (λ f. RefusesFiles inputs kinds files (λ g. g ≡ f))
+    (RefusesFiles inputs kinds files)
     (λ _. ⊥) (λ _. ⊥) (λ _. ⊥))
 
--- both files of the schema were opened, or one is missing
-abbrev pub TriesSchema : Inputs → ManyFiles → Type 0
-TriesSchema inputs files = (IsThere inputs files.scd.now × IsThere inputs files.dic.now)
-    ⊎ ((n : ℕ) × OfTwo n (IsThere inputs files.scd.now) (IsMissing inputs files.scd.now) (IsMissing inputs files.dic.now))
+-- the file of a refused schema: that of the classes where the kinds of links are wrong
+abbrev pub refused_path : ManyFiles → SchemaRefusal → List ℕ
+refused_path files (schema.Memory e) = []
+refused_path files (schema.Line Scd rule at) = files.scd.now
+refused_path files (schema.Line Dic rule at) = files.dic.now
+refused_path files (schema.Entry Scd rule at) = files.scd.now
+refused_path files (schema.Entry Dic rule at) = files.dic.now
+refused_path files schema.Kinds = files.scd.now
 
--- the paths of the two files, and of the output
-abbrev pub schema_paths_of : ManyFiles → List (List ℕ)
-schema_paths_of files = files.scd.now ∷ files.dic.now ∷ codes "-" ∷ []
+-- the file that keeps a schema from being loaded
+abbrev pub schema_fault_path : ManyFiles → RunFault → List ℕ
+schema_fault_path files (Memory e) = []
+schema_fault_path files (Read input) = schema_path_at files input
+schema_fault_path files (TooLong input) = schema_path_at files input
+schema_fault_path files (Schema f) = refused_path files f
+schema_fault_path files (First f) = []
+schema_fault_path files (Second f) = []
+schema_fault_path files (Write w) = []
+
+-- what standard error was told of a fault at a path, and the status: its line, and then that of its reason; or that there is no memory
+-- for them
+abbrev pub TellsFault : Why → Seen → RunFault → List ℕ → ℕ → Type 0
+TellsFault why err e path s =
+    ((s ≡ status_of_fault e) × ((reason : Option Reason) × IsReasonOf why e path reason × Warns err (fault_line e path ++ reason_line (shown_name path) reason)))
+    ⊎ ((s ≡ 5) × LacksMemory err)
 
 -- The status of a run over many sheets. The schema is loaded, and each sheet was answered under it or the output failed; or
--- there is none, which is said as by a check. No status comes before the files were opened.
-abbrev pub IsHashStatus : Inputs → Why → Seen → Seen → KindCodes → ManyFiles → ℕ → Type 0
-IsHashStatus inputs why out err kinds files status =
-    ((s : Classes) × GivesSchema inputs kinds files s × AnswersAll inputs why s out err (map (λ p. p.now) files.sheets.items) status)
-    ⊎ (TriesSchema inputs files
-    × MeansStatus ⊥ (RefusesFiles inputs kinds files (λ f. Prints out (ended (schema_text f)))) (SchemaFault inputs kinds files) why (schema_paths_of files) out err status)
+-- there is none, which is said of its file, and the output got nothing.
+abbrev pub IsHashStatus : Effects → Seen → Seen → KindCodes → ManyFiles → ℕ → Type 0
+IsHashStatus run out err kinds files status =
+    ((s : Classes) × GivesSchema run.inputs kinds files s × AnswersAll run.inputs run.why s out err (map (λ p. p.now) files.sheets.items) status)
+    ⊎ ((e : RunFault) × LoadFault run.inputs kinds files e × TellsFault run.why err e (schema_fault_path files e) status × Prints out [])

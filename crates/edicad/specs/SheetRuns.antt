@@ -1,36 +1,20 @@
 -- What a run over the files of a folder answers.
-use Rattle.std.specs.Prelude.{◌≡◌, ◌≢◌, ◌⊎◌, ◌≤◌, ◌==◌, ℕ, Bool, true, false, List, Option, if◌then◌else◌, IsTrue}
+use Rattle.std.specs.Prelude.{◌≡◌, ◌≢◌, ◌⊎◌, ◌≤◌, ◌==◌, ℕ, Bool, true, false, List, Option, if◌then◌else◌}
 use Rattle.std.specs.Bool.{MatchBool}
 use Rattle.edi_schema.specs.Roles.{KindCodes}
 use Rattle.edi_compare.specs.declared.fault.RunFault.{RunFault}
 use Rattle.edi_compare.specs.declared.fault.RunFault.TheVariants.{Read, Write}
-use Rattle.edi_compare.specs.Runs.{IsCanonOf, IsTooLong, MatchFault, OfFour, OfThree, RefusesSchema, RefusesSecond, RefusesSheet, IfFourKnown, IfThreeKnown}
+use Rattle.edi_compare.specs.Runs.{BeforeWriting, IsCanonOf, IsTooLong, MatchFault, OfFour, OfThree, RefusesSchema, RefusesSecond, RefusesSheet, IfFourKnown, IfThreeKnown}
 use Rattle.edi_diff.specs.declared.differing.Difference.{Difference}
 use Rattle.edi_drawing.specs.Runs.{IsDrawnDifferenceUnder, IsPictureUnder}
 use Rattle.edi_drawing.specs.declared.drawn.DrawnDifference.{DrawnDifference}
-use Rattle.edi_pairing.specs.CompareRuns.{IsPairingFileOf}
 use Rattle.edi_pairing.specs.VerifyRuns.{IfFiveKnown}
 use Rattle.edi_words.specs.Requests.{is_standard_path}
 use Rattle.edi_words.specs.declared.words.PairFiles.{PairFiles}
 use Rattle.edi_words.specs.declared.words.SheetFiles.{SheetFiles}
 use Rattle.edi_files.specs.declared.product.Product.{Product}
 use Rattle.edi_files.specs.declared.product.Product.TheVariants.{Canonical, Picture}
-
--- what is known of the inputs
-pub record Inputs : Type 1 where
-  -- the file of a path can be opened, and this may be known to be its contents
-  pub holds : List ℕ → Option (List ℕ) → Type 0
-  -- the file of a path can't be opened
-  pub closed : List ℕ → Type 0
-  -- this may be known to be the contents of standard input
-  pub standard : Option (List ℕ) → Type 0
-  -- an input that was opened has failed
-  pub failed : Type 0
-
--- what is known of the inputs that are read as R
-abbrev pub inputs_of : (R : Type 0) → (List ℕ → Option (List ℕ) → Type 0) → (List ℕ → Type 0) → (Option (List ℕ) → Type 0) → (R → Bool) → Inputs
-inputs_of R holds closed standard failed =
-    record { holds = holds; closed = closed; standard = standard; failed = (input : R) × IsTrue (failed input) }
+use Rattle.edicad.specs.Effects.{Effects, Inputs}
 
 -- the input of a path is there, and this may be known to be its contents
 abbrev pub Gives : Inputs → List ℕ → Option (List ℕ) → Type 0
@@ -100,10 +84,21 @@ IsInput is_one files out = Meets is_one out files.scd.now ⊎ (Meets is_one out 
 abbrev pub IsNoInput : (List ℕ → List ℕ → Bool → Type 0) → SheetFiles → List ℕ → Type 0
 IsNoInput is_one files out = IsApart is_one out files.scd.now × IsApart is_one out files.dic.now × IsApart is_one out files.vec.now
 
--- Why nothing came to OUT: OUT is an input, and nothing was opened; or the run has no answer.
-abbrev pub PutFault : Inputs → (List ℕ → List ℕ → Bool → Type 0) → KindCodes → SheetFiles → List ℕ → (ℕ → Type 0) → RunFault → Type 0
-PutFault inputs is_one kinds files out W e =
-    (IsInput is_one files out × (e ≡ Write (record { count = 0 }))) ⊎ (IsNoInput is_one files out × FileFault inputs kinds files W e)
+-- What is made of the sheet is at OUT, which is no input.
+abbrev pub IsPut : Effects → Product → KindCodes → SheetFiles → List ℕ → Type 0
+IsPut run product kinds files out = IsNoInput run.is_one files out × OfMade run.inputs product kinds files (run.Puts out)
+
+-- Why it is not: OUT is an input, and nothing was opened; or the run has no answer. Nothing in the folder has changed, unless the fault
+-- came while writing to OUT.
+abbrev pub PutFault : Effects → Product → KindCodes → SheetFiles → List ℕ → RunFault → Type 0
+PutFault run product kinds files out e =
+    (IsInput run.is_one files out × (e ≡ Write (record { count = 0 })) × run.untouched)
+    ⊎ (IsNoInput run.is_one files out × FileFault run.inputs kinds files (λ count. OfMade run.inputs product kinds files (run.Stops out count)) e
+    × BeforeWriting e run.untouched)
+
+-- at each moment OUT has the file that it had, or the whole of what is made of the sheet
+abbrev pub IsReplaced : Effects → Product → KindCodes → SheetFiles → List ℕ → Type 0
+IsReplaced run product kinds files out = run.Replaces out (λ bytes. OfFiles run.inputs files (λ s d v. IsMadeOf product kinds s d v bytes))
 
 -- a fact of what the four files of two sheets hold, where it is known
 abbrev pub OfPair : Inputs → PairFiles → (List ℕ → List ℕ → List ℕ → List ℕ → Type 0) → Type 0
@@ -149,10 +144,6 @@ PairFileFault inputs kinds files W e =
 abbrev pub OfMadePair : Inputs → (List ℕ → List ℕ → List ℕ → List ℕ → List ℕ → Type 0) → PairFiles → (List ℕ → Type 0) → Type 0
 OfMadePair inputs IsMade files P = OfPair inputs files (λ s d a b. (bytes : List ℕ) × IsMade s d a b bytes × P bytes)
 
--- a file that states a pairing which carries the first plan onto the second, of which this holds
-abbrev pub OfPairing : Inputs → KindCodes → PairFiles → (List ℕ → Type 0) → Type 0
-OfPairing inputs kinds files P = OfMadePair inputs (IsPairingFileOf kinds) files P
-
 -- this differs between the two sheets, and the bytes are a picture that shows it
 abbrev pub ShowsDifference : KindCodes → Bool → Difference → List ℕ → List ℕ → List ℕ → List ℕ → List ℕ → Type 0
 ShowsDifference kinds brief difference s d a b bytes =
@@ -171,10 +162,21 @@ abbrev pub IsNoPairInput : (List ℕ → List ℕ → Bool → Type 0) → PairF
 IsNoPairInput is_one files out =
     IsApart is_one out files.scd.now × IsApart is_one out files.dic.now × IsApart is_one out files.first.now × IsApart is_one out files.second.now
 
--- Why a run that puts what is made of two sheets has no answer: FILE is an input, and nothing was opened; or the run has none.
-abbrev pub PutPairFault : Inputs → (List ℕ → List ℕ → Bool → Type 0) → KindCodes → PairFiles → List ℕ → (ℕ → Type 0) → RunFault → Type 0
-PutPairFault inputs is_one kinds files out W e =
-    (IsPairInput is_one files out × (e ≡ Write (record { count = 0 }))) ⊎ (IsNoPairInput is_one files out × PairFileFault inputs kinds files W e)
+-- What is made of the two sheets, as IsMade says, is at FILE, which is no input.
+abbrev pub IsPairPut : Effects → (List ℕ → List ℕ → List ℕ → List ℕ → List ℕ → Type 0) → PairFiles → List ℕ → Type 0
+IsPairPut run IsMade files out = IsNoPairInput run.is_one files out × OfMadePair run.inputs IsMade files (run.Puts out)
+
+-- Why it is not: FILE is an input, and nothing was opened; or the run has no answer. Nothing in the folder has changed, unless the fault
+-- came while writing to FILE.
+abbrev pub PutPairFault : Effects → (List ℕ → List ℕ → List ℕ → List ℕ → List ℕ → Type 0) → KindCodes → PairFiles → List ℕ → RunFault → Type 0
+PutPairFault run IsMade kinds files out e =
+    (IsPairInput run.is_one files out × (e ≡ Write (record { count = 0 })) × run.untouched)
+    ⊎ (IsNoPairInput run.is_one files out × PairFileFault run.inputs kinds files (λ count. OfMadePair run.inputs IsMade files (run.Stops out count)) e
+    × BeforeWriting e run.untouched)
+
+-- at each moment FILE has the file that it had, or the whole of what is made of the two sheets
+abbrev pub IsPairReplaced : Effects → (List ℕ → List ℕ → List ℕ → List ℕ → List ℕ → Type 0) → PairFiles → List ℕ → Type 0
+IsPairReplaced run IsMade files out = run.Replaces out (λ bytes. OfPair run.inputs files (λ s d a b. IsMade s d a b bytes))
 
 -- ---- the file of a pairing, checked
 

@@ -9,19 +9,21 @@ use Rattle.edi_compare.specs.declared.fault.RunFault.{RunFault}
 use Rattle.edi_compare.specs.declared.pairing.Pairing.{Pairing}
 use Rattle.edi_compare.specs.declared.pairing.Verdict.TheVariants.{Same, Different}
 use Rattle.edi_compare.specs.Bundle.{OfParts}
-use Rattle.edi_compare.specs.Runs.{InputFault, IsSheetUnder, IsVerdictOf, RefusesSchema, RefusesSecond, RefusesSheet, Seen, WritesAll, WritesFirst}
+use Rattle.edi_compare.specs.Runs.{BeforeWriting, InputFault, IsSheetUnder, IsVerdictOf, RefusesSchema, RefusesSecond, RefusesSheet, Seen, WritesAll, WritesFirst}
 use Rattle.edi_files.specs.Reasons.{Why, ended}
 use Rattle.edi_files.specs.declared.product.Product.{Product}
 use Rattle.edi_files.specs.declared.reason.Reason.{Reason}
-use Rattle.edicad.specs.Outcome.{schema_text, sheet_text, status_of_fault}
+use Rattle.edicad.specs.Outcome.{schema_text, sheet_text, status_for, status_of_fault, words_for}
 use Rattle.edicad.specs.Reasons.{IsReason, lines_for}
 use Rattle.edicad.specs.declared.outcome.Outcome.{Outcome}
 use Rattle.edicad.specs.declared.outcome.Outcome.TheVariants as outcome
 use Rattle.edi_diff.specs.Runs.{IsDifferenceUnder}
 use Rattle.edi_diff.specs.declared.differing.Difference.{Difference}
 use Rattle.edi_words.specs.Requests.{IsAsked, usual_kinds}
+use Rattle.edi_pairing.specs.CompareRuns.{IsPairingFileOf}
 use Rattle.edi_pairing.specs.VerifyRuns.{IsVerifiedUnder, RefusesFile}
-use Rattle.edicad.specs.SheetRuns.{AreFiveThere, AreFourThere, AreThere, FileFault, FirstMissing, FirstOfFiveMissing, FirstOfFourMissing, Inputs, IsInput, IsPairInput, IsPictureOfPair, OfFiles, OfFive, OfMade, OfMadePair, OfPair, OfPairing, PairFileFault, PutFault, PutPairFault, ShowsDifference, VerifyFileFault}
+use Rattle.edicad.specs.Effects.{Effects, Inputs}
+use Rattle.edicad.specs.SheetRuns.{AreFiveThere, AreFourThere, AreThere, FileFault, FirstMissing, FirstOfFiveMissing, FirstOfFourMissing, IsInput, IsPairInput, IsPairPut, IsPairReplaced, IsPictureOfPair, IsPut, IsReplaced, OfFiles, OfFive, OfMade, OfPair, PairFileFault, PutFault, PutPairFault, ShowsDifference, VerifyFileFault}
 use Rattle.edi_words.specs.declared.words.PairFiles.{PairFiles}
 use Rattle.edi_words.specs.declared.words.SheetFiles.{SheetFiles}
 use Rattle.edi_words.specs.declared.words.Request.{Request}
@@ -82,6 +84,22 @@ Warns stream text = GoesOut stream.before stream.after stream.failed text
 abbrev pub WarnsWhy : Why → Seen → Outcome → List (List ℕ) → Type 0
 WarnsWhy why stream outcome paths = (reason : Option Reason) × IsReason why outcome paths reason × Warns stream (lines_for outcome paths reason)
 
+-- standard output got the text, and standard error nothing
+abbrev pub Answers : Seen → Seen → List ℕ → Type 0
+Answers out err text = Prints out text × Prints err []
+
+-- standard output got nothing, and standard error the line, unless that has failed
+abbrev pub Complains : Seen → Seen → List ℕ → Type 0
+Complains out err line = Prints out [] × Warns err line
+
+-- standard output has failed, which standard error says
+abbrev pub IsUnsaid : Seen → Seen → Type 0
+IsUnsaid out err = IsTrue out.failed × Warns err (ended (codes "cannot write standard output"))
+
+-- there is no memory, which standard error says
+abbrev pub LacksMemory : Seen → Type 0
+LacksMemory err = Warns err (ended (codes "out of memory"))
+
 -- the paths that a line may name: of the inputs, and then of the output
 abbrev pub paths_of : SheetFiles → List ℕ → List (List ℕ)
 paths_of files out = files.scd.now ∷ files.dic.now ∷ files.vec.now ∷ out ∷ []
@@ -97,14 +115,14 @@ verify_paths_of files pairing = files.scd.now ∷ files.dic.now ∷ files.first.
 pub record MeansStatus (Done Refused : Type 0) (IsFault : RunFault → Type 0) (why : Why) (paths : List (List ℕ)) (out err : Seen) (s : ℕ) : Type 0 where
   pub done : s ≡ 0 → Done
   pub refused : s ≡ 2 → Refused
-  pub failed : s ≡ 4 → IsTrue out.failed ⊎ ((e : RunFault) × IsFault e × (status_of_fault e ≡ 4) × WarnsWhy why err (outcome.Fault e) paths)
-  pub memory : s ≡ 5 → Warns err (ended (codes "out of memory"))
+  pub failed : s ≡ 4 → IsUnsaid out err ⊎ ((e : RunFault) × IsFault e × (status_of_fault e ≡ 4) × WarnsWhy why err (outcome.Fault e) paths)
+  pub memory : s ≡ 5 → LacksMemory err
 
--- the schema or the sheet is refused, and the line of the refusal went out
-abbrev pub SaysRefusal : Seen → KindCodes → List ℕ → List ℕ → List ℕ → Type 0
-SaysRefusal out kinds scd dic b =
-    ((f : SchemaFault) × RefusesSchema kinds scd dic f × Prints out (ended (schema_text f)))
-    ⊎ ((f : Fault) × RefusesSheet kinds scd dic b f × Prints out (ended (sheet_text [] f)))
+-- the schema or the sheet is refused, and this was said of it
+abbrev pub SaysRefusal : (List ℕ → Type 0) → KindCodes → List ℕ → List ℕ → List ℕ → Type 0
+SaysRefusal Says kinds scd dic b =
+    ((f : SchemaFault) × RefusesSchema kinds scd dic f × Says (ended (schema_text f)))
+    ⊎ ((f : Fault) × RefusesSheet kinds scd dic b f × Says (ended (sheet_text [] f)))
 
 -- each file was opened, or one is missing
 abbrev pub AreTried : Inputs → SheetFiles → Type 0
@@ -112,105 +130,130 @@ AreTried inputs files = AreThere inputs files ⊎ ((n : ℕ) × FirstMissing inp
 
 -- The status of a run over files, with what the streams have before and after: 0 only of an accepted sheet, 2 only of a
 -- refused one, and each is said. No status comes before the files were opened.
-pub record IsFileStatus (inputs : Inputs) (why : Why) (out err : Seen) (kinds : KindCodes) (files : SheetFiles) (s : ℕ) : Type 0 where
-  pub tried : AreTried inputs files
-  pub means : MeansStatus (OfFiles inputs files (IsSheetUnder kinds) × Prints out (ended (codes "accepted"))) (OfFiles inputs files (SaysRefusal out kinds))
-      (FileFault inputs kinds files (λ _. ⊥)) why (paths_of files (codes "-")) out err s
+pub record IsFileStatus (run : Effects) (out err : Seen) (kinds : KindCodes) (files : SheetFiles) (s : ℕ) : Type 0 where
+  pub tried : AreTried run.inputs files
+  pub means : MeansStatus (OfFiles run.inputs files (IsSheetUnder kinds) × Answers out err (ended (codes "accepted")))
+      (OfFiles run.inputs files (SaysRefusal (Answers out err) kinds)) (λ e. FileFault run.inputs kinds files (λ _. ⊥) e × Prints out [])
+      run.why (paths_of files (codes "-")) out err s
 
--- The same of a run that puts what is made of the sheet at a path: Puts says of bytes that they are there, and Stops why
--- they are not.
-pub record IsPutStatus (inputs : Inputs) (is_one : List ℕ → List ℕ → Bool → Type 0) (why : Why) (out err : Seen) (product : Product) (kinds : KindCodes) (files : SheetFiles)
-    (path : List ℕ) (Puts : List ℕ → Type 0) (Stops : ℕ → List ℕ → Type 0) (s : ℕ) : Type 0 where
-  pub tried : IsInput is_one files path ⊎ AreTried inputs files
-  pub means : MeansStatus (OfMade inputs product kinds files Puts × Prints out (ended (codes "accepted"))) (OfFiles inputs files (SaysRefusal out kinds))
-      (PutFault inputs is_one kinds files path (λ count. OfMade inputs product kinds files (Stops count))) why (paths_of files path) out err s
+-- The same of a run that puts what is made of the sheet at a path. On a refusal nothing in the folder has changed.
+pub record IsPutStatus (run : Effects) (out err : Seen) (product : Product) (kinds : KindCodes) (files : SheetFiles) (path : List ℕ) (s : ℕ) : Type 0 where
+  pub tried : IsInput run.is_one files path ⊎ AreTried run.inputs files
+  pub means : MeansStatus (IsPut run product kinds files path × Answers out err (ended (codes "accepted")))
+      (OfFiles run.inputs files (SaysRefusal (Answers out err) kinds) × run.untouched) (λ e. PutFault run product kinds files path e × Prints out [])
+      run.why (paths_of files path) out err s
+  pub replaced : IsReplaced run product kinds files path
 
--- The same of a run that sends what is made of the sheet to the output, which gets nothing else.
-pub record IsSendStatus (inputs : Inputs) (why : Why) (out err : Seen) (product : Product) (kinds : KindCodes) (files : SheetFiles) (s : ℕ) : Type 0 where
-  pub tried : AreTried inputs files
-  pub means : MeansStatus (OfMade inputs product kinds files (Prints out)) (OfFiles inputs files (SaysRefusal out kinds))
-      (FileFault inputs kinds files (λ count. IsTrue out.failed × OfMade inputs product kinds files (PrintsFirst out count)))
-      why (paths_of files (codes "-")) out err s
+-- The same of a run that sends what is made of the sheet to standard output, which gets nothing else: a refusal goes to standard error.
+pub record IsSendStatus (run : Effects) (out err : Seen) (product : Product) (kinds : KindCodes) (files : SheetFiles) (s : ℕ) : Type 0 where
+  pub tried : AreTried run.inputs files
+  pub means : MeansStatus (OfMade run.inputs product kinds files (Answers out err)) (OfFiles run.inputs files (SaysRefusal (Complains out err) kinds))
+      (λ e. FileFault run.inputs kinds files (λ count. IsTrue out.failed × OfMade run.inputs product kinds files (PrintsFirst out count)) e
+      × BeforeWriting e (Prints out []))
+      run.why (paths_of files (codes "-")) out err s
 
 -- The status of a run over a bundle: 0 only where its canonical file went out, 2 only of a refused sheet.
-abbrev pub IsBundleStatus : Inputs → Why → Seen → Seen → ℕ → Type 0
-IsBundleStatus inputs why out err s = (contents : Option (List ℕ)) × (failed : Bool) × inputs.standard contents × (IsTrue failed → inputs.failed)
-    × MeansStatus (IfSome contents (λ b. OfParts b (λ scd dic vec. WritesAll usual_kinds scd dic vec out.before out.after)))
-    (IfSome contents (λ b. OfParts b (SaysRefusal out usual_kinds)))
-    (InputFault usual_kinds contents failed (λ count. IsTrue out.failed × IfSome contents (λ b. OfParts b (λ scd dic vec.
-    WritesFirst usual_kinds scd dic vec count out.before out.after))))
-    why (codes "-" ∷ codes "-" ∷ []) out err s
+abbrev pub IsBundleStatus : Effects → Seen → Seen → ℕ → Type 0
+IsBundleStatus run out err s = (contents : Option (List ℕ)) × (failed : Bool) × run.inputs.standard contents × (IsTrue failed → run.inputs.failed)
+    × MeansStatus (IfSome contents (λ b. OfParts b (λ scd dic vec. WritesAll usual_kinds scd dic vec out.before out.after)) × Prints err [])
+    (IfSome contents (λ b. OfParts b (SaysRefusal (Answers out err) usual_kinds)))
+    (λ e. InputFault usual_kinds contents failed (λ count. IsTrue out.failed × IfSome contents (λ b. OfParts b (λ scd dic vec.
+    WritesFirst usual_kinds scd dic vec count out.before out.after))) e × BeforeWriting e (Prints out []))
+    run.why (codes "-" ∷ codes "-" ∷ []) out err s
 
--- the schema, the first sheet, or the second where the first is accepted, is refused, and the line of the refusal went out
-abbrev pub SaysPairRefusal : Seen → KindCodes → List ℕ → List ℕ → List ℕ → List ℕ → Type 0
-SaysPairRefusal out kinds scd dic a b =
-    ((f : SchemaFault) × RefusesSchema kinds scd dic f × Prints out (ended (schema_text f)))
-    ⊎ (((f : Fault) × RefusesSheet kinds scd dic a f × Prints out (ended (sheet_text (codes "first ") f)))
-    ⊎ ((f : Fault) × RefusesSecond kinds scd dic a b f × Prints out (ended (sheet_text (codes "second ") f))))
+-- the schema, the first sheet, or the second where the first is accepted, is refused, and this was said of it
+abbrev pub SaysPairRefusal : (List ℕ → Type 0) → KindCodes → List ℕ → List ℕ → List ℕ → List ℕ → Type 0
+SaysPairRefusal Says kinds scd dic a b =
+    ((f : SchemaFault) × RefusesSchema kinds scd dic f × Says (ended (schema_text f)))
+    ⊎ (((f : Fault) × RefusesSheet kinds scd dic a f × Says (ended (sheet_text (codes "first ") f)))
+    ⊎ ((f : Fault) × RefusesSecond kinds scd dic a b f × Says (ended (sheet_text (codes "second ") f))))
+
+-- each of four files was opened, or one is missing
+abbrev pub AreFourTried : Inputs → PairFiles → Type 0
+AreFourTried inputs files = AreFourThere inputs files ⊎ ((n : ℕ) × FirstOfFourMissing inputs files n)
+
+-- the plans are not the same, and the line at which the canonical files first differ was said
+abbrev pub SaysDifferent : Inputs → Seen → Seen → KindCodes → PairFiles → Type 0
+SaysDifferent inputs out err kinds files = (line : ℕ) × OfPair inputs files (λ scd dic a b. IsVerdictOf kinds scd dic a b (Different line))
+    × Answers out err (ended (codes "different at line " ++ decimal line))
 
 -- The status of a run over two sheets: 0 only where a pairing carries the one plan onto the other, 1 only where the plans
 -- are not the same, 2 only where a sheet is refused, and each is said.
-pub record IsCompareStatus (inputs : Inputs) (why : Why) (out err : Seen) (kinds : KindCodes) (files : PairFiles) (s : ℕ) : Type 0 where
-  pub tried : AreFourThere inputs files ⊎ ((n : ℕ) × FirstOfFourMissing inputs files n)
-  pub different : s ≡ 1 → (line : ℕ) × OfPair inputs files (λ scd dic a b. IsVerdictOf kinds scd dic a b (Different line))
-      × Prints out (ended (codes "different at line " ++ decimal line))
+pub record IsCompareStatus (run : Effects) (out err : Seen) (kinds : KindCodes) (files : PairFiles) (s : ℕ) : Type 0 where
+  pub tried : AreFourTried run.inputs files
+  pub different : s ≡ 1 → SaysDifferent run.inputs out err kinds files
   pub means : MeansStatus
-      (((pairing : Pairing) × OfPair inputs files (λ scd dic a b. IsVerdictOf kinds scd dic a b (Same pairing))) × Prints out (ended (codes "same")))
-      (OfPair inputs files (SaysPairRefusal out kinds)) (PairFileFault inputs kinds files (λ _. ⊥)) why (pair_paths_of files (codes "-")) out err s
+      (((pairing : Pairing) × OfPair run.inputs files (λ scd dic a b. IsVerdictOf kinds scd dic a b (Same pairing))) × Answers out err (ended (codes "same")))
+      (OfPair run.inputs files (SaysPairRefusal (Answers out err) kinds)) (λ e. PairFileFault run.inputs kinds files (λ _. ⊥) e × Prints out [])
+      run.why (pair_paths_of files (codes "-")) out err s
 
--- The same of a run that puts a pairing at a path where the plans are the same: Puts says of bytes that they are there, and
--- Stops why they are not.
-pub record IsPairingStatus (inputs : Inputs) (is_one : List ℕ → List ℕ → Bool → Type 0) (why : Why) (out err : Seen) (kinds : KindCodes) (files : PairFiles) (path : List ℕ)
-    (Puts : List ℕ → Type 0) (Stops : ℕ → List ℕ → Type 0) (s : ℕ) : Type 0 where
-  pub tried : IsPairInput is_one files path ⊎ (AreFourThere inputs files ⊎ ((n : ℕ) × FirstOfFourMissing inputs files n))
-  pub different : s ≡ 1 → (line : ℕ) × OfPair inputs files (λ scd dic a b. IsVerdictOf kinds scd dic a b (Different line))
-      × Prints out (ended (codes "different at line " ++ decimal line))
-  pub means : MeansStatus (OfPairing inputs kinds files Puts × Prints out (ended (codes "same"))) (OfPair inputs files (SaysPairRefusal out kinds))
-      (PutPairFault inputs is_one kinds files path (λ count. OfPairing inputs kinds files (Stops count))) why (pair_paths_of files path) out err s
+-- The same of a run that puts a pairing at a path where the plans are the same. Else nothing in the folder has changed.
+pub record IsPairingStatus (run : Effects) (out err : Seen) (kinds : KindCodes) (files : PairFiles) (path : List ℕ) (s : ℕ) : Type 0 where
+  pub tried : IsPairInput run.is_one files path ⊎ AreFourTried run.inputs files
+  pub different : s ≡ 1 → SaysDifferent run.inputs out err kinds files × run.untouched
+  pub means : MeansStatus (IsPairPut run (IsPairingFileOf kinds) files path × Answers out err (ended (codes "same")))
+      (OfPair run.inputs files (SaysPairRefusal (Answers out err) kinds) × run.untouched)
+      (λ e. PutPairFault run (IsPairingFileOf kinds) kinds files path e × Prints out []) run.why (pair_paths_of files path) out err s
+  pub replaced : IsPairReplaced run (IsPairingFileOf kinds) files path
 
 -- the schema or a sheet is refused, or the pairing's file where both sheets are accepted, and the line of the refusal went out
-abbrev pub SaysVerifyRefusal : Inputs → Seen → KindCodes → PairFiles → List ℕ → Type 0
-SaysVerifyRefusal inputs out kinds files pairing =
-    OfPair inputs files (SaysPairRefusal out kinds)
-    ⊎ ((at : ℕ) × OfFive inputs files pairing (λ scd dic a b f. RefusesFile kinds scd dic a b f at) × Prints out (ended (codes "refused pairing line " ++ decimal at)))
+abbrev pub SaysVerifyRefusal : Inputs → Seen → Seen → KindCodes → PairFiles → List ℕ → Type 0
+SaysVerifyRefusal inputs out err kinds files pairing =
+    OfPair inputs files (SaysPairRefusal (Answers out err) kinds)
+    ⊎ ((at : ℕ) × OfFive inputs files pairing (λ scd dic a b f. RefusesFile kinds scd dic a b f at)
+    × Answers out err (ended (codes "refused pairing line " ++ decimal at)))
 
 -- The status of a run that checks a pairing's file: 0 only where it states a pairing that carries the one plan onto the other,
 -- 1 only where it states one that doesn't, 2 only where a sheet or the file is refused, and each is said.
-pub record IsVerifyStatus (inputs : Inputs) (why : Why) (out err : Seen) (kinds : KindCodes) (files : PairFiles) (pairing : List ℕ) (s : ℕ) : Type 0 where
-  pub tried : AreFiveThere inputs files pairing ⊎ ((n : ℕ) × FirstOfFiveMissing inputs files pairing n)
-  pub unpaired : s ≡ 1 → OfFive inputs files pairing (λ scd dic a b f. IsVerifiedUnder kinds scd dic a b f false) × Prints out (ended (codes "does not pair"))
-  pub means : MeansStatus (OfFive inputs files pairing (λ scd dic a b f. IsVerifiedUnder kinds scd dic a b f true) × Prints out (ended (codes "pairs")))
-      (SaysVerifyRefusal inputs out kinds files pairing) (VerifyFileFault inputs kinds files pairing) why (verify_paths_of files pairing) out err s
+pub record IsVerifyStatus (run : Effects) (out err : Seen) (kinds : KindCodes) (files : PairFiles) (pairing : List ℕ) (s : ℕ) : Type 0 where
+  pub tried : AreFiveThere run.inputs files pairing ⊎ ((n : ℕ) × FirstOfFiveMissing run.inputs files pairing n)
+  pub unpaired : s ≡ 1 → OfFive run.inputs files pairing (λ scd dic a b f. IsVerifiedUnder kinds scd dic a b f false) × Answers out err (ended (codes "does not pair"))
+  pub means : MeansStatus
+      (OfFive run.inputs files pairing (λ scd dic a b f. IsVerifiedUnder kinds scd dic a b f true) × Answers out err (ended (codes "pairs")))
+      (SaysVerifyRefusal run.inputs out err kinds files pairing) (λ e. VerifyFileFault run.inputs kinds files pairing e × Prints out [])
+      run.why (verify_paths_of files pairing) out err s
 
 -- this differs between the two sheets, the plans are the same or not, and the text of the difference went out
-abbrev pub TellsDifference : Inputs → Seen → KindCodes → PairFiles → Bool → Bool → Type 0
-TellsDifference inputs out kinds files brief same =
+abbrev pub TellsDifference : Inputs → Seen → Seen → KindCodes → PairFiles → Bool → Bool → Type 0
+TellsDifference inputs out err kinds files brief same =
     (difference : Difference) × OfPair inputs files (λ scd dic a b. IsDifferenceUnder kinds scd dic a b brief difference) × (difference.same ≡ same)
-    × Prints out difference.text.items
+    × Answers out err difference.text.items
 
 -- The status of a run that reports what differs between two sheets: 0 only where the plans are the same, 1 only where they are
 -- not, and the output gets the text of the difference; 2 only where a sheet is refused, which is said.
-pub record IsDiffStatus (inputs : Inputs) (why : Why) (out err : Seen) (kinds : KindCodes) (files : PairFiles) (brief : Bool) (s : ℕ) : Type 0 where
-  pub tried : AreFourThere inputs files ⊎ ((n : ℕ) × FirstOfFourMissing inputs files n)
-  pub different : s ≡ 1 → TellsDifference inputs out kinds files brief false
-  pub means : MeansStatus (TellsDifference inputs out kinds files brief true) (OfPair inputs files (SaysPairRefusal out kinds))
-      (PairFileFault inputs kinds files (λ _. ⊥)) why (pair_paths_of files (codes "-")) out err s
+pub record IsDiffStatus (run : Effects) (out err : Seen) (kinds : KindCodes) (files : PairFiles) (brief : Bool) (s : ℕ) : Type 0 where
+  pub tried : AreFourTried run.inputs files
+  pub different : s ≡ 1 → TellsDifference run.inputs out err kinds files brief false
+  pub means : MeansStatus (TellsDifference run.inputs out err kinds files brief true) (OfPair run.inputs files (SaysPairRefusal (Answers out err) kinds))
+      (λ e. PairFileFault run.inputs kinds files (λ _. ⊥) e × Prints out []) run.why (pair_paths_of files (codes "-")) out err s
 
 -- this differs between the two sheets, the plans are the same or not, a picture that shows it was put, and the text of the
 -- difference went out
-abbrev pub TellsDrawnDifference : Inputs → Seen → KindCodes → PairFiles → Bool → (List ℕ → Type 0) → Bool → Type 0
-TellsDrawnDifference inputs out kinds files brief Puts same =
-    (difference : Difference) × OfMadePair inputs (ShowsDifference kinds brief difference) files Puts × (difference.same ≡ same) × Prints out difference.text.items
+abbrev pub TellsDrawnDifference : Effects → Seen → Seen → KindCodes → PairFiles → Bool → List ℕ → Bool → Type 0
+TellsDrawnDifference run out err kinds files brief path same =
+    (difference : Difference) × IsPairPut run (ShowsDifference kinds brief difference) files path × (difference.same ≡ same) × Answers out err difference.text.items
 
--- The same of a run that also puts a picture of what differs at a path: Puts says of bytes that they are there, and Stops why
--- they are not.
-pub record IsPictureStatus (inputs : Inputs) (is_one : List ℕ → List ℕ → Bool → Type 0) (why : Why) (out err : Seen) (kinds : KindCodes) (files : PairFiles) (brief : Bool)
-    (path : List ℕ) (Puts : List ℕ → Type 0) (Stops : ℕ → List ℕ → Type 0) (s : ℕ) : Type 0 where
-  pub tried : IsPairInput is_one files path ⊎ (AreFourThere inputs files ⊎ ((n : ℕ) × FirstOfFourMissing inputs files n))
-  pub different : s ≡ 1 → TellsDrawnDifference inputs out kinds files brief Puts false
-  pub means : MeansStatus (TellsDrawnDifference inputs out kinds files brief Puts true) (OfPair inputs files (SaysPairRefusal out kinds))
-      (PutPairFault inputs is_one kinds files path (λ count. OfMadePair inputs (IsPictureOfPair kinds brief) files (Stops count))) why (pair_paths_of files path) out err s
+-- The same of a run that also puts a picture of what differs at a path. On a refusal nothing in the folder has changed.
+pub record IsPictureStatus (run : Effects) (out err : Seen) (kinds : KindCodes) (files : PairFiles) (brief : Bool) (path : List ℕ) (s : ℕ) : Type 0 where
+  pub tried : IsPairInput run.is_one files path ⊎ AreFourTried run.inputs files
+  pub different : s ≡ 1 → TellsDrawnDifference run out err kinds files brief path false
+  pub means : MeansStatus (TellsDrawnDifference run out err kinds files brief path true)
+      (OfPair run.inputs files (SaysPairRefusal (Answers out err) kinds) × run.untouched)
+      (λ e. PutPairFault run (IsPictureOfPair kinds brief) kinds files path e × Prints out []) run.why (pair_paths_of files path) out err s
+  pub replaced : IsPairReplaced run (IsPictureOfPair kinds brief) files path
 
 -- the status once the line was printed: that of the outcome, 5 without memory for the line, 4 where it can't be printed
 abbrev pub IsAnsweredAs : ℕ → ℕ → Type 0
 IsAnsweredAs status s = (s ≡ status) ⊎ ((s ≡ 5) ⊎ ((status < 3) × (s ≡ 4)))
+
+-- What was said of an outcome, and the status: an answer or a refusal went to standard output, anything else to standard error.
+pub record IsSaid (why : Why) (out err : Seen) (outcome : Outcome) (paths : List (List ℕ)) (s : ℕ) : Type 0 where
+  pub status : IsAnsweredAs (status_for outcome) s
+  pub answer : s < 3 → Answers out err (ended (words_for outcome paths))
+  pub unsaid : status_for outcome < 3 → s ≡ 4 → IsUnsaid out err
+  pub fault : 3 ≤ status_for outcome → s ≡ 4 → WarnsWhy why err outcome paths × Prints out []
+  pub memory : s ≡ 5 → LacksMemory err
+
+-- What standard error was told of a fault, and the status.
+abbrev pub IsWarned : Why → Seen → RunFault → List (List ℕ) → ℕ → Type 0
+IsWarned why err e paths s = ((s ≡ status_of_fault e) × WarnsWhy why err (outcome.Fault e) paths) ⊎ ((s ≡ 5) × LacksMemory err)

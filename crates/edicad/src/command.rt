@@ -1,16 +1,12 @@
 //! What the program does with its words.
-ghost use Rattle.std.specs.Prelude.{◌≡◌, ◌⊎◌, ◌<◌, ℕ, IsTrue, List, MatchOption, Option, map, string_bytes, codes};
+ghost use Rattle.std.specs.Prelude.{◌≡◌, ◌⊎◌, ◌<◌, ℕ, List, MatchOption, map, string_bytes};
 ghost use Rattle.std.specs.Bool.{MatchBool};
-ghost use Rattle.std.specs.Io.KnownBytes.{Appends};
-ghost use Rattle.edi_compare.specs.Runs.{seen};
-ghost use Rattle.edicad.specs.Answered.{IsAnswered, IsMadeStatus};
-ghost use Rattle.edi_files.specs.Outputs.{IsUnmade, Reaches, Stops};
-ghost use Rattle.edi_files.specs.Reasons.{ended};
+ghost use Rattle.edicad.specs.Answered.{AnswersWords, IsAnswered, IsMadeStatus, IsUnread};
+ghost use Rattle.edicad.specs.Effects.{effects, written};
 ghost use Rattle.edicad.specs.inner.Outcome.{outcome_for, paired_outcome, verified_outcome};
-ghost use Rattle.edi_words.specs.Requests.{IsAsked};
-ghost use Rattle.edicad.specs.SheetRuns.{inputs_of};
-ghost use Rattle.edicad.specs.Statuses.{HasStatus, IsBundleStatus, IsCompareStatus, IsDiffStatus, IsFileStatus, IsPairStatus, IsPairingStatus, IsPictureStatus, IsPutStatus, IsSendStatus, IsSheetStatus, IsStatus, IsStatusOf, IsVerifyStatus, Warns};
-ghost use Rattle.edi_words.specs.declared.words.Request.{Request};
+ghost use Rattle.edicad.specs.Statuses.{Answers, HasStatus, IsBundleStatus, IsCompareStatus, IsDiffStatus, IsFileStatus, IsPairStatus};
+ghost use Rattle.edicad.specs.Statuses.{IsPairingStatus, IsPictureStatus, IsPutStatus, IsSendStatus, IsSheetStatus, IsStatus, IsStatusOf};
+ghost use Rattle.edicad.specs.Statuses.{IsUnsaid, IsVerifyStatus};
 
 use crate::explains::{explain, explain_rule};
 use crate::hashes::hash;
@@ -51,10 +47,10 @@ pub fn run_line<R: Eprint + AllocGlobal, W: Words, F: Folder, O: ByteOut, E: Byt
     err: &mut E,
 ) -> u8
     ensures { ((words : List (List ℕ)) × W.gives line.now words × HasStatus words result
-        × ((request : Request) × IsAsked words request × IsAnswered (inputs_of F.Reader (F.holds folder.old) (F.closed folder.old) (F.standard folder.old) F.Reader.has_failed) (F.is_one folder.old) (F.why folder.new)
-        (λ path. Reaches F.Sink (F.holds folder.new path) (F.sinks folder.old path) F.Sink.contents) (λ path. Stops F.Sink (IsUnmade F.NewFile (F.unwritable folder.new path) F.NewFile.has_failed) (F.sinks folder.old path) F.Sink.contents F.Sink.has_failed) (seen (O.contents out.old) (O.contents out.new) (O.has_failed out.new)) (seen (E.contents err.old) (E.contents err.new) (E.has_failed err.new)) request result))
-        ⊎ (((result ≡ 3) × Warns (seen (E.contents err.old) (E.contents err.new) (E.has_failed err.new)) (ended (codes "error: the words are not all UTF-8")))
-        ⊎ ((result ≡ 5) × Warns (seen (E.contents err.old) (E.contents err.new) (E.has_failed err.new)) (ended (codes "out of memory")))) }
+        × AnswersWords (effects F.Folder F.Reader.ByteIn F.Sink.ByteOut F.NewFile.ByteOut folder.old folder.new)
+        (written O.ByteOut out.old out.new) (written E.ByteOut err.old err.new) words result)
+        ⊎ IsUnread (effects F.Folder F.Reader.ByteIn F.Sink.ByteOut F.NewFile.ByteOut folder.old folder.new)
+        (written O.ByteOut out.old out.new) (written E.ByteOut err.old err.new) result }
 {
     match line.words() {
         Ok(words) => run_over(rt, folder, out, err, &words),
@@ -83,8 +79,8 @@ pub fn run_over<R: Eprint + AllocGlobal, F: Folder, O: ByteOut, E: ByteOut>(
     words: &[String],
 ) -> u8
     ensures status { HasStatus (map string_bytes words.now) result }
-    ensures answer { (request : Request) × IsAsked (map string_bytes words.now) request × IsAnswered (inputs_of F.Reader (F.holds folder.old) (F.closed folder.old) (F.standard folder.old) F.Reader.has_failed) (F.is_one folder.old) (F.why folder.new)
-        (λ path. Reaches F.Sink (F.holds folder.new path) (F.sinks folder.old path) F.Sink.contents) (λ path. Stops F.Sink (IsUnmade F.NewFile (F.unwritable folder.new path) F.NewFile.has_failed) (F.sinks folder.old path) F.Sink.contents F.Sink.has_failed) (seen (O.contents out.old) (O.contents out.new) (O.has_failed out.new)) (seen (E.contents err.old) (E.contents err.new) (E.has_failed err.new)) request result }
+    ensures answer { AnswersWords (effects F.Folder F.Reader.ByteIn F.Sink.ByteOut F.NewFile.ByteOut folder.old folder.new)
+        (written O.ByteOut out.old out.new) (written E.ByteOut err.old err.new) (map string_bytes words.now) result }
 {
     let request = asked(rt, words);
     answered(rt.alloc(), folder, out, err, request)
@@ -99,8 +95,8 @@ pub fn answered<F: Folder, O: ByteOut, E: ByteOut>(
     request: Request<'_>,
 ) -> u8
     ensures status { IsStatusOf request.entry result }
-    ensures answer { IsAnswered (inputs_of F.Reader (F.holds folder.old) (F.closed folder.old) (F.standard folder.old) F.Reader.has_failed) (F.is_one folder.old) (F.why folder.new)
-        (λ path. Reaches F.Sink (F.holds folder.new path) (F.sinks folder.old path) F.Sink.contents) (λ path. Stops F.Sink (IsUnmade F.NewFile (F.unwritable folder.new path) F.NewFile.has_failed) (F.sinks folder.old path) F.Sink.contents F.Sink.has_failed) (seen (O.contents out.old) (O.contents out.new) (O.has_failed out.new)) (seen (E.contents err.old) (E.contents err.new) (E.has_failed err.new)) request.entry result }
+    ensures answer { IsAnswered (effects F.Folder F.Reader.ByteIn F.Sink.ByteOut F.NewFile.ByteOut folder.old folder.new)
+        (written O.ByteOut out.old out.new) (written E.ByteOut err.old err.new) request.entry result }
 {
     match request {
         Request::Bundle => bundle(alloc, folder, out, err),
@@ -147,7 +143,8 @@ fn bundle<F: Folder, O: ByteOut, E: ByteOut>(
     err: &mut E,
 ) -> u8
     ensures status { IsSheetStatus result }
-    ensures answer { IsBundleStatus (inputs_of F.Reader (F.holds folder.now) (F.closed folder.now) (F.standard folder.now) F.Reader.has_failed) (F.why folder.now) (seen (O.contents out.old) (O.contents out.new) (O.has_failed out.new)) (seen (E.contents err.old) (E.contents err.new) (E.has_failed err.new)) result }
+    ensures answer { IsBundleStatus (effects F.Folder F.Reader.ByteIn F.Sink.ByteOut F.NewFile.ByteOut folder.now folder.now)
+        (written O.ByteOut out.old out.new) (written E.ByteOut err.old err.new) result }
 {
     match sheets::bundle(alloc, folder, out) {
         Ok(()) => 0,
@@ -165,7 +162,8 @@ fn check<F: Folder, O: ByteOut, E: ByteOut>(
     err: &mut E,
 ) -> u8
     ensures status { IsSheetStatus result }
-    ensures answer { IsFileStatus (inputs_of F.Reader (F.holds folder.now) (F.closed folder.now) (F.standard folder.now) F.Reader.has_failed) (F.why folder.now) (seen (O.contents out.old) (O.contents out.new) (O.has_failed out.new)) (seen (E.contents err.old) (E.contents err.new) (E.has_failed err.new)) kinds.now files.now result }
+    ensures answer { IsFileStatus (effects F.Folder F.Reader.ByteIn F.Sink.ByteOut F.NewFile.ByteOut folder.now folder.now)
+        (written O.ByteOut out.old out.new) (written E.ByteOut err.old err.new) kinds.now files.now result }
 {
     let paths = [files.scd, files.dic, files.vec, "-"];
     match sheets::check(alloc, folder, kinds, files) {
@@ -186,8 +184,8 @@ fn make<F: Folder, O: ByteOut, E: ByteOut>(
     err: &mut E,
 ) -> u8
     ensures status { IsSheetStatus result }
-    ensures answer { IsMadeStatus (inputs_of F.Reader (F.holds folder.old) (F.closed folder.old) (F.standard folder.old) F.Reader.has_failed) (F.is_one folder.old) (F.why folder.new)
-        (λ path. Reaches F.Sink (F.holds folder.new path) (F.sinks folder.old path) F.Sink.contents) (λ path. Stops F.Sink (IsUnmade F.NewFile (F.unwritable folder.new path) F.NewFile.has_failed) (F.sinks folder.old path) F.Sink.contents F.Sink.has_failed) (seen (O.contents out.old) (O.contents out.new) (O.has_failed out.new)) (seen (E.contents err.old) (E.contents err.new) (E.has_failed err.new)) product kinds.now files.now path.now result }
+    ensures answer { IsMadeStatus (effects F.Folder F.Reader.ByteIn F.Sink.ByteOut F.NewFile.ByteOut folder.old folder.new)
+        (written O.ByteOut out.old out.new) (written E.ByteOut err.old err.new) product kinds.now files.now path.now result }
 {
     if is_standard(path) {
         send(alloc, folder, product, kinds, files, out, err)
@@ -208,9 +206,8 @@ fn put<F: Folder, O: ByteOut, E: ByteOut>(
     err: &mut E,
 ) -> u8
     ensures status { IsSheetStatus result }
-    ensures answer { IsPutStatus (inputs_of F.Reader (F.holds folder.old) (F.closed folder.old) (F.standard folder.old) F.Reader.has_failed) (F.is_one folder.old) (F.why folder.new) (seen (O.contents out.old) (O.contents out.new) (O.has_failed out.new)) (seen (E.contents err.old) (E.contents err.new) (E.has_failed err.new)) product kinds.now files.now path.now
-        (Reaches F.Sink (F.holds folder.new path.now) (F.sinks folder.old path.now) F.Sink.contents) (Stops F.Sink (IsUnmade F.NewFile (F.unwritable folder.new path.now) F.NewFile.has_failed) (F.sinks folder.old path.now) F.Sink.contents F.Sink.has_failed) result }
-    ensures unmade { result ≡ 2 → folder.new ≡ folder.old }
+    ensures answer { IsPutStatus (effects F.Folder F.Reader.ByteIn F.Sink.ByteOut F.NewFile.ByteOut folder.old folder.new)
+        (written O.ByteOut out.old out.new) (written E.ByteOut err.old err.new) product kinds.now files.now path.now result }
 {
     let paths = [files.scd, files.dic, files.vec, path];
     match sheets::put(alloc, folder, product, kinds, files, path) {
@@ -219,7 +216,7 @@ fn put<F: Folder, O: ByteOut, E: ByteOut>(
     }
 }
 
-// What is made of a sheet, to the output, of which only a fault has a line.
+// What is made of a sheet, to the output, which gets nothing else.
 fn send<F: Folder, O: ByteOut, E: ByteOut>(
     alloc: Global,
     folder: &F,
@@ -230,12 +227,13 @@ fn send<F: Folder, O: ByteOut, E: ByteOut>(
     err: &mut E,
 ) -> u8
     ensures status { IsSheetStatus result }
-    ensures answer { IsSendStatus (inputs_of F.Reader (F.holds folder.now) (F.closed folder.now) (F.standard folder.now) F.Reader.has_failed) (F.why folder.now) (seen (O.contents out.old) (O.contents out.new) (O.has_failed out.new)) (seen (E.contents err.old) (E.contents err.new) (E.has_failed err.new)) product kinds.now files.now result }
+    ensures answer { IsSendStatus (effects F.Folder F.Reader.ByteIn F.Sink.ByteOut F.NewFile.ByteOut folder.now folder.now)
+        (written O.ByteOut out.old out.new) (written E.ByteOut err.old err.new) product kinds.now files.now result }
 {
     let paths = [files.scd, files.dic, files.vec, "-"];
     match sheets::send(alloc, folder, product, kinds, files, out) {
         Ok(()) => 0,
-        Err(fault) => report::answer(alloc, folder, out, err, &Outcome::Fault(fault), &paths),
+        Err(fault) => report::warned(alloc, folder, err, &fault, &paths),
     }
 }
 
@@ -250,9 +248,11 @@ fn compare_or_pair<F: Folder, O: ByteOut, E: ByteOut>(
     err: &mut E,
 ) -> u8
     ensures status { IsPairStatus result }
-    ensures answer { MatchOption pairing.entry (IsCompareStatus (inputs_of F.Reader (F.holds folder.old) (F.closed folder.old) (F.standard folder.old) F.Reader.has_failed) (F.why folder.new) (seen (O.contents out.old) (O.contents out.new) (O.has_failed out.new)) (seen (E.contents err.old) (E.contents err.new) (E.has_failed err.new)) kinds.now files.now result)
-        (λ path. IsPairingStatus (inputs_of F.Reader (F.holds folder.old) (F.closed folder.old) (F.standard folder.old) F.Reader.has_failed) (F.is_one folder.old) (F.why folder.new) (seen (O.contents out.old) (O.contents out.new) (O.has_failed out.new)) (seen (E.contents err.old) (E.contents err.new) (E.has_failed err.new)) kinds.now files.now path.now
-        (Reaches F.Sink (F.holds folder.new path.now) (F.sinks folder.old path.now) F.Sink.contents) (Stops F.Sink (IsUnmade F.NewFile (F.unwritable folder.new path.now) F.NewFile.has_failed) (F.sinks folder.old path.now) F.Sink.contents F.Sink.has_failed) result) }
+    ensures answer { MatchOption pairing.entry ((folder.new ≡ folder.old)
+        × IsCompareStatus (effects F.Folder F.Reader.ByteIn F.Sink.ByteOut F.NewFile.ByteOut folder.old folder.new)
+        (written O.ByteOut out.old out.new) (written E.ByteOut err.old err.new) kinds.now files.now result)
+        (λ path. IsPairingStatus (effects F.Folder F.Reader.ByteIn F.Sink.ByteOut F.NewFile.ByteOut folder.old folder.new)
+        (written O.ByteOut out.old out.new) (written E.ByteOut err.old err.new) kinds.now files.now path.now result) }
 {
     match pairing {
         Some(path) => pair(alloc, folder, kinds, files, path, out, err),
@@ -270,7 +270,8 @@ fn compare<F: Folder, O: ByteOut, E: ByteOut>(
     err: &mut E,
 ) -> u8
     ensures status { IsPairStatus result }
-    ensures answer { IsCompareStatus (inputs_of F.Reader (F.holds folder.now) (F.closed folder.now) (F.standard folder.now) F.Reader.has_failed) (F.why folder.now) (seen (O.contents out.old) (O.contents out.new) (O.has_failed out.new)) (seen (E.contents err.old) (E.contents err.new) (E.has_failed err.new)) kinds.now files.now result }
+    ensures answer { IsCompareStatus (effects F.Folder F.Reader.ByteIn F.Sink.ByteOut F.NewFile.ByteOut folder.now folder.now)
+        (written O.ByteOut out.old out.new) (written E.ByteOut err.old err.new) kinds.now files.now result }
 {
     let paths = [files.scd, files.dic, files.first, files.second, "-"];
     let outcome = outcome_of(sheets::compare(alloc, folder, kinds, files));
@@ -288,9 +289,8 @@ fn pair<F: Folder, O: ByteOut, E: ByteOut>(
     err: &mut E,
 ) -> u8
     ensures status { IsPairStatus result }
-    ensures answer { IsPairingStatus (inputs_of F.Reader (F.holds folder.old) (F.closed folder.old) (F.standard folder.old) F.Reader.has_failed) (F.is_one folder.old) (F.why folder.new) (seen (O.contents out.old) (O.contents out.new) (O.has_failed out.new)) (seen (E.contents err.old) (E.contents err.new) (E.has_failed err.new)) kinds.now files.now path.now
-        (Reaches F.Sink (F.holds folder.new path.now) (F.sinks folder.old path.now) F.Sink.contents) (Stops F.Sink (IsUnmade F.NewFile (F.unwritable folder.new path.now) F.NewFile.has_failed) (F.sinks folder.old path.now) F.Sink.contents F.Sink.has_failed) result }
-    ensures unmade { (result ≡ 1) ⊎ (result ≡ 2) → folder.new ≡ folder.old }
+    ensures answer { IsPairingStatus (effects F.Folder F.Reader.ByteIn F.Sink.ByteOut F.NewFile.ByteOut folder.old folder.new)
+        (written O.ByteOut out.old out.new) (written E.ByteOut err.old err.new) kinds.now files.now path.now result }
 {
     let paths = [files.scd, files.dic, files.first, files.second, path];
     let outcome = outcome_of_paired(sheets::pair(alloc, folder, kinds, files, path));
@@ -308,7 +308,8 @@ fn verify<F: Folder, O: ByteOut, E: ByteOut>(
     err: &mut E,
 ) -> u8
     ensures status { IsPairStatus result }
-    ensures answer { IsVerifyStatus (inputs_of F.Reader (F.holds folder.now) (F.closed folder.now) (F.standard folder.now) F.Reader.has_failed) (F.why folder.now) (seen (O.contents out.old) (O.contents out.new) (O.has_failed out.new)) (seen (E.contents err.old) (E.contents err.new) (E.has_failed err.new)) kinds.now files.now pairing.now result }
+    ensures answer { IsVerifyStatus (effects F.Folder F.Reader.ByteIn F.Sink.ByteOut F.NewFile.ByteOut folder.now folder.now)
+        (written O.ByteOut out.old out.new) (written E.ByteOut err.old err.new) kinds.now files.now pairing.now result }
 {
     let paths = [
         files.scd,
@@ -322,7 +323,7 @@ fn verify<F: Folder, O: ByteOut, E: ByteOut>(
     report::answer(alloc, folder, out, err, &outcome, &paths)
 }
 
-// What differs between two sheets, or the last line of that alone, and a picture of it to a path, where one is named.
+// What differs between two sheets, or that without the lines of records, and a picture of it to a path, where one is named.
 fn diff_or_draw<F: Folder, O: ByteOut, E: ByteOut>(
     alloc: Global,
     folder: &mut F,
@@ -334,9 +335,11 @@ fn diff_or_draw<F: Folder, O: ByteOut, E: ByteOut>(
     err: &mut E,
 ) -> u8
     ensures status { IsPairStatus result }
-    ensures answer { MatchOption picture.entry (IsDiffStatus (inputs_of F.Reader (F.holds folder.old) (F.closed folder.old) (F.standard folder.old) F.Reader.has_failed) (F.why folder.new) (seen (O.contents out.old) (O.contents out.new) (O.has_failed out.new)) (seen (E.contents err.old) (E.contents err.new) (E.has_failed err.new)) kinds.now files.now brief result)
-        (λ path. IsPictureStatus (inputs_of F.Reader (F.holds folder.old) (F.closed folder.old) (F.standard folder.old) F.Reader.has_failed) (F.is_one folder.old) (F.why folder.new) (seen (O.contents out.old) (O.contents out.new) (O.has_failed out.new)) (seen (E.contents err.old) (E.contents err.new) (E.has_failed err.new)) kinds.now files.now brief path.now
-        (Reaches F.Sink (F.holds folder.new path.now) (F.sinks folder.old path.now) F.Sink.contents) (Stops F.Sink (IsUnmade F.NewFile (F.unwritable folder.new path.now) F.NewFile.has_failed) (F.sinks folder.old path.now) F.Sink.contents F.Sink.has_failed) result) }
+    ensures answer { MatchOption picture.entry ((folder.new ≡ folder.old)
+        × IsDiffStatus (effects F.Folder F.Reader.ByteIn F.Sink.ByteOut F.NewFile.ByteOut folder.old folder.new)
+        (written O.ByteOut out.old out.new) (written E.ByteOut err.old err.new) kinds.now files.now brief result)
+        (λ path. IsPictureStatus (effects F.Folder F.Reader.ByteIn F.Sink.ByteOut F.NewFile.ByteOut folder.old folder.new)
+        (written O.ByteOut out.old out.new) (written E.ByteOut err.old err.new) kinds.now files.now brief path.now result) }
 {
     match picture {
         Some(path) => draw_difference(alloc, folder, kinds, files, brief, path, out, err),
@@ -344,7 +347,7 @@ fn diff_or_draw<F: Folder, O: ByteOut, E: ByteOut>(
     }
 }
 
-// What differs between two sheets, or the last line of that alone.
+// What differs between two sheets, or that without the lines of records.
 fn diff<F: Folder, O: ByteOut, E: ByteOut>(
     alloc: Global,
     folder: &F,
@@ -355,7 +358,8 @@ fn diff<F: Folder, O: ByteOut, E: ByteOut>(
     err: &mut E,
 ) -> u8
     ensures status { IsPairStatus result }
-    ensures answer { IsDiffStatus (inputs_of F.Reader (F.holds folder.now) (F.closed folder.now) (F.standard folder.now) F.Reader.has_failed) (F.why folder.now) (seen (O.contents out.old) (O.contents out.new) (O.has_failed out.new)) (seen (E.contents err.old) (E.contents err.new) (E.has_failed err.new)) kinds.now files.now brief result }
+    ensures answer { IsDiffStatus (effects F.Folder F.Reader.ByteIn F.Sink.ByteOut F.NewFile.ByteOut folder.now folder.now)
+        (written O.ByteOut out.old out.new) (written E.ByteOut err.old err.new) kinds.now files.now brief result }
 {
     let paths = [files.scd, files.dic, files.first, files.second, "-"];
     match sheets::diff(alloc, folder, kinds, files, brief) {
@@ -364,7 +368,7 @@ fn diff<F: Folder, O: ByteOut, E: ByteOut>(
     }
 }
 
-// What differs between two sheets, or the last line of that alone, and a picture of it to a path.
+// What differs between two sheets, or that without the lines of records, and a picture of it to a path.
 fn draw_difference<F: Folder, O: ByteOut, E: ByteOut>(
     alloc: Global,
     folder: &mut F,
@@ -376,9 +380,8 @@ fn draw_difference<F: Folder, O: ByteOut, E: ByteOut>(
     err: &mut E,
 ) -> u8
     ensures status { IsPairStatus result }
-    ensures answer { IsPictureStatus (inputs_of F.Reader (F.holds folder.old) (F.closed folder.old) (F.standard folder.old) F.Reader.has_failed) (F.is_one folder.old) (F.why folder.new) (seen (O.contents out.old) (O.contents out.new) (O.has_failed out.new)) (seen (E.contents err.old) (E.contents err.new) (E.has_failed err.new)) kinds.now files.now brief path.now
-        (Reaches F.Sink (F.holds folder.new path.now) (F.sinks folder.old path.now) F.Sink.contents) (Stops F.Sink (IsUnmade F.NewFile (F.unwritable folder.new path.now) F.NewFile.has_failed) (F.sinks folder.old path.now) F.Sink.contents F.Sink.has_failed) result }
-    ensures unmade { result ≡ 2 → folder.new ≡ folder.old }
+    ensures answer { IsPictureStatus (effects F.Folder F.Reader.ByteIn F.Sink.ByteOut F.NewFile.ByteOut folder.old folder.new)
+        (written O.ByteOut out.old out.new) (written E.ByteOut err.old err.new) kinds.now files.now brief path.now result }
 {
     let paths = [files.scd, files.dic, files.first, files.second, path];
     match sheets::draw_difference(alloc, folder, kinds, files, brief, path) {
@@ -390,8 +393,8 @@ fn draw_difference<F: Folder, O: ByteOut, E: ByteOut>(
 // Writes what differs, and gives the status.
 fn put_difference<O: ByteOut, E: ByteOut>(difference: &Difference, out: &mut O, err: &mut E) -> u8
     ensures status { (result ≡ 4) ⊎ MatchBool difference.now.same (result ≡ 0) (result ≡ 1) }
-    ensures written { result < 3 → Appends (O.contents out.old) (O.contents out.new) difference.now.text.items }
-    ensures unwritten { result ≡ 4 → IsTrue (O.has_failed out.new) }
+    ensures answer { result < 3 → Answers (written O.ByteOut out.old out.new) (written E.ByteOut err.old err.new) difference.now.text.items }
+    ensures unsaid { result ≡ 4 → IsUnsaid (written O.ByteOut out.old out.new) (written E.ByteOut err.old err.new) }
 {
     if put_all(out, &difference.text).is_err() {
         return report::unwritten(err);

@@ -7,15 +7,16 @@ ghost use Rattle.edi_line.specs.Refusal.{IsUnbroken};
 ghost use Rattle.edi_schema.specs.Roles.{KindCodes};
 ghost use Rattle.edi_schema.specs.SchemaRefusal.{IsSchemaRefusal};
 ghost use Rattle.edi_compare.specs.Refused.{IsProper};
-ghost use Rattle.edi_compare.specs.Runs.{IsProperSchemaFault, seen};
+ghost use Rattle.edi_compare.specs.Runs.{IsProperSchemaFault};
 ghost use Rattle.edi_explain.specs.Explained.{DescribesPlan, ExplainsSchema, ExplainsSheet};
 ghost use Rattle.edi_explain.specs.Found.{IsFound};
 ghost use Rattle.edi_explain.specs.Skipped.{DescribesSkipped};
 ghost use Rattle.edicad.specs.Explains.{GiveHints, IsExplainStatus, IsRuleStatus, TellsAccepted, TellsCause, TellsPlan, TellsRefusal};
 ghost use Rattle.edi_files.specs.Reasons.{ended};
 ghost use Rattle.edicad.specs.Outcome.{FaultHasNames, schema_text, sheet_text, status_of_fault};
-ghost use Rattle.edicad.specs.SheetRuns.{FileFault, OfFiles, inputs_of};
-ghost use Rattle.edicad.specs.Statuses.{IsPageStatus, IsSheetStatus};
+ghost use Rattle.edicad.specs.Effects.{effects, inputs, written};
+ghost use Rattle.edicad.specs.SheetRuns.{FileFault, OfFiles};
+ghost use Rattle.edicad.specs.Statuses.{IsPageStatus, IsSheetStatus, IsUnsaid};
 
 use crate::outcome::{Outcome, input_name, line_of_fault, line_of_schema};
 use crate::report;
@@ -32,8 +33,6 @@ use edi_schema::{Kinds, Schema, SchemaFault};
 use edi_words::SheetFiles;
 use edi_write::put_all;
 use std::alloc::{AllocError, Global};
-
-const WRITE_STATUS: u8 = 4;
 
 const REFUSED_STATUS: u8 = 2;
 
@@ -80,23 +79,24 @@ pub fn explain<F: Folder, O: ByteOut, E: ByteOut>(
     err: &mut E,
 ) -> u8
     ensures status { IsSheetStatus result }
-    ensures answer { IsExplainStatus (inputs_of F.Reader (F.holds folder.now) (F.closed folder.now) (F.standard folder.now) F.Reader.has_failed) (F.why folder.now) (seen (O.contents out.old) (O.contents out.new) (O.has_failed out.new)) (seen (E.contents err.old) (E.contents err.new) (E.has_failed err.new)) kinds.now files.now result }
+    ensures answer { IsExplainStatus (effects F.Folder F.Reader.ByteIn F.Sink.ByteOut F.NewFile.ByteOut folder.now folder.now)
+        (written O.ByteOut out.old out.new) (written E.ByteOut err.old err.new) kinds.now files.now result }
 {
     let paths = [files.scd, files.dic, files.vec, "-"];
     match said(alloc, folder, kinds, files) {
-        Ok(said) => put_said(&said, out),
+        Ok(said) => put_said(&said, out, err),
         Err(fault) => report::answer(alloc, folder, out, err, &Outcome::Fault(fault), &paths),
     }
 }
 
 // Writes what is said, and gives the status.
-fn put_said<O: ByteOut>(said: &Account, out: &mut O) -> u8
+fn put_said<O: ByteOut, E: ByteOut>(said: &Account, out: &mut O, err: &mut E) -> u8
     ensures status { (result ≡ 4) ⊎ MatchBool said.now.is_accepted (result ≡ 0) (result ≡ 2) }
-    ensures written { result < 3 → Appends (O.contents out.old) (O.contents out.new) said.now.text.items }
-    ensures unwritten { result ≡ 4 → IsTrue (O.has_failed out.new) }
+    ensures answer { result < 3 → Appends (O.contents out.old) (O.contents out.new) said.now.text.items × (err.new ≡ err.old) }
+    ensures unsaid { result ≡ 4 → IsUnsaid (written O.ByteOut out.old out.new) (written E.ByteOut err.old err.new) }
 {
     if put_all(out, &said.text).is_err() {
-        return WRITE_STATUS;
+        return report::unwritten(err);
     }
     if said.is_accepted { 0 } else { REFUSED_STATUS }
 }
@@ -108,9 +108,10 @@ fn said<F: Folder>(
     kinds: &Kinds<'_>,
     files: &SheetFiles<'_>,
 ) -> Result<Account, RunFault>
-    ensures ok { IfOk result (λ said. OfFiles (inputs_of F.Reader (F.holds folder.now) (F.closed folder.now) (F.standard folder.now) F.Reader.has_failed) files.now
-        (λ s d v. MatchBool said.is_accepted (TellsAccepted kinds.now s d v said.text.items) (TellsRefusal kinds.now files.now s d v said.text.items))) }
-    ensures err { IfErr result (FileFault (inputs_of F.Reader (F.holds folder.now) (F.closed folder.now) (F.standard folder.now) F.Reader.has_failed) kinds.now files.now (λ _. ⊥)) }
+    ensures ok { IfOk result (λ said. OfFiles (inputs F.Folder F.Reader.ByteIn folder.now) files.now
+        (λ s d v. MatchBool said.is_accepted (TellsAccepted kinds.now s d v said.text.items) (TellsRefusal kinds.now
+        files.now s d v said.text.items))) }
+    ensures err { IfErr result (FileFault (inputs F.Folder F.Reader.ByteIn folder.now) kinds.now files.now (λ _. ⊥)) }
     ensures names { IfErr result (λ e. FaultHasNames e 4) }
     ensures unrefused { IfErr result (λ e. 2 < status_of_fault e) }
 {
@@ -133,7 +134,8 @@ fn all_said(
     files: &SheetFiles<'_>,
     bytes: &SheetBytes,
 ) -> Result<Account, AllocError>
-    ensures { IfOk result (λ said. MatchBool said.is_accepted (TellsAccepted kinds.now bytes.now.scd.items bytes.now.dic.items bytes.now.vec.items said.text.items)
+    ensures { IfOk result (λ said. MatchBool said.is_accepted (TellsAccepted
+        kinds.now bytes.now.scd.items bytes.now.dic.items bytes.now.vec.items said.text.items)
         (TellsRefusal kinds.now files.now bytes.now.scd.items bytes.now.dic.items bytes.now.vec.items said.text.items)) }
 {
     let mut said = said_of(alloc, kinds, files, bytes)?;
@@ -150,7 +152,8 @@ fn lines_behind(
     is_accepted: bool,
 ) -> Result<Vec<u8>, AllocError>
     requires { IsTrue is_accepted → IsUnbroken (BreaksLineRule bytes.now.vec.items) }
-    ensures { IfOk result (λ lines. MatchBool is_accepted (DescribesSkipped bytes.now.vec.items lines.items) (GiveHints files.now bytes.now.scd.items bytes.now.dic.items bytes.now.vec.items lines.items)) }
+    ensures { IfOk result (λ lines. MatchBool is_accepted (DescribesSkipped bytes.now.vec.items lines.items) (GiveHints
+        files.now bytes.now.scd.items bytes.now.dic.items bytes.now.vec.items lines.items)) }
 {
     if is_accepted {
         return describe_skipped(alloc, &bytes.vec);
@@ -179,7 +182,8 @@ fn said_of(
     files: &SheetFiles<'_>,
     bytes: &SheetBytes,
 ) -> Result<Account, AllocError>
-    ensures { IfOk result (λ said. MatchBool said.is_accepted (TellsPlan kinds.now bytes.now.scd.items bytes.now.dic.items bytes.now.vec.items said.text.items)
+    ensures { IfOk result (λ said. MatchBool said.is_accepted (TellsPlan
+        kinds.now bytes.now.scd.items bytes.now.dic.items bytes.now.vec.items said.text.items)
         (TellsCause kinds.now files.now bytes.now.scd.items bytes.now.dic.items bytes.now.vec.items said.text.items)) }
 {
     match Schema::load(alloc, &bytes.scd, &bytes.dic, kinds) {
@@ -204,7 +208,8 @@ fn said_of(
 
 // What is said of an accepted sheet, by its plan.
 fn said_of_accepted(alloc: Global, plan: &Plan) -> Result<Account, AllocError>
-    ensures { IfOk result (λ said. (said.is_accepted ≡ true) × ((lines : List ℕ) × DescribesPlan plan.now lines × (said.text.items ≡ ended (codes "accepted") ++ lines))) }
+    ensures { IfOk result (λ said. (said.is_accepted ≡ true) × ((lines : List ℕ) × DescribesPlan plan.now lines
+        × (said.text.items ≡ ended (codes "accepted") ++ lines))) }
 {
     let mut text = Vec::from_slice(alloc, b"accepted\n")?;
     let lines = describe_plan(alloc, plan)?;
@@ -224,7 +229,8 @@ fn said_of_sheet(
     found: &Found,
 ) -> Result<Account, AllocError>
     requires { IsFound schema.now bytes.now found.now }
-    ensures { IfOk result (λ said. (said.is_accepted ≡ false) × IsProper found.now.fault × ((lines : List ℕ) × ExplainsSheet schema.now bytes.now name.now found.now.fault lines
+    ensures { IfOk result (λ said. (said.is_accepted ≡ false) × IsProper found.now.fault × ((lines : List ℕ)
+        × ExplainsSheet schema.now bytes.now name.now found.now.fault lines
         × (said.text.items ≡ ended (sheet_text [] found.now.fault) ++ lines))) }
 {
     let mut text = line_of_fault(alloc, &found.fault)?;
@@ -245,7 +251,8 @@ fn said_of_schema(
 ) -> Result<Account, AllocError>
     requires { (kinds : KindCodes) × IsSchemaRefusal scd.now.bytes.now dic.now.bytes.now kinds fault.now }
     ensures { IfOk result (λ said. (said.is_accepted ≡ false) × IsProperSchemaFault fault.now × ((lines : List ℕ)
-        × ExplainsSchema scd.now.bytes.now dic.now.bytes.now scd.now.name.now dic.now.name.now fault.now lines × (said.text.items ≡ ended (schema_text fault.now) ++ lines))) }
+        × ExplainsSchema scd.now.bytes.now dic.now.bytes.now scd.now.name.now dic.now.name.now fault.now lines
+        × (said.text.items ≡ ended (schema_text fault.now) ++ lines))) }
 {
     let mut text = line_of_schema(alloc, fault)?;
     let lines = explain_schema(alloc, scd, dic, fault)?;
@@ -264,7 +271,7 @@ pub fn explain_rule<O: ByteOut, E: ByteOut>(
     err: &mut E,
 ) -> u8
     ensures status { IsPageStatus result }
-    ensures answer { IsRuleStatus (seen (O.contents out.old) (O.contents out.new) (O.has_failed out.new)) (seen (E.contents err.old) (E.contents err.new) (E.has_failed err.new)) word.now result }
+    ensures answer { IsRuleStatus (written O.ByteOut out.old out.new) (written E.ByteOut err.old err.new) word.now result }
 {
     let Some(text) = rule_of_word(word) else {
         return report::unknown_rule(err);
@@ -274,6 +281,6 @@ pub fn explain_rule<O: ByteOut, E: ByteOut>(
     };
     match put_all(out, &page) {
         Ok(()) => 0,
-        Err(_) => WRITE_STATUS,
+        Err(_) => report::unwritten(err),
     }
 }

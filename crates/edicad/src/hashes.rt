@@ -1,32 +1,31 @@
 //! The digests of the canonical files of many sheets.
-ghost use Rattle.std.specs.Prelude.{◌≡◌, ◌⊎◌, ◌++◌, IfErr, IfOk, IsTrue, Option, codes, map};
+ghost use Rattle.std.specs.Prelude.{◌≡◌, ◌++◌, IfErr, IfOk, IsTrue, Option, map};
 ghost use Rattle.std.specs.List.{list_any};
-ghost use Rattle.edi_compare.specs.Runs.{seen};
-ghost use Rattle.edicad.specs.Hashes.{AnswersAll, GivesSchema, IsAnswerOf, IsHashStatus, SchemaFault, digest_line, fault_line, is_escaped, mark_of, shown_name};
+ghost use Rattle.edicad.specs.Effects.{effects, inputs, written};
+ghost use Rattle.edicad.specs.Hashes.{AnswersAll, GivesSchema, IsAnswerOf, IsHashStatus, LoadFault, TellsFault, digest_line, fault_line};
+ghost use Rattle.edicad.specs.Hashes.{is_escaped, mark_of, refused_path, schema_fault_path, shown_name};
 ghost use Rattle.edicad.specs.inner.Hashes.{StepsOn, StopsAt};
-ghost use Rattle.edi_files.specs.Reasons.{ended, reason_line};
+ghost use Rattle.edi_files.specs.Reasons.{reason_line};
 ghost use Rattle.edi_files.specs.declared.reason.Reason.{Reason};
-ghost use Rattle.edicad.specs.Outcome.{FaultHasNames, status_of_fault};
 ghost use Rattle.edicad.specs.Reasons.{IsReasonOf};
-ghost use Rattle.edicad.specs.SheetRuns.{inputs_of};
-ghost use Rattle.edicad.specs.Statuses.{GoesOut, IsSheetStatus};
+ghost use Rattle.edicad.specs.Statuses.{IsSheetStatus};
 
-use crate::outcome::{Outcome, line_of_sheet, status_of_fault};
+use crate::outcome::{line_of_sheet, status_of_fault};
 use crate::reason::add_reason;
 use crate::report;
 use crate::sheets::opened;
 use edi_compare::{RunFault, canon_under, schema_of};
 use edi_files::Folder;
 use edi_line::ByteOut;
-use edi_schema::{Kinds, Schema};
+use edi_schema::{Kinds, Schema, SchemaFault, Source};
 use edi_words::ManyFiles;
 use edi_write::{Written, put_all};
 use sha2::{Digest, Sha256};
 use std::alloc::{AllocError, Global};
 
 /// Writes a line for each sheet, in order: the digest of its canonical file and its name to `out`, or its name and why
-/// it has none to `err`. Gives the greatest of their statuses, or 4 as soon as `out` fails. The schema is loaded once,
-/// and a refused one is reported as by `check`, before any sheet is opened.
+/// it has none to `err`. Gives the greatest of their statuses, or 4 as soon as `out` fails. The schema is loaded once, before
+/// any sheet is opened; where there is none, `err` says why by the name of its file.
 pub fn hash<F: Folder, O: ByteOut, E: ByteOut>(
     alloc: Global,
     folder: &F,
@@ -36,18 +35,12 @@ pub fn hash<F: Folder, O: ByteOut, E: ByteOut>(
     err: &mut E,
 ) -> u8
     ensures status { IsSheetStatus result }
-    ensures answer { IsHashStatus (inputs_of F.Reader (F.holds folder.now) (F.closed folder.now) (F.standard folder.now) F.Reader.has_failed) (F.why folder.now) (seen (O.contents out.old) (O.contents out.new) (O.has_failed out.new)) (seen (E.contents err.old) (E.contents err.new) (E.has_failed err.new)) kinds.now files.now result }
+    ensures answer { IsHashStatus (effects F.Folder F.Reader.ByteIn F.Sink.ByteOut F.NewFile.ByteOut folder.now folder.now)
+        (written O.ByteOut out.old out.new) (written E.ByteOut err.old err.new) kinds.now files.now result }
 {
     match loaded(alloc, folder, kinds, files) {
         Ok(schema) => answer_all(alloc, folder, &schema, &files.sheets, out, err),
-        Err(fault) => report::answer(
-            alloc,
-            folder,
-            out,
-            err,
-            &Outcome::Fault(fault),
-            &[files.scd, files.dic, "-"],
-        ),
+        Err(fault) => tell_fault(alloc, folder, &fault, path_of_schema(files, &fault), err),
     }
 }
 
@@ -58,9 +51,8 @@ fn loaded<F: Folder>(
     kinds: &Kinds<'_>,
     files: &ManyFiles<'_>,
 ) -> Result<Schema, RunFault>
-    ensures ok { IfOk result (GivesSchema (inputs_of F.Reader (F.holds folder.now) (F.closed folder.now) (F.standard folder.now) F.Reader.has_failed) kinds.now files.now) }
-    ensures err { IfErr result (SchemaFault (inputs_of F.Reader (F.holds folder.now) (F.closed folder.now) (F.standard folder.now) F.Reader.has_failed) kinds.now files.now) }
-    ensures names { IfErr result (λ e. FaultHasNames e 3) }
+    ensures ok { IfOk result (GivesSchema (inputs F.Folder F.Reader.ByteIn folder.now) kinds.now files.now) }
+    ensures err { IfErr result (LoadFault (inputs F.Folder F.Reader.ByteIn folder.now) kinds.now files.now) }
 {
     let mut scd = opened(folder, files.scd, 1)?;
     let mut dic = opened(folder, files.dic, 2)?;
@@ -77,7 +69,8 @@ fn answer_all<F: Folder, O: ByteOut, E: ByteOut>(
     err: &mut E,
 ) -> u8
     ensures status { IsSheetStatus result }
-    ensures answer { AnswersAll (inputs_of F.Reader (F.holds folder.now) (F.closed folder.now) (F.standard folder.now) F.Reader.has_failed) (F.why folder.now) schema.now (seen (O.contents out.old) (O.contents out.new) (O.has_failed out.new)) (seen (E.contents err.old) (E.contents err.new) (E.has_failed err.new)) (map (λ p. p.now) sheets.now) result }
+    ensures answer { AnswersAll (inputs F.Folder F.Reader.ByteIn folder.now) (F.why folder.now) schema.now
+        (written O.ByteOut out.old out.new) (written E.ByteOut err.old err.new) (map (λ p. p.now) sheets.now) result }
 {
     let mut worst = 0;
     for path in sheets {
@@ -99,8 +92,10 @@ fn answer<F: Folder, O: ByteOut, E: ByteOut>(
     err: &mut E,
 ) -> Result<u8, Written>
     ensures status { IfOk result IsSheetStatus }
-    ensures ok { IfOk result (StepsOn (inputs_of F.Reader (F.holds folder.now) (F.closed folder.now) (F.standard folder.now) F.Reader.has_failed) (F.why folder.now) schema.now path.now (seen (O.contents out.old) (O.contents out.new) (O.has_failed out.new)) (seen (E.contents err.old) (E.contents err.new) (E.has_failed err.new))) }
-    ensures err { IfErr result (λ w. StopsAt (inputs_of F.Reader (F.holds folder.now) (F.closed folder.now) (F.standard folder.now) F.Reader.has_failed) schema.now path.now (seen (O.contents out.old) (O.contents out.new) (O.has_failed out.new)) × (err.new ≡ err.old)) }
+    ensures ok { IfOk result (StepsOn (inputs F.Folder F.Reader.ByteIn folder.now) (F.why folder.now) schema.now path.now
+        (written O.ByteOut out.old out.new) (written E.ByteOut err.old err.new)) }
+    ensures err { IfErr result (λ w. StopsAt (inputs F.Folder F.Reader.ByteIn folder.now) schema.now path.now
+        (written O.ByteOut out.old out.new) × (err.new ≡ err.old)) }
     ensures stays { IsTrue (E.has_failed err.old) → IsTrue (E.has_failed err.new) }
 {
     match digest_of(alloc, folder, schema, path) {
@@ -111,21 +106,19 @@ fn answer<F: Folder, O: ByteOut, E: ByteOut>(
             },
             Err(_) => Ok(report::out_of_memory(err)),
         },
-        Err(fault) => Ok(known_fault_of(alloc, folder, &fault, path, err)),
+        Err(fault) => Ok(tell_fault(alloc, folder, &fault, path, err)),
     }
 }
 
-// Says why a sheet has no digest, and gives its status.
-fn known_fault_of<F: Folder, E: ByteOut>(
+// Says what is wrong with the file of a path, and gives the status.
+fn tell_fault<F: Folder, E: ByteOut>(
     alloc: Global,
     folder: &F,
     fault: &RunFault,
     path: &str,
     err: &mut E,
 ) -> u8
-    ensures contents { ((result ≡ status_of_fault fault.now) × ((reason : Option Reason) × IsReasonOf (F.why folder.now) fault.now path.now reason
-        × GoesOut (E.contents err.old) (E.contents err.new) (E.has_failed err.new) (fault_line fault.now path.now ++ reason_line (shown_name path.now) reason)))
-        ⊎ ((result ≡ 5) × GoesOut (E.contents err.old) (E.contents err.new) (E.has_failed err.new) (ended (codes "out of memory"))) }
+    ensures contents { TellsFault (F.why folder.now) (written E.ByteOut err.old err.new) fault.now path.now result }
     ensures stays { IsTrue (E.has_failed err.old) → IsTrue (E.has_failed err.new) }
 {
     match lines_of_fault(alloc, folder, fault, path) {
@@ -137,6 +130,32 @@ fn known_fault_of<F: Folder, E: ByteOut>(
     }
 }
 
+// The file that keeps a schema from being loaded.
+fn path_of_schema<'a>(files: &ManyFiles<'a>, fault: &RunFault) -> &'a str
+    ensures { result.now ≡ schema_fault_path files.now fault.now }
+{
+    match fault {
+        RunFault::Read { input: 1 } | RunFault::TooLong { input: 1 } => files.scd,
+        RunFault::Read { .. } | RunFault::TooLong { .. } => files.dic,
+        RunFault::Schema(fault) => refused_path(files, fault),
+        RunFault::Memory(_) | RunFault::First(_) | RunFault::Second(_) | RunFault::Write(_) => "",
+    }
+}
+
+// The file of a refused schema.
+fn refused_path<'a>(files: &ManyFiles<'a>, fault: &SchemaFault) -> &'a str
+    ensures { result.now ≡ refused_path files.now fault.now }
+{
+    match fault {
+        SchemaFault::Memory(_) => "",
+        SchemaFault::Line { file, .. } | SchemaFault::Entry { file, .. } => match file {
+            Source::Scd => files.scd,
+            Source::Dic => files.dic,
+        },
+        SchemaFault::Kinds => files.scd,
+    }
+}
+
 // The line of a fault, and then that of its reason, if the folder gives one.
 fn lines_of_fault<F: Folder>(
     alloc: Global,
@@ -144,7 +163,8 @@ fn lines_of_fault<F: Folder>(
     fault: &RunFault,
     path: &str,
 ) -> Result<Vec<u8>, AllocError>
-    ensures { IfOk result (λ lines. (reason : Option Reason) × IsReasonOf (F.why folder.now) fault.now path.now reason × (lines.items ≡ fault_line fault.now path.now ++ reason_line (shown_name path.now) reason)) }
+    ensures { IfOk result (λ lines. (reason : Option Reason) × IsReasonOf (F.why folder.now) fault.now path.now reason
+        × (lines.items ≡ fault_line fault.now path.now ++ reason_line (shown_name path.now) reason)) }
 {
     let mut lines = line_of_fault(alloc, fault, path.as_bytes())?;
     let name = shown(alloc, path.as_bytes())?;
@@ -159,7 +179,7 @@ fn digest_of<F: Folder>(
     schema: &Schema,
     path: &str,
 ) -> Result<[u8; 32], RunFault>
-    ensures { IsAnswerOf (inputs_of F.Reader (F.holds folder.now) (F.closed folder.now) (F.standard folder.now) F.Reader.has_failed) schema.now path.now result }
+    ensures { IsAnswerOf (inputs F.Folder F.Reader.ByteIn folder.now) schema.now path.now result }
 {
     let mut sheet = opened(folder, path, 3)?;
     let canonical = canon_under(alloc, schema, &mut sheet)?;

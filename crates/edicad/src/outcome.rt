@@ -2,7 +2,9 @@
 ghost use Rattle.std.specs.Prelude.{◌≡◌, ◌<◌, length, ◌∷◌, ◌++◌, [], codes, IfOk};
 ghost use Rattle.std.specs.Fmt.{decimal};
 ghost use Rattle.edi_files.specs.Reasons.{ended};
-ghost use Rattle.edicad.specs.Outcome.{HasNames, first_text, input_name, line_for, output_name, path_in, path_of_fault, schema_text, sheet_fault_text, sheet_text, source_text, status_for, status_of_fault, status_of_schema, status_of_sheet, texts};
+ghost use Rattle.edicad.specs.Outcome.{FaultHasNames, HasNames, first_text, input_name, line_for, output_name, path_in, path_of_fault};
+ghost use Rattle.edicad.specs.Outcome.{schema_text, sheet_fault_text, sheet_text, source_text, status_for, status_of_fault};
+ghost use Rattle.edicad.specs.Outcome.{status_of_schema, status_of_sheet, texts, words_of_fault};
 
 use edi_compare::{Fault, RunFault};
 use edi_schema::{SchemaFault, Source};
@@ -86,32 +88,31 @@ pub fn line_of(alloc: Global, outcome: &Outcome, paths: &[&str]) -> Result<Vec<u
         Outcome::Pairs => named(alloc, b"pairs", b""),
         Outcome::Unpaired => named(alloc, b"does not pair", b""),
         Outcome::WrongPairing(line) => numbered(alloc, b"refused pairing line ", *line),
-        Outcome::Fault(RunFault::Memory(_)) => named(alloc, b"out of memory", b""),
-        Outcome::Fault(RunFault::Read { input }) => {
-            named(
-                alloc,
-                b"cannot read ",
-                input_name(path_in(paths, *input as usize - 1)),
-            )
+        Outcome::Fault(fault) => line_of_run(alloc, fault, paths),
+    }
+}
+
+/// The line that states why a run has no answer, ended by a line feed, by the paths of its inputs and of its output.
+pub fn line_of_run(alloc: Global, fault: &RunFault, paths: &[&str]) -> Result<Vec<u8>, AllocError>
+    requires { FaultHasNames fault.now (length paths.now) }
+    ensures { IfOk result (λ line. line.items ≡ ended (words_of_fault fault.now (texts paths.now))) }
+{
+    match fault {
+        RunFault::Memory(_) => named(alloc, b"out of memory", b""),
+        RunFault::Read { input } => {
+            let path = path_in(paths, *input as usize - 1);
+            named(alloc, b"cannot read ", input_name(path))
         }
-        Outcome::Fault(RunFault::TooLong { input }) => {
-            named(
-                alloc,
-                b"too long ",
-                input_name(path_in(paths, *input as usize - 1)),
-            )
+        RunFault::TooLong { input } => {
+            let path = path_in(paths, *input as usize - 1);
+            named(alloc, b"too long ", input_name(path))
         }
-        Outcome::Fault(RunFault::Schema(fault)) => schema_line(alloc, fault),
-        Outcome::Fault(RunFault::First(fault)) => {
-            sheet_line(alloc, first_words(paths.len()), fault)
-        }
-        Outcome::Fault(RunFault::Second(fault)) => sheet_line(alloc, b"second ", fault),
-        Outcome::Fault(RunFault::Write(_)) => {
-            named(
-                alloc,
-                b"cannot write ",
-                output_name(path_in(paths, paths.len() - 1)),
-            )
+        RunFault::Schema(fault) => schema_line(alloc, fault),
+        RunFault::First(fault) => sheet_line(alloc, first_words(paths.len()), fault),
+        RunFault::Second(fault) => sheet_line(alloc, b"second ", fault),
+        RunFault::Write(_) => {
+            let path = path_in(paths, paths.len() - 1);
+            named(alloc, b"cannot write ", output_name(path))
         }
     }
 }
@@ -194,7 +195,7 @@ fn first_words(count: usize) -> &'static [u8]
 
 /// The path of a fault: that of the input or of the output that failed, or no text.
 pub fn path_of_fault<'a>(fault: &RunFault, paths: &[&'a str]) -> &'a str
-    requires { HasNames (Outcome.Fault fault.now) paths.now }
+    requires { FaultHasNames fault.now (length paths.now) }
     ensures { result.now ≡ path_of_fault fault.now (texts paths.now) }
 {
     match fault {

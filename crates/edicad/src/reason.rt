@@ -17,7 +17,8 @@ pub fn add_reason<F: Folder>(
     path: &str,
     name: &[u8],
 ) -> Result<(), AllocError>
-    ensures { OnOk result ((reason : Option Reason) × IsReasonOf (F.why folder.now) fault.now path.now reason × (lines.new.items ≡ lines.old.items ++ reason_line name.now reason)) }
+    ensures { OnOk result ((reason : Option Reason) × IsReasonOf (F.why folder.now) fault.now path.now reason
+        × (lines.new.items ≡ lines.old.items ++ reason_line name.now reason)) }
 {
     match reason_of(folder, fault, path) {
         Some(reason) => push_reason(lines, name, reason),

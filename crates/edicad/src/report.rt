@@ -1,23 +1,23 @@
 //! What the user sees of an outcome.
-ghost use Rattle.std.specs.Prelude.{◌≡◌, ◌⊎◌, ◌++◌, ◌<◌, ◌≤◌, IsTrue, Option, codes};
+ghost use Rattle.std.specs.Prelude.{◌≡◌, ◌⊎◌, ◌<◌, ◌≤◌, IfOk, IsTrue, Option, codes, length};
 ghost use Rattle.std.specs.Io.KnownBytes.{Appends};
-ghost use Rattle.edi_compare.specs.Runs.{seen};
-ghost use Rattle.edi_files.specs.Reasons.{ended, reason_line};
+ghost use Rattle.edi_files.specs.Reasons.{ended};
 ghost use Rattle.edi_files.specs.declared.reason.Reason.{Reason};
-ghost use Rattle.edicad.specs.Outcome.{HasNames, line_for, path_of_fault, status_for, texts};
-ghost use Rattle.edicad.specs.Reasons.{IsReasonOf};
 ghost use Rattle.edi_words.specs.Requests.{misuse_text};
-ghost use Rattle.edicad.specs.Statuses.{GoesOut, IsAnsweredAs, WarnsWhy};
+ghost use Rattle.edicad.specs.Effects.{written};
+ghost use Rattle.edicad.specs.Outcome.{FaultHasNames, HasNames, line_for, status_for, texts};
+ghost use Rattle.edicad.specs.Reasons.{IsReason, lines_for};
+ghost use Rattle.edicad.specs.Statuses.{IsAnsweredAs, IsSaid, IsUnsaid, IsWarned, LacksMemory, Warns};
 ghost use Rattle.edicad.specs.declared.outcome.Outcome.{Outcome};
 
-use crate::outcome::{Outcome, line_of, path_of_fault, status_of};
+use crate::outcome::{Outcome, line_of, line_of_run, path_of_fault, status_of, status_of_fault};
 use crate::reason::add_reason;
 use edi_compare::RunFault;
 use edi_files::Folder;
 use edi_line::ByteOut;
 use edi_words::Misuse;
 use edi_write::put_all;
-use std::alloc::Global;
+use std::alloc::{AllocError, Global};
 
 const MEMORY_STATUS: u8 = 5;
 
@@ -25,9 +25,11 @@ const WRITE_STATUS: u8 = 4;
 
 const USAGE_STATUS: u8 = 3;
 
+const REFUSED_STATUS: u8 = 2;
+
 /// Writes the outcome's line where it belongs: answers and refusals to `out`, all else to `err`, with a line that says why
 /// a path can't be read or written where the folder gives a reason. Gives the exit status: that of the outcome, 4 if `out`
-/// fails, 5 if there is no memory for the lines.
+/// fails, which `err` says, and 5 if there is no memory for the lines.
 pub fn answer<F: Folder, O: ByteOut, E: ByteOut>(
     alloc: Global,
     folder: &F,
@@ -37,61 +39,84 @@ pub fn answer<F: Folder, O: ByteOut, E: ByteOut>(
     paths: &[&str],
 ) -> u8
     requires { HasNames outcome.now paths.now }
+    ensures said { IsSaid (F.why folder.now) (written O.ByteOut out.old out.new) (written E.ByteOut err.old err.new)
+        outcome.now (texts paths.now) result }
+    ensures kept { 3 ≤ status_for outcome.now → out.new ≡ out.old }
+{
+    match outcome {
+        Outcome::Fault(fault) if status_of_fault(fault) > REFUSED_STATUS => {
+            warned(alloc, folder, err, fault, paths)
+        }
+        _ => said(alloc, out, err, outcome, paths),
+    }
+}
+
+// Writes the line of an answer or a refusal.
+fn said<O: ByteOut, E: ByteOut>(
+    alloc: Global,
+    out: &mut O,
+    err: &mut E,
+    outcome: &Outcome,
+    paths: &[&str],
+) -> u8
+    requires names { HasNames outcome.now paths.now }
+    requires small { status_for outcome.now < 3 }
     ensures status { IsAnsweredAs (status_for outcome.now) result }
     ensures answer { result < 3 → Appends (O.contents out.old) (O.contents out.new) (line_for outcome.now paths.now) × (err.new ≡ err.old) }
-    ensures unwritten { status_for outcome.now < 3 → result ≡ 4 → IsTrue (O.has_failed out.new) × (err.new ≡ err.old) }
-    ensures fault { 3 ≤ status_for outcome.now → result ≡ 4
-        → WarnsWhy (F.why folder.now) (seen (E.contents err.old) (E.contents err.new) (E.has_failed err.new)) outcome.now (texts paths.now) × (out.new ≡ out.old) }
-    ensures memory { result ≡ 5 → GoesOut (E.contents err.old) (E.contents err.new) (E.has_failed err.new) (ended (codes "out of memory")) × (out.new ≡ out.old) }
+    ensures unsaid { result ≡ 4 → IsUnsaid (written O.ByteOut out.old out.new) (written E.ByteOut err.old err.new) }
+    ensures memory { result ≡ 5 → LacksMemory (written E.ByteOut err.old err.new) }
 {
     let Ok(line) = line_of(alloc, outcome, paths) else {
         return out_of_memory(err);
     };
-    let status = status_of(outcome);
-    if status < 3 {
-        return match put_all(out, &line) {
-            Ok(()) => status,
-            Err(_) => WRITE_STATUS,
-        };
-    }
-    match outcome {
-        Outcome::Fault(fault) if status == WRITE_STATUS => {
-            explained_fault(folder, err, line, fault, path_of_fault(fault, paths))
-        }
-        _ => {
-            warn(err, &line);
-            status
-        }
+    match put_all(out, &line) {
+        Ok(()) => status_of(outcome),
+        Err(_) => unwritten(err),
     }
 }
 
-// Writes the line of a fault, and then that of its reason, if the folder gives one.
-fn explained_fault<F: Folder, E: ByteOut>(
+/// Says on `err` what a fault is, and why a path can't be read or written where the folder gives a reason. Gives the exit status: that of
+/// the fault, or 5 if there is no memory for the lines.
+pub fn warned<F: Folder, E: ByteOut>(
+    alloc: Global,
     folder: &F,
     err: &mut E,
-    line: Vec<u8>,
     fault: &RunFault,
-    path: &str,
+    paths: &[&str],
 ) -> u8
-    ensures status { (result ≡ 4) ⊎ (result ≡ 5) }
-    ensures why { result ≡ 4 → (reason : Option Reason) × IsReasonOf (F.why folder.now) fault.now path.now reason
-        × GoesOut (E.contents err.old) (E.contents err.new) (E.has_failed err.new) (line.items ++ reason_line path.now reason) }
-    ensures memory { result ≡ 5 → GoesOut (E.contents err.old) (E.contents err.new) (E.has_failed err.new) (ended (codes "out of memory")) }
+    requires { FaultHasNames fault.now (length paths.now) }
+    ensures { IsWarned (F.why folder.now) (written E.ByteOut err.old err.new) fault.now (texts paths.now) result }
 {
-    let mut lines = line;
-    match add_reason(&mut lines, folder, fault, path, path.as_bytes()) {
-        Ok(()) => {
+    match lines_of(alloc, folder, fault, paths) {
+        Ok(lines) => {
             warn(err, &lines);
-            WRITE_STATUS
+            status_of_fault(fault)
         }
         Err(_) => out_of_memory(err),
     }
 }
 
+// The line of a fault, and then that of its reason, if the folder gives one.
+fn lines_of<F: Folder>(
+    alloc: Global,
+    folder: &F,
+    fault: &RunFault,
+    paths: &[&str],
+) -> Result<Vec<u8>, AllocError>
+    requires { FaultHasNames fault.now (length paths.now) }
+    ensures { IfOk result (λ lines. (reason : Option Reason) × IsReason (F.why folder.now) (Outcome.Fault fault.now) (texts paths.now) reason
+        × (lines.items ≡ lines_for (Outcome.Fault fault.now) (texts paths.now) reason)) }
+{
+    let mut lines = line_of_run(alloc, fault, paths)?;
+    let path = path_of_fault(fault, paths);
+    add_reason(&mut lines, folder, fault, path, path.as_bytes())?;
+    Ok(lines)
+}
+
 /// Says that there is no memory.
 pub fn out_of_memory<E: ByteOut>(err: &mut E) -> u8
     ensures status { result ≡ 5 }
-    ensures text { GoesOut (E.contents err.old) (E.contents err.new) (E.has_failed err.new) (ended (codes "out of memory")) }
+    ensures text { Warns (written E.ByteOut err.old err.new) (ended (codes "out of memory")) }
     ensures stays { IsTrue (E.has_failed err.old) → IsTrue (E.has_failed err.new) }
 {
     warn(err, b"out of memory\n");
@@ -101,7 +126,7 @@ pub fn out_of_memory<E: ByteOut>(err: &mut E) -> u8
 /// Says that standard output has failed.
 pub fn unwritten<E: ByteOut>(err: &mut E) -> u8
     ensures status { result ≡ 4 }
-    ensures text { GoesOut (E.contents err.old) (E.contents err.new) (E.has_failed err.new) (ended (codes "cannot write standard output")) }
+    ensures text { Warns (written E.ByteOut err.old err.new) (ended (codes "cannot write standard output")) }
     ensures stays { IsTrue (E.has_failed err.old) → IsTrue (E.has_failed err.new) }
 {
     warn(err, b"cannot write standard output\n");
@@ -111,7 +136,7 @@ pub fn unwritten<E: ByteOut>(err: &mut E) -> u8
 /// Says why words can't be meant.
 pub fn misused<E: ByteOut>(err: &mut E, misuse: Misuse) -> u8
     ensures status { result ≡ 3 }
-    ensures text { GoesOut (E.contents err.old) (E.contents err.new) (E.has_failed err.new) (ended (misuse_text misuse)) }
+    ensures text { Warns (written E.ByteOut err.old err.new) (ended (misuse_text misuse)) }
 {
     match misuse {
         Misuse::BadKinds => warn(err, b"bad kinds\n"),
@@ -126,7 +151,7 @@ pub fn misused<E: ByteOut>(err: &mut E, misuse: Misuse) -> u8
 /// Says that no rule has a number.
 pub fn unknown_rule<E: ByteOut>(err: &mut E) -> u8
     ensures status { result ≡ 3 }
-    ensures text { GoesOut (E.contents err.old) (E.contents err.new) (E.has_failed err.new) (ended (codes "no rule has this number")) }
+    ensures text { Warns (written E.ByteOut err.old err.new) (ended (codes "no rule has this number")) }
 {
     warn(err, b"no rule has this number\n");
     USAGE_STATUS
@@ -135,7 +160,7 @@ pub fn unknown_rule<E: ByteOut>(err: &mut E) -> u8
 /// Says that the words are no text.
 pub fn not_text<E: ByteOut>(err: &mut E) -> u8
     ensures status { result ≡ 3 }
-    ensures text { GoesOut (E.contents err.old) (E.contents err.new) (E.has_failed err.new) (ended (codes "error: the words are not all UTF-8")) }
+    ensures text { Warns (written E.ByteOut err.old err.new) (ended (codes "error: the words are not all UTF-8")) }
 {
     warn(err, b"error: the words are not all UTF-8\n");
     USAGE_STATUS
@@ -143,7 +168,7 @@ pub fn not_text<E: ByteOut>(err: &mut E) -> u8
 
 /// Writes a line of which it doesn't matter whether it comes through.
 pub fn warn<E: ByteOut>(err: &mut E, line: &[u8])
-    ensures text { GoesOut (E.contents err.old) (E.contents err.new) (E.has_failed err.new) line.now }
+    ensures text { Warns (written E.ByteOut err.old err.new) line.now }
     ensures stays { IsTrue (E.has_failed err.old) → IsTrue (E.has_failed err.new) }
 {
     let _ = put_all(err, line);

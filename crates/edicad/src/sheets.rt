@@ -3,17 +3,18 @@ ghost use Rattle.std.specs.Prelude.{◌≡◌, ◌≤◌, ℕ, List, MatchOption
 ghost use Rattle.std.specs.Bool.{MatchBool};
 ghost use Rattle.std.specs.Io.KnownBytes.{Appends};
 ghost use Rattle.edi_compare.specs.Bundle.{OfParts};
-ghost use Rattle.edi_compare.specs.Runs.{BeforeWriting, FilesFault, InputFault, IsSheetUnder, IsVerdictOf, MatchFault, IfThreeKnown, WritesAll, WritesFirst, seen};
+ghost use Rattle.edi_compare.specs.Runs.{BeforeWriting, FilesFault, InputFault, IsSheetUnder, IsVerdictOf, MatchFault, IfThreeKnown, WritesAll, WritesFirst};
 ghost use Rattle.edi_compare.specs.declared.pairing.Verdict.TheVariants.{Different};
 ghost use Rattle.edi_diff.specs.Runs.{IsDifferenceUnder};
 ghost use Rattle.edi_drawing.specs.Runs.{IsDrawnDifferenceUnder};
 ghost use Rattle.edi_pairing.specs.CompareRuns.{IsComparedUnder, IsPairingFileOf};
 ghost use Rattle.edi_pairing.specs.VerifyRuns.{IsVerifiedUnder, MatchRun, RefusesFile};
-ghost use Rattle.edi_files.specs.Folders.{Goes};
-ghost use Rattle.edi_files.specs.Outputs.{IsUnmade, IsWholeOrNew, Reaches, Stops};
 ghost use Rattle.edicad.specs.Outcome.{FaultHasNames};
 ghost use Rattle.edi_words.specs.Requests.{usual_kinds};
-ghost use Rattle.edicad.specs.SheetRuns.{FileFault, Gives, IsApart, IsInput, IsMadeOf, IsMissing, IsNoInput, IsNoPairInput, IsPairInput, IsPictureOfPair, Meets, OfFiles, OfFive, OfMade, OfMadePair, OfPair, OfPairing, PairFileFault, PutFault, PutPairFault, ShowsDifference, VerifyFileFault, inputs_of};
+ghost use Rattle.edicad.specs.Effects.{effects, inputs, read};
+ghost use Rattle.edicad.specs.SheetRuns.{FileFault, Gives, IsApart, IsInput, IsMadeOf, IsMissing, IsNoInput, IsNoPairInput, IsPairInput};
+ghost use Rattle.edicad.specs.SheetRuns.{IsPairPut, IsPairReplaced, IsPictureOfPair, IsPut, IsReplaced, Meets, OfFiles, OfFive, OfMade, OfPair};
+ghost use Rattle.edicad.specs.SheetRuns.{PairFileFault, PutFault, PutPairFault, ShowsDifference, VerifyFileFault};
 
 use edi_compare::{RunFault, Verdict, canon_of, run_bundle, run_check, run_compare};
 use edi_diff::{Difference, run_diff};
@@ -28,7 +29,8 @@ use std::alloc::Global;
 
 /// The bundle on standard input, to its canonical file.
 pub fn bundle<F: Folder, O: ByteOut>(alloc: Global, folder: &F, out: &mut O) -> Result<(), RunFault>
-    ensures ok { OnOk result ((contents : Option (List ℕ)) × F.standard folder.now contents × IfSome contents (λ b. OfParts b (λ s d v. WritesAll usual_kinds s d v (O.contents out.old) (O.contents out.new)))) }
+    ensures ok { OnOk result ((contents : Option (List ℕ)) × F.standard folder.now contents
+        × IfSome contents (λ b. OfParts b (λ s d v. WritesAll usual_kinds s d v (O.contents out.old) (O.contents out.new)))) }
     ensures err { IfErr result (λ e. (contents : Option (List ℕ)) × (input : F.Reader) × F.standard folder.now contents
         × InputFault usual_kinds contents (F.Reader.has_failed input)
         (λ count. IsTrue (O.has_failed out.new) × IfSome contents (λ b. OfParts b (λ s d v.
@@ -47,8 +49,8 @@ pub fn check<F: Folder>(
     kinds: &Kinds<'_>,
     files: &SheetFiles<'_>,
 ) -> Result<(), RunFault>
-    ensures ok { OnOk result (OfFiles (inputs_of F.Reader (F.holds folder.now) (F.closed folder.now) (F.standard folder.now) F.Reader.has_failed) files.now (IsSheetUnder kinds.now)) }
-    ensures err { IfErr result (FileFault (inputs_of F.Reader (F.holds folder.now) (F.closed folder.now) (F.standard folder.now) F.Reader.has_failed) kinds.now files.now (λ _. ⊥)) }
+    ensures ok { OnOk result (OfFiles (inputs F.Folder F.Reader.ByteIn folder.now) files.now (IsSheetUnder kinds.now)) }
+    ensures err { IfErr result (FileFault (inputs F.Folder F.Reader.ByteIn folder.now) kinds.now files.now (λ _. ⊥)) }
     ensures names { IfErr result (λ e. FaultHasNames e 4) }
 {
     let mut scd = opened(folder, files.scd, 1)?;
@@ -67,14 +69,12 @@ pub fn put<F: Folder>(
     files: &SheetFiles<'_>,
     out: &str,
 ) -> Result<(), RunFault>
-    ensures ok { OnOk result (IsNoInput (F.is_one folder.old) files.now out.now × OfMade (inputs_of F.Reader (F.holds folder.old) (F.closed folder.old) (F.standard folder.old) F.Reader.has_failed) product kinds.now files.now
-        (Reaches F.Sink (F.holds folder.new out.now) (F.sinks folder.old out.now) F.Sink.contents)) }
-    ensures err { IfErr result (PutFault (inputs_of F.Reader (F.holds folder.old) (F.closed folder.old) (F.standard folder.old) F.Reader.has_failed) (F.is_one folder.old) kinds.now files.now out.now
-        (λ count. OfMade (inputs_of F.Reader (F.holds folder.old) (F.closed folder.old) (F.standard folder.old) F.Reader.has_failed) product kinds.now files.now (Stops F.Sink (IsUnmade F.NewFile (F.unwritable folder.new out.now) F.NewFile.has_failed)
-        (F.sinks folder.old out.now) F.Sink.contents F.Sink.has_failed count))) }
-    ensures unmade { IfErr result (λ e. BeforeWriting e (folder.new ≡ folder.old)) }
-    ensures replaced { F.tells folder.old → Goes (F.moment folder.old) (F.moment folder.new) (F.left_since folder.old) (F.left_since folder.new)
-        (IsWholeOrNew out.now (F.moment folder.old) (F.left_since folder.old) (λ bytes. OfFiles (inputs_of F.Reader (F.holds folder.old) (F.closed folder.old) (F.standard folder.old) F.Reader.has_failed) files.now (λ s d v. IsMadeOf product kinds.now s d v bytes))) }
+    ensures ok { OnOk result (IsPut (effects F.Folder F.Reader.ByteIn F.Sink.ByteOut F.NewFile.ByteOut folder.old folder.new)
+        product kinds.now files.now out.now) }
+    ensures err { IfErr result (PutFault (effects F.Folder F.Reader.ByteIn F.Sink.ByteOut F.NewFile.ByteOut folder.old folder.new)
+        product kinds.now files.now out.now) }
+    ensures replaced { IsReplaced (effects F.Folder F.Reader.ByteIn F.Sink.ByteOut F.NewFile.ByteOut folder.old folder.new)
+        product kinds.now files.now out.now }
     ensures names { IfErr result (λ e. FaultHasNames e 4) }
 {
     if is_input(folder, files, out) {
@@ -95,9 +95,11 @@ pub fn send<F: Folder, O: ByteOut>(
     files: &SheetFiles<'_>,
     out: &mut O,
 ) -> Result<(), RunFault>
-    ensures ok { OnOk result (OfMade (inputs_of F.Reader (F.holds folder.now) (F.closed folder.now) (F.standard folder.now) F.Reader.has_failed) product kinds.now files.now (Appends (O.contents out.old) (O.contents out.new))) }
-    ensures err { IfErr result (FileFault (inputs_of F.Reader (F.holds folder.now) (F.closed folder.now) (F.standard folder.now) F.Reader.has_failed) kinds.now files.now (λ count. IsTrue (O.has_failed out.new)
-        × OfMade (inputs_of F.Reader (F.holds folder.now) (F.closed folder.now) (F.standard folder.now) F.Reader.has_failed) product kinds.now files.now (λ bytes. (count ≤ length bytes) × Appends (O.contents out.old) (O.contents out.new) (take count bytes)))) }
+    ensures ok { OnOk result (OfMade (inputs F.Folder F.Reader.ByteIn folder.now) product kinds.now
+        files.now (Appends (O.contents out.old) (O.contents out.new))) }
+    ensures err { IfErr result (FileFault (inputs F.Folder F.Reader.ByteIn folder.now) kinds.now files.now (λ count. IsTrue (O.has_failed out.new)
+        × OfMade (inputs F.Folder F.Reader.ByteIn folder.now) product kinds.now files.now (λ bytes. (count ≤ length bytes)
+        × Appends (O.contents out.old) (O.contents out.new) (take count bytes)))) }
     ensures unwritten { IfErr result (λ e. BeforeWriting e (out.new ≡ out.old)) }
     ensures names { IfErr result (λ e. FaultHasNames e 4) }
 {
@@ -114,8 +116,9 @@ pub fn compare<F: Folder>(
     kinds: &Kinds<'_>,
     files: &PairFiles<'_>,
 ) -> Result<Verdict, RunFault>
-    ensures ok { IfOk result (λ verdict. OfPair (inputs_of F.Reader (F.holds folder.now) (F.closed folder.now) (F.standard folder.now) F.Reader.has_failed) files.now (λ s d a b. IsVerdictOf kinds.now s d a b verdict)) }
-    ensures err { IfErr result (PairFileFault (inputs_of F.Reader (F.holds folder.now) (F.closed folder.now) (F.standard folder.now) F.Reader.has_failed) kinds.now files.now (λ _. ⊥)) }
+    ensures ok { IfOk result (λ verdict. OfPair (inputs F.Folder F.Reader.ByteIn folder.now) files.now
+        (λ s d a b. IsVerdictOf kinds.now s d a b verdict)) }
+    ensures err { IfErr result (PairFileFault (inputs F.Folder F.Reader.ByteIn folder.now) kinds.now files.now (λ _. ⊥)) }
     ensures names { IfErr result (λ e. FaultHasNames e 5) }
 {
     let mut scd = opened(folder, files.scd, 1)?;
@@ -125,7 +128,7 @@ pub fn compare<F: Folder>(
     run_compare(alloc, kinds, &mut scd, &mut dic, &mut first, &mut second)
 }
 
-/// What differs between the two sheets of four files, or the last line of that alone. All are opened before the first is
+/// What differs between the two sheets of four files, or that without the lines of records. All are opened before the first is
 /// read.
 pub fn diff<F: Folder>(
     alloc: Global,
@@ -134,8 +137,9 @@ pub fn diff<F: Folder>(
     files: &PairFiles<'_>,
     brief: bool,
 ) -> Result<Difference, RunFault>
-    ensures ok { IfOk result (λ difference. OfPair (inputs_of F.Reader (F.holds folder.now) (F.closed folder.now) (F.standard folder.now) F.Reader.has_failed) files.now (λ s d a b. IsDifferenceUnder kinds.now s d a b brief difference)) }
-    ensures err { IfErr result (PairFileFault (inputs_of F.Reader (F.holds folder.now) (F.closed folder.now) (F.standard folder.now) F.Reader.has_failed) kinds.now files.now (λ _. ⊥)) }
+    ensures ok { IfOk result (λ difference. OfPair (inputs F.Folder F.Reader.ByteIn folder.now) files.now
+        (λ s d a b. IsDifferenceUnder kinds.now s d a b brief difference)) }
+    ensures err { IfErr result (PairFileFault (inputs F.Folder F.Reader.ByteIn folder.now) kinds.now files.now (λ _. ⊥)) }
     ensures names { IfErr result (λ e. FaultHasNames e 5) }
 {
     let mut scd = opened(folder, files.scd, 1)?;
@@ -163,15 +167,15 @@ pub fn pair<F: Folder>(
     files: &PairFiles<'_>,
     out: &str,
 ) -> Result<Option<u64>, RunFault>
-    ensures ok { IfOk result (λ line. IsNoPairInput (F.is_one folder.old) files.now out.now × MatchOption line
-        (OfPairing (inputs_of F.Reader (F.holds folder.old) (F.closed folder.old) (F.standard folder.old) F.Reader.has_failed) kinds.now files.now (Reaches F.Sink (F.holds folder.new out.now) (F.sinks folder.old out.now) F.Sink.contents))
-        (λ at. OfPair (inputs_of F.Reader (F.holds folder.old) (F.closed folder.old) (F.standard folder.old) F.Reader.has_failed) files.now (λ s d a b. IsVerdictOf kinds.now s d a b (Different at)) × (folder.new ≡ folder.old))) }
-    ensures err { IfErr result (PutPairFault (inputs_of F.Reader (F.holds folder.old) (F.closed folder.old) (F.standard folder.old) F.Reader.has_failed) (F.is_one folder.old) kinds.now files.now out.now
-        (λ count. OfPairing (inputs_of F.Reader (F.holds folder.old) (F.closed folder.old) (F.standard folder.old) F.Reader.has_failed) kinds.now files.now (Stops F.Sink (IsUnmade F.NewFile (F.unwritable folder.new out.now) F.NewFile.has_failed)
-        (F.sinks folder.old out.now) F.Sink.contents F.Sink.has_failed count))) }
-    ensures unmade { IfErr result (λ e. BeforeWriting e (folder.new ≡ folder.old)) }
-    ensures replaced { F.tells folder.old → Goes (F.moment folder.old) (F.moment folder.new) (F.left_since folder.old) (F.left_since folder.new)
-        (IsWholeOrNew out.now (F.moment folder.old) (F.left_since folder.old) (λ f. OfPair (inputs_of F.Reader (F.holds folder.old) (F.closed folder.old) (F.standard folder.old) F.Reader.has_failed) files.now (λ s d a b. IsPairingFileOf kinds.now s d a b f))) }
+    ensures ok { IfOk result (λ line. MatchOption line (IsPairPut
+        (effects F.Folder F.Reader.ByteIn F.Sink.ByteOut F.NewFile.ByteOut folder.old folder.new)
+        (IsPairingFileOf kinds.now) files.now out.now)
+        (λ at. OfPair (inputs F.Folder F.Reader.ByteIn folder.old) files.now (λ s d a b. IsVerdictOf kinds.now s d a b (Different at))
+        × IsNoPairInput (F.is_one folder.old) files.now out.now × (folder.new ≡ folder.old))) }
+    ensures err { IfErr result (PutPairFault (effects F.Folder F.Reader.ByteIn F.Sink.ByteOut F.NewFile.ByteOut folder.old folder.new)
+        (IsPairingFileOf kinds.now) kinds.now files.now out.now) }
+    ensures replaced { IsPairReplaced (effects F.Folder F.Reader.ByteIn F.Sink.ByteOut F.NewFile.ByteOut folder.old folder.new)
+        (IsPairingFileOf kinds.now) files.now out.now }
     ensures names { IfErr result (λ e. FaultHasNames e 5) }
 {
     if is_pair_input(folder, files, out) {
@@ -187,7 +191,7 @@ pub fn pair<F: Folder>(
     }
 }
 
-/// What differs between the two sheets of four files, or the last line of that alone. A picture of both that shows it goes to a
+/// What differs between the two sheets of four files, or that without the lines of records. A picture of both that shows it goes to a
 /// path that is none of the four, whether they differ or not; a file is replaced whole or not at all.
 pub fn draw_difference<F: Folder>(
     alloc: Global,
@@ -197,14 +201,12 @@ pub fn draw_difference<F: Folder>(
     brief: bool,
     out: &str,
 ) -> Result<Difference, RunFault>
-    ensures ok { IfOk result (λ difference. IsNoPairInput (F.is_one folder.old) files.now out.now × OfMadePair (inputs_of F.Reader (F.holds folder.old) (F.closed folder.old) (F.standard folder.old) F.Reader.has_failed) (ShowsDifference kinds.now brief difference) files.now
-        (Reaches F.Sink (F.holds folder.new out.now) (F.sinks folder.old out.now) F.Sink.contents)) }
-    ensures err { IfErr result (PutPairFault (inputs_of F.Reader (F.holds folder.old) (F.closed folder.old) (F.standard folder.old) F.Reader.has_failed) (F.is_one folder.old) kinds.now files.now out.now
-        (λ count. OfMadePair (inputs_of F.Reader (F.holds folder.old) (F.closed folder.old) (F.standard folder.old) F.Reader.has_failed) (IsPictureOfPair kinds.now brief) files.now (Stops F.Sink (IsUnmade F.NewFile (F.unwritable folder.new out.now) F.NewFile.has_failed)
-        (F.sinks folder.old out.now) F.Sink.contents F.Sink.has_failed count))) }
-    ensures unmade { IfErr result (λ e. BeforeWriting e (folder.new ≡ folder.old)) }
-    ensures replaced { F.tells folder.old → Goes (F.moment folder.old) (F.moment folder.new) (F.left_since folder.old) (F.left_since folder.new)
-        (IsWholeOrNew out.now (F.moment folder.old) (F.left_since folder.old) (λ bytes. OfPair (inputs_of F.Reader (F.holds folder.old) (F.closed folder.old) (F.standard folder.old) F.Reader.has_failed) files.now (λ s d a b. IsPictureOfPair kinds.now brief s d a b bytes))) }
+    ensures ok { IfOk result (λ difference. IsPairPut (effects F.Folder F.Reader.ByteIn F.Sink.ByteOut F.NewFile.ByteOut folder.old folder.new)
+        (ShowsDifference kinds.now brief difference) files.now out.now) }
+    ensures err { IfErr result (PutPairFault (effects F.Folder F.Reader.ByteIn F.Sink.ByteOut F.NewFile.ByteOut folder.old folder.new)
+        (IsPictureOfPair kinds.now brief) kinds.now files.now out.now) }
+    ensures replaced { IsPairReplaced (effects F.Folder F.Reader.ByteIn F.Sink.ByteOut F.NewFile.ByteOut folder.old folder.new)
+        (IsPictureOfPair kinds.now brief) files.now out.now }
     ensures names { IfErr result (λ e. FaultHasNames e 5) }
 {
     if is_pair_input(folder, files, out) {
@@ -233,8 +235,11 @@ pub fn verify<F: Folder>(
     files: &PairFiles<'_>,
     pairing: &str,
 ) -> Result<bool, VerifyRunFault>
-    ensures ok { IfOk result (λ answer. OfFive (inputs_of F.Reader (F.holds folder.now) (F.closed folder.now) (F.standard folder.now) F.Reader.has_failed) files.now pairing.now (λ s d a b f. IsVerifiedUnder kinds.now s d a b f answer)) }
-    ensures err { IfErr result (λ e. MatchRun e (VerifyFileFault (inputs_of F.Reader (F.holds folder.now) (F.closed folder.now) (F.standard folder.now) F.Reader.has_failed) kinds.now files.now pairing.now) (λ at. OfFive (inputs_of F.Reader (F.holds folder.now) (F.closed folder.now) (F.standard folder.now) F.Reader.has_failed) files.now pairing.now (λ s d a b f. RefusesFile kinds.now s d a b f at))) }
+    ensures ok { IfOk result (λ answer. OfFive (inputs F.Folder F.Reader.ByteIn folder.now) files.now pairing.now
+        (λ s d a b f. IsVerifiedUnder kinds.now s d a b f answer)) }
+    ensures err { IfErr result (λ e. MatchRun e (VerifyFileFault (inputs F.Folder F.Reader.ByteIn folder.now) kinds.now
+        files.now pairing.now) (λ at. OfFive (inputs F.Folder F.Reader.ByteIn folder.now) files.now pairing.now
+        (λ s d a b f. RefusesFile kinds.now s d a b f at))) }
     ensures names { IfErr result (λ e. MatchRun e (λ f. FaultHasNames f 6) (λ _. ⊤)) }
 {
     let mut scd = opened(folder, files.scd, 1)?;
@@ -260,8 +265,9 @@ fn compare_to_file<F: Folder>(
     kinds: &Kinds<'_>,
     files: &PairFiles<'_>,
 ) -> Result<Compared, RunFault>
-    ensures ok { IfOk result (λ compared. OfPair (inputs_of F.Reader (F.holds folder.now) (F.closed folder.now) (F.standard folder.now) F.Reader.has_failed) files.now (λ s d a b. IsComparedUnder kinds.now s d a b compared)) }
-    ensures err { IfErr result (PairFileFault (inputs_of F.Reader (F.holds folder.now) (F.closed folder.now) (F.standard folder.now) F.Reader.has_failed) kinds.now files.now (λ _. ⊥)) }
+    ensures ok { IfOk result (λ compared. OfPair (inputs F.Folder F.Reader.ByteIn folder.now) files.now
+        (λ s d a b. IsComparedUnder kinds.now s d a b compared)) }
+    ensures err { IfErr result (PairFileFault (inputs F.Folder F.Reader.ByteIn folder.now) kinds.now files.now (λ _. ⊥)) }
     ensures names { IfErr result (λ e. FaultHasNames e 5) }
 {
     let mut scd = opened(folder, files.scd, 1)?;
@@ -279,8 +285,9 @@ fn drawn_difference<F: Folder>(
     files: &PairFiles<'_>,
     brief: bool,
 ) -> Result<DrawnDifference, RunFault>
-    ensures ok { IfOk result (λ drawn. OfPair (inputs_of F.Reader (F.holds folder.now) (F.closed folder.now) (F.standard folder.now) F.Reader.has_failed) files.now (λ s d a b. IsDrawnDifferenceUnder kinds.now s d a b brief drawn)) }
-    ensures err { IfErr result (PairFileFault (inputs_of F.Reader (F.holds folder.now) (F.closed folder.now) (F.standard folder.now) F.Reader.has_failed) kinds.now files.now (λ _. ⊥)) }
+    ensures ok { IfOk result (λ drawn. OfPair (inputs F.Folder F.Reader.ByteIn folder.now) files.now
+        (λ s d a b. IsDrawnDifferenceUnder kinds.now s d a b brief drawn)) }
+    ensures err { IfErr result (PairFileFault (inputs F.Folder F.Reader.ByteIn folder.now) kinds.now files.now (λ _. ⊥)) }
     ensures names { IfErr result (λ e. FaultHasNames e 5) }
 {
     let mut scd = opened(folder, files.scd, 1)?;
@@ -302,7 +309,8 @@ fn drawn_difference<F: Folder>(
 fn sent<O: ByteOut>(out: &mut O, bytes: &[u8]) -> Result<(), RunFault>
     ensures ok { OnOk result (Appends (O.contents out.old) (O.contents out.new) bytes.now) }
     ensures err { IfErr result (λ e. MatchFault e (λ _. ⊥) (λ _. ⊥) (λ _. ⊥) (λ _. ⊥) (λ _. ⊥)
-        (λ count. IsTrue (O.has_failed out.new) × (count ≤ length bytes.now) × Appends (O.contents out.old) (O.contents out.new) (take count bytes.now))) }
+        (λ count. IsTrue (O.has_failed out.new) × (count ≤ length bytes.now)
+        × Appends (O.contents out.old) (O.contents out.new) (take count bytes.now))) }
     ensures unwritten { IfErr result (λ e. BeforeWriting e (out.new ≡ out.old)) }
     ensures names { IfErr result (λ e. FaultHasNames e 4) }
 {
@@ -320,8 +328,9 @@ fn make<F: Folder>(
     kinds: &Kinds<'_>,
     files: &SheetFiles<'_>,
 ) -> Result<Vec<u8>, RunFault>
-    ensures ok { IfOk result (λ bytes. OfFiles (inputs_of F.Reader (F.holds folder.now) (F.closed folder.now) (F.standard folder.now) F.Reader.has_failed) files.now (λ s d v. IsMadeOf product kinds.now s d v bytes.items)) }
-    ensures err { IfErr result (FileFault (inputs_of F.Reader (F.holds folder.now) (F.closed folder.now) (F.standard folder.now) F.Reader.has_failed) kinds.now files.now (λ _. ⊥)) }
+    ensures ok { IfOk result (λ bytes. OfFiles (inputs F.Folder F.Reader.ByteIn folder.now) files.now
+        (λ s d v. IsMadeOf product kinds.now s d v bytes.items)) }
+    ensures err { IfErr result (FileFault (inputs F.Folder F.Reader.ByteIn folder.now) kinds.now files.now (λ _. ⊥)) }
     ensures names { IfErr result (λ e. FaultHasNames e 4) }
 {
     let mut scd = opened(folder, files.scd, 1)?;
@@ -339,9 +348,9 @@ fn made_of<R: ByteIn>(
     dic: &mut R,
     vec: &mut R,
 ) -> Result<Vec<u8>, RunFault>
-    ensures ok { IfOk result (λ bytes. IfThreeKnown (R.contents scd.old) (R.contents dic.old) (R.contents vec.old) (λ s d v. IsMadeOf product kinds.now s d v bytes.items)) }
-    ensures err { IfErr result (FilesFault kinds.now (seen (R.contents scd.old) (R.contents scd.new) (R.has_failed scd.new))
-        (seen (R.contents dic.old) (R.contents dic.new) (R.has_failed dic.new)) (seen (R.contents vec.old) (R.contents vec.new) (R.has_failed vec.new))
+    ensures ok { IfOk result (λ bytes. IfThreeKnown (R.contents scd.old) (R.contents dic.old) (R.contents vec.old)
+        (λ s d v. IsMadeOf product kinds.now s d v bytes.items)) }
+    ensures err { IfErr result (FilesFault kinds.now (read R.ByteIn scd.old scd.new) (read R.ByteIn dic.old dic.new) (read R.ByteIn vec.old vec.new)
         (dic.new ≡ dic.old) (vec.new ≡ vec.old) (λ _. ⊥)) }
 {
     match product {
@@ -352,8 +361,8 @@ fn made_of<R: ByteIn>(
 
 /// An input that is there to read.
 pub fn opened<F: Folder>(folder: &F, path: &str, input: u8) -> Result<F::Reader, RunFault>
-    ensures ok { IfOk result (λ file. Gives (inputs_of F.Reader (F.holds folder.now) (F.closed folder.now) (F.standard folder.now) F.Reader.has_failed) path.now (F.Reader.contents file)) }
-    ensures err { IfErr result (λ e. IsMissing (inputs_of F.Reader (F.holds folder.now) (F.closed folder.now) (F.standard folder.now) F.Reader.has_failed) path.now × (e ≡ RunFault.Read input)) }
+    ensures ok { IfOk result (λ file. Gives (inputs F.Folder F.Reader.ByteIn folder.now) path.now (F.Reader.contents file)) }
+    ensures err { IfErr result (λ e. IsMissing (inputs F.Folder F.Reader.ByteIn folder.now) path.now × (e ≡ RunFault.Read input)) }
 {
     if is_standard(path) {
         return Ok(folder.input());

@@ -5,7 +5,7 @@ use Rattle.edi_schema.specs.Classes.{Classes}
 use Rattle.edi_compare.specs.Runs.{Seen}
 use Rattle.edicad.specs.Hashes.{IsAnswerOf, IsStep, Step, digest_line}
 use Rattle.edi_files.specs.Reasons.{Why}
-use Rattle.edicad.specs.SheetRuns.{Inputs}
+use Rattle.edicad.specs.Effects.{Inputs}
 use Rattle.edicad.specs.Statuses.{Prints, Warns}
 
 -- the streams got what a sheet adds, and this is its status

@@ -1,28 +1,19 @@
-use Rattle.std.proofs.Common.{codes, refl, arith}
-use Rattle.edi_compare.specs.Runs.{seen}
-use Rattle.edicad.specs.SheetRuns.{FileFault, OfFiles, inputs_of}
-use Rattle.edicad.specs.Statuses.{SaysRefusal, paths_of}
-use Rattle.edicad.proofs.Refusals.{file_refused, file_tried, means_fault}
+use Rattle.edicad.specs.Effects.{effects, written}
+use Rattle.edicad.proofs.OneSheet.{accepted_status, file_status}
 use Rattle.edicad.proofs.command.check.Goals as goal
+
+pub returns-in-Ok-clause-answer : goal.returns-in-Ok-clause-answer
+returns-in-Ok-clause-answer g c =
+    let run = effects g.F.Folder g.F.Reader.ByteIn g.F.Sink.ByteOut g.F.NewFile.ByteOut c.args.folder.now c.args.folder.now in
+    let answer = c.answer in
+    let out = written g.O.ByteOut c.args.out.now answer.new.out in
+    let err = written g.E.ByteOut c.args.err.now answer.new.err in
+    accepted_status run out err c.args.kinds.now c.args.files.now answer.result c.in-Ok.ensures.ok answer.ensures.said
 
 pub returns-in-Err-clause-answer : goal.returns-in-Err-clause-answer
 returns-in-Err-clause-answer g c =
-    let folder = c.args.folder.now in
-    let inputs = inputs_of g.row.F-Reader.Denot (g.F.Folder.holds folder) (g.F.Folder.closed folder) (g.F.Folder.standard folder) g.F.Reader.ByteIn.has_failed in
-    let why = g.F.Folder.why folder in
+    let run = effects g.F.Folder g.F.Reader.ByteIn g.F.Sink.ByteOut g.F.NewFile.ByteOut c.args.folder.now c.args.folder.now in
     let answer = c.answer-in-Err in
-    let out = seen (g.O.ByteOut.contents c.args.out.now) (g.O.ByteOut.contents answer.new.out) (g.O.ByteOut.has_failed answer.new.out) in
-    let err = seen (g.E.ByteOut.contents c.args.err.now) (g.E.ByteOut.contents answer.new.err) (g.E.ByteOut.has_failed answer.new.err) in
-    let s = answer.result in
-    let e = c.in-Err.fault in
-    let kinds = c.args.kinds.now in
-    let files = c.args.files.now in
-    let paths = paths_of files (codes "-") in
-    let means = means_fault _ (OfFiles inputs files (SaysRefusal out kinds)) (FileFault inputs kinds files (λ _. ⊥)) why paths out err s e (λ big four. c.in-Err.ensures.err)
-    (λ is two. file_refused out kinds paths refl inputs files (λ _. ⊥) e c.in-Err.ensures.err is
-    (answer.ensures.answer (omega (arith, two))).0)
-    answer.ensures.status
-    (λ small four. (answer.ensures.unwritten small four).0)
-    (λ big four. (answer.ensures.fault big four).0)
-    (λ five. (answer.ensures.memory five).0) in
-    record { tried = file_tried inputs kinds files (λ _. ⊥) e c.in-Err.ensures.err; means = means }
+    let out = written g.O.ByteOut c.args.out.now answer.new.out in
+    let err = written g.E.ByteOut c.args.err.now answer.new.err in
+    file_status run out err c.args.kinds.now c.args.files.now answer.result c.in-Err.fault c.in-Err.ensures.err answer.ensures.said

@@ -27,7 +27,7 @@ returns-in-Ok-clause-ok g c = (
 )
 
 pub returns-clause-ok : goal.returns-clause-ok
-returns-clause-ok g c = elim c.known_fault_of.ensures.contents [
+returns-clause-ok g c = elim c.tell_fault.ensures.contents [
   | inl h ↦ (
     record { out = []; err = fault_line c.in-Err.fault c.args.path.now ++ reason_line (shown_name c.args.path.now) h.1.0; status = status_of_fault c.in-Err.fault },
     inr (inl (c.in-Err.fault, h.1.0, c.in-Err.ensures, h.1.1, refl)),

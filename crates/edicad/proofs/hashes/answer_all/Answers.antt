@@ -1,8 +1,7 @@
 use Rattle.std.proofs.Common.{◌≡◌, ◌∙◌, inl, inr, refl, sym, subst, arith, suc, drop, take, codes}
 use Rattle.std.specs.Prelude.{max}
-use Rattle.edi_compare.specs.Runs.{seen}
+use Rattle.edicad.specs.Effects.{inputs, written}
 use Rattle.edicad.specs.Hashes.{AreAnswered}
-use Rattle.edicad.specs.SheetRuns.{inputs_of}
 use Rattle.edi_files.specs.Reasons.{ended}
 use Rattle.edicad.specs.Statuses.{GoesOut, IsSheetStatus}
 use Rattle.edicad.proofs.Answering.{all_paths, answered_more, cut_off, max_status, none_answered, one_more_path, ord_max_is, paths_of, split_at_path}
@@ -12,16 +11,16 @@ pub loop-path-init : goal.loop-path-init
 loop-path-init g c =
     let o = g.O.ByteOut.contents c.args.out.now in
     let e = g.E.ByteOut.contents c.args.err.now in
-    let inputs = inputs_of g.row.F-Reader.Denot (g.F.Folder.holds c.args.folder.now) (g.F.Folder.closed c.args.folder.now) (g.F.Folder.standard c.args.folder.now) g.F.Reader.ByteIn.has_failed in
+    let inputs = inputs g.F.Folder g.F.Reader.ByteIn c.args.folder.now in
     (none_answered inputs (g.F.Folder.why c.args.folder.now) c.args.schema.now o (g.O.ByteOut.has_failed c.args.out.now) e (g.E.ByteOut.has_failed c.args.err.now), inl refl)
 
 pub loop-path-preserved : goal.loop-path-preserved
 loop-path-preserved g c =
-    let inputs = inputs_of g.row.F-Reader.Denot (g.F.Folder.holds c.args.folder.now) (g.F.Folder.closed c.args.folder.now) (g.F.Folder.standard c.args.folder.now) g.F.Reader.ByteIn.has_failed in
+    let inputs = inputs g.F.Folder g.F.Reader.ByteIn c.args.folder.now in
     let why = g.F.Folder.why c.args.folder.now in
     let s = c.args.schema.now in
-    let out = seen (g.O.ByteOut.contents c.args.out.now) (g.O.ByteOut.contents c.answer.new.out) (g.O.ByteOut.has_failed c.answer.new.out) in
-    let err = seen (g.E.ByteOut.contents c.args.err.now) (g.E.ByteOut.contents c.answer.new.err) (g.E.ByteOut.has_failed c.answer.new.err) in
+    let out = written g.O.ByteOut c.args.out.now c.answer.new.out in
+    let err = written g.E.ByteOut c.args.err.now c.answer.new.err in
     let more = answered_more inputs why s (g.O.ByteOut.contents c.args.out.now) (g.O.ByteOut.contents c.loop-path.out) (g.O.ByteOut.contents c.answer.new.out)
     (g.O.ByteOut.has_failed c.loop-path.out) (g.O.ByteOut.has_failed c.answer.new.out)
     (g.E.ByteOut.contents c.args.err.now) (g.E.ByteOut.contents c.loop-path.err) (g.E.ByteOut.contents c.answer.new.err)
@@ -35,7 +34,7 @@ loop-path-preserved g c =
 
 pub returns-in-Err-clause-answer : goal.returns-in-Err-clause-answer
 returns-in-Err-clause-answer g c =
-    let inputs = inputs_of g.row.F-Reader.Denot (g.F.Folder.holds c.args.folder.now) (g.F.Folder.closed c.args.folder.now) (g.F.Folder.standard c.args.folder.now) g.F.Reader.ByteIn.has_failed in
+    let inputs = inputs g.F.Folder g.F.Reader.ByteIn c.args.folder.now in
     inr (cut_off inputs (g.F.Folder.why c.args.folder.now) c.args.schema.now (g.O.ByteOut.contents c.args.out.now) (g.O.ByteOut.contents c.loop-path.out) (g.O.ByteOut.contents c.answer.new.out)
     (g.O.ByteOut.has_failed c.loop-path.out) (g.O.ByteOut.has_failed c.answer.new.out)
     (g.E.ByteOut.contents c.args.err.now) (g.E.ByteOut.contents c.loop-path.err) (g.E.ByteOut.contents c.unwritten.new.err)
@@ -49,7 +48,7 @@ returns-in-Err-clause-answer g c =
 
 pub returns-clause-answer : goal.returns-clause-answer
 returns-clause-answer g c =
-    let inputs = inputs_of g.row.F-Reader.Denot (g.F.Folder.holds c.args.folder.now) (g.F.Folder.closed c.args.folder.now) (g.F.Folder.standard c.args.folder.now) g.F.Reader.ByteIn.has_failed in
-    let out = seen (g.O.ByteOut.contents c.args.out.now) (g.O.ByteOut.contents c.loop-path.out) (g.O.ByteOut.has_failed c.loop-path.out) in
-    let err = seen (g.E.ByteOut.contents c.args.err.now) (g.E.ByteOut.contents c.loop-path.err) (g.E.ByteOut.has_failed c.loop-path.err) in
+    let inputs = inputs g.F.Folder g.F.Reader.ByteIn c.args.folder.now in
+    let out = written g.O.ByteOut c.args.out.now c.loop-path.out in
+    let err = written g.E.ByteOut c.args.err.now c.loop-path.err in
     inl (subst (λ paths. AreAnswered inputs (g.F.Folder.why c.args.folder.now) c.args.schema.now out err paths c.loop-path.worst) (all_paths c.args.sheets.now c.loop-path.path-index (omega arith)) c.loop-path.invariant.0)

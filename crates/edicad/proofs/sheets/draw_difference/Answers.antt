@@ -1,26 +1,25 @@
-use Rattle.std.proofs.Common.{inr}
-use Rattle.edi_files.specs.Outputs.{IsUnmade, Reaches, Stops}
+use Rattle.std.proofs.Common.{inr, refl}
 use Rattle.edi_files.proofs.Steps.{goes_map}
-use Rattle.edicad.specs.SheetRuns.{IsPictureOfPair, OfMadePair, ShowsDifference, inputs_of}
-use Rattle.edicad.proofs.Made.{of_made_pair, pair_put_fault, whole_pair}
+use Rattle.edicad.specs.Effects.{effects, inputs}
+use Rattle.edicad.specs.SheetRuns.{IsPictureOfPair, OfMadePair, ShowsDifference}
+use Rattle.edicad.proofs.Made.{before_writing, of_made_pair, pair_put_fault, whole_pair}
 use Rattle.edicad.proofs.Differing.{shown, shown_of_some}
 use Rattle.edicad.proofs.Pairings.{pair_unwritten}
 use Rattle.edicad.proofs.sheets.draw_difference.Goals as goal
 
 pub returns-in-Ok-put-clause-ok : goal.returns-in-Ok-put-clause-ok
 returns-in-Ok-put-clause-ok g c =
-    let folder = c.args.folder.now in
-    let inputs = inputs_of g.row.F-Reader.Denot (g.F.Folder.holds folder) (g.F.Folder.closed folder) (g.F.Folder.standard folder) g.F.Reader.ByteIn.has_failed in
-    let made = shown inputs c.args.kinds.now c.args.files.now c.args.brief _ c.in-Ok.ensures.ok in (
+    let run = effects g.F.Folder g.F.Reader.ByteIn g.F.Sink.ByteOut g.F.NewFile.ByteOut c.args.folder.now c.put.new.folder in
+    let made = shown run.inputs c.args.kinds.now c.args.files.now c.args.brief _ c.in-Ok.ensures.ok in (
       c.if-is_pair_input.ensures,
-      of_made_pair inputs c.args.kinds.now c.args.files.now (ShowsDifference c.args.kinds.now c.args.brief c.in-Ok.field-0.difference) c.in-Ok.field-0.picture.items _ c.deref.ensures.value made
-          (Reaches g.row.F-Sink.Denot (g.F.Folder.holds c.put.new.folder c.args.out.now) (g.F.Folder.sinks folder c.args.out.now) g.F.Sink.ByteOut.contents) c.in-Ok-put.ensures.ok,
+      of_made_pair run.inputs c.args.kinds.now c.args.files.now (ShowsDifference c.args.kinds.now c.args.brief c.in-Ok.field-0.difference) c.in-Ok.field-0.picture.items _ c.deref.ensures.value made
+          (run.Puts c.args.out.now) c.in-Ok-put.ensures.ok,
     )
 
 pub returns-in-Ok-put-clause-replaced : goal.returns-in-Ok-put-clause-replaced
 returns-in-Ok-put-clause-replaced g c tells =
     let folder = c.args.folder.now in
-    let inputs = inputs_of g.row.F-Reader.Denot (g.F.Folder.holds folder) (g.F.Folder.closed folder) (g.F.Folder.standard folder) g.F.Reader.ByteIn.has_failed in
+    let inputs = inputs g.F.Folder g.F.Reader.ByteIn folder in
     let made = shown inputs c.args.kinds.now c.args.files.now c.args.brief _ c.in-Ok.ensures.ok in
     goes_map _ _ _ _ _ _
     (whole_pair inputs c.args.kinds.now c.args.files.now (IsPictureOfPair c.args.kinds.now c.args.brief) c.in-Ok.field-0.picture.items _ c.deref.ensures.value
@@ -29,25 +28,24 @@ returns-in-Ok-put-clause-replaced g c tells =
 
 pub returns-in-Err-put-clause-err : goal.returns-in-Err-put-clause-err
 returns-in-Err-put-clause-err g c =
-    let folder = c.args.folder.now in
-    let inputs = inputs_of g.row.F-Reader.Denot (g.F.Folder.holds folder) (g.F.Folder.closed folder) (g.F.Folder.standard folder) g.F.Reader.ByteIn.has_failed in
-    let stops = Stops g.row.F-Sink.Denot (IsUnmade g.row.F-NewFile.Denot (g.F.Folder.unwritable c.put.new.folder c.args.out.now) g.F.NewFile.ByteOut.has_failed)
-    (g.F.Folder.sinks folder c.args.out.now) g.F.Sink.ByteOut.contents g.F.Sink.ByteOut.has_failed in
-    let made = shown inputs c.args.kinds.now c.args.files.now c.args.brief _ c.in-Ok.ensures.ok in
-    let some = shown_of_some inputs c.args.kinds.now c.args.files.now c.args.brief c.in-Ok.field-0.difference c.in-Ok.field-0.picture.items made in
+    let run = effects g.F.Folder g.F.Reader.ByteIn g.F.Sink.ByteOut g.F.NewFile.ByteOut c.args.folder.now c.put.new.folder in
+    let stops = run.Stops c.args.out.now in
+    let made = shown run.inputs c.args.kinds.now c.args.files.now c.args.brief _ c.in-Ok.ensures.ok in
+    let some = shown_of_some run.inputs c.args.kinds.now c.args.files.now c.args.brief c.in-Ok.field-0.difference c.in-Ok.field-0.picture.items made in
     let IsMade = IsPictureOfPair c.args.kinds.now c.args.brief in
     inr (
       c.if-is_pair_input.ensures,
-      pair_put_fault inputs c.args.kinds.now c.args.files.now IsMade c.in-Ok.field-0.picture.items _ c.deref.ensures.value some
-          (λ n. stops n c.deref.result.now) (λ n. OfMadePair inputs IsMade c.args.files.now (stops n))
-          (λ n. of_made_pair inputs c.args.kinds.now c.args.files.now IsMade c.in-Ok.field-0.picture.items _ c.deref.ensures.value some (stops n))
+      pair_put_fault run.inputs c.args.kinds.now c.args.files.now IsMade c.in-Ok.field-0.picture.items _ c.deref.ensures.value some
+          (λ n. stops n c.deref.result.now) (λ n. OfMadePair run.inputs IsMade c.args.files.now (stops n))
+          (λ n. of_made_pair run.inputs c.args.kinds.now c.args.files.now IsMade c.in-Ok.field-0.picture.items _ c.deref.ensures.value some (stops n))
           c.in-Err-put.fault c.in-Err-put.ensures.err,
+      c.in-Err-put.ensures.unmade,
     )
 
 pub returns-in-Err-put-clause-replaced : goal.returns-in-Err-put-clause-replaced
 returns-in-Err-put-clause-replaced g c tells =
     let folder = c.args.folder.now in
-    let inputs = inputs_of g.row.F-Reader.Denot (g.F.Folder.holds folder) (g.F.Folder.closed folder) (g.F.Folder.standard folder) g.F.Reader.ByteIn.has_failed in
+    let inputs = inputs g.F.Folder g.F.Reader.ByteIn folder in
     let made = shown inputs c.args.kinds.now c.args.files.now c.args.brief _ c.in-Ok.ensures.ok in
     goes_map _ _ _ _ _ _
     (whole_pair inputs c.args.kinds.now c.args.files.now (IsPictureOfPair c.args.kinds.now c.args.brief) c.in-Ok.field-0.picture.items _ c.deref.ensures.value
@@ -56,12 +54,11 @@ returns-in-Err-put-clause-replaced g c tells =
 
 pub returns-in-Err-clause-err : goal.returns-in-Err-clause-err
 returns-in-Err-clause-err g c =
-    let folder = c.args.folder.now in
-    let inputs = inputs_of g.row.F-Reader.Denot (g.F.Folder.holds folder) (g.F.Folder.closed folder) (g.F.Folder.standard folder) g.F.Reader.ByteIn.has_failed in
-    let stops = Stops g.row.F-Sink.Denot (IsUnmade g.row.F-NewFile.Denot (g.F.Folder.unwritable folder c.args.out.now) g.F.NewFile.ByteOut.has_failed)
-    (g.F.Folder.sinks folder c.args.out.now) g.F.Sink.ByteOut.contents g.F.Sink.ByteOut.has_failed in
+    let run = effects g.F.Folder g.F.Reader.ByteIn g.F.Sink.ByteOut g.F.NewFile.ByteOut c.args.folder.now c.args.folder.now in
+    let e = c.in-Err.fault in
     inr (
       c.if-is_pair_input.ensures,
-      pair_unwritten inputs c.args.kinds.now c.args.files.now (λ n. OfMadePair inputs (IsPictureOfPair c.args.kinds.now c.args.brief) c.args.files.now (stops n)) c.in-Err.fault
+      pair_unwritten run.inputs c.args.kinds.now c.args.files.now (λ n. OfMadePair run.inputs (IsPictureOfPair c.args.kinds.now c.args.brief) c.args.files.now (run.Stops c.args.out.now n)) e
           c.in-Err.ensures.err,
+      before_writing e run.untouched refl,
     )

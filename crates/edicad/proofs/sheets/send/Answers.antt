@@ -1,6 +1,7 @@
 use Rattle.std.proofs.Common.{◌≤◌, ℕ, List, length, take, IsTrue}
 use Rattle.std.specs.Io.KnownBytes.{Appends}
-use Rattle.edicad.specs.SheetRuns.{OfMade, inputs_of}
+use Rattle.edicad.specs.Effects.{inputs}
+use Rattle.edicad.specs.SheetRuns.{OfMade}
 use Rattle.edicad.proofs.Made.{of_made, on_ok_map, put_fault}
 use Rattle.edicad.proofs.Faults.{fault_unwritten, if_err_map}
 use Rattle.edicad.proofs.sheets.send.Goals as goal
@@ -8,7 +9,7 @@ use Rattle.edicad.proofs.sheets.send.Goals as goal
 pub returns-in-Err-clause-err : goal.returns-in-Err-clause-err
 returns-in-Err-clause-err g c =
     let folder = c.args.folder.now in
-    let inputs = inputs_of g.row.F-Reader.Denot (g.F.Folder.holds folder) (g.F.Folder.closed folder) (g.F.Folder.standard folder) g.F.Reader.ByteIn.has_failed in
+    let inputs = inputs g.F.Folder g.F.Reader.ByteIn folder in
     let contents = g.O.ByteOut.contents c.args.out.now in
     fault_unwritten inputs c.args.kinds.now c.args.files.now
     (λ n. IsTrue (g.O.ByteOut.has_failed c.args.out.now) × OfMade inputs c.args.product c.args.kinds.now c.args.files.now (λ b. (n ≤ length b) × Appends contents contents (take n b))) c.in-Err.fault
@@ -17,7 +18,7 @@ returns-in-Err-clause-err g c =
 pub returns-in-Ok-clause-ok : goal.returns-in-Ok-clause-ok
 returns-in-Ok-clause-ok g c =
     let folder = c.args.folder.now in
-    let inputs = inputs_of g.row.F-Reader.Denot (g.F.Folder.holds folder) (g.F.Folder.closed folder) (g.F.Folder.standard folder) g.F.Reader.ByteIn.has_failed in
+    let inputs = inputs g.F.Folder g.F.Reader.ByteIn folder in
     on_ok_map c.sent.result _ _
     (of_made inputs c.args.product c.args.kinds.now c.args.files.now c.in-Ok.bytes.items _ c.deref.ensures.value c.in-Ok.ensures.ok
     (Appends (g.O.ByteOut.contents c.args.out.now) (g.O.ByteOut.contents c.sent.new.out)))
@@ -26,7 +27,7 @@ returns-in-Ok-clause-ok g c =
 pub returns-in-Ok-clause-err : goal.returns-in-Ok-clause-err
 returns-in-Ok-clause-err g c =
     let folder = c.args.folder.now in
-    let inputs = inputs_of g.row.F-Reader.Denot (g.F.Folder.holds folder) (g.F.Folder.closed folder) (g.F.Folder.standard folder) g.F.Reader.ByteIn.has_failed in
+    let inputs = inputs g.F.Folder g.F.Reader.ByteIn folder in
     let old = g.O.ByteOut.contents c.args.out.now in
     let new = g.O.ByteOut.contents c.sent.new.out in
     let failed = IsTrue (g.O.ByteOut.has_failed c.sent.new.out) in
