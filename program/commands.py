@@ -5,7 +5,7 @@ import re
 import subprocess
 
 from cases import digest_of
-from room import drafts, line, unread, unwritten
+from room import drafts, unread, unwritten
 
 HERE = os.path.dirname(os.path.abspath(__file__))
 
@@ -66,15 +66,15 @@ def files(room, sheet, canonical):
     for name in ("s", "d", "v"):
         before = room.read(name)
         for out in (name, "./" + name, "folder/../" + name):
-            room.expect(f"OUT is the input {out}", ["canon", "s", "d", "v", out], (4, b"", line("cannot write " + out)))
+            room.expect(f"OUT is the input {out}", ["canon", "s", "d", "v", out], (4, b"", unwritten(out, "is one of the inputs")))
         os.symlink(name, room.path("to_" + name))
         os.link(room.path(name), room.path("also_" + name))
         for out in ("to_" + name, "also_" + name):
-            room.expect(f"OUT is a link to an input, {out}", ["canon", "s", "d", "v", out], (4, b"", line("cannot write " + out)))
+            room.expect(f"OUT is a link to an input, {out}", ["canon", "s", "d", "v", out], (4, b"", unwritten(out, "is one of the inputs")))
         room.expect(f"OUT is an input that is named by a link, {name}", ["canon", "to_s", "to_d" if name != "s" else "d", "to_v" if name == "v" else "v", name]
-                    if name != "s" else ["canon", "to_s", "d", "v", "s"], (4, b"", line("cannot write " + name)))
+                    if name != "s" else ["canon", "to_s", "d", "v", "s"], (4, b"", unwritten(name, "is one of the inputs")))
         report.check(f"the input {name} stays", room.read(name), before)
-        room.expect("an OUT that is an input is refused before a file is opened", ["canon", "absent", "absent", name, name], (4, b"", line("cannot write " + name)))
+        room.expect("an OUT that is an input is refused before a file is opened", ["canon", "absent", "absent", name, name], (4, b"", unwritten(name, "is one of the inputs")))
     room.write("far", "old")
     os.symlink("far", room.path("near"))
     room.expect("OUT is a link", ["canon", "s", "d", "v", "near"], (0, b"accepted\n", b""))
@@ -116,9 +116,9 @@ def standard_streams(room, sheet, canonical):
         room.expect("refused to a full output", ["check", "s", "d", "s"], unsaid, stdout=full)
         room.expect("the same to a full output", ["compare", "s", "d", "v", "v"], unsaid, stdout=full)
         room.expect("accepted, with OUT, to a full output", ["canon", "s", "d", "v", "o"], unsaid, stdout=full)
-        room.expect("refused beside a full output", ["canon", "s", "d", "s", "-"], (2, None, b"refused 105 line 1\n"), stdout=full)
+        room.expect("refused beside a full output", ["canon", "s", "d", "s", "-"], (2, None, b"refused 201 record 1\n"), stdout=full)
         report.check("errors to a full stream", room.run(["check", "s", "d", "x"], stderr=full)[0], 4)
-    room.expect("a closed output", ["check", "s", "d", "v"], unsaid, preexec_fn=lambda: os.close(1))
+    room.expect("a closed output", ["check", "s", "d", "v"], (4, b"", unsaid[2]), preexec_fn=lambda: os.close(1))
     report.check("a closed stream of errors", room.run(["check", "s", "d", "x"], preexec_fn=lambda: os.close(2))[0], 4)
     room.expect("a closed input", ["check", "s", "d", "-"], (4, b"", b"cannot read standard input\n"), preexec_fn=lambda: os.close(0))
     room.expect("a closed input of the bundle", [], (4, b"", b"cannot read standard input\n"), preexec_fn=lambda: os.close(0))
@@ -154,6 +154,30 @@ def redirected_streams(room):
     report.check("what the file of standard error had", room.read("log"), b"before\n" + unwritten("/dev/stderr", why))
 
 
+def shown(room):
+    """Identifiers and names of files that a terminal would act on, in the lines of each command."""
+    node = "RTYSA03:PNO\nRIDSA06:{0}\nSCPCP22:EDAB01;SeSD;PGE;NOD_id\nCORCC04:{1};0;\n"
+    of = lambda *nodes: "BOMT 01:X\n" + "".join(node.format(*it) for it in nodes) + "EOMT 00:\n"
+    room.write("a", of(("a\x1b[2J\x7f", 7)))
+    room.write("b", of(("c\\d\r\te", 8)))
+    room.write("c", of(("a\x1b[2J\x7f", 7), ("c\\d\r\te", 7)))
+    first, second = b"a\\x1b[2J\\x7f", b"c\\\\d\\x0d\\x09e"
+    counts = b"1 only in A, 1 only in B, 0 changed\n"
+    room.expect("diff of identifiers with control bytes", ["diff", "s", "d", "a", "b"],
+                (1, b"- PNO " + first + b" (line 2)\n+ PNO " + second + b" (line 2)\n" + counts, b""))
+    repeated = b"refused 403 record 2\nc:6: PNO " + second
+    room.report.check("explain of identifiers with control bytes", room.run(["explain", "s", "d", "c"])[1][: len(repeated)], repeated)
+    name = "x\x1b]0;y\x07\n\\"
+    hidden = "x\\x1b]0;y\\x07\\x0a\\\\"
+    room.expect("a missing file with such a name", ["check", "s", "d", name], (4, b"", unread(hidden)))
+    room.expect("OUT with such a name in no folder", ["canon", "s", "d", "a", name + "/o"], (4, b"", unwritten(hidden + "/o", "no such folder")))
+    room.write(name, "")
+    told = b"refused 106 line 1\n" + hidden.encode() + b":1: "
+    room.report.check("explain of a file with such a name", room.run(["explain", "s", "d", name])[1][: len(told)], told)
+    room.write(name, "\xef\xbb\xbf")
+    room.report.holds("a hint on a file with such a name", b"\nhint: " + hidden.encode() + b" begins" in room.run(["explain", "s", "d", name])[1])
+
+
 def hashes(room, sheet, canonical):
     """Digests of many sheets: what is refused before a sheet is opened, full streams, and the greatest status."""
     report = room.report
@@ -185,7 +209,7 @@ def hashes(room, sheet, canonical):
         room.expect("digests to a full output", ["hash", "s", "d", "x", "v", "bad"], (4, None, b"x: cannot read\nedicad: x: no such file\ncannot write standard output\n"), stdout=full)
         report.check("faults to a full stream", room.run(["hash", "s", "d", "bad", "v"], stderr=full)[:2], (2, one + b"  v\n"))
         room.expect("a refused schema beside a full output", ["hash", "bad", "d", "v"], (2, None, b"bad: refused scd 106 line 1\n"), stdout=full)
-    room.expect("a closed output", ["hash", "s", "d", "v"], (4, None, b"cannot write standard output\n"), preexec_fn=lambda: os.close(1))
+    room.expect("a closed output", ["hash", "s", "d", "v"], (4, b"", b"cannot write standard output\n"), preexec_fn=lambda: os.close(1))
 
 
 def pairings(room, sheet):
@@ -256,8 +280,8 @@ def pairings(room, sheet):
         before = room.read(name)
         os.symlink(name, room.path("to_" + name))
         for file in (name, "./" + name, "to_" + name):
-            room.expect(f"FILE is the input {file}", ["compare", "--pairing", file, *sheets], (4, b"", line("cannot write " + file)))
-        room.expect(f"FILE is the input {name}, before a file is opened", ["compare", "--pairing", name, *["absent" if it != name else it for it in sheets]], (4, b"", line("cannot write " + name)))
+            room.expect(f"FILE is the input {file}", ["compare", "--pairing", file, *sheets], (4, b"", unwritten(file, "is one of the inputs")))
+        room.expect(f"FILE is the input {name}, before a file is opened", ["compare", "--pairing", name, *["absent" if it != name else it for it in sheets]], (4, b"", unwritten(name, "is one of the inputs")))
         report.check(f"the input {name} stays", room.read(name), before)
     room.expect("a FILE of the name -", ["compare", "--pairing", "./-", *sheets], same)
     report.check("the FILE of the name -", room.read("-"), pairing)

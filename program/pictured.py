@@ -3,7 +3,7 @@ import os
 import re
 import xml.etree.ElementTree as xml
 
-from room import drafts, line, unread, unwritten
+from room import drafts, unread, unwritten
 
 HERE = os.path.dirname(os.path.abspath(__file__))
 
@@ -123,10 +123,10 @@ def pictures(room):
         os.symlink(name, room.path("to_" + name))
         for file in (name, "./" + name, "to_" + name):
             if name != "b":
-                room.expect(f"OUT of draw is the input {file}", ["draw", *sheet, file], (4, b"", line("cannot write " + file)))
-            room.expect(f"FILE of a picture is the input {file}", ["diff", "--picture", file, *sheets], (4, b"", line("cannot write " + file)))
+                room.expect(f"OUT of draw is the input {file}", ["draw", *sheet, file], (4, b"", unwritten(file, "is one of the inputs")))
+            room.expect(f"FILE of a picture is the input {file}", ["diff", "--picture", file, *sheets], (4, b"", unwritten(file, "is one of the inputs")))
         absent = ["absent" if it != name else it for it in sheets]
-        room.expect(f"FILE of a picture is the input {name}, before a file is opened", ["diff", "--picture", name, *absent], (4, b"", line("cannot write " + name)))
+        room.expect(f"FILE of a picture is the input {name}, before a file is opened", ["diff", "--picture", name, *absent], (4, b"", unwritten(name, "is one of the inputs")))
         report.check(f"the input {name} stays beside pictures", room.read(name), before)
     for out, why in (("none/o", "no such folder"), ("/dev/full", "no space left"), (".", "is a folder")):
         room.expect(f"draw to {out}", ["draw", *sheet, out], (4, b"", unwritten(out, why)))

@@ -22,7 +22,7 @@ import traceback
 sys.dont_write_bytecode = True
 
 from cases import all_cases, named, read_cases
-from commands import differences, files, hashes, manual, pairings, standard_streams, terminal, words
+from commands import differences, files, hashes, manual, pairings, shown, standard_streams, terminal, words
 from explained import explains, explains_hints, explains_lengths, explains_partners
 from hostile import full_disk, hostile_folders, kills, most_records
 from pictured import pictures
@@ -38,8 +38,9 @@ PARTS = {
     "cases": 3305,
     "words": 164,
     "files": 52,
-    "standard streams": 46,
-    "hashes": 16,
+    "standard streams": 49,
+    "shown": 6,
+    "hashes": 19,
     "explains": 66,
     "pairings": 106,
     "differences": 82,
@@ -69,6 +70,7 @@ def works():
         "words": words,
         "files": lambda room: files(room, sheet, canonical),
         "standard streams": lambda room: standard_streams(room, sheet, canonical),
+        "shown": shown,
         "hashes": lambda room: hashes(room, sheet, canonical),
         "explains": lambda room: explains(room, sheet),
         "pairings": lambda room: pairings(room, sheet),

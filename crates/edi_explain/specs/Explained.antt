@@ -23,6 +23,7 @@ use Rattle.edi_plan.specs.declared.extent.Extent.{Extent}
 use Rattle.edi_plan.specs.declared.extent.Span.{Span}
 use Rattle.edi_explain.specs.declared.refused.Refused.{Refused}
 use Rattle.edi_explain.specs.declared.text.RuleText.{RuleText}
+use Rattle.edi_shown.specs.Shown.{shown_bytes}
 
 -- The lines that explain the refusal of the file b by a rule of lines: the broken line with the sentence of the rule, the
 -- earlier line that bars it, and a hint where 103 is broken since the stated length counts characters.
@@ -73,7 +74,7 @@ extent_lines None = []
 
 -- the character set, or that there is none
 abbrev pub charset_line : Option (List ℕ) → List ℕ
-charset_line (Some charset) = worded_line (codes "character set: ") charset
+charset_line (Some charset) = worded_line (codes "character set: ") (shown_bytes charset)
 charset_line None = worded_line (codes "character set: ") (codes "none")
 
 -- The lines on an accepted sheet: its records by type, its extent where it has points, and its character set.

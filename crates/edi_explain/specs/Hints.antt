@@ -4,6 +4,7 @@ use Rattle.std.specs.List.{AllByRecursion, starts_with, ends_with}
 use Rattle.edi_line.specs.Bytes.{line_feed}
 use Rattle.edi_line.specs.Lines.{IsLinesOf}
 use Rattle.edi_explain.specs.declared.hints.Part.{Part}
+use Rattle.edi_shown.specs.Shown.{shown_bytes}
 use Rattle.edi_explain.specs.declared.hints.Part.TheVariants.{Thf, Gen, Geo, Qal, Scd, Dic, Vec}
 
 -- the part of a delivery whose records are of a type
@@ -52,7 +53,7 @@ name_of Vec = codes "VEC"
 
 -- hint: FILE, and words
 abbrev pub hint_line : List ℕ → List ℕ → List ℕ
-hint_line name words = codes "hint: " ++ name ++ words ++ line_feed ∷ []
+hint_line name words = codes "hint: " ++ shown_bytes name ++ words ++ line_feed ∷ []
 
 -- the byte order mark, as UTF-8 has it
 abbrev pub byte_order_mark : List ℕ
@@ -78,7 +79,7 @@ same_part a b = bytes_eq (name_of a) (name_of b)
 abbrev pub part_hint : List ℕ → Part → Option Part → List ℕ
 part_hint name wanted None = []
 part_hint name wanted (Some part) = if same_part part wanted then []
-    else codes "hint: " ++ name ++ codes " is " ++ name_of part ++ codes " by its first record, and was given as " ++ name_of wanted ++ line_feed ∷ []
+    else codes "hint: " ++ shown_bytes name ++ codes " is " ++ name_of part ++ codes " by its first record, and was given as " ++ name_of wanted ++ line_feed ∷ []
 
 -- the hints on a file in the place of a part
 abbrev pub AreHints : List ℕ → List ℕ → Part → List ℕ → Type 0

@@ -4,10 +4,11 @@ use Rattle.edi_line.specs.Bytes.{line_feed}
 use Rattle.edi_explain.specs.declared.refused.Refused.{Refused}
 use Rattle.edi_explain.specs.declared.site.RecordSite.{RecordSite}
 use Rattle.edi_explain.specs.declared.text.RuleText.{RuleText}
+use Rattle.edi_shown.specs.Shown.{shown_bytes}
 
 -- FILE:LINE:, and a space
 abbrev pub position_text : List ℕ → ℕ → List ℕ
-position_text name line = name ++ codes ":" ++ decimal line ++ codes ": "
+position_text name line = shown_bytes name ++ codes ":" ++ decimal line ++ codes ": "
 
 -- [RULE] behind a space, and the end of the line
 abbrev pub rule_mark : ℕ → List ℕ
@@ -28,13 +29,13 @@ lines_of_line name line earlier sentence rule = line_line name line sentence rul
 
 -- an identifier behind a space, where there is one
 abbrev pub identifier_text : Option (List ℕ) → List ℕ
-identifier_text (Some rid) = codes " " ++ rid
+identifier_text (Some rid) = codes " " ++ shown_bytes rid
 identifier_text None = []
 
 -- FILE:LINE: TYPE IDENTIFIER: sentence [RULE]
 abbrev pub record_line : List ℕ → RecordSite → List ℕ → ℕ → List ℕ
 record_line name site sentence rule =
-    position_text name site.line ++ site.rty ++ identifier_text site.rid ++ codes ": " ++ sentence ++ rule_mark rule
+    position_text name site.line ++ shown_bytes site.rty ++ identifier_text site.rid ++ codes ": " ++ sentence ++ rule_mark rule
 
 -- that line of a record, where there is one
 abbrev pub line_of_site : List ℕ → Option RecordSite → List ℕ → ℕ → List ℕ
@@ -43,7 +44,7 @@ line_of_site name None sentence rule = []
 
 -- FILE: sentence [RULE]
 abbrev pub file_line : List ℕ → List ℕ → ℕ → List ℕ
-file_line name sentence rule = name ++ codes ": " ++ sentence ++ rule_mark rule
+file_line name sentence rule = shown_bytes name ++ codes ": " ++ sentence ++ rule_mark rule
 
 -- the sentence of a rule
 abbrev pub sentence_of : Option RuleText → List ℕ

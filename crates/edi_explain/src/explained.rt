@@ -10,6 +10,7 @@ ghost use Rattle.edi_explain.specs.Found.{IsFound};
 ghost use Rattle.edi_explain.specs.Lines.{sentence_of};
 ghost use Rattle.edi_explain.specs.Rules.{IsTextIfAny, rules};
 ghost use Rattle.edi_explain.specs.declared.text.RuleText.{RuleText as Texts};
+ghost use Rattle.edi_shown.specs.Shown.{shown_bytes};
 
 use crate::barring::barring_line;
 use crate::counts::count_of;
@@ -23,6 +24,7 @@ use edi_line::push_number;
 use edi_plan::{Extent, Plan, Span, extent_of};
 use edi_record::Kind;
 use edi_schema::{Schema, SchemaFault, Source};
+use edi_shown::push_shown;
 use itoa::Buffer;
 use std::alloc::{AllocError, Global};
 
@@ -176,12 +178,21 @@ fn push_extent(text: &mut Vec<u8>, extent: &Option<Extent>) -> Result<(), AllocE
     push_span(text, b"y", &extent.y)
 }
 
+/// Appends words, bytes as a line shows them, and the end of the line.
+fn push_shown_line(text: &mut Vec<u8>, words: &[u8], bytes: &[u8]) -> Result<(), AllocError>
+    ensures { OnOk result (text.new.items ≡ text.old.items ++ worded_line words.now (shown_bytes bytes.now)) }
+{
+    text.extend_from_slice(words)?;
+    push_shown(text, bytes)?;
+    text.extend_from_slice(b"\n")
+}
+
 /// Appends the character set.
 fn push_charset(text: &mut Vec<u8>, charset: Option<&[u8]>) -> Result<(), AllocError>
     ensures { OnOk result (text.new.items ≡ text.old.items ++ charset_line (option_copied charset.entry)) }
 {
     match charset {
-        Some(charset) => push_line(text, b"character set: ", charset),
+        Some(charset) => push_shown_line(text, b"character set: ", charset),
         None => push_line(text, b"character set: ", b"none"),
     }
 }

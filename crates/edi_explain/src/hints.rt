@@ -5,6 +5,7 @@ ghost use Rattle.edi_explain.specs.Hints.{AreHints, AreHintsOfSheet, IsPartIfAny
 
 use crate::contents::first_line;
 use crate::explained::NamedFile;
+use edi_shown::push_shown;
 use std::alloc::{AllocError, Global};
 
 /// Which file of a delivery a file is.
@@ -97,7 +98,7 @@ pub(crate) fn push_hint(text: &mut Vec<u8>, name: &[u8], words: &str) -> Result<
     ensures { OnOk result (text.new.items ≡ text.old.items ++ hint_line name.now words.now) }
 {
     text.extend_from_slice(b"hint: ")?;
-    text.extend_from_slice(name)?;
+    push_shown(text, name)?;
     text.extend_from_slice(words.as_bytes())?;
     text.extend_from_slice(b"\n")
 }
@@ -144,7 +145,7 @@ fn push_part(
         return Ok(());
     }
     text.extend_from_slice(b"hint: ")?;
-    text.extend_from_slice(name)?;
+    push_shown(text, name)?;
     text.extend_from_slice(b" is ")?;
     text.extend_from_slice(name_of(part).as_bytes())?;
     text.extend_from_slice(b" by its first record, and was given as ")?;

@@ -6,13 +6,14 @@ ghost use Rattle.edi_explain.specs.Lines.{barring_text, earlier_sentence, file_l
 use crate::refused::Refused;
 use crate::site::RecordSite;
 use edi_line::push_number;
+use edi_shown::push_shown;
 use std::alloc::{AllocError, Global};
 
 /// Appends a file's name and a line's number.
 fn push_position(text: &mut Vec<u8>, name: &[u8], line: u64) -> Result<(), AllocError>
     ensures { OnOk result (text.new.items ≡ text.old.items ++ position_text name.now line) }
 {
-    text.extend_from_slice(name)?;
+    push_shown(text, name)?;
     text.push(b':')?;
     push_number(text, line)?;
     text.extend_from_slice(b": ")
@@ -83,7 +84,8 @@ pub(crate) fn line_of_file(
 ) -> Result<Vec<u8>, AllocError>
     ensures { IfOk result (λ text. text.items ≡ file_line name.now sentence.now rule) }
 {
-    let mut text = Vec::from_slice(alloc, name)?;
+    let mut text = Vec::new(alloc);
+    push_shown(&mut text, name)?;
     text.extend_from_slice(b": ")?;
     push_sentence(&mut text, sentence, rule)?;
     Ok(text)
@@ -100,7 +102,7 @@ fn push_record(
     ensures { OnOk result (text.new.items ≡ text.old.items ++ record_line name.now site.now sentence.now rule) }
 {
     push_position(text, name, site.line)?;
-    text.extend_from_slice(site.rty.as_slice())?;
+    push_shown(text, site.rty.as_slice())?;
     push_identifier(text, site)?;
     text.extend_from_slice(b": ")?;
     push_sentence(text, sentence, rule)
@@ -114,7 +116,7 @@ fn push_identifier(text: &mut Vec<u8>, site: &RecordSite) -> Result<(), AllocErr
         return Ok(());
     };
     text.push(b' ')?;
-    text.extend_from_slice(rid.as_slice())
+    push_shown(text, rid.as_slice())
 }
 
 /// Appends the line of a record, if there is one.

@@ -2,7 +2,7 @@
 use Rattle.std.specs.Prelude.{◌++◌, ℕ, List, [], ◌∷◌, Option, Some, None, codes}
 use Rattle.edi_line.specs.Bytes.{line_feed}
 use Rattle.edi_files.specs.declared.reason.Reason.{Reason}
-use Rattle.edi_files.specs.declared.reason.Reason.TheVariants.{NoFile, NoFolder, IsFolder, NotPermitted, ReadOnly, NoSpace, NoQuota, TooLarge, IsStandard}
+use Rattle.edi_files.specs.declared.reason.Reason.TheVariants.{NoFile, NoFolder, IsFolder, NotPermitted, ReadOnly, NoSpace, NoQuota, TooLarge, IsStandard, IsInput}
 
 -- with a line feed
 abbrev pub ended : List ℕ → List ℕ
@@ -19,6 +19,7 @@ reason_text NoSpace = codes "no space left"
 reason_text NoQuota = codes "no quota left"
 reason_text TooLarge = codes "file too large"
 reason_text IsStandard = codes "is standard output or standard error"
+reason_text IsInput = codes "is one of the inputs"
 
 -- the line that says why, by the name of the path, where a reason is known
 abbrev pub reason_line : List ℕ → Option Reason → List ℕ

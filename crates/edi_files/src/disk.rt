@@ -171,11 +171,13 @@ impl<R: Files + Input + AllocGlobal> Folder for Disk<'_, R, R::File> {
         FromRead::new(FileOrInput::Input(self.rt.reader()))
     }
 
+    // It is asked of an input and of what is to be written, which is then refused.
     fn is_one_file(&self, path: &str, other: &str) -> bool {
-        match (fs::metadata(self.rt, path), fs::metadata(self.rt, other)) {
-            (Ok(one), Ok(other)) => one.dev() == other.dev() && one.ino() == other.ino(),
-            _ => false,
+        let is_one = path == other || are_one(self.rt, path, other);
+        if is_one {
+            self.why.set(Some(Reason::IsInput));
         }
+        is_one
     }
 
     fn target(&self, path: &str) -> Option<Destination> {
@@ -250,6 +252,14 @@ impl<R: Files + Input + AllocGlobal> Folder for Disk<'_, R, R::File> {
             (None, Ok(found)) if found.is_dir() => Some(Reason::IsFolder),
             (None, _) => None,
         }
+    }
+}
+
+// Whether two paths lead to one file.
+fn are_one<R: Files>(rt: &R, path: &str, other: &str) -> bool {
+    match fs::metadata(rt, path) {
+        Ok(found) => is_file_of(rt, &found, other),
+        Err(_) => false,
     }
 }
 

@@ -17,6 +17,8 @@ pub enum Reason {
     TooLarge,
     /// It is the file to which standard output or standard error goes.
     IsStandard,
+    /// It is one of the inputs.
+    IsInput,
 }
 
 /// The words of a reason.
@@ -33,6 +35,7 @@ pub fn reason_text(reason: Reason) -> &'static [u8]
         Reason::NoQuota => b"no quota left",
         Reason::TooLarge => b"file too large",
         Reason::IsStandard => b"is standard output or standard error",
+        Reason::IsInput => b"is one of the inputs",
     }
 }
 

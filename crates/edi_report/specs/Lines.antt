@@ -10,10 +10,11 @@ use Rattle.edi_plan.specs.Plans.{record_at}
 use Rattle.edi_report.specs.Reports.{Report, parts_at, site_at}
 use Rattle.edi_report.specs.declared.parts.Parts.{Parts}
 use Rattle.edi_report.specs.declared.sheet.LocatedSheet.{LocatedSheet}
+use Rattle.edi_shown.specs.Shown.{shown_bytes}
 
 -- TYPE IDENTIFIER
 abbrev pub record_name_text : LocatedSheet → ℕ → List ℕ
-record_name_text sheet k = kind_code (record_at sheet.accepted k).kind ++ codes " " ++ (site_at sheet k).rid
+record_name_text sheet k = kind_code (record_at sheet.accepted k).kind ++ codes " " ++ shown_bytes (site_at sheet k).rid
 
 -- a sign, TYPE IDENTIFIER (line LINE)
 abbrev pub lone_line : List ℕ → LocatedSheet → ℕ → List ℕ
@@ -39,7 +40,7 @@ both_lines line other = codes " (lines " ++ decimal line ++ codes " and " ++ dec
 
 -- ~ TYPE IDENTIFIER IDENTIFIER (lines LINE and LINE): and the parts
 abbrev pub changed_line : Report → ℕ → ℕ → List ℕ
-changed_line r i j = codes "~ " ++ record_name_text r.first i ++ (codes " " ++ (site_at r.second j).rid) ++ both_lines (site_at r.first i).line (site_at r.second j).line
+changed_line r i j = codes "~ " ++ record_name_text r.first i ++ (codes " " ++ shown_bytes (site_at r.second j).rid) ++ both_lines (site_at r.first i).line (site_at r.second j).line
     ++ parts_text (parts_at r.parts i) ++ line_feed ∷ []
 
 -- the line of a record of the first sheet, by the one that it is and the one that it became: none if it is one of the second
@@ -68,7 +69,7 @@ abbrev pub lines_of : Report → Kind → List ℕ
 lines_of r kind = flat_map (first_line r) (places_of kind r.first.accepted) ++ flat_map (second_line r) (places_of kind r.second.accepted)
 
 abbrev pub charset_change : List ℕ → List ℕ → List ℕ
-charset_change one other = codes "~ CSE " ++ one ++ codes " " ++ other ++ line_feed ∷ []
+charset_change one other = codes "~ CSE " ++ shown_bytes one ++ codes " " ++ shown_bytes other ++ line_feed ∷ []
 
 -- the line of the character sets, where they differ
 abbrev pub charset_change_line : Option (List ℕ) → Option (List ℕ) → List ℕ

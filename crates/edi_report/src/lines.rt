@@ -4,10 +4,12 @@ ghost use Rattle.std.specs.Prelude.{◌≡◌, ◌++◌, ◌<◌, OnOk, codes, l
 ghost use Rattle.edi_plan.specs.Plans.{IsPlace};
 ghost use Rattle.edi_report.specs.Lines.{both_lines, charset_change, charset_change_line, counted, lone_line, parts_text, record_name_text, some_differ, word_if, words_text};
 ghost use Rattle.edi_report.specs.Reports.{HasSites};
+ghost use Rattle.edi_shown.specs.Shown.{shown_bytes};
 
 use crate::parts::Parts;
 use crate::sheet::LocatedSheet;
 use edi_line::push_number;
+use edi_shown::push_shown;
 use std::alloc::AllocError;
 
 /// Appends the type and the identifier of a record.
@@ -24,7 +26,7 @@ pub(crate) fn push_name(
     let site = &sheet.sites.as_slice()[place as usize];
     text.extend_from_slice(kind.code())?;
     text.push(b' ')?;
-    text.extend_from_slice(site.rid.as_slice())
+    push_shown(text, site.rid.as_slice())
 }
 
 /// Appends the line of a record that stands in this sheet alone.
@@ -106,10 +108,10 @@ pub(crate) fn push_counted(text: &mut Vec<u8>, count: usize, words: &[u8]) -> Re
 
 /// Appends an identifier behind a space.
 pub(crate) fn push_other(text: &mut Vec<u8>, rid: &[u8]) -> Result<(), AllocError>
-    ensures { OnOk result (text.new.items ≡ text.old.items ++ (codes " " ++ rid.now)) }
+    ensures { OnOk result (text.new.items ≡ text.old.items ++ (codes " " ++ shown_bytes rid.now)) }
 {
     text.push(b' ')?;
-    text.extend_from_slice(rid)
+    push_shown(text, rid)
 }
 
 /// Appends the line of two character sets.
@@ -117,9 +119,9 @@ fn push_charsets(text: &mut Vec<u8>, one: &[u8], other: &[u8]) -> Result<(), All
     ensures { OnOk result (text.new.items ≡ text.old.items ++ charset_change one.now other.now) }
 {
     text.extend_from_slice(b"~ CSE ")?;
-    text.extend_from_slice(one)?;
+    push_shown(text, one)?;
     text.push(b' ')?;
-    text.extend_from_slice(other)?;
+    push_shown(text, other)?;
     text.extend_from_slice(b"\n")
 }
 

@@ -18,6 +18,7 @@ use Rattle.edi_compare.specs.Runs.{MatchFault, RefusesSchema, Seen, IfBothKnown}
 use Rattle.edi_compare.specs.Under.{OfTwo}
 use Rattle.edi_compare.specs.declared.fault.RunFault.{RunFault}
 use Rattle.edi_compare.specs.declared.fault.RunFault.TheVariants.{Memory, Read, TooLong, Schema, First, Second, Write}
+use Rattle.edi_shown.specs.Shown.{backslash}
 use Rattle.edi_files.specs.Reasons.{Why, ended, reason_line}
 use Rattle.edi_files.specs.declared.reason.Reason.{Reason}
 use Rattle.edicad.specs.Outcome.{sheet_fault_text, status_of_fault}
@@ -56,10 +57,7 @@ abbrev pub IsAnswerOf : Inputs → Classes → List ℕ → Result (List ℕ) Ru
 IsAnswerOf inputs s path (Ok digest) = (contents : Option (List ℕ)) × Gives inputs path contents × IfSome contents (λ b. IsDigestOf s b digest)
 IsAnswerOf inputs s path (Err e) = HashFault inputs s path e
 
--- the bytes of escapes, `\`, `n` and `r`
-abbrev pub backslash : ℕ
-backslash = 92
-
+-- the bytes of escapes, `n` and `r`
 abbrev pub line_feed_letter : ℕ
 line_feed_letter = 110
 
@@ -71,15 +69,15 @@ abbrev pub is_escaped : ℕ → Bool
 is_escaped x = (x == backslash) || ((x == line_feed) || (x == carriage_return))
 
 -- a byte as a line shows it: \\, \n and \r stand for those three
-abbrev pub shown_byte : ℕ → List ℕ
-shown_byte x =
+abbrev pub escaped_byte : ℕ → List ℕ
+escaped_byte x =
     if x == backslash then backslash ∷ backslash ∷ []
     else if x == line_feed then backslash ∷ line_feed_letter ∷ []
     else if x == carriage_return then backslash ∷ carriage_return_letter ∷ []
     else x ∷ []
 
-abbrev pub shown_name : List ℕ → List ℕ
-shown_name name = flat_map shown_byte name
+abbrev pub escaped_name : List ℕ → List ℕ
+escaped_name name = flat_map escaped_byte name
 
 -- a backslash before a line whose name has an escape
 abbrev pub mark_of : List ℕ → List ℕ
@@ -87,11 +85,11 @@ mark_of name = if list_any is_escaped name then backslash ∷ [] else []
 
 -- the digits of the digest, two spaces and the name
 abbrev pub digest_line : List ℕ → List ℕ → List ℕ
-digest_line digest name = mark_of name ++ encode_lower digest ++ codes "  " ++ shown_name name ++ line_feed ∷ []
+digest_line digest name = mark_of name ++ encode_lower digest ++ codes "  " ++ escaped_name name ++ line_feed ∷ []
 
 -- the name, and what is wrong with its sheet
 abbrev pub fault_line : RunFault → List ℕ → List ℕ
-fault_line e name = mark_of name ++ shown_name name ++ codes ": " ++ ended (sheet_fault_text e)
+fault_line e name = mark_of name ++ escaped_name name ++ codes ": " ++ ended (sheet_fault_text e)
 
 -- what a sheet adds to the output and to the errors, and its status
 pub record Step : Type 0 where
@@ -105,7 +103,7 @@ abbrev pub IsStep : Inputs → Why → Classes → List ℕ → Step → Type 0
 IsStep inputs why s path step =
     ((digest : List ℕ) × IsAnswerOf inputs s path (Ok digest) × (step ≡ record { out = digest_line digest path; err = []; status = 0 }))
     ⊎ (((e : RunFault) × (reason : Option Reason) × IsAnswerOf inputs s path (Err e) × IsReasonOf why e path reason
-    × (step ≡ record { out = []; err = fault_line e path ++ reason_line (shown_name path) reason; status = status_of_fault e }))
+    × (step ≡ record { out = []; err = fault_line e path ++ reason_line (escaped_name path) reason; status = status_of_fault e }))
     ⊎ ((answer : Result (List ℕ) RunFault) × IsAnswerOf inputs s path answer × (step ≡ record { out = []; err = ended (codes "out of memory"); status = 5 })))
 
 -- the greatest status
@@ -183,7 +181,7 @@ schema_fault_path files (Write w) = []
 -- for them
 abbrev pub TellsFault : Why → Seen → RunFault → List ℕ → ℕ → Type 0
 TellsFault why err e path s =
-    ((s ≡ status_of_fault e) × ((reason : Option Reason) × IsReasonOf why e path reason × Warns err (fault_line e path ++ reason_line (shown_name path) reason)))
+    ((s ≡ status_of_fault e) × ((reason : Option Reason) × IsReasonOf why e path reason × Warns err (fault_line e path ++ reason_line (escaped_name path) reason)))
     ⊎ ((s ≡ 5) × LacksMemory err)
 
 -- The status of a run over many sheets. The schema is loaded, and each sheet was answered under it or the output failed; or

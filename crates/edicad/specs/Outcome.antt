@@ -11,6 +11,7 @@ use Rattle.edi_compare.specs.declared.fault.Fault.TheVariants as sheet
 use Rattle.edi_compare.specs.declared.fault.RunFault.{RunFault}
 use Rattle.edi_compare.specs.declared.fault.RunFault.TheVariants.{Memory, Read, TooLong, Schema, First, Second, Write}
 use Rattle.edi_files.specs.Reasons.{ended}
+use Rattle.edi_shown.specs.Shown.{shown_bytes}
 use Rattle.edi_words.specs.Requests.{is_standard_path}
 use Rattle.edicad.specs.declared.outcome.Outcome.{Outcome}
 use Rattle.edicad.specs.declared.outcome.Outcome.TheVariants.{Accepted, Same, Different, Pairs, Unpaired, WrongPairing, Fault}
@@ -89,12 +90,12 @@ path_of_fault (Write w) paths = path_in paths (length paths - 1)
 
 abbrev pub words_of_fault : RunFault → List (List ℕ) → List ℕ
 words_of_fault (Memory e) paths = codes "out of memory"
-words_of_fault (Read input) paths = codes "cannot read " ++ input_name (path_in paths (input - 1))
-words_of_fault (TooLong input) paths = codes "too long " ++ input_name (path_in paths (input - 1))
+words_of_fault (Read input) paths = codes "cannot read " ++ shown_bytes (input_name (path_in paths (input - 1)))
+words_of_fault (TooLong input) paths = codes "too long " ++ shown_bytes (input_name (path_in paths (input - 1)))
 words_of_fault (Schema f) paths = schema_text f
 words_of_fault (First f) paths = sheet_text (first_text (length paths)) f
 words_of_fault (Second f) paths = sheet_text (codes "second ") f
-words_of_fault (Write w) paths = codes "cannot write " ++ output_name (path_in paths (length paths - 1))
+words_of_fault (Write w) paths = codes "cannot write " ++ shown_bytes (output_name (path_in paths (length paths - 1)))
 
 -- what is wrong with a sheet, where its name stands before it
 abbrev pub sheet_fault_text : RunFault → List ℕ

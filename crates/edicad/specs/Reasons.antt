@@ -5,6 +5,7 @@ use Rattle.edi_compare.specs.declared.fault.RunFault.{RunFault}
 use Rattle.edi_compare.specs.declared.fault.RunFault.TheVariants.{Memory, Read, TooLong, Schema, First, Second, Write}
 use Rattle.edi_files.specs.Reasons.{Why, ended, reason_line}
 use Rattle.edi_files.specs.declared.reason.Reason.{Reason}
+use Rattle.edi_shown.specs.Shown.{shown_bytes}
 use Rattle.edi_words.specs.Requests.{is_standard_path}
 use Rattle.edicad.specs.Outcome.{path_for, path_of_fault, words_for}
 use Rattle.edicad.specs.declared.outcome.Outcome.{Outcome}
@@ -36,4 +37,4 @@ IsReason why (Fault e) paths reason = IsReasonOf why e (path_of_fault e paths) r
 
 -- the line of an outcome, and then that of its reason
 abbrev pub lines_for : Outcome → List (List ℕ) → Option Reason → List ℕ
-lines_for outcome paths reason = ended (words_for outcome paths) ++ reason_line (path_for outcome paths) reason
+lines_for outcome paths reason = ended (words_for outcome paths) ++ reason_line (shown_bytes (path_for outcome paths)) reason

@@ -3,7 +3,7 @@ ghost use Rattle.std.specs.Prelude.{◌≡◌, ◌++◌, IfErr, IfOk, IsTrue, Op
 ghost use Rattle.std.specs.List.{list_any};
 ghost use Rattle.edicad.specs.Effects.{effects, inputs, written};
 ghost use Rattle.edicad.specs.Hashes.{AnswersAll, GivesSchema, IsAnswerOf, IsHashStatus, LoadFault, TellsFault, digest_line, fault_line};
-ghost use Rattle.edicad.specs.Hashes.{is_escaped, mark_of, refused_path, schema_fault_path, shown_name};
+ghost use Rattle.edicad.specs.Hashes.{is_escaped, mark_of, refused_path, schema_fault_path, escaped_name};
 ghost use Rattle.edicad.specs.inner.Hashes.{StepsOn, StopsAt};
 ghost use Rattle.edi_files.specs.Reasons.{reason_line};
 ghost use Rattle.edi_files.specs.declared.reason.Reason.{Reason};
@@ -164,10 +164,10 @@ fn lines_of_fault<F: Folder>(
     path: &str,
 ) -> Result<Vec<u8>, AllocError>
     ensures { IfOk result (λ lines. (reason : Option Reason) × IsReasonOf (F.why folder.now) fault.now path.now reason
-        × (lines.items ≡ fault_line fault.now path.now ++ reason_line (shown_name path.now) reason)) }
+        × (lines.items ≡ fault_line fault.now path.now ++ reason_line (escaped_name path.now) reason)) }
 {
     let mut lines = line_of_fault(alloc, fault, path.as_bytes())?;
-    let name = shown(alloc, path.as_bytes())?;
+    let name = escaped(alloc, path.as_bytes())?;
     add_reason(&mut lines, folder, fault, path, &name)?;
     Ok(lines)
 }
@@ -193,7 +193,7 @@ fn line_of_digest(alloc: Global, digest: &[u8], name: &[u8]) -> Result<Vec<u8>, 
     let mut line = marked(alloc, name)?;
     line.extend_from_slice(hex::encode(alloc, digest)?.as_bytes())?;
     line.extend_from_slice(b"  ")?;
-    line.extend_from_slice(&shown(alloc, name)?)?;
+    line.extend_from_slice(&escaped(alloc, name)?)?;
     line.push(b'\n')?;
     Ok(line)
 }
@@ -203,7 +203,7 @@ fn line_of_fault(alloc: Global, fault: &RunFault, name: &[u8]) -> Result<Vec<u8>
     ensures { IfOk result (λ line. line.items ≡ fault_line fault.now name.now) }
 {
     let mut line = marked(alloc, name)?;
-    line.extend_from_slice(&shown(alloc, name)?)?;
+    line.extend_from_slice(&escaped(alloc, name)?)?;
     line.extend_from_slice(b": ")?;
     line.extend_from_slice(&line_of_sheet(alloc, fault)?)?;
     Ok(line)
@@ -240,8 +240,8 @@ fn is_escaped(byte: u8) -> bool
 }
 
 // A name with its escapes.
-fn shown(alloc: Global, name: &[u8]) -> Result<Vec<u8>, AllocError>
-    ensures { IfOk result (λ text. text.items ≡ shown_name name.now) }
+fn escaped(alloc: Global, name: &[u8]) -> Result<Vec<u8>, AllocError>
+    ensures { IfOk result (λ text. text.items ≡ escaped_name name.now) }
 {
     let mut text = Vec::with_capacity(alloc, name.len())?;
     for byte in name {

@@ -2,12 +2,14 @@
 ghost use Rattle.std.specs.Prelude.{◌≡◌, ◌<◌, length, ◌∷◌, ◌++◌, [], codes, IfOk};
 ghost use Rattle.std.specs.Fmt.{decimal};
 ghost use Rattle.edi_files.specs.Reasons.{ended};
+ghost use Rattle.edi_shown.specs.Shown.{shown_bytes};
 ghost use Rattle.edicad.specs.Outcome.{FaultHasNames, HasNames, first_text, input_name, line_for, output_name, path_in, path_of_fault};
 ghost use Rattle.edicad.specs.Outcome.{schema_text, sheet_fault_text, sheet_text, source_text, status_for, status_of_fault};
 ghost use Rattle.edicad.specs.Outcome.{status_of_schema, status_of_sheet, texts, words_of_fault};
 
 use edi_compare::{Fault, RunFault};
 use edi_schema::{SchemaFault, Source};
+use edi_shown::push_shown;
 use edi_words::is_standard;
 use std::alloc::{AllocError, Global};
 
@@ -101,18 +103,18 @@ pub fn line_of_run(alloc: Global, fault: &RunFault, paths: &[&str]) -> Result<Ve
         RunFault::Memory(_) => named(alloc, b"out of memory", b""),
         RunFault::Read { input } => {
             let path = path_in(paths, *input as usize - 1);
-            named(alloc, b"cannot read ", input_name(path))
+            naming(alloc, b"cannot read ", input_name(path))
         }
         RunFault::TooLong { input } => {
             let path = path_in(paths, *input as usize - 1);
-            named(alloc, b"too long ", input_name(path))
+            naming(alloc, b"too long ", input_name(path))
         }
         RunFault::Schema(fault) => schema_line(alloc, fault),
         RunFault::First(fault) => sheet_line(alloc, first_words(paths.len()), fault),
         RunFault::Second(fault) => sheet_line(alloc, b"second ", fault),
         RunFault::Write(_) => {
             let path = path_in(paths, paths.len() - 1);
-            named(alloc, b"cannot write ", output_name(path))
+            naming(alloc, b"cannot write ", output_name(path))
         }
     }
 }
@@ -262,6 +264,16 @@ fn named(alloc: Global, words: &[u8], name: &[u8]) -> Result<Vec<u8>, AllocError
 {
     let mut line = Vec::from_slice(alloc, words)?;
     line.extend_from_slice(name)?;
+    line.push(b'\n')?;
+    Ok(line)
+}
+
+// Some words and the name of a file, as a line shows it.
+fn naming(alloc: Global, words: &[u8], name: &[u8]) -> Result<Vec<u8>, AllocError>
+    ensures { IfOk result (λ line. line.items ≡ ended (words.now ++ shown_bytes name.now)) }
+{
+    let mut line = Vec::from_slice(alloc, words)?;
+    push_shown(&mut line, name)?;
     line.push(b'\n')?;
     Ok(line)
 }

@@ -15,6 +15,7 @@ use crate::reason::add_reason;
 use edi_compare::RunFault;
 use edi_files::Folder;
 use edi_line::ByteOut;
+use edi_shown::push_shown;
 use edi_words::Misuse;
 use edi_write::put_all;
 use std::alloc::{AllocError, Global};
@@ -109,7 +110,9 @@ fn lines_of<F: Folder>(
 {
     let mut lines = line_of_run(alloc, fault, paths)?;
     let path = path_of_fault(fault, paths);
-    add_reason(&mut lines, folder, fault, path, path.as_bytes())?;
+    let mut name = Vec::new(alloc);
+    push_shown(&mut name, path.as_bytes())?;
+    add_reason(&mut lines, folder, fault, path, &name)?;
     Ok(lines)
 }
 

@@ -397,5 +397,5 @@ fn meets<F: Folder>(folder: &F, path: &str, out: &str) -> bool
     if is_standard(path) {
         return false;
     }
-    path == out || folder.is_one_file(path, out)
+    folder.is_one_file(path, out) || path == out
 }

@@ -43,7 +43,7 @@ pub(crate) static TOPOLOGY: [RuleText; 6] = [
         rule: 406,
         sentence: "a face on no side of an arc",
         reason: "A face is what arcs bound; without one it has no place in the plan.",
-        cause: "The links to the left and right faces of its arcs are missing, or the face was left over when two parcels were joined.",
-        remedy: "Add the links from its arcs, or remove the face.",
+        cause: "The links to the left and right faces of its arcs are missing or have other codes than the usual ones, or the face was left over when two parcels were joined.",
+        remedy: "Add the links from its arcs, or remove the face. Where the schema has other codes for these links, name them with --kinds.",
     },
 ];

@@ -1,6 +1,6 @@
 use Rattle.std.proofs.Common.{◌≡◌, ◌∙◌, ◌++◌, [], refl, inl, inr, sym, ap, subst, codes, Ok, Err}
 use Rattle.std.specs.Io.KnownBytes.{Appends}
-use Rattle.edicad.specs.Hashes.{digest_line, fault_line, shown_name}
+use Rattle.edicad.specs.Hashes.{digest_line, fault_line, escaped_name}
 use Rattle.edi_files.specs.Reasons.{ended, reason_line}
 use Rattle.edicad.specs.Outcome.{status_of_fault}
 use Rattle.edicad.proofs.Answering.{appends_nothing}
@@ -29,7 +29,7 @@ returns-in-Ok-clause-ok g c = (
 pub returns-clause-ok : goal.returns-clause-ok
 returns-clause-ok g c = elim c.tell_fault.ensures.contents [
   | inl h ↦ (
-    record { out = []; err = fault_line c.in-Err.fault c.args.path.now ++ reason_line (shown_name c.args.path.now) h.1.0; status = status_of_fault c.in-Err.fault },
+    record { out = []; err = fault_line c.in-Err.fault c.args.path.now ++ reason_line (escaped_name c.args.path.now) h.1.0; status = status_of_fault c.in-Err.fault },
     inr (inl (c.in-Err.fault, h.1.0, c.in-Err.ensures, h.1.1, refl)),
     sym h.0,
     appends_nothing (g.O.ByteOut.contents c.args.out.now),

@@ -1,7 +1,7 @@
 use Rattle.std.proofs.Common.{inr, refl}
 use Rattle.edi_files.proofs.Steps.{goes_map}
 use Rattle.edicad.specs.Effects.{effects, inputs}
-use Rattle.edicad.specs.SheetRuns.{OfMade}
+use Rattle.edicad.specs.SheetRuns.{IsPut, OfMade}
 use Rattle.edicad.proofs.Made.{before_writing, of_made, on_ok_map, put_fault, whole}
 use Rattle.edicad.proofs.Faults.{fault_unwritten, if_err_both}
 use Rattle.edicad.proofs.sheets.put.Goals as goal
@@ -20,7 +20,7 @@ returns-in-Err-clause-err g c =
 pub returns-in-Ok-clause-ok : goal.returns-in-Ok-clause-ok
 returns-in-Ok-clause-ok g c =
     let run = effects g.F.Folder g.F.Reader.ByteIn g.F.Sink.ByteOut g.F.NewFile.ByteOut c.args.folder.now c.put.new.folder in
-    on_ok_map c.put.result _ _
+    on_ok_map c.put.result (run.Puts c.args.out.now c.deref.result.now) (IsPut run c.args.product c.args.kinds.now c.args.files.now c.args.out.now)
     (λ h. (
       c.if-is_input.ensures,
       of_made run.inputs c.args.product c.args.kinds.now c.args.files.now c.in-Ok.bytes.items _ c.deref.ensures.value c.in-Ok.ensures.ok
