@@ -49,7 +49,9 @@ def lacks_lines(answer, wanted):
     said, lines = err.splitlines(), out.splitlines()
     left = [it for it in wanted[1].splitlines() if it in lines]
     told = all(it == b"out of memory" or it.endswith(b": out of memory") for it in said)
-    return lacks_memory(answer, wanted) or status == 5 and told and left == lines and len(said) + len(lines) == len(wanted[1].splitlines())
+    each = left == lines and len(said) + len(lines) == len(wanted[1].splitlines())
+    no_schema = not lines and len(said) == 1
+    return status == 5 and told and (each or no_schema)
 
 
 def sweep(name, words, library, out, lacks=lacks_memory):
@@ -110,6 +112,7 @@ def main():
         sweep("canon", ["canon", *schema, sheet, out], library, out)
         sweep("canon of another presentation", ["canon", *schema, again, out], library, out)
         sweep("canon, refused", ["canon", *schema, refused, out], library, out)
+        sweep("canon to standard output, refused", ["canon", *schema, refused, "-"], library, out)
         sweep("compare, same", ["compare", *schema, sheet, again], library, out)
         sweep("compare, different", ["compare", *schema, sheet, other], library, out)
         sweep("compare, with a pairing", ["compare", "--pairing", out, *schema, sheet, again], library, out)
@@ -121,6 +124,7 @@ def main():
         sweep("diff, with a picture", ["diff", "--picture", out, *schema, sheet, other], library, out)
         sweep("draw", ["draw", *schema, sheet, out], library, out)
         sweep("hash", ["hash", *schema, sheet, again], library, out, lacks_lines)
+        sweep("hash, a refused schema", ["hash", *reversed(schema), sheet], library, out, lacks_lines)
         sweep("explain", ["explain", *schema, sheet], library, out)
         sweep("explain, refused", ["explain", *schema, refused], library, out)
         sweep("explain, a rule", ["explain", "403"], library, out)

@@ -162,9 +162,8 @@ def shown(room):
     room.write("b", of(("c\\d\r\te", 8)))
     room.write("c", of(("a\x1b[2J\x7f", 7), ("c\\d\r\te", 7)))
     first, second = b"a\\x1b[2J\\x7f", b"c\\\\d\\x0d\\x09e"
-    counts = b"1 only in A, 1 only in B, 0 changed\n"
     room.expect("diff of identifiers with control bytes", ["diff", "s", "d", "a", "b"],
-                (1, b"- PNO " + first + b" (line 2)\n+ PNO " + second + b" (line 2)\n" + counts, b""))
+                (1, b"~ PNO " + first + b" " + second + b" (lines 2 and 2): points\n0 only in A, 0 only in B, 1 changed\n", b""))
     repeated = b"refused 403 record 2\nc:6: PNO " + second
     room.report.check("explain of identifiers with control bytes", room.run(["explain", "s", "d", "c"])[1][: len(repeated)], repeated)
     name = "x\x1b]0;y\x07\n\\"

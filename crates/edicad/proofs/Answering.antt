@@ -6,7 +6,7 @@ use Rattle.std.specs.declared.cmp.Ordering.TheVariants.{Less, Equal, Greater}
 use Rattle.std.specs.Io.KnownBytes.{Appends}
 use Rattle.std.proofs.lemmas.List.Sums.{fold-append}
 use Rattle.edi_schema.specs.Classes.{Classes}
-use Rattle.edi_compare.specs.Runs.{Seen, seen}
+use Rattle.edi_compare.specs.Runs.{seen}
 use Rattle.edicad.specs.Hashes.{AreAnswered, IsCutOff, IsStep, Step, worst_of}
 use Rattle.edicad.specs.inner.Hashes.{StepsOn, StopsAt}
 use Rattle.edi_files.specs.Reasons.{Why, ended}

@@ -1,5 +1,5 @@
 -- The status of a run over a bundle.
-use Rattle.std.proofs.Common.{◌≡◌, ◌≤◌, ◌<◌, ℕ, Bool, true, false, List, [], ◌∷◌, Option, IfSome, IsTrue, codes, refl, sym, subst, arith}
+use Rattle.std.proofs.Common.{◌≡◌, ◌≤◌, ℕ, Bool, false, List, [], ◌∷◌, Option, IfSome, IsTrue, codes, refl, sym, subst, arith}
 use Rattle.std.proofs.lemmas.Bool.{false≢true}
 use Rattle.edi_line.specs.declared.device.ByteOut as byte_out
 use Rattle.edi_compare.specs.Bundle.{OfParts}

@@ -1,5 +1,5 @@
 -- The status of a run that puts a pairing, and of one that checks it.
-use Rattle.std.proofs.Common.{◌≡◌, ◌⊎◌, ◌<◌, ◌≤◌, ℕ, zero, suc, Bool, true, false, List, Option, Some, None, IsTrue, codes, length, inl, inr, refl, sym, ap, subst, arith, Bor, Result, Ok, Err, IfOk, IfErr}
+use Rattle.std.proofs.Common.{◌≡◌, ◌⊎◌, ◌<◌, ℕ, zero, suc, Bool, true, false, List, Option, Some, None, IsTrue, length, inl, inr, refl, sym, ap, subst, arith, Bor, Result, Ok, Err, IfOk, IfErr}
 use Rattle.std.specs.Prelude.{MatchOption, ⊤}
 use Rattle.edi_schema.specs.Roles.{KindCodes}
 use Rattle.edi_compare.specs.declared.fault.RunFault.{RunFault}

@@ -1,5 +1,5 @@
 -- The status of a run that has no answer, and what a refusal says.
-use Rattle.std.proofs.Common.{◌≡◌, ◌≢◌, ◌⊎◌, ◌≤◌, ◌++◌, ℕ, Bool, List, [], Option, Some, None, IfSome, codes, length, refl, sym, subst, ◌∙◌, ap, inl, inr, arith, ◌<◌, Bor, Result, Ok, Err, IfOk, IfErr, append-nil}
+use Rattle.std.proofs.Common.{◌≡◌, ◌≢◌, ◌⊎◌, ◌≤◌, ℕ, Bool, List, [], Option, None, IfSome, codes, length, refl, sym, subst, ◌∙◌, ap, inl, inr, arith, ◌<◌, Bor, Result, Ok, Err, IfOk, IfErr, append-nil}
 use Rattle.edi_schema.specs.Roles.{KindCodes}
 use Rattle.edi_schema.specs.declared.fault.SchemaFault.{SchemaFault}
 use Rattle.edi_schema.specs.declared.fault.SchemaFault.TheVariants as schema

@@ -158,9 +158,9 @@ LoadFault inputs kinds files e =
     (RefusesFiles inputs kinds files)
     (λ _. ⊥) (λ _. ⊥) (λ _. ⊥))
 
--- the file of a refused schema: that of the classes where the kinds of links are wrong
+-- the file of a refused schema: that of the classes where the kinds of links are wrong, or memory ran out
 abbrev pub refused_path : ManyFiles → SchemaRefusal → List ℕ
-refused_path files (schema.Memory e) = []
+refused_path files (schema.Memory e) = files.scd.now
 refused_path files (schema.Line Scd rule at) = files.scd.now
 refused_path files (schema.Line Dic rule at) = files.dic.now
 refused_path files (schema.Entry Scd rule at) = files.scd.now
@@ -169,7 +169,7 @@ refused_path files schema.Kinds = files.scd.now
 
 -- the file that keeps a schema from being loaded
 abbrev pub schema_fault_path : ManyFiles → RunFault → List ℕ
-schema_fault_path files (Memory e) = []
+schema_fault_path files (Memory e) = files.scd.now
 schema_fault_path files (Read input) = schema_path_at files input
 schema_fault_path files (TooLong input) = schema_path_at files input
 schema_fault_path files (Schema f) = refused_path files f

@@ -135,10 +135,12 @@ fn path_of_schema<'a>(files: &ManyFiles<'a>, fault: &RunFault) -> &'a str
     ensures { result.now ≡ schema_fault_path files.now fault.now }
 {
     match fault {
-        RunFault::Read { input: 1 } | RunFault::TooLong { input: 1 } => files.scd,
+        RunFault::Read { input: 1 } | RunFault::TooLong { input: 1 } | RunFault::Memory(_) => {
+            files.scd
+        }
         RunFault::Read { .. } | RunFault::TooLong { .. } => files.dic,
         RunFault::Schema(fault) => refused_path(files, fault),
-        RunFault::Memory(_) | RunFault::First(_) | RunFault::Second(_) | RunFault::Write(_) => "",
+        RunFault::First(_) | RunFault::Second(_) | RunFault::Write(_) => "",
     }
 }
 
@@ -147,12 +149,11 @@ fn refused_path<'a>(files: &ManyFiles<'a>, fault: &SchemaFault) -> &'a str
     ensures { result.now ≡ refused_path files.now fault.now }
 {
     match fault {
-        SchemaFault::Memory(_) => "",
         SchemaFault::Line { file, .. } | SchemaFault::Entry { file, .. } => match file {
             Source::Scd => files.scd,
             Source::Dic => files.dic,
         },
-        SchemaFault::Kinds => files.scd,
+        SchemaFault::Kinds | SchemaFault::Memory(_) => files.scd,
     }
 }
 

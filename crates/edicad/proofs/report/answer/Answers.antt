@@ -1,8 +1,7 @@
 use Rattle.std.proofs.Common.{arith}
 use Rattle.edicad.specs.Effects.{written}
 use Rattle.edicad.specs.Outcome.{texts}
-use Rattle.edicad.proofs.OneSheet.{unmoved}
-use Rattle.edicad.proofs.Refusals.{said_of_line, said_of_warned}
+use Rattle.edicad.proofs.Refusals.{said_of_warned}
 use Rattle.edicad.proofs.report.answer.Goals as goal
 
 pub returns-in-Fault-clause-said : goal.returns-in-Fault-clause-said
