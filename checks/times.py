@@ -72,9 +72,9 @@ def main(words):
     with open(f"{TOP}/README.md", encoding="utf-8") as file:
         text = file.read()
     before, _, behind = text.partition("## Times\n")
-    rest = behind.partition("\n`conform` has")
+    _, heading, rest = behind.partition("\n## ")
     with open(f"{TOP}/README.md", "w", encoding="utf-8") as file:
-        file.write(before + section(stages, words[1]) + rest[1] + rest[2])
+        file.write(before + section(stages, words[1]) + heading + rest)
 
 
 if __name__ == "__main__":
