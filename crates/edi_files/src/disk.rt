@@ -146,6 +146,8 @@ impl<R: Files + Input + AllocGlobal> Folder for Disk<'_, R, R::File> {
 
     ghost sinks = { λ _ _ _. ⊤ };
 
+    ghost ends = { λ _ _ _. ⊤ };
+
     ghost tells = { λ _. ⊥ };
 
     ghost moment = { λ _. 0 };
@@ -240,6 +242,8 @@ impl<R: Files + Input + AllocGlobal> Folder for Disk<'_, R, R::File> {
         self.why.set(file.why);
         let _ = fs::remove_file(self.rt, &name.name);
     }
+
+    fn end(&self, _path: &str, _sink: OutFile<R::File>) {}
 
     fn give_up(&self, sink: OutFile<R::File>) {
         self.why.set(sink.why);

@@ -72,6 +72,9 @@ pub trait Folder {
     /// What was opened to write to the stream of a path, before the first byte.
     ghost sinks: { Self → List ℕ → Self.Sink → Type 0 };
 
+    /// A stream of a path was ended as it was then: no more goes to it.
+    ghost ends: { Self → List ℕ → Self.Sink → Type 0 };
+
     /// The folder claims what interruptions leave.
     ghost tells: { Self → Type 0 };
 
@@ -126,6 +129,10 @@ pub trait Folder {
     /// Removes a new file, which failed.
     fn discard(&mut self, file: Self::NewFile, name: Self::NewName)
         ensures { Goes (moment self.old) (moment self.new) (left_since self.old) (left_since self.new) (λ p c. p ≡ place name) };
+
+    /// Ends the stream of a path, which got all that it was to get.
+    fn end(&self, path: &str, sink: Self::Sink)
+        ensures { ends self.now path.now sink };
 
     /// Takes back the stream of a path, which failed.
     fn give_up(&self, sink: Self::Sink);

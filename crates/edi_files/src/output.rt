@@ -12,7 +12,7 @@ use edi_write::{Written, put_all};
 /// Puts the bytes at a path. A file is replaced whole or not at all: at any moment the path has the file that it had, or
 /// all the bytes. A device or a pipe gets the bytes as they come.
 pub fn put<F: Folder>(folder: &mut F, path: &str, bytes: &[u8]) -> Result<(), RunFault>
-    ensures ok { OnOk result (Reaches F.Sink (F.holds folder.new path.now) (F.sinks folder.old path.now) F.Sink.contents bytes.now) }
+    ensures ok { OnOk result (Reaches F.Sink (F.holds folder.new path.now) (F.sinks folder.old path.now) (F.ends folder.new path.now) F.Sink.contents bytes.now) }
     ensures err { IfErr result (λ e. MatchFault e (λ _. ⊥) (λ _. ⊥) (λ _. ⊥) (λ _. ⊥) (λ _. ⊥)
         (λ count. Stops F.Sink (IsUnmade F.NewFile (F.unwritable folder.new path.now) F.NewFile.has_failed)
         (F.sinks folder.old path.now) F.Sink.contents F.Sink.has_failed count bytes.now)) }
@@ -60,7 +60,7 @@ fn replace<F: Folder>(folder: &mut F, path: &str, bytes: &[u8]) -> Result<(), Ru
 // Writes to the stream of a path.
 fn pour<F: Folder>(folder: &F, path: &str, bytes: &[u8]) -> Result<(), RunFault>
     requires { F.leads folder.now path.now Destination.Stream }
-    ensures ok { OnOk result (Pours F.Sink (F.sinks folder.now path.now) F.Sink.contents bytes.now) }
+    ensures ok { OnOk result (Pours F.Sink (F.sinks folder.now path.now) (F.ends folder.now path.now) F.Sink.contents bytes.now) }
     ensures err { IfErr result (λ e. MatchFault e (λ _. ⊥) (λ _. ⊥) (λ _. ⊥) (λ _. ⊥) (λ _. ⊥)
         (λ count. Stops F.Sink (F.unwritable folder.now path.now) (F.sinks folder.now path.now) F.Sink.contents F.Sink.has_failed count bytes.now)) }
 {
@@ -68,7 +68,10 @@ fn pour<F: Folder>(folder: &F, path: &str, bytes: &[u8]) -> Result<(), RunFault>
         return Err(RunFault::Write(Written { count: 0 }));
     };
     match put_all(&mut sink, bytes) {
-        Ok(()) => Ok(()),
+        Ok(()) => {
+            folder.end(path, sink);
+            Ok(())
+        }
         Err(written) => {
             folder.give_up(sink);
             Err(RunFault::Write(written))

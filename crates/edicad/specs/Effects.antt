@@ -47,7 +47,7 @@ effects {S = S} {N = N} g r s n before after = record {
   inputs = inputs g r before;
   is_one = g.is_one before;
   why = g.why after;
-  Puts = λ path. Reaches S (g.holds after path) (g.sinks before path) s.contents;
+  Puts = λ path. Reaches S (g.holds after path) (g.sinks before path) (g.ends after path) s.contents;
   Stops = λ path. Stops S (IsUnmade N (g.unwritable after path) n.has_failed) (g.sinks before path) s.contents s.has_failed;
   Replaces = λ path IsMade. g.tells before → Goes (g.moment before) (g.moment after) (g.left_since before) (g.left_since after)
       (IsWholeOrNew path (g.moment before) (g.left_since before) IsMade);
