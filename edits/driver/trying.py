@@ -107,20 +107,30 @@ class Trial:
             return {it.name: verdicts[it.name] for it in edits}
         return {it.name: judge.without_answer(verdicts[it.name], faults, states, self.crate.name) for it in edits}
 
+    def verdicts_of(self, group):
+        """The verdict on each edit of a group, by its name. Those of functions that call what another edit of the group broke are planted
+        once more without it; what is still unsure is tried alone."""
+        found = self.try_group(group)
+        # (a lemma that no longer holds, of no function, has no answer that could go)
+        unfit = [it for it in group if found[it.name].how == judge.ANSWER and found[it.name].path]
+        if unfit:
+            found.update(self.try_without_answers(unfit, found))
+        callers = [it for it in group if found[it.name].how == judge.CALLEE]
+        if callers and len(callers) < len(group):
+            found.update(self.verdicts_of(callers))
+        else:
+            callers = []
+        for edit in group:
+            if found[edit.name].how in judge.UNSURE and edit not in callers:
+                found[edit.name] = self.try_alone(edit)
+        return found
+
     def all_verdicts(self, edits):
         """The verdict on each edit, by its name."""
         verdicts = {}
         groups = groups_of(edits)
         for number, group in enumerate(groups):
-            found = self.try_group(group)
-            # (a lemma that no longer holds, of no function, has no answer that could go)
-            unfit = [it for it in group if found[it.name].how == judge.ANSWER and found[it.name].path]
-            if unfit:
-                found.update(self.try_without_answers(unfit, found))
-            for edit in group:
-                if found[edit.name].how in judge.UNSURE:
-                    found[edit.name] = self.try_alone(edit)
-            verdicts.update(found)
+            verdicts.update(self.verdicts_of(group))
             self.say(f"{self.crate.name}: group {number + 1} of {len(groups)}, {len(group)} edits")
         return verdicts
 
