@@ -8,6 +8,10 @@ from cases import digest_of
 from room import drafts, unread, unwritten
 
 HERE = os.path.dirname(os.path.abspath(__file__))
+# what is said of words that are not all UTF-8
+NOT_TEXT = b"""error: the words are not all UTF-8
+edicad: name such a file by a link whose name is, or read it by - from standard input
+"""
 
 
 def words(room):
@@ -34,7 +38,7 @@ def words(room):
                   ["hash", "s", "d", "-", "v", "-"], ["hash", "s", "-", "v", "-"]):
         room.expect(f"{twice}", twice, (3, b"", b"only one input can be -\n"))
     status, out, err = room.run([b"\xff"])
-    report.check("words that are no text", (status, out, err), (3, b"", b"error: the words are not all UTF-8\n"))
+    report.check("words that are no text", (status, out, err), (3, b"", NOT_TEXT))
 
 
 def files(room, sheet, canonical):

@@ -1,5 +1,5 @@
 -- Equality of points, extra zones and attributes is decided by what `==` tells.
-use Rattle.std.proofs.Common.{◌≡◌, ℕ, suc, ◌<◌, Bool, true, false, not, true≢false, Decides, List, [], ◌∷◌, length, get_or, arith, Ordering, Less, Equal, Greater, is_eq, refl, sym, ap, ◌∙◌, IsPermutation, subst}
+use Rattle.std.proofs.Common.{◌≡◌, ◌≢◌, ℕ, suc, ◌<◌, Bool, true, false, not, true≢false, Decides, List, [], ◌∷◌, length, get_or, arith, Ordering, Less, Equal, Greater, is_eq, refl, sym, ap, ◌∙◌, IsPermutation, subst}
 use Rattle.std.specs.Cmp.{IsTotalOrder}
 use Rattle.std.proofs.lemmas.Cmp.{tied_itself}
 use Rattle.std.proofs.lemmas.List.Sorted.{IsPermutation-sym, IsPermutation-trans}
@@ -51,6 +51,9 @@ not_false false e = absurd (true≢false e)
 -- what `!=` says of points
 pub same_point : (a b : Point) (r : Bool) → r ≡ not (point_eq.eq a b) → r ≡ false → a ≡ b
 same_point a b r is e = (point_decided a b).0 (not_false (point_eq.eq a b) (sym is ∙ e))
+
+pub other_point : (a b : Point) (r : Bool) → r ≡ not (point_eq.eq a b) → r ≡ true → a ≢ b
+other_point a b r is e same = true≢false (sym e ∙ (is ∙ ap not ((point_decided a b).1 same)))
 
 -- lists have the same elements exactly if they are one list in order
 

@@ -7,9 +7,9 @@ use Rattle.edi_schema.specs.Roles.{KindCodes}
 use Rattle.edi_schema.specs.Classes.{Classes, IsSchema, IsPaired, name_cmp, class_name_at}
 use Rattle.edi_schema.specs.SchemaRefusal.{IsGoodSchema}
 
--- with at most 9,999,999 records in the file of classes, as its lines allow
+-- what two good files state under four codes is a schema
 abbrev pub GoodSchemasAreSchemas : Type 0
-GoodSchemasAreSchemas = (scd dic : List ℕ) (kinds : KindCodes) (s : Classes) → IsGoodSchema scd dic kinds s → length s ≤ most_records → IsSchema s
+GoodSchemasAreSchemas = (scd dic : List ℕ) (kinds : KindCodes) (s : Classes) → IsGoodSchema scd dic kinds s → IsSchema s
 
 abbrev pub SchemasArePaired : Type 0
 SchemasArePaired = (s : Classes) → IsSchema s → IsPaired s

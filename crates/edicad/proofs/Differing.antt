@@ -89,6 +89,7 @@ module _ (run : Effects) (out err : Seen) (kinds : KindCodes) (files : PairFiles
       failed = λ four. inl (unsaid four);
       memory = λ five. absurd (never_five difference.same s status five);
     };
+    leaves = inl (h.0, pair_map run.inputs files _ _ (λ s d a b made. (made.0, (difference, made.1), made.2)) h.1);
     replaced = replaced;
   }
 
@@ -99,5 +100,6 @@ module _ (run : Effects) (out err : Seen) (kinds : KindCodes) (files : PairFiles
     different = λ one. absurd (not_one s (known_fault (status_of_fault e) s (fault_status e) said.status) one);
     means = means_fault _ _ _ run.why (pair_paths_of files path) out err s e (λ silent. (h, silent))
         (λ is line. put_pair_refused run _ kinds files path (Answers out err) e h is line) said;
+    leaves = inr (e, h);
     replaced = replaced;
   }

@@ -41,6 +41,7 @@ module _ (run : Effects) (out err : Seen) (kinds : KindCodes) (files : SheetFile
     put_status h said = record {
       tried = inr (inl (were_there run.inputs files _ h.1));
       means = means_answer _ _ _ run.why (paths_of files path) out err s outcome.Accepted (omega arith) (λ zero. (h, said.answer (omega (arith, zero)))) said;
+      leaves = inl h;
       replaced = replaced;
     }
 
@@ -50,6 +51,7 @@ module _ (run : Effects) (out err : Seen) (kinds : KindCodes) (files : SheetFile
       tried = put_tried run product kinds files path e h;
       means = means_fault _ _ _ run.why (paths_of files path) out err s e (λ silent. (h, silent))
           (λ is line. put_refused (Answers out err) kinds (paths_of files path) refl run product files path e h is line) said;
+      leaves = inr (e, h);
       replaced = replaced;
     }
 
@@ -70,7 +72,7 @@ module _ (run : Effects) (out err : Seen) (kinds : KindCodes) (files : SheetFile
         → BeforeWriting e (Prints out []) → IsWarned run.why err e (paths_of files (codes "-")) s → IsSendStatus run out err product kinds files s
     unsent_status e h silent warned = record {
       tried = file_tried run.inputs kinds files _ e h;
-      means = means_warned _ _ _ run.why (paths_of files (codes "-")) out err s e (h, silent)
+      means = means_warned _ _ _ run.why (paths_of files (codes "-")) out err s e (h, silent) silent
           (λ is told. file_refused (Complains out err) kinds (paths_of files (codes "-")) refl run.inputs files _ e h is
           (unwritten e _ silent is, refusal_line run.why err e (paths_of files (codes "-")) is told)) warned;
     }

@@ -64,12 +64,14 @@ module _ (run : Effects) (out err : Seen) (kinds : KindCodes) (files : PairFiles
     tried = inr (inl (were_four run.inputs files _ h.1));
     different = λ one. absurd (not_one_of_zero s one said.status);
     means = means_answer _ _ _ run.why (pair_paths_of files path) out err s outcome.Same (omega arith) (λ zero. (h, said.answer (omega (arith, zero)))) said;
+    leaves = inr (inl h);
     replaced = replaced;
   }
   pairing_status (Ok (Some at)) h fault replaced said = record {
     tried = inr (inl (were_four run.inputs files _ h.0));
     different = λ one. ((at, h.0, said.answer (omega (arith, one))), h.2);
     means = means_answer _ _ _ run.why (pair_paths_of files path) out err s (outcome.Different at) (omega arith) (λ zero. absurd (not_zero_of_one s zero said.status)) said;
+    leaves = inl h.2;
     replaced = replaced;
   }
   pairing_status (Err e) ok h replaced said = record {
@@ -77,6 +79,7 @@ module _ (run : Effects) (out err : Seen) (kinds : KindCodes) (files : PairFiles
     different = λ one. absurd (not_one s (known_fault (status_of_fault e) s (fault_status e) said.status) one);
     means = means_fault _ _ _ run.why (pair_paths_of files path) out err s e (λ silent. (h, silent))
         (λ is line. put_pair_refused run _ kinds files path (Answers out err) e h is line) said;
+    leaves = inr (inr (e, h));
     replaced = replaced;
   }
 
@@ -219,6 +222,6 @@ module _ (run : Effects) (out err : Seen) (kinds : KindCodes) (files : PairFiles
       done = λ zero. absurd (not_small_of_two (omega (arith, zero)) said.status);
       refused = λ two. inr (at, h, said.answer (omega (arith, two)));
       failed = λ four. inl (said.unsaid (omega arith) four);
-      memory = said.memory;
+      memory = λ five. let m = said.memory five in (m.1, inl m.0);
     };
   }

@@ -23,7 +23,7 @@ use Rattle.edicad.specs.Effects.{Effects, Inputs}
 use Rattle.edicad.specs.Reasons.{lines_for}
 use Rattle.edicad.specs.declared.outcome.Outcome.{Outcome}
 use Rattle.edicad.specs.SheetRuns.{FileFault, IsInput, MatchPairFault, OfFiles, OfPair, PairFileFault, PutFault}
-use Rattle.edicad.specs.Statuses.{Answers, AreFourTried, AreTried, IsAnsweredAs, IsCompareStatus, IsSaid, IsUnsaid, IsWarned, LacksMemory, MeansStatus, Prints, SaysPairRefusal, SaysRefusal, Warns, WarnsWhy, pair_paths_of}
+use Rattle.edicad.specs.Statuses.{Answers, AreFourTried, AreTried, IsAnsweredAs, IsCompareStatus, IsSaid, IsUnsaid, IsWarned, LacksMemory, MeansStatus, OnlyLacksMemory, Prints, SaysPairRefusal, SaysRefusal, Warns, WarnsWhy, pair_paths_of}
 use Rattle.edicad.proofs.Answering.{appends_nothing}
 use Rattle.edicad.proofs.Made.{files_map, pair_map, parts_map, were_four}
 
@@ -194,7 +194,7 @@ module _ (Done Refused : Type 0) (IsFault : RunFault → Type 0) (why : Why) (pa
 
   pub means_told : (e : RunFault) → (3 ≤ status_of_fault e → s ≡ 4 → IsFault e × WarnsWhy why err (outcome.Fault e) paths)
       → (status_of_fault e ≡ 2 → s ≡ 2 → Refused) → (status_of_fault e < 3 → s ≡ 4 → IsUnsaid out err) → IsAnsweredAs (status_of_fault e) s
-      → (s ≡ 5 → LacksMemory err) → MeansStatus Done Refused IsFault why paths out err s
+      → (s ≡ 5 → LacksMemory err × (Prints out [] ⊎ ((f : RunFault) × IsFault f × (status_of_fault f ≡ 4)))) → MeansStatus Done Refused IsFault why paths out err s
   means_told e told refuses unsaid status memory = record {
     done = λ zero. absurd (not_zero s (known_fault (status_of_fault e) s (fault_status e) status) zero);
     refused = λ two. refuses (answered_two (status_of_fault e) s status two) two;
@@ -205,7 +205,7 @@ module _ (Done Refused : Type 0) (IsFault : RunFault → Type 0) (why : Why) (pa
   pub means_fault : (e : RunFault) → (Prints out [] → IsFault e) → (status_of_fault e ≡ 2 → Answers out err (ended (words_of_fault e paths)) → Refused)
       → IsSaid why out err (outcome.Fault e) paths s → MeansStatus Done Refused IsFault why paths out err s
   means_fault e h refuses said = means_told e (λ big four. (h (said.fault big four).1, (said.fault big four).0)) (λ is two. refuses is (said.answer (omega (arith, two))))
-      said.unsaid said.status said.memory
+      said.unsaid said.status (λ five. let m = said.memory five in (m.1, inl m.0))
 
   -- and of one that has an answer, which is said
   pub means_answer : (o : Outcome) → status_for o < 2 → (s ≡ 0 → Done) → IsSaid why out err o paths s → MeansStatus Done Refused IsFault why paths out err s
@@ -213,23 +213,33 @@ module _ (Done Refused : Type 0) (IsFault : RunFault → Type 0) (why : Why) (pa
     done = done;
     refused = λ two. absurd (omega (arith, small, answered_two (status_for o) s said.status two));
     failed = λ four. inl (said.unsaid (omega (arith, small)) four);
-    memory = said.memory;
+    memory = λ five. let m = said.memory five in (m.1, inl m.0);
   }
 
+  -- nothing was printed before writing, and writing is a fault of status 4
+  pub silent_or_fault : (e : RunFault) → IsFault e → BeforeWriting e (Prints out []) → Prints out [] ⊎ ((f : RunFault) × IsFault f × (status_of_fault f ≡ 4))
+  silent_or_fault (Memory e) h silent = inl silent
+  silent_or_fault (Read n) h silent = inl silent
+  silent_or_fault (TooLong n) h silent = inl silent
+  silent_or_fault (Schema f) h silent = inl silent
+  silent_or_fault (First f) h silent = inl silent
+  silent_or_fault (Second f) h silent = inl silent
+  silent_or_fault (Write w) h silent = inr (Write w, h, refl)
+
   -- of one that has no answer, where standard error was told
-  pub means_warned : (e : RunFault) → IsFault e → (status_of_fault e ≡ 2 → WarnsWhy why err (outcome.Fault e) paths → Refused)
+  pub means_warned : (e : RunFault) → IsFault e → BeforeWriting e (Prints out []) → (status_of_fault e ≡ 2 → WarnsWhy why err (outcome.Fault e) paths → Refused)
       → IsWarned why err e paths s → MeansStatus Done Refused IsFault why paths out err s
-  means_warned e h refuses (inl told) = record {
+  means_warned e h silent refuses (inl told) = record {
     done = λ zero. absurd (not_zero (status_of_fault e) (fault_status e) (sym told.0 ∙ zero));
     refused = λ two. refuses (sym told.0 ∙ two) told.1;
     failed = λ four. inr (e, h, sym told.0 ∙ four, told.1);
-    memory = λ five. memory_words why err e paths (sym told.0 ∙ five) told.1;
+    memory = λ five. (memory_words why err e paths (sym told.0 ∙ five) told.1, silent_or_fault e h silent);
   }
-  means_warned e h refuses (inr told) = record {
+  means_warned e h silent refuses (inr told) = record {
     done = λ zero. absurd (omega (arith, told.0, zero));
     refused = λ two. absurd (omega (arith, told.0, two));
     failed = λ four. absurd (omega (arith, told.0, four));
-    memory = λ five. told.1;
+    memory = λ five. (told.1, silent_or_fault e h silent);
   }
 
 -- a run that ends with one of two statuses has no outcome of the other
@@ -280,19 +290,19 @@ said_of_warned why stream failed err e paths s big (inl told) = record {
   answer = λ few. absurd (omega (arith, told.0, big, few));
   unsaid = λ small four. absurd (omega (arith, big, small));
   fault = λ large four. (told.1, appends_nothing stream);
-  memory = λ five. memory_words why err e paths (sym told.0 ∙ five) told.1;
+  memory = λ five. (appends_nothing stream, memory_words why err e paths (sym told.0 ∙ five) told.1);
 }
 said_of_warned why stream failed err e paths s big (inr told) = record {
   status = inr (inl told.0);
   answer = λ few. absurd (omega (arith, told.0, few));
   unsaid = λ small four. absurd (omega (arith, big, small));
   fault = λ large four. absurd (omega (arith, told.0, four));
-  memory = λ five. told.1;
+  memory = λ five. (appends_nothing stream, told.1);
 }
 
 -- what was said of an answer or a refusal
 pub said_of_line : (why : Why) (out err : Seen) (o : Outcome) (paths : List (List ℕ)) (s : ℕ) → status_for o < 3 → IsAnsweredAs (status_for o) s
-    → (s < 3 → Answers out err (ended (words_for o paths))) → (s ≡ 4 → IsUnsaid out err) → (s ≡ 5 → LacksMemory err) → IsSaid why out err o paths s
+    → (s < 3 → Answers out err (ended (words_for o paths))) → (s ≡ 4 → IsUnsaid out err) → (s ≡ 5 → OnlyLacksMemory out err) → IsSaid why out err o paths s
 said_of_line why out err o paths s small status answer unsaid memory = record {
   status = status;
   answer = answer;

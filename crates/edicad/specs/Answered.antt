@@ -1,5 +1,5 @@
 -- What each request is answered by.
-use Rattle.std.specs.Prelude.{◌≡◌, ◌⊎◌, ℕ, List, [], MatchOption, codes}
+use Rattle.std.specs.Prelude.{◌≡◌, ◌⊎◌, ◌++◌, ℕ, List, [], MatchOption, codes}
 use Rattle.std.specs.Bool.{MatchBool}
 use Rattle.edi_compare.specs.Runs.{Seen}
 use Rattle.edicad.specs.Explains.{IsExplainStatus, IsRuleStatus}
@@ -38,10 +38,14 @@ IsAnswered run out err (Draw kinds files path) s = IsMadeStatus run out err Pict
 IsAnswered run out err (Misused misuse) s = run.untouched × (s ≡ 3) × Complains out err (ended (misuse_text misuse))
 IsAnswered run out err (Answered status) s = run.untouched × (s ≡ status) × Prints out [] × Prints err []
 
+-- what is said of words that are not all UTF-8
+abbrev pub not_text_lines : List ℕ
+not_text_lines = ended (codes "error: the words are not all UTF-8") ++ ended (codes "edicad: name such a file by a link whose name is, or read it by - from standard input")
+
 -- the words could not be had: not all are UTF-8, or memory ran out
 abbrev pub IsUnread : Effects → Seen → Seen → ℕ → Type 0
 IsUnread run out err s = run.untouched × Prints out []
-    × (((s ≡ 3) × Warns err (ended (codes "error: the words are not all UTF-8"))) ⊎ ((s ≡ 5) × LacksMemory err))
+    × (((s ≡ 3) × Warns err not_text_lines) ⊎ ((s ≡ 5) × LacksMemory err))
 
 -- the words ask for something, and this is its answer
 abbrev pub AnswersWords : Effects → Seen → Seen → List (List ℕ) → ℕ → Type 0

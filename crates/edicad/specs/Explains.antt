@@ -19,7 +19,7 @@ use Rattle.edi_files.specs.Reasons.{ended}
 use Rattle.edicad.specs.Outcome.{input_name, schema_text, sheet_text}
 use Rattle.edicad.specs.Effects.{Effects}
 use Rattle.edicad.specs.SheetRuns.{FileFault, OfFiles}
-use Rattle.edicad.specs.Statuses.{Answers, AreTried, Complains, IsUnsaid, LacksMemory, MeansStatus, Prints, paths_of}
+use Rattle.edicad.specs.Statuses.{Answers, AreTried, Complains, IsUnsaid, MeansStatus, OnlyLacksMemory, Prints, paths_of}
 
 -- an accepted sheet: that it is accepted, and the lines on its plan
 abbrev pub TellsPlan : KindCodes → List ℕ → List ℕ → List ℕ → List ℕ → Type 0
@@ -64,4 +64,4 @@ pub record IsRuleStatus (out err : Seen) (word : List ℕ) (s : ℕ) : Type 0 wh
   pub done : s ≡ 0 → (text : RuleText) × IsRuleWord word text.rule × Answers out err (rule_page text)
   pub unknown : s ≡ 3 → ((rule : ℕ) → ¬ IsRuleWord word rule) × Complains out err (ended (codes "no rule has this number"))
   pub failed : s ≡ 4 → IsUnsaid out err
-  pub memory : s ≡ 5 → LacksMemory err
+  pub memory : s ≡ 5 → OnlyLacksMemory out err

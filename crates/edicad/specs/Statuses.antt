@@ -100,6 +100,10 @@ IsUnsaid out err = IsTrue out.failed × Warns err (ended (codes "cannot write st
 abbrev pub LacksMemory : Seen → Type 0
 LacksMemory err = Warns err (ended (codes "out of memory"))
 
+-- and standard output got nothing
+abbrev pub OnlyLacksMemory : Seen → Seen → Type 0
+OnlyLacksMemory out err = Prints out [] × LacksMemory err
+
 -- the paths that a line may name: of the inputs, and then of the output
 abbrev pub paths_of : SheetFiles → List ℕ → List (List ℕ)
 paths_of files out = files.scd.now ∷ files.dic.now ∷ files.vec.now ∷ out ∷ []
@@ -111,12 +115,13 @@ abbrev pub verify_paths_of : PairFiles → List ℕ → List (List ℕ)
 verify_paths_of files pairing = files.scd.now ∷ files.dic.now ∷ files.first.now ∷ files.second.now ∷ pairing ∷ codes "-" ∷ []
 
 -- What a status of a run says: 0 that it is done, 2 that something is refused, 4 that a file could not be read or written,
--- and why if that is known, or the output failed, 5 that memory ran out. The last two are said on the stream of errors.
+-- and why if that is known, or the output failed, 5 that memory ran out: then the output got nothing, or there was no memory to say such a
+-- fault. The last two are said on the stream of errors.
 pub record MeansStatus (Done Refused : Type 0) (IsFault : RunFault → Type 0) (why : Why) (paths : List (List ℕ)) (out err : Seen) (s : ℕ) : Type 0 where
   pub done : s ≡ 0 → Done
   pub refused : s ≡ 2 → Refused
   pub failed : s ≡ 4 → IsUnsaid out err ⊎ ((e : RunFault) × IsFault e × (status_of_fault e ≡ 4) × WarnsWhy why err (outcome.Fault e) paths)
-  pub memory : s ≡ 5 → LacksMemory err
+  pub memory : s ≡ 5 → LacksMemory err × (Prints out [] ⊎ ((e : RunFault) × IsFault e × (status_of_fault e ≡ 4)))
 
 -- the schema or the sheet is refused, and this was said of it
 abbrev pub SaysRefusal : (List ℕ → Type 0) → KindCodes → List ℕ → List ℕ → List ℕ → Type 0
@@ -136,12 +141,14 @@ pub record IsFileStatus (run : Effects) (out err : Seen) (kinds : KindCodes) (fi
       (OfFiles run.inputs files (SaysRefusal (Answers out err) kinds)) (λ e. FileFault run.inputs kinds files (λ _. ⊥) e × Prints out [])
       run.why (paths_of files (codes "-")) out err s
 
--- The same of a run that puts what is made of the sheet at a path. On a refusal nothing in the folder has changed.
+-- The same of a run that puts what is made of the sheet at a path. On a refusal nothing in the folder has changed; and whatever the
+-- status is, what was made is there, or such a fault says what became of the path.
 pub record IsPutStatus (run : Effects) (out err : Seen) (product : Product) (kinds : KindCodes) (files : SheetFiles) (path : List ℕ) (s : ℕ) : Type 0 where
   pub tried : IsInput run.is_one files path ⊎ AreTried run.inputs files
   pub means : MeansStatus (IsPut run product kinds files path × Answers out err (ended (codes "accepted")))
       (OfFiles run.inputs files (SaysRefusal (Answers out err) kinds) × run.untouched) (λ e. PutFault run product kinds files path e × Prints out [])
       run.why (paths_of files path) out err s
+  pub leaves : IsPut run product kinds files path ⊎ ((e : RunFault) × PutFault run product kinds files path e)
   pub replaced : IsReplaced run product kinds files path
 
 -- The same of a run that sends what is made of the sheet to standard output, which gets nothing else: a refusal goes to standard error.
@@ -187,13 +194,15 @@ pub record IsCompareStatus (run : Effects) (out err : Seen) (kinds : KindCodes) 
       (OfPair run.inputs files (SaysPairRefusal (Answers out err) kinds)) (λ e. PairFileFault run.inputs kinds files (λ _. ⊥) e × Prints out [])
       run.why (pair_paths_of files (codes "-")) out err s
 
--- The same of a run that puts a pairing at a path where the plans are the same. Else nothing in the folder has changed.
+-- The same of a run that puts a pairing at a path where the plans are the same. Where they are not, nothing in the folder has changed; and
+-- whatever the status is, this is so, or the pairing is there, or such a fault says what became of the path.
 pub record IsPairingStatus (run : Effects) (out err : Seen) (kinds : KindCodes) (files : PairFiles) (path : List ℕ) (s : ℕ) : Type 0 where
   pub tried : IsPairInput run.is_one files path ⊎ AreFourTried run.inputs files
   pub different : s ≡ 1 → SaysDifferent run.inputs out err kinds files × run.untouched
   pub means : MeansStatus (IsPairPut run (IsPairingFileOf kinds) files path × Answers out err (ended (codes "same")))
       (OfPair run.inputs files (SaysPairRefusal (Answers out err) kinds) × run.untouched)
       (λ e. PutPairFault run (IsPairingFileOf kinds) kinds files path e × Prints out []) run.why (pair_paths_of files path) out err s
+  pub leaves : run.untouched ⊎ (IsPairPut run (IsPairingFileOf kinds) files path ⊎ ((e : RunFault) × PutPairFault run (IsPairingFileOf kinds) kinds files path e))
   pub replaced : IsPairReplaced run (IsPairingFileOf kinds) files path
 
 -- the schema or a sheet is refused, or the pairing's file where both sheets are accepted, and the line of the refusal went out
@@ -233,13 +242,15 @@ abbrev pub TellsDrawnDifference : Effects → Seen → Seen → KindCodes → Pa
 TellsDrawnDifference run out err kinds files brief path same =
     (difference : Difference) × IsPairPut run (ShowsDifference kinds brief difference) files path × (difference.same ≡ same) × Answers out err difference.text.items
 
--- The same of a run that also puts a picture of what differs at a path. On a refusal nothing in the folder has changed.
+-- The same of a run that also puts a picture of what differs at a path. On a refusal nothing in the folder has changed; and whatever the
+-- status is, the picture is there, or such a fault says what became of the path.
 pub record IsPictureStatus (run : Effects) (out err : Seen) (kinds : KindCodes) (files : PairFiles) (brief : Bool) (path : List ℕ) (s : ℕ) : Type 0 where
   pub tried : IsPairInput run.is_one files path ⊎ AreFourTried run.inputs files
   pub different : s ≡ 1 → TellsDrawnDifference run out err kinds files brief path false
   pub means : MeansStatus (TellsDrawnDifference run out err kinds files brief path true)
       (OfPair run.inputs files (SaysPairRefusal (Answers out err) kinds) × run.untouched)
       (λ e. PutPairFault run (IsPictureOfPair kinds brief) kinds files path e × Prints out []) run.why (pair_paths_of files path) out err s
+  pub leaves : IsPairPut run (IsPictureOfPair kinds brief) files path ⊎ ((e : RunFault) × PutPairFault run (IsPictureOfPair kinds brief) kinds files path e)
   pub replaced : IsPairReplaced run (IsPictureOfPair kinds brief) files path
 
 -- the status once the line was printed: that of the outcome, 5 without memory for the line, 4 where it can't be printed
@@ -252,7 +263,7 @@ pub record IsSaid (why : Why) (out err : Seen) (outcome : Outcome) (paths : List
   pub answer : s < 3 → Answers out err (ended (words_for outcome paths))
   pub unsaid : status_for outcome < 3 → s ≡ 4 → IsUnsaid out err
   pub fault : 3 ≤ status_for outcome → s ≡ 4 → WarnsWhy why err outcome paths × Prints out []
-  pub memory : s ≡ 5 → LacksMemory err
+  pub memory : s ≡ 5 → OnlyLacksMemory out err
 
 -- What standard error was told of a fault, and the status.
 abbrev pub IsWarned : Why → Seen → RunFault → List (List ℕ) → ℕ → Type 0

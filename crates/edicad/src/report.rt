@@ -4,10 +4,11 @@ ghost use Rattle.std.specs.Io.KnownBytes.{Appends};
 ghost use Rattle.edi_files.specs.Reasons.{ended};
 ghost use Rattle.edi_files.specs.declared.reason.Reason.{Reason};
 ghost use Rattle.edi_words.specs.Requests.{misuse_text};
+ghost use Rattle.edicad.specs.Answered.{not_text_lines};
 ghost use Rattle.edicad.specs.Effects.{written};
 ghost use Rattle.edicad.specs.Outcome.{FaultHasNames, HasNames, line_for, status_for, texts};
 ghost use Rattle.edicad.specs.Reasons.{IsReason, lines_for};
-ghost use Rattle.edicad.specs.Statuses.{IsAnsweredAs, IsSaid, IsUnsaid, IsWarned, LacksMemory, Warns};
+ghost use Rattle.edicad.specs.Statuses.{IsAnsweredAs, IsSaid, IsUnsaid, IsWarned, OnlyLacksMemory, Warns};
 ghost use Rattle.edicad.specs.declared.outcome.Outcome.{Outcome};
 
 use crate::outcome::{Outcome, line_of, line_of_run, path_of_fault, status_of, status_of_fault};
@@ -65,7 +66,7 @@ fn said<O: ByteOut, E: ByteOut>(
     ensures status { IsAnsweredAs (status_for outcome.now) result }
     ensures answer { result < 3 → Appends (O.contents out.old) (O.contents out.new) (line_for outcome.now paths.now) × (err.new ≡ err.old) }
     ensures unsaid { result ≡ 4 → IsUnsaid (written O.ByteOut out.old out.new) (written E.ByteOut err.old err.new) }
-    ensures memory { result ≡ 5 → LacksMemory (written E.ByteOut err.old err.new) }
+    ensures memory { result ≡ 5 → OnlyLacksMemory (written O.ByteOut out.old out.new) (written E.ByteOut err.old err.new) }
 {
     let Ok(line) = line_of(alloc, outcome, paths) else {
         return out_of_memory(err);
@@ -160,12 +161,15 @@ pub fn unknown_rule<E: ByteOut>(err: &mut E) -> u8
     USAGE_STATUS
 }
 
-/// Says that the words are no text.
+/// Says that the words are no text, and what to do.
 pub fn not_text<E: ByteOut>(err: &mut E) -> u8
     ensures status { result ≡ 3 }
-    ensures text { Warns (written E.ByteOut err.old err.new) (ended (codes "error: the words are not all UTF-8")) }
+    ensures text { Warns (written E.ByteOut err.old err.new) not_text_lines }
 {
-    warn(err, b"error: the words are not all UTF-8\n");
+    warn(
+        err,
+        b"error: the words are not all UTF-8\nedicad: name such a file by a link whose name is, or read it by - from standard input\n",
+    );
     USAGE_STATUS
 }
 
