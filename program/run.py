@@ -35,7 +35,7 @@ BUILDS = ("edicad", "edicad.by-rattle")
 # What is tried, and how many checks each part makes of one build. A part that makes another number has failed, since a check
 # was lost, or wasn't made. Who adds or takes away checks or cases on purpose changes the number here.
 PARTS = {
-    "cases": 3305,
+    "cases": 3312,
     "words": 164,
     "files": 52,
     "standard streams": 49,
