@@ -1,7 +1,8 @@
 #!/usr/bin/env python3
 """Tries the program and the cases of the library calls in some minutes, without a proof.
 
-    python3 program/trial.py [--without mount]     from the top; needs `rt` on the PATH, two processors or more, 4 GB
+    python3 program/trial.py [--without PART ..]   from the top; needs `rt` on the PATH, two processors or more, 4 GB. PART is
+                                                   `mount`, or `preload`, which needs `cc`
 
 `rt try` builds crates/edicad and crates/conform without proving them, with checks that stop a run at a bad access or an
 overflow. The output of conform is compared with crates/conform/stdout, and the program is tried by program/run.py. What this
