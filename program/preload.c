@@ -2,7 +2,8 @@
    test is the built one.
 
    The environment: NOTES is the descriptor that gets a line for each file that is stored, `stored INODE`, and for each that is
-   renamed, `renamed INODE`; FAILS is `stored` or `renamed` where each such call is to fail with EIO, after its line. */
+   renamed, `renamed INODE`; where the descriptor of a file that is stored is that of a standard stream, `standard` stands in the
+   place of `stored`. FAILS is `stored` or `renamed` where each such call is to fail with EIO, after its line. */
 #define _GNU_SOURCE
 #include <dlfcn.h>
 #include <errno.h>
@@ -28,7 +29,7 @@ static int noted(const char *done, int found, const struct stat *file) {
 
 static int not_stored(int descriptor) {
     struct stat file;
-    return noted("stored", fstat(descriptor, &file), &file);
+    return noted(descriptor > 2 ? "stored" : "standard", fstat(descriptor, &file), &file);
 }
 
 static int not_renamed(int folder, const char *name) {

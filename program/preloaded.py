@@ -31,6 +31,8 @@ def made_files(room, sheet):
             made_file(room, order, f"{name} over {before}", words_of("made/o"), said, "made/o", before)
     os.symlink("o", room.path("made/near"))
     made_file(room, order, "canon to a link", ["canon", "s", "d", "v", "made/near"], b"accepted\n", "made/o", b"old")
+    for closed in ((0,), (1,), (2,), (0, 1), (0, 2), (1, 2), (0, 1, 2)):
+        beside_closed(room, order, closed)
 
 
 def compiled(room, folder, name, part):
@@ -45,11 +47,11 @@ def compiled(room, folder, name, part):
     return library if why is None else None
 
 
-def noted(room, library, words, **environment):
+def noted(room, library, words, preexec_fn=None, **environment):
     """The answer of a run with this library and environment, and the lines that the library noted."""
     reading, writing = os.pipe()
     settings = dict(os.environ, LD_PRELOAD=library, NOTES=str(writing), **environment)
-    answer = room.run(words, env=settings, pass_fds=[writing])
+    answer = room.run(words, env=settings, pass_fds=[writing], preexec_fn=preexec_fn)
     os.close(writing)
     with os.fdopen(reading) as notes:
         return answer, notes.read().splitlines()
@@ -77,6 +79,19 @@ def made_file(room, library, name, words, said, out, before):
         check(f"{name}: can't be {failing}", answer, (4, b"", line("cannot write " + words_out(words))))
         check(f"{name}: can't be {failing}, steps", [it.split()[0] for it in notes], steps)
         check(f"{name}: can't be {failing}, files", (room.read(out), sorted(os.listdir(room.path("made")))), (before, names))
+
+
+def beside_closed(room, library, closed):
+    """A new file takes the place of no standard stream that is closed."""
+    def close():
+        for stream in closed:
+            os.close(stream)
+
+    unsaid = b"" if 2 in closed else b"cannot write standard output\n"
+    wanted = (4, b"", unsaid) if 1 in closed else (0, b"accepted\n", b"")
+    answer, notes = noted(room, library, ["canon", "s", "d", "v", "made/o"], preexec_fn=close)
+    made = os.stat(room.path("made/o")).st_ino
+    room.report.check(f"canon where {closed} are closed", (answer, notes), (wanted, [f"stored {made}", f"renamed {made}"]))
 
 
 def words_out(words):

@@ -54,7 +54,7 @@ PARTS = {
     "terminal": 3,
     "hostile folders": 11,
     "mount": 5,
-    "preload": 73,
+    "preload": 80,
     "growths": 4,
     "records": 3,
     "kills": 8,
