@@ -2,6 +2,7 @@
 import os
 import pty
 import re
+import shlex
 import subprocess
 
 from cases import digest_of
@@ -48,6 +49,9 @@ def files(room, sheet, canonical):
     for name, command in (("s", ["check", "x", "d", "v"]), ("d", ["check", "s", "x", "v"]), ("v", ["check", "s", "d", "x"]),
                           ("first", ["compare", "s", "d", "x", "v"]), ("second", ["compare", "s", "d", "v", "x"]), ("canon", ["canon", "s", "d", "x", "o"])):
         room.expect(f"a missing file, {name}", command, (4, b"", unread("x")))
+    os.rename(room.path("d"), room.path("kept d"))
+    room.expect("a dictionary that is missing", ["check", "s", "d", "v"], (4, b"", unread("d")))
+    os.rename(room.path("kept d"), room.path("d"))
     room.expect("the first missing file is named", ["check", "s", "x", "y"], (4, b"", unread("x")))
     room.expect("all are opened before one is read", ["check", ".", "d", "y"], (4, b"", unread("y")))
     room.expect("a folder can't be read", ["check", "s", "d", "."], (4, b"", unread(".", "is a folder")))
@@ -361,11 +365,64 @@ def terminal(room):
     room.report.check("no words on a device", room.run([], stdin=subprocess.DEVNULL), (2, b"refused scd 106 line 1\n", b""))
 
 
+def plain(row):
+    """A line of the manual page, as `man` shows it."""
+    row = re.sub(r"\\f[BIR]|\\&", "", row.strip()).replace("\\-", "-")
+    return "".join(shlex.split(row)[1:]) if re.match(r"\.(B|I|BI|BR|IR|RI) ", row) else row
+
+
+def items(page, section):
+    """The items of a section of the manual page: their tags, and the text of each."""
+    rows = page[page.index(f'.SH {section}') + 1 :]
+    found = []
+    for at, row in enumerate(rows):
+        if row in (".PP",) or row.startswith(".SH"):
+            break
+        if row == ".TP":
+            found.append((rows[at + 1], []))
+        elif rows[at - 1] != ".TP":
+            found[-1][1].append(row)
+    return {tag: " ".join(text) for tag, text in found}
+
+
+def helped(text, part):
+    """The names that stand in a part of a help."""
+    rows = re.search(rf"^{part}:\n((?:  .*\n)*)", text, re.M)
+    return [re.split(r"  +", it.strip())[0] for it in rows[1].splitlines()] if rows else []
+
+
+# What each exit status means, as the help says it, and as the manual page does.
+STATUSES = {
+    "0": ("accepted, the same plan, or a file that pairs",
+          "The sheet is accepted, the two state the same plan, or the file pairs them; of hash, each sheet has a digest."),
+    "1": ("different plans, or a file that doesn't pair", "The two sheets state different plans, or the file doesn't pair them."),
+    "2": ("refused", "The schema, a sheet or the file of a pairing is refused."),
+    "3": ("wrong words", "The words of the command are wrong."),
+    "4": ("a file can't be read or written", "A file can't be read or written."),
+    "5": ("out of memory", "Memory ran out."),
+}
+
+
 def manual(room):
-    """The manual page has the usage lines that the program prints."""
+    """The manual page has the usage lines, the commands, the options and the exit statuses that the program prints."""
+    check = room.report.check
     with open(os.path.join(HERE, "..", "docs", "edicad.1"), encoding="utf-8") as file:
-        page = [re.sub(r"\\f[BIR]|\\&", "", it).replace("\\-", "-").strip() for it in file]
-    for words in (["--help"], ["check", "--help"], ["canon", "--help"], ["compare", "--help"], ["hash", "--help"], ["explain", "--help"], ["verify", "--help"], ["diff", "--help"], ["draw", "--help"]):
-        usage = [it[len("Usage: "):] for it in room.run(words)[2].decode().splitlines() if it.startswith("Usage: ")]
-        room.report.check(f"{words}: its usage is on the manual page", [it for it in usage if it not in page], [])
-        room.report.check(f"{words}: one line of usage", len(usage), 1)
+        page = [plain(it) for it in file]
+    top = room.run(["--help"])[2].decode()
+    commands = [it for it in helped(top, "Commands") if it != "help"]
+    check("the commands of the manual page", list(items(page, "COMMANDS")), helped(top, "Commands"))
+    synopsis = [it for it in page[page.index(".SH SYNOPSIS") : page.index(".SH DESCRIPTION")] if it.startswith("edicad")]
+    texts = {"edicad": top, **{it: room.run([it, "--help"])[2].decode() for it in commands}}
+    check("the usage lines", [it for text in texts.values() for it in re.findall(r"^Usage: (.*)", text, re.M)], synopsis)
+    options = items(page, "OPTIONS")
+    for name, text in texts.items():
+        own = [it for it, said in options.items() if said.startswith(f"Of {name}:")]
+        shared = ["-h, --help", "-V, --version"] if name == "edicad" else ["--kinds I,F,L,R", "-h, --help"]
+        check(f"{name}: its options", sorted(it.replace("<", "").replace(">", "") for it in helped(text, "Options")), sorted(own + shared))
+    known = {it for text in texts.values() for it in helped(text, "Options")}
+    check("options of the manual page alone", sorted(set(options) - {re.sub("[<>]", "", it) for it in known}), [])
+    for name in commands:
+        room.expect(f"help {name}", ["help", name], (0, b"", texts[name].encode()))
+    said = dict(re.findall(r"^(?:Exit status:)? +(\d) (.*)", top[top.find("Exit status:") :], re.M))
+    check("the exit statuses of the help", said, {status: text for status, (text, _) in STATUSES.items()})
+    check("the exit statuses of the manual page", items(page, '"EXIT STATUS"'), {status: text for status, (_, text) in STATUSES.items()})

@@ -1,5 +1,11 @@
-"""What `explain` says of sheets and schemas: the place, the earlier record, hints, and what an accepted sheet holds."""
+"""What `explain` says of sheets and schemas: the place, the earlier record, hints, and what an accepted sheet holds; and of rules."""
+import os
+import re
+
 from room import unread
+
+DOCS = os.path.join(os.path.dirname(os.path.abspath(__file__)), "..", "docs")
+RULES = (*range(101, 111), *range(201, 209), *range(301, 308), *range(401, 407), 501, 601, 602, 603, 604)
 
 
 def explains(room, sheet):
@@ -48,7 +54,7 @@ def explains(room, sheet):
     report.check("a rule: its lines", [it.split(":")[0] for it in page[1:]], ["Why", "Usual cause", "What to do", ""])
     for word in ("999", "0403", "+403", "403 ", "", "rule", "65939"):
         room.expect(f"no rule {word!r}", ["explain", word], (3, b"", b"no rule has this number\n"))
-    for rule in (*range(101, 111), *range(201, 209), *range(301, 308), *range(401, 407), 501, 601, 602, 603, 604):
+    for rule in RULES:
         report.holds(f"rule {rule} has a page", room.run(["explain", str(rule)])[1].startswith(b"%d: " % rule))
     with open("/dev/full", "wb") as full:
         for command in (["s", "d", "v"], ["s", "d", "two"], ["403"]):
@@ -143,3 +149,28 @@ def explains_lengths(room):
     room.write("classes", room.read("s").replace(b"\n", "\nREMT 03:\u00e9t\u00e9\n".encode("utf-8"), 1))
     status, out, err = room.run(["explain", "classes", "d", "counted"])
     room.report.check("classes that were turned into UTF-8", (status, out.split(b"\n")[0], out.endswith(b" [103]\nhint: classes" + hint), err), (2, b"refused scd 103 line 2", True, b""))
+
+
+def page_text(name):
+    with open(os.path.join(DOCS, name), encoding="utf-8") as file:
+        return file.read()
+
+
+def section(out):
+    """What the program prints of a rule, as docs/EXPLAINED.md has it."""
+    head, *lines = out.decode().splitlines()
+    return "\n".join(["## " + head, "", *["- " + it for it in lines], ""])
+
+
+def explains_rules(room):
+    """Each rule has the sentence of docs/FORMAT.md, and the reason, the usual cause and the advice of docs/EXPLAINED.md."""
+    check = room.report.check
+    sentences = {int(rule): sentence for rule, sentence in re.findall(r"^\| ([1-6]\d\d) \| (.*) \| .* \|$", page_text("FORMAT.md"), re.M)}
+    sections = {int(it[3:6]): it for it in re.split(r"^(?=## )", page_text("EXPLAINED.md"), flags=re.M)[1:]}
+    check("the rules of docs/FORMAT.md and docs/EXPLAINED.md", (sorted(sentences), list(sections)), (list(RULES), list(RULES)))
+    whole = r"## \d+: .+\n\n- Why: .+\.\n- Usual cause: .+\.\n- What to do: .+\.\n\n?"
+    check("rules without a reason, a cause or advice", [rule for rule, text in sections.items() if not re.fullmatch(whole, text)], [])
+    for rule in RULES:
+        status, out, err = room.run(["explain", str(rule)])
+        check(f"rule {rule}: its sentence", out.decode().split("\n")[0], f"{rule}: {sentences.get(rule)}")
+        check(f"rule {rule}: docs/EXPLAINED.md", (status, section(out).strip(), err), (0, sections.get(rule, "").strip(), b""))

@@ -90,7 +90,11 @@ def most_records(room):
     """One record more than a file may have."""
     with open(room.path("many"), "wb") as file:
         file.write(b"BOMT 01:X\n" + b"RTYSA03:PNO\n" * 10_000_000 + b"EOMT 00:\n")
-    room.expect("refused 110", ["check", "s", "d", "many"], (2, b"refused 110 line 10000001\n", b""))
+    refused = (2, b"refused 110 line 10000001\n", b"")
+    room.expect("refused 110", ["check", "s", "d", "many"], refused)
+    room.write("o", "kept")
+    room.expect("refused 110 by canon", ["canon", "s", "d", "many", "o"], refused)
+    room.report.check("OUT of 110", room.read("o"), b"kept")
     os.remove(room.path("many"))
 
 

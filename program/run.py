@@ -5,7 +5,7 @@
                                            compilers builds it; both have to be there, and are tried side by side
     program/run.py --program PATH          one program, as `rt run` in crates/edicad leaves it, or program/trial.py builds it
     program/run.py --without mount ..      without what needs `mount` (a full disk, a disk that is read-only); without
-                                           `kills` or `records` (a file of ten million records)
+                                           `preload` or `growths`, which need `cc`; without `kills` or `records` (ten million records)
 
 Its last line is `N passed, M failed`; the status is 1 where M isn't 0. How many checks there are is stated below.
 """
@@ -23,9 +23,10 @@ sys.dont_write_bytecode = True
 
 from cases import all_cases, named, read_cases
 from commands import differences, files, hashes, manual, pairings, shown, standard_streams, terminal, words
-from explained import explains, explains_hints, explains_lengths, explains_partners
+from explained import explains, explains_hints, explains_lengths, explains_partners, explains_rules
 from hostile import full_disk, hostile_folders, kills, most_records
 from pictured import pictures
+from preloaded import made_files, refused_growths
 from room import Report, Room
 
 HERE = os.path.dirname(os.path.abspath(__file__))
@@ -35,9 +36,9 @@ BUILDS = ("edicad", "edicad.by-rattle")
 # What is tried, and how many checks each part makes of one build. A part that makes another number has failed, since a check
 # was lost, or wasn't made. Who adds or takes away checks or cases on purpose changes the number here.
 PARTS = {
-    "cases": 3305,
+    "cases": 3312,
     "words": 164,
-    "files": 52,
+    "files": 53,
     "standard streams": 49,
     "shown": 6,
     "hashes": 19,
@@ -48,16 +49,19 @@ PARTS = {
     "explains partners": 5,
     "explains hints": 15,
     "explains lengths": 9,
-    "manual": 18,
+    "explains rules": 74,
+    "manual": 22,
     "terminal": 3,
     "hostile folders": 11,
     "mount": 5,
-    "records": 1,
+    "preload": 80,
+    "growths": 4,
+    "records": 3,
     "kills": 8,
 }
 # the parts that can be left out, and those that are made of the first build alone
-OPTIONAL = ("mount", "kills", "records")
-OF_ONE = ("kills", "records")
+OPTIONAL = ("mount", "preload", "growths", "kills", "records")
+OF_ONE = ("growths", "kills", "records")
 
 
 def works():
@@ -79,10 +83,13 @@ def works():
         "explains partners": explains_partners,
         "explains hints": lambda room: explains_hints(room, sheet),
         "explains lengths": explains_lengths,
+        "explains rules": explains_rules,
         "manual": manual,
         "terminal": terminal,
         "hostile folders": lambda room: hostile_folders(room, sheet),
         "mount": lambda room: full_disk(room, sheet),
+        "preload": lambda room: made_files(room, sheet),
+        "growths": refused_growths,
         "records": most_records,
         "kills": kills,
     }

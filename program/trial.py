@@ -1,13 +1,14 @@
 #!/usr/bin/env python3
 """Tries the program and the cases of the library calls in some minutes, without a proof.
 
-    python3 program/trial.py [--without mount]     from the top; needs `rt` on the PATH, two processors or more, 4 GB
+    python3 program/trial.py [--without PART ..]   from the top; needs `rt` on the PATH, two processors or more, 4 GB. PART is
+                                                   `mount`, or `preload`, which needs `cc`
 
 `rt try` builds crates/edicad and crates/conform without proving them, with checks that stop a run at a bad access or an
 overflow. The output of conform is compared with crates/conform/stdout, and the program is tried by program/run.py. What this
 doesn't show: anything that is proved, since no proof is looked at; the must-fail edits and the tests of the crates; the
-program as the two compilers build it, which is other code than is tried here, and fast; runs that are killed, and a file of
-ten million records. The status is 1 where anything failed.
+program as the two compilers build it, which is other code than is tried here, and fast; runs that are killed, growths of
+memory that are refused, and a file of ten million records. The status is 1 where anything failed.
 """
 import os
 import shutil
@@ -86,7 +87,7 @@ def try_program(run, folder):
     canonical = content(os.path.join(TOP, "examples", "node", "canonical.vec"))
     if program is None or run.returncode != 0 or content(os.path.join(folder, "stdout")) != canonical:
         return failed("edicad: it was not built, not kept, or its output on the example is another", folder, run)
-    words = ["--program", program, "--without", "kills", "--without", "records", *sys.argv[1:]]
+    words = ["--program", program, "--without", "kills", "--without", "growths", "--without", "records", *sys.argv[1:]]
     return subprocess.run([sys.executable, os.path.join(HERE, "run.py"), *words]).returncode
 
 
