@@ -172,6 +172,11 @@ def shown(room):
     first, second = b"a\\x1b[2J\\x7f", b"c\\\\d\\x0d\\x09e"
     room.expect("diff of identifiers with control bytes", ["diff", "s", "d", "a", "b"],
                 (1, b"~ PNO " + first + b" " + second + b" (lines 2 and 2): points\n0 only in A, 0 only in B, 1 changed\n", b""))
+    room.write("e", of(("caf\xe9_1", 7)))
+    for name, identifier, shown_as in (("in UTF-8", "caf\xc3\xa9_", b"caf\xc3\xa9_"), ("with a second control character", "ab\xc2\x9b_1", b"ab\\xc2\\x9b_1")):
+        room.write("f", of((identifier, 8)))
+        room.expect(f"diff of an identifier in Latin-1 and one {name}", ["diff", "s", "d", "e", "f"],
+                    (1, b"~ PNO caf\\xe9_1 " + shown_as + b" (lines 2 and 2): points\n0 only in A, 0 only in B, 1 changed\n", b""))
     repeated = b"refused 403 record 2\nc:6: PNO " + second
     room.report.check("explain of identifiers with control bytes", room.run(["explain", "s", "d", "c"])[1][: len(repeated)], repeated)
     name = "x\x1b]0;y\x07\n\\"

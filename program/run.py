@@ -40,7 +40,7 @@ PARTS = {
     "words": 164,
     "files": 53,
     "standard streams": 49,
-    "shown": 6,
+    "shown": 8,
     "hashes": 19,
     "explains": 66,
     "pairings": 106,
