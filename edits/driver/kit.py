@@ -1,5 +1,6 @@
 """The toolchain's `rt` as a module, and one check of a crate whose files were changed."""
 import contextlib
+import functools
 import importlib.machinery
 import importlib.util
 import math
@@ -24,6 +25,9 @@ def load():
     made.rtlib.Crate = made.Crate
     # (its first call sets a signal's handler, which only the main thread may)
     made.rtlib.guarded()
+    # A crate's sum stands for its sources and those of all crates below it. `rt` takes it anew along each way down, which are thousands at
+    # the top.
+    made.Crate.stamp = functools.cache(made.Crate.stamp)
     return made
 
 
