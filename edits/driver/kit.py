@@ -77,14 +77,15 @@ def check(crate, texts, without, kept, seconds):
 
 
 class Room:
-    """Memory for checks: one begins while none is running, or when there is as much as the dearest takes at its most, for it and for each
-    that has just begun."""
+    """Room for checks, of which there are at most as many as processors: one begins while none is running, or when there is as much memory
+    as the dearest takes at its most, for it and for each that has just begun."""
 
     NEED = 5_000_000_000
     SECONDS_TO_FILL = 60
 
     def __init__(self):
         self.lock = threading.Lock()
+        self.lanes = RT.processors()
         self.running = 0
         self.begun = []
 
@@ -102,7 +103,7 @@ class Room:
         with self.lock:
             now = time.monotonic()
             self.begun = [it for it in self.begun if now - it < Room.SECONDS_TO_FILL]
-            fits = self.running == 0 or RT.free() >= Room.NEED * (1 + len(self.begun))
+            fits = self.running == 0 or (self.running < self.lanes and RT.free() >= Room.NEED * (1 + len(self.begun)))
             if fits:
                 self.running += 1
                 self.begun.append(now)

@@ -2,6 +2,7 @@
 import os
 import shutil
 import tempfile
+from concurrent.futures import ThreadPoolExecutor
 
 from . import judge
 from .edit import functions_of, groups_of, planted, text_of
@@ -26,6 +27,12 @@ def linked(source, to):
         os.link(source, to)
     except OSError:
         shutil.copy2(source, to)
+
+
+def side_by_side(work, parts):
+    """What this gives for each of these parts. How many checks there are at a time is for `Room` to say."""
+    with ThreadPoolExecutor(max(len(parts), 1)) as pool:
+        return list(pool.map(work, parts))
 
 
 class Trial:
@@ -120,19 +127,22 @@ class Trial:
             found.update(self.verdicts_of(callers))
         else:
             callers = []
-        for edit in group:
-            if found[edit.name].how in judge.UNSURE and edit not in callers:
-                found[edit.name] = self.try_alone(edit)
+        unsure = [it for it in group if found[it.name].how in judge.UNSURE and it not in callers]
+        found.update(zip([it.name for it in unsure], side_by_side(self.try_alone, unsure)))
         return found
 
     def all_verdicts(self, edits):
-        """The verdict on each edit, by its name."""
-        verdicts = {}
-        groups = groups_of(edits)
-        for number, group in enumerate(groups):
-            verdicts.update(self.verdicts_of(group))
+        """The verdict on each edit, by its name. The first group leaves the work over which the others are checked, side by side."""
+        groups = list(enumerate(groups_of(edits)))
+
+        def verdicts(numbered):
+            number, group = numbered
+            found = self.verdicts_of(group)
             self.say(f"{self.crate.name}: group {number + 1} of {len(groups)}, {len(group)} edits")
-        return verdicts
+            return found
+
+        found = [verdicts(it) for it in groups[:1]] + side_by_side(verdicts, groups[1:])
+        return {name: verdict for it in found for name, verdict in it.items()}
 
 
 def kept_of(crate):
