@@ -1,6 +1,7 @@
 //! Usual causes of refusals that a file shows.
 
-ghost use Rattle.std.specs.Prelude.{◌≡◌, ◌++◌, IfOk, OnOk, drop, take};
+ghost use Rattle.std.specs.Prelude.{◌≡◌, ◌++◌, ◌∷◌, [], IfOk, OnOk, codes, drop, take};
+ghost use Rattle.edi_line.specs.Bytes.{line_feed};
 ghost use Rattle.edi_explain.specs.Hints.{AreHints, AreHintsOfSheet, IsPartIfAny, end_hint, hint_line, mark_hint, name_of as name_of_part, part_hint, part_typed};
 
 use crate::contents::first_line;
@@ -146,6 +147,14 @@ fn push_part(
     }
     text.extend_from_slice(b"hint: ")?;
     push_shown(text, name)?;
+    push_mistaken(text, wanted, part)
+}
+
+/// Appends which part a file is, and in whose place it stands.
+fn push_mistaken(text: &mut Vec<u8>, wanted: Part, part: Part) -> Result<(), AllocError>
+    ensures { OnOk result (text.new.items ≡ text.old.items ++ (codes " is " ++ name_of_part part ++ codes " by its first record, and was given as "
+        ++ name_of_part wanted ++ line_feed ∷ [])) }
+{
     text.extend_from_slice(b" is ")?;
     text.extend_from_slice(name_of(part).as_bytes())?;
     text.extend_from_slice(b" by its first record, and was given as ")?;

@@ -1,7 +1,8 @@
 //! Lines that say where something is refused and why.
 
-ghost use Rattle.std.specs.Prelude.{◌≡◌, ◌++◌, IfOk, OnOk};
+ghost use Rattle.std.specs.Prelude.{◌≡◌, ◌++◌, IfOk, OnOk, codes};
 ghost use Rattle.edi_explain.specs.Lines.{barring_text, earlier_sentence, file_line, identifier_text, line_line, line_of_site, lines_of_line, lines_of_sites, position_text, record_line, rule_mark};
+ghost use Rattle.edi_shown.specs.Shown.{shown_bytes};
 
 use crate::refused::Refused;
 use crate::site::RecordSite;
@@ -101,9 +102,24 @@ fn push_record(
 ) -> Result<(), AllocError>
     ensures { OnOk result (text.new.items ≡ text.old.items ++ record_line name.now site.now sentence.now rule) }
 {
+    push_site_name(text, name, site)?;
+    push_told(text, sentence, rule)
+}
+
+/// Appends where a record stands, its type, and its identifier behind a space, if it has one.
+fn push_site_name(text: &mut Vec<u8>, name: &[u8], site: &RecordSite) -> Result<(), AllocError>
+    ensures { OnOk result (text.new.items ≡ text.old.items ++ (position_text name.now site.now.line ++ shown_bytes site.now.rty
+        ++ identifier_text site.now.rid)) }
+{
     push_position(text, name, site.line)?;
     push_shown(text, site.rty.as_slice())?;
-    push_identifier(text, site)?;
+    push_identifier(text, site)
+}
+
+/// Appends what is told of a record.
+fn push_told(text: &mut Vec<u8>, sentence: &str, rule: u16) -> Result<(), AllocError>
+    ensures { OnOk result (text.new.items ≡ text.old.items ++ (codes ": " ++ sentence.now ++ rule_mark rule)) }
+{
     text.extend_from_slice(b": ")?;
     push_sentence(text, sentence, rule)
 }
