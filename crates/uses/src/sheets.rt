@@ -1,17 +1,15 @@
 //! Sheets under a schema that was loaded once.
 
-ghost use Rattle.std.specs.Prelude.{◌≡◌, ◌↔◌, ℕ, List, length, IfOk, IfErr, IsTrue, MatchOption};
-ghost use Rattle.std.specs.Io.KnownBytes.{Appends};
+ghost use Rattle.std.specs.Prelude.{◌≡◌, ◌↔◌, ℕ, List, length, IfOk, IfErr, IsTrue, MatchOption, ⊤};
 ghost use Rattle.edi_schema.specs.SchemaRefusal.{IsGoodSchema, IsSchemaRefusal};
 ghost use Rattle.edi_plan.specs.Plans.{Drawing};
 ghost use Rattle.edi_rank.specs.Same.{Same};
-ghost use Rattle.edi_compare.specs.Headline.{IsFormOf};
 ghost use Rattle.edi_compare.specs.HeldPlans.{IsHeldPlan};
 ghost use Rattle.edi_plan.specs.Agreeing.{HasClasses};
 ghost use Rattle.edi_compare.specs.Pairings.{PairingCarries};
 ghost use Rattle.edi_compare.specs.PlanOfFile.{IsPlanOfFile, StateSame};
 ghost use Rattle.edi_compare.specs.Refused.{IsPairRefusal, IsRefusal};
-ghost use Rattle.uses.specs.Callers.{IfRefused, SomePairing, own_kinds};
+ghost use Rattle.uses.specs.Callers.{MatchUnwritten, SomePairing, WritesFirst, WritesForm, own_kinds};
 
 use edi_compare::{
     Accepted, CompareFault, Fault, Pairing, Verdict, accept, canon, check_pairing, compare,
@@ -49,8 +47,11 @@ pub fn write_canonical<W: ByteOut>(
     sheet: &[u8],
     writer: &mut W,
 ) -> Result<(), Unwritten>
-    ensures written { IfOk result (λ _. (c : List ℕ) × IsFormOf schema.now sheet.now c × Appends (W.contents writer.old) (W.contents writer.new) c) }
-    ensures refusal { IfErr result (IfRefused (λ fault. (writer.new ≡ writer.old) × IsRefusal schema.now sheet.now fault)) }
+    ensures written { IfOk result (λ _. WritesForm schema.now sheet.now (W.contents writer.old) (W.contents writer.new)) }
+    ensures unwritten { IfErr result (MatchUnwritten
+        (λ fault. (writer.new ≡ writer.old) × IsRefusal schema.now sheet.now fault)
+        (λ written. WritesFirst schema.now sheet.now written.count (W.contents writer.old) (W.contents writer.new))) }
+    ensures failed { IfErr result (MatchUnwritten (λ fault. ⊤) (λ written. IsTrue (W.has_failed writer.new))) }
 {
     let file = match canon(alloc, schema, sheet) {
         Ok(file) => file,
