@@ -137,3 +137,13 @@ form_by_three s b c form = record {
   canonical = canonical_by_three s c form.canonical;
   same = form.same;
 }
+
+pub form_by_two : (s : Classes) (b c : List ℕ) → IsFlatFile b → IsFlatFile c → IsFormBy three_coordinates s b c → IsFormBy two_coordinates s b c
+unfolding canonical_by_two
+form_by_two s b c flat flat' form = record {
+  plan = form.plan;
+  accepted = λ rule at h. form.accepted rule at (breaks_three s b flat rule at h);
+  states = (form.states.0, flat_sheets b flat form.states.0 form.states.1, form.states.2);
+  canonical = canonical_by_two s c flat' form.canonical;
+  same = form.same;
+}

@@ -5,3 +5,4 @@ pub mod Points
 pub mod Later
 pub mod Stated
 pub mod Sheets
+pub mod Forms

@@ -42,7 +42,7 @@ known_zones : IsZonesOf node_sheet (zones_of node_sheet)
 unfolding reading_of has_head
 known_zones = zones_as node_sheet (zones_of node_sheet) refl refl
 
-node_flat : IsFlatFile node_sheet
+pub node_flat : IsFlatFile node_sheet
 node_flat zones z = subst (AllByRecursion IsFlatGroup) (sym (ap groups_of (zones_of_one node_sheet zones (zones_of node_sheet) z known_zones) ∙ node_zones)) (group, tt)
   where
     group : IsFlatGroup node_group

@@ -24,6 +24,19 @@ high_group =
 abbrev pub high_point : Point
 high_point = record { x = pos 1000000; y = pos 2000000; z = Some (pos 3000000) }
 
+-- the zones of the node in its canonical file, and its position
+abbrev pub file_group : List Entry
+file_group =
+    at_line 3 (zone_headed (codes "RTYSA") (codes "PNO"))
+    ∷ at_line 4 (zone_headed (codes "RIDSA") (codes "N1"))
+    ∷ at_line 5 (zone_headed (codes "SCPCP") (codes "CANON;SD;PGE;NOD_id"))
+    ∷ at_line 6 (zone_headed (codes "CORCC") (codes "+10.5;+20;"))
+    ∷ at_line 7 (zone_headed (codes "ATCSN") (codes "0"))
+    ∷ []
+
+abbrev pub flat_point : Point
+flat_point = record { x = pos 10500000; y = pos 20000000; z = None }
+
 -- the zones of the two nodes
 abbrev pub first_group : List Entry
 first_group =

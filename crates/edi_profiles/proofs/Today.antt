@@ -12,11 +12,12 @@ use Rattle.edi_plan.specs.Plans.{Drawing}
 use Rattle.edi_topo.specs.TopologyRules.{BreaksTopologyRule}
 use Rattle.edi_topo.specs.TopologyRules.BreaksTopologyRule.{starts_elsewhere, ends_elsewhere, repeats_node, equals_reverse, repeats_arc, bounds_nothing}
 use Rattle.edi_rank.specs.InOrder.{IsInOrder}
+use Rattle.edi_rank.specs.Same.{Same}
 use Rattle.edi_compare.specs.Canonical.{IsCanonical}
 use Rattle.edi_compare.specs.PlanOfFile.{IsPlanOfFile, IsSheetOf}
 use Rattle.edi_compare.specs.Rules.{Breaks, IsAccepted, RecordsHold, ReferencesHold, TopologyHolds}
 use Rattle.edi_compare.specs.Rules.Breaks.{of_lines as lines_now, of_records as records_broken, of_references as references_broken, of_topology as topology_broken, of_objects as objects_broken}
-use Rattle.edi_profiles.specs.Profiles.{BreaksBy, BreaksRecords, BreaksTopology, HasPositions, IsAcceptedBy, IsCanonicalBy, IsInOrderBy, IsPlanBy, IsSheetBy, RecordsHoldBy, ReferencesHoldBy, TopologyHoldsBy, today}
+use Rattle.edi_profiles.specs.Profiles.{BreaksBy, BreaksRecords, BreaksTopology, HasPositions, IsAcceptedBy, IsCanonicalBy, IsFormBy, IsInOrderBy, IsPlanBy, IsSheetBy, RecordsHoldBy, ReferencesHoldBy, TopologyHoldsBy, today}
 use Rattle.edi_profiles.specs.Profiles.BreaksBy.{of_lines, of_records, of_references, of_topology, of_objects}
 use Rattle.edi_profiles.proofs.Transfer.{zip_map}
 
@@ -132,3 +133,8 @@ canonical_then s c can = record {
   laid_out = can.laid_out;
   in_order = order_then can.plan can.in_order;
 }
+
+pub form_then : (s : Classes) (b c : List ℕ) (p : Drawing) → IsAccepted s b → IsPlanOfFile s b p → (can : IsCanonical s c) → Same s p can.plan → IsFormBy today s b c
+unfolding canonical_then
+form_then s b c p accepted states can same =
+    record { plan = p; accepted = accepted_then s b accepted; states = plan_then s b p states; canonical = canonical_then s c can; same = same }
