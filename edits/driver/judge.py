@@ -163,6 +163,11 @@ def without_fault(edit, states, crate):
     return Verdict(PROVED if own and all(state == "proved" for state, _ in own) else ELSEWHERE)
 
 
+def is_proved(path, states, crate):
+    """Whether a function is proved, by the parts of its name."""
+    return states.get("::".join((crate, *path)), ("", ""))[0] == "proved"
+
+
 def without_answer(verdict, faults, states, crate):
     """The verdict on an edit by which answers no longer fit, by a check without the answers of its function: whether a goal of those
     is open even so, or the function is proved."""

@@ -5,6 +5,7 @@ import tempfile
 from concurrent.futures import ThreadPoolExecutor
 
 from . import judge
+from .copies import planted_in_copies, texts_with
 from .edit import functions_of, groups_of, planted, text_of
 from .kit import RT, check
 
@@ -44,9 +45,8 @@ class Trial:
         self.kept = kept
         self.say = say
 
-    def check(self, edits, without=()):
-        """Checks the crate with these edits planted, and without the answers of these functions."""
-        texts = planted(edits, self.crate.folder)
+    def check(self, texts, without=()):
+        """Checks the crate with these texts in the place of its own, and without the answers of these functions."""
         work = tempfile.mkdtemp(prefix="kept-", dir=self.room)
         seconds = FROM_NOTHING
         if self.kept:
@@ -59,7 +59,7 @@ class Trial:
             shutil.rmtree(work)
         else:
             self.kept = work
-        return said, texts
+        return said
 
     def functions_in(self, texts):
         """The functions of the crate's sources, with these texts in the place of its own."""
@@ -72,14 +72,55 @@ class Trial:
         return found
 
     def judged(self, edits, without=()):
-        """The faults and the states of a check with these edits."""
-        said, texts = self.check(edits, without)
+        """The faults and the states of a check with these edits planted."""
+        return self.judged_texts(planted(edits, self.crate.folder), without)
+
+    def judged_texts(self, texts, without):
+        """The faults and the states of a check with these texts."""
+        said = self.check(texts, without)
         if not said.ended:
             raise Unfinished()
         faults = judge.faults_in(said.text, self.functions_in(texts))
         if not said.is_whole:
             raise Unfinished(faults)
         return faults, judge.states_of(said.text)
+
+    def try_copies(self, edits):
+        """The verdicts on those edits that are refused in copies of their functions, all planted at once."""
+        copies = planted_in_copies(edits, self.crate.folder)
+        found = self.verdicts_of_copies(copies)
+        unfit = {it: copies[it] for it in found if found[it].how == judge.ANSWER and found[it].path}
+        found.update(self.verdicts_without_answers(unfit, found))
+        refused = {it: verdict for it, verdict in found.items() if verdict.is_refused()}
+        for name, verdict in refused.items():
+            verdict.path = copies[name].copy.original.path
+        self.say(f"{self.crate.name}: {len(refused)} of {len(copies)} refused in copies of their functions")
+        return refused
+
+    def verdicts_of_copies(self, copies):
+        """The verdicts on edits in copies of their functions, by name, of those of which the copy without the bug is proved. Copies that the
+        front end refuses are left out."""
+        if not copies:
+            return {}
+        try:
+            both = [copy for it in copies.values() for copy in (it.copy, it.control)]
+            faults, states = self.judged_texts(texts_with(both, self.crate.folder), ())
+        except Unfinished as why:
+            bad = {it for it in copies if why.faults and judge.of_front_end(copies[it].as_edit(), why.faults)}
+            return self.verdicts_of_copies({it: copies[it] for it in copies if it not in bad}) if bad else {}
+        sound = [it for it in copies if judge.is_proved(copies[it].control.path(), states, self.crate.name)]
+        return {it: judge.verdict_of(copies[it].as_edit(), faults, states, self.crate.name) for it in sound}
+
+    def verdicts_without_answers(self, copies, verdicts):
+        """The verdicts on edits in copies by which answers no longer fit, from a check without these answers."""
+        if not copies:
+            return {}
+        texts = texts_with([it.copy for it in copies.values()], self.crate.folder)
+        try:
+            faults, states = self.judged_texts(texts, [it.copy.path() for it in copies.values()])
+        except Unfinished:
+            return {}
+        return {it: judge.without_answer(verdicts[it], faults, states, self.crate.name) for it in copies}
 
     def try_group(self, edits):
         """The verdict on each edit of a group that is planted at once. Where there is none, those that the front end refuses are taken out,
@@ -132,8 +173,10 @@ class Trial:
         return found
 
     def all_verdicts(self, edits):
-        """The verdict on each edit, by its name. The first group leaves the work over which the others are checked, side by side."""
-        groups = list(enumerate(groups_of(edits)))
+        """The verdict on each edit, by its name. What isn't refused in a copy of its function is planted in its place, in groups, of which the
+        first leaves the work over which the others are checked, side by side."""
+        refused = self.try_copies(edits)
+        groups = list(enumerate(groups_of([it for it in edits if it.name not in refused])))
 
         def verdicts(numbered):
             number, group = numbered
@@ -142,7 +185,7 @@ class Trial:
             return found
 
         found = [verdicts(it) for it in groups[:1]] + side_by_side(verdicts, groups[1:])
-        return {name: verdict for it in found for name, verdict in it.items()}
+        return {**refused, **{name: verdict for it in found for name, verdict in it.items()}}
 
 
 def kept_of(crate):
