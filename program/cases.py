@@ -97,11 +97,11 @@ def pair_case(room, name, kinds, wanted):
         room.expect(name + ": the pairing verified", ["verify", *kinds, "s", "d", "a", "b", "p"], (0, b"pairs\n", b""))
         rows = room.read("p").splitlines(keepends=True)
         room.write("p", b"".join(rows[:-1]))
-        late = line(f"refused pairing line {len(rows)}") if len(rows) > 1 else line("refused pairing line 1")
+        late = line(f"refused pairing line {len(rows)}: the file ends before this line")
         room.expect(name + ": the pairing without its last line", ["verify", *kinds, "s", "d", "a", "b", "p"], (2, late, b""))
     else:
         check(name + ": FILE", room.read("p"), b"kept")
-        bad = (2, b"refused pairing line 1\n", b"") if wanted[0] == 1 else wanted
+        bad = (2, line("refused pairing line 1: the file ends within this line"), b"") if wanted[0] == 1 else wanted
         room.expect(name + ": a file without a pairing", ["verify", *kinds, "s", "d", "a", "b", "p"], bad)
     os.remove(room.path("p"))
 

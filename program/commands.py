@@ -6,7 +6,7 @@ import shlex
 import subprocess
 
 from cases import digest_of
-from room import drafts, unread, unwritten
+from room import drafts, line, unread, unwritten
 
 HERE = os.path.dirname(os.path.abspath(__file__))
 # what is said of words that are not all UTF-8
@@ -32,9 +32,12 @@ def words(room):
         report.check(f"{asked}: lines of more than 80 columns", [it for it in err.decode().splitlines() if len(it) > 80], [])
     status, out, err = room.run(["--version"])
     report.check("--version", (status, out, err), (0, b"", b"edicad 0.1.0\n"))
-    for kinds in ("A,B,C", "A,B,C,D,E", "A,A,B,C", "A,B,C,A", "A,,B,C", "A,,C,D", ""):
+    count, empty = "takes four codes parted by commas", "a code is empty"
+    for kinds, why in (("A,B,C", count), ("A,B,C,D,E", count), ("", count), ("A,,B,C", empty), ("A,B,C,", empty), ("A,,C,,", count), ("A,,A,D", empty),
+                       ("A,A,B,C", "A is there twice"), ("A,B,C,A", "A is there twice"), ("A,B,C,B", "B is there twice"), ("A,B,C,C", "C is there twice"),
+                       ("\x1b,B,C,\x1b", "\\x1b is there twice")):
         for command in (["check", "absent", "absent", "absent"], ["canon", "absent", "absent", "absent", "o"], ["compare", "absent", "absent", "absent", "absent"], ["hash", "absent", "absent", "absent"], ["verify", *["absent"] * 5], ["diff", *["absent"] * 4], ["diff", "--picture", "p", *["absent"] * 4], ["draw", "absent", "absent", "absent", "o"]):
-            room.expect(f"{command[0]} with the kinds {kinds!r}", [command[0], "--kinds", kinds, *command[1:]], (3, b"", b"bad kinds\n"))
+            room.expect(f"{command[0]} with the kinds {kinds!r}", [command[0], "--kinds", kinds, *command[1:]], (3, b"", b"bad kinds\n" + line(f"edicad: --kinds {kinds}: {why}".replace("\x1b", "\\x1b"))))
     for twice in (["check", "-", "-", "v"], ["check", "-", "d", "-"], ["canon", "s", "-", "-", "o"], ["compare", "s", "d", "-", "-"], ["verify", "s", "d", "-", "v", "-"], ["verify", "-", "d", "v", "v", "-"], ["diff", "s", "d", "-", "-"], ["diff", "--picture", "p", "s", "d", "-", "-"], ["draw", "s", "-", "-", "o"],
                   ["hash", "s", "d", "-", "v", "-"], ["hash", "s", "-", "v", "-"]):
         room.expect(f"{twice}", twice, (3, b"", b"only one input can be -\n"))
@@ -234,6 +237,7 @@ def pairings(room, sheet):
     room.write("c", of(("c", 8), ("d", 9)))
     room.write("bad", "")
     pairing = b"edicad pairing 1\nPNO;a;d\nPNO;b;c\n"
+    wrong = lambda at, why: (2, line(f"refused pairing line {at}: {why}"), b"")
     sheets = ["s", "d", "a", "b"]
     same = (0, b"same\n", b"")
     room.expect("a pairing is written", ["compare", "--pairing", "p", *sheets], same)
@@ -247,24 +251,27 @@ def pairings(room, sheet):
         ("one that exchanges the nodes", b"edicad pairing 1\nPNO;a;c\nPNO;b;d\n", (1, b"does not pair\n", b"")),
         ("one with both nodes to one", b"edicad pairing 1\nPNO;a;d\nPNO;b;d\n", (1, b"does not pair\n", b"")),
         ("one that reverses a node", b"edicad pairing 1\nPNO;a;d;reversed\nPNO;b;c\n", (1, b"does not pair\n", b"")),
-        ("an empty file", b"", (2, b"refused pairing line 1\n", b"")),
-        ("another version", b"edicad pairing 2\nPNO;a;d\nPNO;b;c\n", (2, b"refused pairing line 1\n", b"")),
-        ("a carriage return", b"edicad pairing 1\r\nPNO;a;d\nPNO;b;c\n", (2, b"refused pairing line 1\n", b"")),
-        ("no record of A", b"edicad pairing 1\nPNO;x;d\nPNO;b;c\n", (2, b"refused pairing line 2\n", b"")),
-        ("no record of B", b"edicad pairing 1\nPNO;a;d\nPNO;b;x\n", (2, b"refused pairing line 3\n", b"")),
-        ("another type", b"edicad pairing 1\nPAR;a;d\nPNO;b;c\n", (2, b"refused pairing line 2\n", b"")),
-        ("a line repeated", b"edicad pairing 1\nPNO;a;d\nPNO;a;d\nPNO;b;c\n", (2, b"refused pairing line 3\n", b"")),
-        ("a line after the last", pairing + b"PNO;b;c\n", (2, b"refused pairing line 4\n", b"")),
-        ("lines in another order", b"edicad pairing 1\nPNO;b;c\nPNO;a;d\n", (2, b"refused pairing line 2\n", b"")),
-        ("a line too few", pairing[:-8], (2, b"refused pairing line 3\n", b"")),
-        ("no end of the last line", pairing[:-1], (2, b"refused pairing line 3\n", b"")),
-        ("a sheet", room.read("a"), (2, b"refused pairing line 1\n", b"")),
+        ("an empty file", b"", wrong(1, "the file ends before this line")),
+        ("another version", b"edicad pairing 2\nPNO;a;d\nPNO;b;c\n", wrong(1, "it is not edicad pairing 1")),
+        ("a carriage return", b"edicad pairing 1\r\nPNO;a;d\nPNO;b;c\n", wrong(1, "it ends in a carriage return")),
+        ("a later carriage return", b"edicad pairing 1\nPNO;a;d\r\nPNO;b;c\r\n", wrong(2, "it ends in a carriage return")),
+        ("another form", b"edicad pairing 1\nPNO;a\nPNO;b;c\n", wrong(2, "it is not TYPE;IDENTIFIER;IDENTIFIER, with or without ;reversed")),
+        ("a line cut off", b"edicad pairing 1\nPNO;a", wrong(2, "the file ends within this line")),
+        ("no record of A", b"edicad pairing 1\nPNO;x;d\nPNO;b;c\n", wrong(2, "it is the line of a record that neither sheet has")),
+        ("no record of B", b"edicad pairing 1\nPNO;a;d\nPNO;b;x\n", wrong(3, "no record of B has the second identifier")),
+        ("another type", b"edicad pairing 1\nPAR;a;d\nPNO;b;c\n", wrong(2, "it is the line of a record that neither sheet has")),
+        ("a line repeated", b"edicad pairing 1\nPNO;a;d\nPNO;a;d\nPNO;b;c\n", wrong(3, "it is the line of another record of A than the next")),
+        ("a line after the last", pairing + b"PNO;b;c\n", wrong(4, "A has no more records")),
+        ("lines in another order", b"edicad pairing 1\nPNO;b;c\nPNO;a;d\n", wrong(2, "it is the line of another record of A than the next")),
+        ("a line too few", pairing[:-8], wrong(3, "the file ends before this line")),
+        ("no end of the last line", pairing[:-1], wrong(3, "the file ends within this line")),
+        ("a sheet", room.read("a"), wrong(1, "it is not edicad pairing 1")),
     ):
         room.write("q", text)
         room.expect(f"verify of {name}", ["verify", *sheets, "q"], wanted)
         room.expect(f"verify of {name} on standard input", ["verify", *sheets, "-"], wanted, text)
     room.expect("verify of other sheets", ["verify", "s", "d", "a", "c", "p"], (1, b"does not pair\n", b""))
-    room.expect("verify with A and B exchanged", ["verify", "s", "d", "b", "a", "p"], (2, b"refused pairing line 2\n", b""))
+    room.expect("verify with A and B exchanged", ["verify", "s", "d", "b", "a", "p"], wrong(2, "it is the line of a record of B, and not of A: the sheets may be exchanged"))
     for at, name in enumerate(("s", "d", "a", "b", "p")):
         words = [*sheets, "p"]
         words[at] = "-"

@@ -46,7 +46,7 @@ def explains(room, sheet):
         room.expect(f"explain without {name}", ["explain", *command], (4, b"", unread("x")))
     room.expect("two inputs by -", ["explain", "-", "d", "-"], (3, b"", b"only one input can be -\n"))
     room.expect("two files of three", ["explain", "s", "d"], (3, b"", b"explain takes RULE, or SCD, DIC and VEC\n"))
-    room.expect("bad kinds", ["explain", "--kinds", "A", "s", "d", "v"], (3, b"", b"bad kinds\n"))
+    room.expect("bad kinds", ["explain", "--kinds", "A", "s", "d", "v"], (3, b"", b"bad kinds\nedicad: --kinds A: takes four codes parted by commas\n"))
     status, out, err = room.run(["explain", "403"])
     report.check("a rule: status", (status, err), (0, b""))
     page = out.decode().split("\n")

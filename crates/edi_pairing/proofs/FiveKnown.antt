@@ -30,7 +30,7 @@ pub five_err : {X : Type 0} (kinds : KindCodes) (r : Result X VerifyRunFault) (a
     → IfErr r (λ g. MatchRun g
     (λ f. MatchFault f R T (λ f. IfBothKnown a b (λ s d. RefusesSchema kinds s d f)) (λ f. IfThreeKnown a b c (λ s d v. RefusesSheet kinds s d v f))
     (λ f. IfFourKnown a b c d (λ s d v u. RefusesSecond kinds s d v u f)) (λ _. ⊥))
-    (λ at. IfFiveKnown a b c d e (λ s d a b file. RefusesFile kinds s d a b file at)))
+    (λ at why. IfFiveKnown a b c d e (λ s d a b file. RefusesFile kinds s d a b file at why)))
 five_err kinds (Ok o) a b c d e x y z w v R T h k l m n p = tt
 five_err kinds (Err (Run f)) a b c d e x y z w v R T h k l m n p = four_err {X = Unit {0}} kinds (Err f) a b c d x y z w R T h k l m p
-five_err kinds (Err (OfPairing at)) a b c d e x y z w v R T h k l m n p = all_known a b c d e x y z w v (λ s d a b file. RefusesFile kinds s d a b file at) h k l m n p
+five_err kinds (Err (OfPairing at why)) a b c d e x y z w v R T h k l m n p = all_known a b c d e x y z w v (λ s d a b file. RefusesFile kinds s d a b file at why) h k l m n p

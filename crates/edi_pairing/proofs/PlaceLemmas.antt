@@ -17,7 +17,7 @@ use Rattle.edi_pairing.specs.declared.names.RecordName.{RecordName}
 use Rattle.edi_pairing.specs.declared.places.BorrowedName.{BorrowedName}
 use Rattle.edi_pairing.specs.contracts.places.BorrowedNamePartialEq.TheImpl.{ghosts as names}
 
-kind_same : (a b : Kind) → kinds.eq a b ≡ true → a ≡ b
+pub kind_same : (a b : Kind) → kinds.eq a b ≡ true → a ≡ b
 kind_same Pno Pno h = refl
 kind_same Pno Par h = cc
 kind_same Pno Pfe h = cc
@@ -44,7 +44,7 @@ kind_same Lnk Pfe h = cc
 kind_same Lnk Fea h = cc
 kind_same Lnk Lnk h = refl
 
-kind_itself : (a : Kind) → kinds.eq a a ≡ true
+pub kind_itself : (a : Kind) → kinds.eq a a ≡ true
 kind_itself Pno = refl
 kind_itself Par = refl
 kind_itself Pfe = refl

@@ -4,7 +4,9 @@ use Rattle.std.proofs.lemmas.Bool.{cases_lt}
 use Rattle.std.proofs.lemmas.List.{append_cancel_left, append-nil, ext_get_or, get_or_append_left, get_or_default, get_or_push}
 use Rattle.edi_rank.specs.Labelling.{turned_at}
 use Rattle.edi_pairing.specs.Names.{AreNames, name_at}
-use Rattle.edi_pairing.specs.PairingText.{head, line_at, line_of, first_lines, Pairs, StatesPairing, Begins, IsFirstWrong}
+use Rattle.edi_pairing.specs.PairingText.{head, line_at, line_of, first_lines, Pairs, StatesPairing, Begins}
+use Rattle.edi_pairing.specs.WrongLines.{IsFirstReason, IsWrongBy}
+use Rattle.edi_pairing.specs.declared.fault.WrongLine.{WrongLine}
 use Rattle.edi_pairing.specs.Laws.{TextsAreUnique}
 use Rattle.edi_pairing.specs.inner.Reading.{BeginsWith}
 use Rattle.edi_pairing.specs.declared.names.RecordName.{RecordName}
@@ -144,15 +146,24 @@ module _ (a b : List RecordName) where
           h.cut ∙ ((λ i. front i ++ here i) ∙ sym (append_assoc (first_lines a b q (suc n)) (line_at a b q (suc n)) behind))
 
   -- what was read of the file is the beginning of a text
-  read_begins : (file to : List ℕ) (turned : List Bool) (text : List ℕ) (n : ℕ) → IsReadTo a b file to turned text n → n ≤ length a → Begins a b file (suc n)
-  read_begins file to turned text n h le = record { pairing = record { to = to; turned = turned }; behind = text; few = omega arith; pairs = fewer (record { to = to; turned = turned }) n (suc n - 1) (omega arith) h.pairs; cut = h.cut }
+  read_begins : (file to : List ℕ) (turned : List Bool) (text : List ℕ) (n lines : ℕ) → IsReadTo a b file to turned text n → n ≤ length a → lines ≡ suc n → Begins a b file lines
+  read_begins file to turned text n lines h le e = record {
+    pairing = record { to = to; turned = turned };
+    behind = text;
+    few = omega arith;
+    pairs = fewer (record { to = to; turned = turned }) n (lines - 1) (omega arith) h.pairs;
+    cut = h.cut ∙ ap (λ m. first_lines a b (record { to = to; turned = turned }) m ++ text) (sym e);
+  }
 
-  pub wrong_head : (file : List ℕ) → ((rest : List ℕ) → file ≢ head ++ rest) → IsFirstWrong a b file 1
-  wrong_head file none = record {
-    from_one = omega arith;
-    before = record { pairing = record { to = []; turned = [] }; behind = file; few = omega arith; pairs = record { within = λ k l. absurd (omega arith); typed = λ k l. absurd (omega arith) }; cut = refl };
-    here = λ h. none h.behind h.cut;
-    none = λ p h. let g = begun p file 1 h (omega arith) in none g.behind g.cut;
+  pub wrong_head : (file : List ℕ) (why : WrongLine) → ((rest : List ℕ) → file ≢ head ++ rest) → IsFirstReason a b 1 (name_at a 0) file why → IsWrongBy a b file 1 why
+  wrong_head file why none reason = record {
+    wrong = record {
+      from_one = omega arith;
+      before = record { pairing = record { to = []; turned = [] }; behind = file; few = omega arith; pairs = record { within = λ k l. absurd (omega arith); typed = λ k l. absurd (omega arith) }; cut = refl };
+      here = λ h. none h.behind h.cut;
+      none = λ p h. let g = begun p file 1 h (omega arith) in none g.behind g.cut;
+    };
+    reason = reason;
   }
 
   module _ (names : AreNames b) where
@@ -166,24 +177,33 @@ module _ (a b : List RecordName) where
         none (get_or q.to n 0) (turned_at q.turned n) g.behind (record { within = pairs.within n (omega arith); typed = pairs.typed n (omega arith); cut = same.1 })
 
     pub wrong_line : (file to : List ℕ) (turned : List Bool) (text : List ℕ) (n : ℕ) (name : RecordName) → IsReadTo a b file to turned text n → n < length a → name_at a n ≡ name
-        → ((t : ℕ) (u : Bool) (behind : List ℕ) → ¬ (BeginsWith b name text t u behind)) → IsFirstWrong a b file (n + 2)
-    wrong_line file to turned text n name h less is none =
+        → ((t : ℕ) (u : Bool) (behind : List ℕ) → ¬ (BeginsWith b name text t u behind)) → (why : WrongLine) → IsFirstReason a b (n + 2) (name_at a n) text why → IsWrongBy a b file (n + 2) why
+    unfolding read_begins
+    wrong_line file to turned text n name h less is none why reason =
         let two : suc (suc n) ≡ n + 2 = omega arith in
         let here = not_here file to turned text n h (λ t u behind. subst (λ m. ¬ (BeginsWith b m text t u behind)) (sym is) (none t u behind)) in
-        subst (IsFirstWrong a b file) two (record {
-          from_one = omega arith;
-          before = subst (Begins a b file) (let e : suc n ≡ suc (suc n) - 1 = omega arith in e) (read_begins file to turned text n h (omega arith));
-          here = here;
-          none = λ p s. here (begun p file (suc (suc n)) s (omega arith));
-        })
+        record {
+          wrong = record {
+            from_one = omega arith;
+            before = read_begins file to turned text n (n + 2 - 1) h (omega arith) (omega arith);
+            here = subst (λ m. ¬ (Begins a b file m)) two here;
+            none = λ p s. here (begun p file (suc (suc n)) s (omega arith));
+          };
+          reason = subst (λ k. IsFirstReason a b (n + 2) (name_at a k) text why) (let e : n ≡ n + 2 - 2 = omega arith in e) reason;
+        }
 
-    pub wrong_end : (file to : List ℕ) (turned : List Bool) (text : List ℕ) (n : ℕ) → n ≡ length a → IsReadTo a b file to turned text n → text ≢ [] → IsFirstWrong a b file (n + 2)
-    wrong_end file to turned text n long h some = record {
-      from_one = omega arith;
-      before = subst (Begins a b file) (let e : suc n ≡ n + 2 - 1 = omega arith in e) (read_begins file to turned text n h (omega arith));
-      here = λ g. omega (arith, g.few);
-      none = λ p s. some ((lines_apart names (record { to = to; turned = turned }) p n h.pairs (fewer p (length a) n (omega arith) s.is_pairing.pairs) text []
-          (sym h.cut ∙ (s.is_text ∙ (ap (λ m. first_lines a b p (suc m)) (sym long) ∙ sym (append-nil (first_lines a b p (suc n))))))).1);
+    pub wrong_end : (file to : List ℕ) (turned : List Bool) (text : List ℕ) (n line : ℕ) → n ≡ length a → line ≡ n + 2 → IsReadTo a b file to turned text n → text ≢ []
+        → (why : WrongLine) → IsFirstReason a b line (name_at a (line - 2)) text why → IsWrongBy a b file line why
+    unfolding read_begins
+    wrong_end file to turned text n line long e h some why reason = record {
+      wrong = record {
+        from_one = omega arith;
+        before = read_begins file to turned text n (line - 1) h (omega arith) (omega arith);
+        here = λ g. omega (arith, g.few);
+        none = λ p s. some ((lines_apart names (record { to = to; turned = turned }) p n h.pairs (fewer p (length a) n (omega arith) s.is_pairing.pairs) text []
+            (sym h.cut ∙ (s.is_text ∙ (ap (λ m. first_lines a b p (suc m)) (sym long) ∙ sym (append-nil (first_lines a b p (suc n))))))).1);
+      };
+      reason = reason;
     }
 
   pub all_read : (file to : List ℕ) (turned : List Bool) (text : List ℕ) (n : ℕ) → n ≡ length a → IsReadTo a b file to turned text n → text ≡ [] → StatesPairing a b (record { to = to; turned = turned }) file

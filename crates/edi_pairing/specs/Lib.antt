@@ -1,5 +1,6 @@
 pub mod Names
 pub mod PairingText
+pub mod WrongLines
 pub mod Verified
 pub mod CompareRuns
 pub mod VerifyRuns

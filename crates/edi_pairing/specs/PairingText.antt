@@ -1,12 +1,10 @@
 -- The text of a pairing.
-use Rattle.std.specs.Prelude.{◌≡◌, ℕ, zero, suc, ◌+◌, ◌-◌, ◌<◌, ◌≤◌, Bool, List, [], ◌∷◌, ◌++◌, length, slice_index, codes, if◌then◌else◌, ⊤}
+use Rattle.std.specs.Prelude.{◌≡◌, ℕ, zero, suc, ◌+◌, ◌-◌, ◌<◌, ◌≤◌, Bool, List, [], ◌∷◌, ◌++◌, length, slice_index, codes, if◌then◌else◌}
 use Rattle.edi_line.specs.Bytes.{semicolon, line_feed}
 use Rattle.edi_record.specs.Shapes.{kind_code}
 use Rattle.edi_rank.specs.Labelling.{turned_at}
 use Rattle.edi_pairing.specs.Names.{name_at}
 use Rattle.edi_pairing.specs.declared.names.RecordName.{RecordName}
-use Rattle.edi_pairing.specs.declared.fault.PairingFault.{PairingFault}
-use Rattle.edi_pairing.specs.declared.fault.PairingFault.TheVariants.{Memory, Line}
 use Rattle.edi_compare.specs.declared.pairing.Pairing.{Pairing}
 
 -- the form's name and version
@@ -74,8 +72,3 @@ module _ (a b : List RecordName) where
     pub before : Begins file (line - 1)
     pub here : ¬ (Begins file line)
     pub none : (pairing : Pairing) → ¬ (StatesPairing pairing file)
-
-  -- a fault other than want of memory names that line
-  abbrev pub IsPairingRefusal : List ℕ → PairingFault → Type 0
-  IsPairingRefusal file (Memory e) = ⊤
-  IsPairingRefusal file (Line at) = IsFirstWrong file at

@@ -10,10 +10,12 @@ use Rattle.edi_compare.specs.Verdicts.{IsVerdict}
 use Rattle.edi_compare.specs.declared.pairing.Pairing.{Pairing}
 use Rattle.edi_compare.specs.declared.pairing.Verdict.TheVariants.{Different, Same}
 use Rattle.edi_pairing.specs.Names.{AreNamesOf}
-use Rattle.edi_pairing.specs.PairingText.{IsFirstWrong, StatesPairing}
+use Rattle.edi_pairing.specs.PairingText.{StatesPairing}
+use Rattle.edi_pairing.specs.WrongLines.{IsWrongBy}
 use Rattle.edi_pairing.specs.declared.names.RecordName.{RecordName}
 use Rattle.edi_pairing.specs.declared.writing.Compared.{Compared}
 use Rattle.edi_pairing.specs.declared.writing.Compared.TheVariants.{Same as SameBy, Different as DifferentAt}
+use Rattle.edi_pairing.specs.declared.fault.WrongLine.{WrongLine}
 use Rattle.edi_pairing.specs.declared.fault.PairingFault.{PairingFault}
 use Rattle.edi_pairing.specs.declared.fault.PairingFault.TheVariants as pairing_
 use Rattle.edi_pairing.specs.declared.fault.VerifyFault.{VerifyFault}
@@ -46,22 +48,22 @@ pub record IsVerified (s : Classes) (a b file : List ℕ) (answer : Bool) : Type
   pub states : StatesOf a b file pairing
   pub carries : IsTrue answer ↔ PairingCarries s plan other pairing
 
--- the file states no pairing of the two sheets, and this is its first wrong line
-pub record IsFirstWrongOf (a b file : List ℕ) (line : ℕ) : Type 0 where
+-- the file states no pairing of the two sheets, this is its first wrong line, and this is why
+pub record IsFirstWrongOf (a b file : List ℕ) (line : ℕ) (why : WrongLine) : Type 0 where
   pub names : List RecordName
   pub others : List RecordName
   pub are_names : AreNamesOf a names
   pub are_others : AreNamesOf b others
-  pub wrong : IsFirstWrong names others file line
+  pub wrong : IsWrongBy names others file line why
 
 -- the refusal of the first sheet, that of the second where the first is accepted, or of the file where both are
 abbrev pub IsVerifyRefusal : Classes → List ℕ → List ℕ → List ℕ → VerifyFault → Type 0
 IsVerifyRefusal s a b file (Memory e) = ⊤
 IsVerifyRefusal s a b file (First f) = IsProper f × IsRefusal s a f
 IsVerifyRefusal s a b file (Second f) = IsAccepted s a × IsProper f × IsRefusal s b f
-IsVerifyRefusal s a b file (OfPairing at) = IsAccepted s a × IsAccepted s b × IsFirstWrongOf a b file at
+IsVerifyRefusal s a b file (OfPairing at why) = IsAccepted s a × IsAccepted s b × IsFirstWrongOf a b file at why
 
 -- the fault of a pairing's file as one of a check
 abbrev pub of_pairing : PairingFault → VerifyFault
 of_pairing (pairing_.Memory e) = Memory e
-of_pairing (pairing_.Line at) = OfPairing at
+of_pairing (pairing_.Line at why) = OfPairing at why

@@ -7,6 +7,7 @@ use Rattle.edi_compare.specs.Rules.{IsAccepted}
 use Rattle.edi_compare.specs.Runs.{AfterReading, IsRead, IsTooLong, MatchFault, RefusesSchema, RefusesSecond, RefusesSheet, Seen, IfBothKnown, IfFourKnown, IfThreeKnown}
 use Rattle.edi_compare.specs.declared.fault.RunFault.{RunFault}
 use Rattle.edi_pairing.specs.Verified.{IsFirstWrongOf, IsVerified}
+use Rattle.edi_pairing.specs.declared.fault.WrongLine.{WrongLine}
 use Rattle.edi_pairing.specs.declared.fault.VerifyRunFault.{VerifyRunFault}
 use Rattle.edi_pairing.specs.declared.fault.VerifyRunFault.TheVariants.{Run, Pairing as OfPairing}
 
@@ -14,14 +15,14 @@ use Rattle.edi_pairing.specs.declared.fault.VerifyRunFault.TheVariants.{Run, Pai
 abbrev pub IsVerifiedUnder : KindCodes → List ℕ → List ℕ → List ℕ → List ℕ → List ℕ → Bool → Type 0
 IsVerifiedUnder kinds scd dic a b file answer = (s : Classes) × IsGoodSchema scd dic kinds s × IsAccepted s a × IsAccepted s b × IsVerified s a b file answer
 
--- both sheets are accepted, and the file states no pairing of them: its first wrong line
-abbrev pub RefusesFile : KindCodes → List ℕ → List ℕ → List ℕ → List ℕ → List ℕ → ℕ → Type 0
-RefusesFile kinds scd dic a b file at = (s : Classes) × IsGoodSchema scd dic kinds s × IsAccepted s a × IsAccepted s b × IsFirstWrongOf a b file at
+-- both sheets are accepted, and the file states no pairing of them: its first wrong line, and why it is wrong
+abbrev pub RefusesFile : KindCodes → List ℕ → List ℕ → List ℕ → List ℕ → List ℕ → ℕ → WrongLine → Type 0
+RefusesFile kinds scd dic a b file at why = (s : Classes) × IsGoodSchema scd dic kinds s × IsAccepted s a × IsAccepted s b × IsFirstWrongOf a b file at why
 
 -- a fact for the two kinds of fault
-abbrev pub MatchRun : VerifyRunFault → (RunFault → Type 0) → (ℕ → Type 0) → Type 0
+abbrev pub MatchRun : VerifyRunFault → (RunFault → Type 0) → (ℕ → WrongLine → Type 0) → Type 0
 MatchRun (Run f) P Q = P f
-MatchRun (OfPairing at) P Q = Q at
+MatchRun (OfPairing at why) P Q = Q at why
 
 -- the five inputs over a run: the files of the schema, the two sheets and the pairing's file
 pub record VerifyInputs : Type 0 where
@@ -69,8 +70,8 @@ VerifyingFault kinds i untouched e = MatchRun e
     (λ r. IfThreeKnown i.scd.before i.dic.before i.first.before (λ s d a. RefusesSheet kinds s d a r))
     (λ r. IfFourKnown i.scd.before i.dic.before i.first.before i.second.before (λ s d a b. RefusesSecond kinds s d a b r))
     (λ _. ⊥))
-    (λ at. IfAllKnown i (λ s d a b file. RefusesFile kinds s d a b file at))
+    (λ at why. IfAllKnown i (λ s d a b file. RefusesFile kinds s d a b file at why))
 
 -- the fact holds where the fault came after reading
 abbrev pub AfterAllRead : VerifyRunFault → Type 0 → Type 0
-AfterAllRead e P = MatchRun e (λ f. AfterReading f P) (λ _. P)
+AfterAllRead e P = MatchRun e (λ f. AfterReading f P) (λ _ _. P)

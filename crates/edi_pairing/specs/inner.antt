@@ -3,3 +3,4 @@ pub mod Places
 pub mod Reading
 pub mod Verified
 pub mod VerifyRuns
+pub mod Wrong

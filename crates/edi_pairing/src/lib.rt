@@ -11,9 +11,10 @@ pub mod runs;
 pub mod sheets;
 pub mod verifying;
 pub mod writing;
+mod wrong;
 
-pub use fault::{PairingFault, VerifyFault, VerifyRunFault};
-pub use laws::texts_are_unique;
+pub use fault::{PairingFault, VerifyFault, VerifyRunFault, WrongLine};
+pub use laws::{texts_are_unique, wrong_lines_have_one_reason};
 pub use names::{RecordName, RecordNames};
 pub use reading::read_pairing;
 pub use runs::{run_compare_to_file, run_verify};

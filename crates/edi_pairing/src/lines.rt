@@ -35,7 +35,7 @@ fn behind_name<'f>(text: &'f [u8], name: &RecordName) -> Option<&'f [u8]>
 }
 
 /// What stands before the first semicolon or line feed, and what begins with that.
-fn cut_at_mark(text: &[u8]) -> Option<(&[u8], &[u8])>
+pub(crate) fn cut_at_mark(text: &[u8]) -> Option<(&[u8], &[u8])>
     ensures { MatchOption result ((front : List ℕ) (c : ℕ) (rest : List ℕ) → is_mark c ≡ true → text.now ≢ front ++ c ∷ rest)
         (λ cut. IsCutAtMark text.now cut.0.now cut.1.now) }
 {
@@ -46,7 +46,7 @@ fn cut_at_mark(text: &[u8]) -> Option<(&[u8], &[u8])>
 }
 
 /// Whether the record is turned, and what comes behind the end of its line.
-fn behind_end(text: &[u8]) -> Option<(bool, &[u8])>
+pub(crate) fn behind_end(text: &[u8]) -> Option<(bool, &[u8])>
     ensures { MatchOption result ((turned : Bool) (rest : List ℕ) → text.now ≢ line_end turned ++ rest) (λ r. text.now ≡ line_end r.0 ++ r.1.now) }
 {
     match behind(text, b"\n") {

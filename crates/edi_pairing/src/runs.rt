@@ -122,6 +122,6 @@ fn verify_or_fault(
         Err(VerifyFault::Memory(error)) => Err(VerifyRunFault::Run(RunFault::Memory(error))),
         Err(VerifyFault::First(fault)) => Err(VerifyRunFault::Run(RunFault::First(fault))),
         Err(VerifyFault::Second(fault)) => Err(VerifyRunFault::Run(RunFault::Second(fault))),
-        Err(VerifyFault::Pairing { at }) => Err(VerifyRunFault::Pairing { at }),
+        Err(VerifyFault::Pairing { at, why }) => Err(VerifyRunFault::Pairing { at, why }),
     }
 }

@@ -1,6 +1,6 @@
 -- What the words of the command line ask for.
-use Rattle.std.specs.Prelude.{◌≡◌, ◌⊎◌, ◌<◌, ◌≤◌, ◌+◌, ◌==◌, ℕ, Bool, true, false, if◌then◌else◌, List, [], ◌∷◌, Option, Some, None, codes, is_some, map, option_map, unwrap_or, IfSome}
-use Rattle.std.specs.List.{slice_split}
+use Rattle.std.specs.Prelude.{◌≡◌, ◌≢◌, ◌⊎◌, ◌<◌, ◌≤◌, ◌+◌, ◌==◌, ℕ, Bool, true, false, if◌then◌else◌, List, [], ◌∷◌, Option, Some, None, codes, is_some, length, map, option_map, unwrap_or, IfSome}
+use Rattle.std.specs.List.{list_any, slice_split}
 use Rattle.std.specs.Str.{bytes_eq}
 use Rattle.std.proofs.Common.{Bor}
 use Rattle.clap.specs.Lexer.{usize_max}
@@ -14,6 +14,9 @@ use Rattle.edi_words.specs.declared.words.Request.TheVariants.{Bundle, Check, Ca
 use Rattle.edi_words.specs.declared.words.Request.TheVariants as asks
 use Rattle.edi_words.specs.declared.words.Misuse.{Misuse}
 use Rattle.edi_words.specs.declared.words.Misuse.TheVariants.{BadKinds, TwoStandard, NoSheet, StandardPairing, StandardPicture}
+use Rattle.edi_words.specs.declared.words.BadKinds.{BadKinds as BadCodes}
+use Rattle.edi_words.specs.declared.words.KindsFault.{KindsFault}
+use Rattle.edi_words.specs.declared.words.KindsFault.TheVariants.{Count, Empty, Twice}
 use Rattle.edi_words.specs.declared.words.ManyFiles.{ManyFiles}
 use Rattle.edi_words.specs.declared.words.PairFiles.{PairFiles}
 use Rattle.edi_words.specs.declared.words.SheetFiles.{SheetFiles}
@@ -101,10 +104,14 @@ usual_kinds = record { initial = codes "IND"; final_node = codes "FND"; left = c
 abbrev pub comma : ℕ
 comma = 44
 
+-- the codes in a text, which commas part
+abbrev pub codes_in : List ℕ → List (List ℕ)
+codes_in text = slice_split (λ x. x == comma) text
+
 -- the four codes, parted by commas
 abbrev pub AreKindsIn : List ℕ → KindCodes → Type 0
 AreKindsIn text k =
-    (slice_split (λ x. x == comma) text ≡ k.initial ∷ k.final_node ∷ k.left ∷ k.right ∷ []) × AreKindCodes k
+    (codes_in text ≡ k.initial ∷ k.final_node ∷ k.left ∷ k.right ∷ []) × AreKindCodes k
 
 -- the codes of the option, and the usual ones where it isn't given
 abbrev pub AreKindsOf : Option (List ℕ) → KindCodes → Type 0
@@ -146,6 +153,22 @@ pub record AreManyFiles (rows : List Row) (files : ManyFiles) : Type 0 where
   pub dic : files.dic.now ≡ value_at (codes "DIC") rows
   pub sheets : map (λ p. p.now) files.sheets.items ≡ values_at (codes "VEC") rows
 
+-- the first code that is there once more behind it
+abbrev pub first_twice : List (List ℕ) → Option (List ℕ)
+first_twice [] = None
+first_twice (code ∷ codes) = if list_any (bytes_eq code) codes then Some code else first_twice codes
+
+-- What is wrong with codes: they are not four; they are four, and one is empty; they are four and none is empty, and this is the first that is
+-- there twice.
+abbrev pub IsKindsFault : List (List ℕ) → KindsFault → Type 0
+IsKindsFault given Count = length given ≢ 4
+IsKindsFault given Empty = (length given ≡ 4) × (list_any (λ code. length code == 0) given ≡ true)
+IsKindsFault given (Twice code) = (length given ≡ 4) × (list_any (λ code. length code == 0) given ≡ false) × (first_twice given ≡ Some code.now)
+
+-- this is given as the codes, and that is wrong with it
+abbrev pub AreBadKinds : Option (List ℕ) → BadCodes → Type 0
+AreBadKinds text bad = (text ≡ Some bad.given.now) × IsKindsFault (codes_in bad.given.now) bad.fault
+
 -- the arguments name no good codes
 abbrev pub HasBadKinds : List Row → Type 0
 HasBadKinds rows = (k : KindCodes) → ¬ GiveKinds rows k
@@ -179,7 +202,7 @@ is_option_standard id rows = is_standard_path (value_at id rows)
 -- The arguments of a subcommand can't be meant: the codes are no codes, standard input is to be read twice, explain is
 -- given two files of three, or the pairing of a comparison or the picture of a difference is to go to standard output.
 abbrev pub IsMisuse : Text → List Row → Misuse → Type 0
-IsMisuse name rows BadKinds = HasBadKinds rows
+IsMisuse name rows (BadKinds bad) = HasBadKinds rows × AreBadKinds (first_of (codes "kinds") rows) bad
 IsMisuse name rows TwoStandard = 1 < standard_count rows
 IsMisuse name rows NoSheet = (name ≡ codes "explain") × (is_given (codes "DIC") rows ≡ true) × (is_given (codes "VEC") rows ≡ false)
 IsMisuse name rows StandardPairing = (name ≡ codes "compare") × (is_option_standard (codes "pairing") rows ≡ true)
@@ -187,7 +210,7 @@ IsMisuse name rows StandardPicture = (name ≡ codes "diff") × (is_option_stand
 
 -- what is said of it
 abbrev pub misuse_text : Misuse → List ℕ
-misuse_text BadKinds = codes "bad kinds"
+misuse_text (BadKinds bad) = codes "bad kinds"
 misuse_text TwoStandard = codes "only one input can be -"
 misuse_text NoSheet = codes "explain takes RULE, or SCD, DIC and VEC"
 misuse_text StandardPairing = codes "--pairing takes a file, and not -"

@@ -5,4 +5,6 @@ mod command_line;
 pub mod known;
 pub mod words;
 
-pub use words::{ManyFiles, Misuse, PairFiles, Request, SheetFiles, asked, is_standard};
+pub use words::{
+    BadKinds, KindsFault, ManyFiles, Misuse, PairFiles, Request, SheetFiles, asked, is_standard,
+};

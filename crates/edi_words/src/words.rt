@@ -1,8 +1,9 @@
 //! What the words of the command line ask for.
-ghost use Rattle.std.specs.Prelude.{◌≡◌, ◌↔◌, ◌<◌, ◌≤◌, ◌^◌, IsTrue, IfErr, IfOk, MatchOption, OnOk, Some, [], codes, length, map, option_map, string_bytes};
+ghost use Rattle.std.specs.Prelude.{◌≡◌, ◌≢◌, ◌↔◌, ◌<◌, ◌≤◌, ◌^◌, ◌∷◌, IsTrue, IfErr, IfOk, MatchOption, MatchResult, OnOk, Some, [], codes, length, map};
+ghost use Rattle.std.specs.Prelude.{option_map, string_bytes};
 ghost use Rattle.clap.specs.Words.{HasKind, fault_of, found_of, kind_of, one_of, rows_of, subcommand_of, subcommand_rows_of};
-ghost use Rattle.edi_schema.specs.Roles.{KindCodes};
-ghost use Rattle.edi_words.specs.Requests.{AreKindsIn, AreKindsOf, AreManyFiles, ArePairFiles, AreSheetFiles, IsAsked, IsFlag, GiveKinds, Means, ReadsInputOnce, edicad, is_given, is_standard_path, standard_at, standard_count, standard_in, status_of_kind, value_at, values_at};
+ghost use Rattle.edi_schema.specs.Roles.{AreKindCodes, KindCodes};
+ghost use Rattle.edi_words.specs.Requests.{AreBadKinds, AreKindsIn, AreKindsOf, AreManyFiles, ArePairFiles, AreSheetFiles, IsAsked, IsFlag, IsKindsFault, GiveKinds, Means, ReadsInputOnce, codes_in, edicad, is_given, is_standard_path, standard_at, standard_count, standard_in, status_of_kind, value_at, values_at};
 ghost use Rattle.edi_words.specs.inner.Requests.{IsOwn};
 
 use crate::command_line::command;
@@ -99,16 +100,16 @@ pub enum Request<'a> {
         out: &'a str,
     },
     /// Nothing that can be meant.
-    Misused(Misuse),
+    Misused(Misuse<'a>),
     /// Nothing more: the words were answered on standard error, and this is the exit status.
     Answered(u8),
 }
 
 /// Why words in good form can't be meant.
 #[derive(Clone, Copy)]
-pub enum Misuse {
-    /// The codes of the kinds are not four codes, of which no two are equal.
-    BadKinds,
+pub enum Misuse<'a> {
+    /// The codes of the kinds are not four codes, none empty and no two equal.
+    BadKinds(BadKinds<'a>),
     /// Standard input is to be read twice.
     TwoStandard,
     /// A schema is named, and no sheet.
@@ -117,6 +118,24 @@ pub enum Misuse {
     StandardPairing,
     /// A picture is to go to standard output, which gets what differs.
     StandardPicture,
+}
+
+/// What is given as the codes of the kinds, and what is wrong with it.
+#[derive(Clone, Copy)]
+pub struct BadKinds<'a> {
+    pub given: &'a str,
+    pub fault: KindsFault<'a>,
+}
+
+/// What is wrong with the codes of the kinds.
+#[derive(Clone, Copy)]
+pub enum KindsFault<'a> {
+    /// They are not four.
+    Count,
+    /// They are four, and one is empty.
+    Empty,
+    /// They are four and none is empty, and this is the first that is there twice.
+    Twice(&'a str),
 }
 
 /// What the words ask for, of which the first is the program's name.
@@ -147,8 +166,9 @@ fn meant<'a, R: Eprint + AllocGlobal>(rt: &R, matches: &ArgMatches<'a>) -> Reque
     let Some((name, given)) = matches.subcommand() else {
         return Request::Bundle;
     };
-    let Some(kinds) = kinds_of(given.get_str("kinds")) else {
-        return Request::Misused(Misuse::BadKinds);
+    let kinds = match kinds_of(given.get_str("kinds")) {
+        Ok(kinds) => kinds,
+        Err(bad) => return Request::Misused(Misuse::BadKinds(bad)),
     };
     if reads_input_twice(given) {
         return Request::Misused(Misuse::TwoStandard);
@@ -352,32 +372,72 @@ fn path<'a>(given: &ArgMatches<'a>, name: &str) -> &'a str
 }
 
 // Four codes parted by commas, or the usual ones where none are given.
-fn kinds_of(text: Option<&str>) -> Option<Kinds<'_>>
-    ensures { MatchOption result ((k : KindCodes) → ¬ (AreKindsOf (option_map (λ t. t.now) text.entry) k))
-        (AreKindsOf (option_map (λ t. t.now) text.entry)) }
+fn kinds_of(text: Option<&str>) -> Result<Kinds<'_>, BadKinds<'_>>
+    ensures { MatchResult result (AreKindsOf (option_map (λ t. t.now) text.entry))
+        (λ bad. ((k : KindCodes) → ¬ (AreKindsOf (option_map (λ t. t.now) text.entry) k)) × AreBadKinds (option_map (λ t. t.now) text.entry) bad) }
 {
-    match text {
-        Some(text) => kinds_in(text),
-        None => Some(Kinds::usual()),
+    let Some(text) = text else {
+        return Ok(Kinds::usual());
+    };
+    match kinds_in(text) {
+        Ok(kinds) => Ok(kinds),
+        Err(fault) => Err(BadKinds { given: text, fault }),
     }
 }
 
 // Four codes parted by commas.
-fn kinds_in(text: &str) -> Option<Kinds<'_>>
-    ensures { MatchOption result ((k : KindCodes) → ¬ (AreKindsIn text.now k)) (AreKindsIn text.now) }
+fn kinds_in(text: &str) -> Result<Kinds<'_>, KindsFault<'_>>
+    ensures { MatchResult result (AreKindsIn text.now) (λ fault. ((k : KindCodes) → ¬ (AreKindsIn text.now k)) × IsKindsFault (codes_in text.now) fault) }
+{
+    let Some((initial, final_node, left, right)) = four_codes(text) else {
+        return Err(KindsFault::Count);
+    };
+    let kinds = Kinds::new(
+        initial.as_bytes(),
+        final_node.as_bytes(),
+        left.as_bytes(),
+        right.as_bytes(),
+    );
+    match kinds {
+        Some(kinds) => Ok(kinds),
+        None => Err(fault_of_four(initial, final_node, left, right)),
+    }
+}
+
+// The codes in a text, if they are four.
+fn four_codes(text: &str) -> Option<(&str, &str, &str, &str)>
+    ensures { MatchOption result (length (codes_in text.now) ≢ 4)
+        (λ four. codes_in text.now ≡ four.0.now ∷ four.1.now ∷ four.2.now ∷ four.3.now ∷ []) }
 {
     let mut codes = text.split(',');
     let (initial, final_node) = (codes.next()?, codes.next()?);
     let (left, right) = (codes.next()?, codes.next()?);
     match codes.next() {
         Some(_) => None,
-        None => Kinds::new(
-            initial.as_bytes(),
-            final_node.as_bytes(),
-            left.as_bytes(),
-            right.as_bytes(),
-        ),
+        None => Some((initial, final_node, left, right)),
     }
+}
+
+// What is wrong with four codes.
+fn fault_of_four<'a>(
+    initial: &'a str,
+    final_node: &'a str,
+    left: &'a str,
+    right: &'a str,
+) -> KindsFault<'a>
+    requires { ¬ (AreKindCodes (record { initial = initial.now; final_node = final_node.now; left = left.now; right = right.now })) }
+    ensures { IsKindsFault (initial.now ∷ final_node.now ∷ left.now ∷ right.now ∷ []) result }
+{
+    if initial.is_empty() || final_node.is_empty() || left.is_empty() || right.is_empty() {
+        return KindsFault::Empty;
+    }
+    if initial == final_node || initial == left || initial == right {
+        return KindsFault::Twice(initial);
+    }
+    if final_node == left || final_node == right {
+        return KindsFault::Twice(final_node);
+    }
+    KindsFault::Twice(left)
 }
 
 // Says that there is no memory.

@@ -112,7 +112,7 @@ module _ (inputs : Inputs) (kinds : KindCodes) (files : PairFiles) (pairing : Li
   five_too_long (suc (suc (suc (suc (suc (suc n)))))) h = absurd (omega (arith, h.1))
 
   verify_matched : (e : VerifyRunFault) → VerifyingFault kinds i untouched e
-      → MatchRun e (VerifyFileFault inputs kinds files pairing) (λ at. OfFive inputs files pairing (λ s d a b f. RefusesFile kinds s d a b f at))
+      → MatchRun e (VerifyFileFault inputs kinds files pairing) (λ at why. OfFive inputs files pairing (λ s d a b f. RefusesFile kinds s d a b f at why))
   verify_matched (Run (Memory e)) h = inr (five_there, tt)
   verify_matched (Run (Read n)) h = inr (five_there, (h.0, h.1, failed_of_five n h))
   verify_matched (Run (TooLong n)) h = inr (five_there, (h.0, h.1, five_too_long n h))
@@ -149,7 +149,7 @@ module _ (inputs : Inputs) (kinds : KindCodes) (files : PairFiles) (pairing : Li
   verify_matched (Run (Second f)) h =
       inr (five_there, (i.scd.before, i.dic.before, i.first.before, i.second.before, gives_scd, gives_dic, gives_first, gives_second, h))
   verify_matched (Run (Write w)) h = absurd h
-  verify_matched (OfPairingFile at) h = (
+  verify_matched (OfPairingFile at why) h = (
     i.scd.before,
     i.dic.before,
     i.first.before,
@@ -165,15 +165,15 @@ module _ (inputs : Inputs) (kinds : KindCodes) (files : PairFiles) (pairing : Li
 
   -- of a run over five readers
   pub verify_fault : {T : Type 0} (r : Result T VerifyRunFault) → IfErr r (VerifyingFault kinds i untouched)
-      → IfErr r (λ e. MatchRun e (VerifyFileFault inputs kinds files pairing) (λ at. OfFive inputs files pairing (λ s d a b f. RefusesFile kinds s d a b f at)))
+      → IfErr r (λ e. MatchRun e (VerifyFileFault inputs kinds files pairing) (λ at why. OfFive inputs files pairing (λ s d a b f. RefusesFile kinds s d a b f at why)))
   verify_fault r h = if_err_map r (VerifyingFault kinds i untouched) _ verify_matched h
 
-pub verified_names : (r : Result Bool VerifyRunFault) (names : List (Bor (List ℕ))) → length names ≡ 6 → IfErr r (λ e. MatchRun e (λ f. FaultHasNames f 6) (λ _. ⊤))
+pub verified_names : (r : Result Bool VerifyRunFault) (names : List (Bor (List ℕ))) → length names ≡ 6 → IfErr r (λ e. MatchRun e (λ f. FaultHasNames f 6) (λ _ _. ⊤))
     → HasNames (verified_outcome r) names
 verified_names (Ok true) names six h = tt
 verified_names (Ok false) names six h = tt
 verified_names (Err (Run e)) names six h = subst (FaultHasNames e) (sym six) h
-verified_names (Err (OfPairingFile at)) names six h = tt
+verified_names (Err (OfPairingFile at why)) names six h = tt
 
 verify_tried : (inputs : Inputs) (kinds : KindCodes) (files : PairFiles) (pairing : List ℕ) (e : RunFault) → VerifyFileFault inputs kinds files pairing e
     → AreFiveThere inputs files pairing ⊎ ((n : ℕ) × FirstOfFiveMissing inputs files pairing n)
@@ -197,7 +197,7 @@ module _ (run : Effects) (out err : Seen) (kinds : KindCodes) (files : PairFiles
   not_small_of_two small (inr (inr e)) = absurd (omega (arith, e.1, small))
 
   pub verify_status : (r : Result Bool VerifyRunFault) → IfOk r (λ answer. OfFive run.inputs files pairing (λ scd dic a b f. IsVerifiedUnder kinds scd dic a b f answer))
-      → IfErr r (λ e. MatchRun e (VerifyFileFault run.inputs kinds files pairing) (λ at. OfFive run.inputs files pairing (λ s d a b f. RefusesFile kinds s d a b f at)))
+      → IfErr r (λ e. MatchRun e (VerifyFileFault run.inputs kinds files pairing) (λ at why. OfFive run.inputs files pairing (λ s d a b f. RefusesFile kinds s d a b f at why)))
       → IsSaid run.why out err (verified_outcome r) (verify_paths_of files pairing) s → IsVerifyStatus run out err kinds files pairing s
   verify_status (Ok true) h fault said = record {
     tried = inl (were_five _ h);
@@ -215,12 +215,12 @@ module _ (run : Effects) (out err : Seen) (kinds : KindCodes) (files : PairFiles
     means = means_fault _ _ _ run.why (verify_paths_of files pairing) out err s e (λ silent. (h, silent))
         (λ is line. verify_refused run.inputs kinds files pairing out err e h is line) said;
   }
-  verify_status (Err (OfPairingFile at)) ok h said = record {
+  verify_status (Err (OfPairingFile at why)) ok h said = record {
     tried = inl (were_five _ h);
     unpaired = λ one. absurd (not_small_of_two (omega (arith, one)) said.status);
     means = record {
       done = λ zero. absurd (not_small_of_two (omega (arith, zero)) said.status);
-      refused = λ two. inr (at, h, said.answer (omega (arith, two)));
+      refused = λ two. inr (at, why, h, said.answer (omega (arith, two)));
       failed = λ four. inl (said.unsaid (omega arith) four);
       memory = λ five. let m = said.memory five in (m.1, inl m.0);
     };

@@ -1,5 +1,5 @@
 -- What each request is answered by.
-use Rattle.std.specs.Prelude.{◌≡◌, ◌⊎◌, ◌++◌, ℕ, List, [], MatchOption, codes}
+use Rattle.std.specs.Prelude.{◌≡◌, ◌⊎◌, ◌++◌, ℕ, List, [], IsTrue, MatchOption, codes}
 use Rattle.std.specs.Bool.{MatchBool}
 use Rattle.edi_compare.specs.Runs.{Seen}
 use Rattle.edicad.specs.Explains.{IsExplainStatus, IsRuleStatus}
@@ -7,8 +7,10 @@ use Rattle.edicad.specs.Hashes.{IsHashStatus}
 use Rattle.edi_files.specs.Reasons.{ended}
 use Rattle.edi_files.specs.declared.product.Product.{Product}
 use Rattle.edi_files.specs.declared.product.Product.TheVariants.{Canonical, Picture}
-use Rattle.edi_words.specs.Requests.{IsAsked, is_standard_path, misuse_text}
+use Rattle.edi_words.specs.Requests.{IsAsked, is_standard_path}
+use Rattle.edi_words.specs.declared.words.Misuse.{Misuse}
 use Rattle.edicad.specs.Effects.{Effects}
+use Rattle.edicad.specs.Misuses.{misuse_lines, shows_words}
 use Rattle.edicad.specs.Statuses.{IsBundleStatus, IsCompareStatus, IsDiffStatus, IsFileStatus, IsPairingStatus, IsPictureStatus, IsPutStatus, IsSendStatus, IsVerifyStatus, Complains, LacksMemory, Prints, Warns}
 use Rattle.edi_schema.specs.Roles.{KindCodes}
 use Rattle.edi_words.specs.declared.words.SheetFiles.{SheetFiles}
@@ -19,6 +21,11 @@ use Rattle.edi_words.specs.declared.words.Request.TheVariants.{Bundle, Check, Ca
 abbrev pub IsMadeStatus : Effects → Seen → Seen → Product → KindCodes → SheetFiles → List ℕ → ℕ → Type 0
 IsMadeStatus run out err product kinds files path s = MatchBool (is_standard_path path) (run.untouched × IsSendStatus run out err product kinds files s)
     (IsPutStatus run out err product kinds files path s)
+
+-- The status of words that can't be meant: 3, and the stream of errors says why; or 5, where there was no memory to show what was given.
+abbrev pub IsMisusedStatus : Seen → Seen → Misuse → ℕ → Type 0
+IsMisusedStatus out err misuse s =
+    ((s ≡ 3) × Complains out err (misuse_lines misuse)) ⊎ ((s ≡ 5) × IsTrue (shows_words misuse) × Prints out [] × LacksMemory err)
 
 -- The status of what was asked for, over what was found in the folder and left there, and what the two streams have before and after.
 -- Where no OUT or FILE is named, nothing in the folder has changed.
@@ -35,7 +42,7 @@ IsAnswered run out err (Verify kinds files pairing) s = run.untouched × IsVerif
 IsAnswered run out err (Diff kinds files brief picture) s = MatchOption picture (run.untouched × IsDiffStatus run out err kinds files brief s)
     (λ path. IsPictureStatus run out err kinds files brief path.now s)
 IsAnswered run out err (Draw kinds files path) s = IsMadeStatus run out err Picture kinds files path.now s
-IsAnswered run out err (Misused misuse) s = run.untouched × (s ≡ 3) × Complains out err (ended (misuse_text misuse))
+IsAnswered run out err (Misused misuse) s = run.untouched × IsMisusedStatus out err misuse s
 IsAnswered run out err (Answered status) s = run.untouched × (s ≡ status) × Prints out [] × Prints err []
 
 -- what is said of words that are not all UTF-8

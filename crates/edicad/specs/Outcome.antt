@@ -11,6 +11,7 @@ use Rattle.edi_compare.specs.declared.fault.Fault.TheVariants as sheet
 use Rattle.edi_compare.specs.declared.fault.RunFault.{RunFault}
 use Rattle.edi_compare.specs.declared.fault.RunFault.TheVariants.{Memory, Read, TooLong, Schema, First, Second, Write}
 use Rattle.edi_files.specs.Reasons.{ended}
+use Rattle.edi_pairing.specs.WrongLines.{reason_words}
 use Rattle.edi_shown.specs.Shown.{shown_bytes}
 use Rattle.edi_words.specs.Requests.{is_standard_path}
 use Rattle.edicad.specs.declared.outcome.Outcome.{Outcome}
@@ -42,7 +43,7 @@ status_for Same = 0
 status_for (Different line) = 1
 status_for Pairs = 0
 status_for Unpaired = 1
-status_for (WrongPairing line) = 2
+status_for (WrongPairing line why) = 2
 status_for (Fault fault) = status_of_fault fault
 
 -- the path at a place
@@ -113,7 +114,7 @@ words_for Same paths = codes "same"
 words_for (Different line) paths = codes "different at line " ++ decimal line
 words_for Pairs paths = codes "pairs"
 words_for Unpaired paths = codes "does not pair"
-words_for (WrongPairing line) paths = codes "refused pairing line " ++ decimal line
+words_for (WrongPairing line why) paths = codes "refused pairing line " ++ decimal line ++ codes ": " ++ reason_words why
 words_for (Fault fault) paths = words_of_fault fault paths
 
 -- the path of an outcome, which a fault alone has
@@ -123,7 +124,7 @@ path_for Same paths = []
 path_for (Different line) paths = []
 path_for Pairs paths = []
 path_for Unpaired paths = []
-path_for (WrongPairing line) paths = []
+path_for (WrongPairing line why) paths = []
 path_for (Fault fault) paths = path_of_fault fault paths
 
 abbrev pub texts : List (Bor (List ℕ)) → List (List ℕ)
@@ -149,5 +150,5 @@ HasNames Same names = ⊤
 HasNames (Different line) names = ⊤
 HasNames Pairs names = ⊤
 HasNames Unpaired names = ⊤
-HasNames (WrongPairing line) names = ⊤
+HasNames (WrongPairing line why) names = ⊤
 HasNames (Fault fault) names = FaultHasNames fault (length names)

@@ -32,7 +32,7 @@ IsReason why Same paths reason = reason ≡ None
 IsReason why (Different line) paths reason = reason ≡ None
 IsReason why Pairs paths reason = reason ≡ None
 IsReason why Unpaired paths reason = reason ≡ None
-IsReason why (WrongPairing line) paths reason = reason ≡ None
+IsReason why (WrongPairing line wrong) paths reason = reason ≡ None
 IsReason why (Fault e) paths reason = IsReasonOf why e (path_of_fault e paths) reason
 
 -- the line of an outcome, and then that of its reason

@@ -22,7 +22,10 @@ use Rattle.edi_diff.specs.declared.differing.Difference.{Difference}
 use Rattle.edi_words.specs.Requests.{IsAsked, usual_kinds}
 use Rattle.edi_pairing.specs.CompareRuns.{IsPairingFileOf}
 use Rattle.edi_pairing.specs.VerifyRuns.{IsVerifiedUnder, RefusesFile}
+use Rattle.edi_pairing.specs.WrongLines.{reason_words}
+use Rattle.edi_pairing.specs.declared.fault.WrongLine.{WrongLine}
 use Rattle.edicad.specs.Effects.{Effects, Inputs}
+use Rattle.edicad.specs.Misuses.{shows_words}
 use Rattle.edicad.specs.SheetRuns.{AreFiveThere, AreFourThere, AreThere, FileFault, FirstMissing, FirstOfFiveMissing, FirstOfFourMissing, IsInput, IsPairInput, IsPairPut, IsPairReplaced, IsPictureOfPair, IsPut, IsReplaced, OfFiles, OfFive, OfMade, OfPair, PairFileFault, PutFault, PutPairFault, ShowsDifference, VerifyFileFault}
 use Rattle.edi_words.specs.declared.words.PairFiles.{PairFiles}
 use Rattle.edi_words.specs.declared.words.SheetFiles.{SheetFiles}
@@ -53,7 +56,7 @@ IsStatusOf (Rule word) s = IsPageStatus s
 IsStatusOf (Verify kinds files pairing) s = IsPairStatus s
 IsStatusOf (Diff kinds files brief picture) s = IsPairStatus s
 IsStatusOf (Draw kinds files out) s = IsSheetStatus s
-IsStatusOf (Misused misuse) s = s ≡ 3
+IsStatusOf (Misused misuse) s = (s ≡ 3) ⊎ (IsTrue (shows_words misuse) × (s ≡ 5))
 IsStatusOf (Answered status) s = s ≡ status
 
 -- the words ask for something, and the status is of that
@@ -209,8 +212,8 @@ pub record IsPairingStatus (run : Effects) (out err : Seen) (kinds : KindCodes) 
 abbrev pub SaysVerifyRefusal : Inputs → Seen → Seen → KindCodes → PairFiles → List ℕ → Type 0
 SaysVerifyRefusal inputs out err kinds files pairing =
     OfPair inputs files (SaysPairRefusal (Answers out err) kinds)
-    ⊎ ((at : ℕ) × OfFive inputs files pairing (λ scd dic a b f. RefusesFile kinds scd dic a b f at)
-    × Answers out err (ended (codes "refused pairing line " ++ decimal at)))
+    ⊎ ((at : ℕ) × (why : WrongLine) × OfFive inputs files pairing (λ scd dic a b f. RefusesFile kinds scd dic a b f at why)
+    × Answers out err (ended (codes "refused pairing line " ++ decimal at ++ codes ": " ++ reason_words why)))
 
 -- The status of a run that checks a pairing's file: 0 only where it states a pairing that carries the one plan onto the other,
 -- 1 only where it states one that doesn't, 2 only where a sheet or the file is refused, and each is said.

@@ -130,7 +130,7 @@ pub fn answered<F: Folder, O: ByteOut, E: ByteOut>(
             files,
             out: path,
         } => make(alloc, folder, Picture, &kinds, &files, path, out, err),
-        Request::Misused(misuse) => report::misused(err, misuse),
+        Request::Misused(misuse) => report::misused(alloc, err, misuse),
         Request::Answered(status) => status,
     }
 }
@@ -421,7 +421,7 @@ fn outcome_of_verified(verified: Result<bool, VerifyRunFault>) -> Outcome
         Ok(true) => Outcome::Pairs,
         Ok(false) => Outcome::Unpaired,
         Err(VerifyRunFault::Run(fault)) => Outcome::Fault(fault),
-        Err(VerifyRunFault::Pairing { at }) => Outcome::WrongPairing(at),
+        Err(VerifyRunFault::Pairing { at, why }) => Outcome::WrongPairing(at, why),
     }
 }
 

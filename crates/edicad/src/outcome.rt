@@ -8,6 +8,7 @@ ghost use Rattle.edicad.specs.Outcome.{schema_text, sheet_fault_text, sheet_text
 ghost use Rattle.edicad.specs.Outcome.{status_of_schema, status_of_sheet, texts, words_of_fault};
 
 use edi_compare::{Fault, RunFault};
+use edi_pairing::WrongLine;
 use edi_schema::{SchemaFault, Source};
 use edi_shown::push_shown;
 use edi_words::is_standard;
@@ -26,8 +27,8 @@ pub enum Outcome {
     Pairs,
     /// The file states a pairing that does not carry it.
     Unpaired,
-    /// The file states no pairing: its first wrong line, counted from 1.
-    WrongPairing(u64),
+    /// The file states no pairing: its first wrong line, counted from 1, and why it is wrong.
+    WrongPairing(u64, WrongLine),
     /// The run gave no answer.
     Fault(RunFault),
 }
@@ -40,7 +41,7 @@ pub fn status_of(outcome: &Outcome) -> u8
     match outcome {
         Outcome::Accepted | Outcome::Same | Outcome::Pairs => 0,
         Outcome::Different(_) | Outcome::Unpaired => 1,
-        Outcome::WrongPairing(_) => 2,
+        Outcome::WrongPairing(_, _) => 2,
         Outcome::Fault(fault) => status_of_fault(fault),
     }
 }
@@ -89,7 +90,9 @@ pub fn line_of(alloc: Global, outcome: &Outcome, paths: &[&str]) -> Result<Vec<u
         Outcome::Different(line) => numbered(alloc, b"different at line ", *line),
         Outcome::Pairs => named(alloc, b"pairs", b""),
         Outcome::Unpaired => named(alloc, b"does not pair", b""),
-        Outcome::WrongPairing(line) => numbered(alloc, b"refused pairing line ", *line),
+        Outcome::WrongPairing(line, why) => {
+            reasoned(alloc, b"refused pairing line ", *line, why.words())
+        }
         Outcome::Fault(fault) => line_of_run(alloc, fault, paths),
     }
 }
@@ -284,4 +287,16 @@ fn numbered(alloc: Global, words: &[u8], number: u64) -> Result<Vec<u8>, AllocEr
 {
     let digits = number.to_string(alloc)?;
     named(alloc, words, digits.as_bytes())
+}
+
+// Some words, a number and a reason.
+fn reasoned(alloc: Global, words: &[u8], number: u64, reason: &[u8]) -> Result<Vec<u8>, AllocError>
+    ensures { IfOk result (λ line. line.items ≡ ended (words.now ++ decimal number ++ codes ": " ++ reason.now)) }
+{
+    let mut line = Vec::from_slice(alloc, words)?;
+    line.extend_from_slice(number.to_string(alloc)?.as_bytes())?;
+    line.extend_from_slice(b": ")?;
+    line.extend_from_slice(reason)?;
+    line.push(b'\n')?;
+    Ok(line)
 }

@@ -1,11 +1,11 @@
 //! What the user sees of an outcome.
-ghost use Rattle.std.specs.Prelude.{◌≡◌, ◌⊎◌, ◌<◌, ◌≤◌, IfOk, IsTrue, Option, codes, length};
+ghost use Rattle.std.specs.Prelude.{◌≡◌, ◌⊎◌, ◌<◌, ◌≤◌, ◌++◌, IfOk, IsTrue, OnOk, Option, codes, length};
 ghost use Rattle.std.specs.Io.KnownBytes.{Appends};
 ghost use Rattle.edi_files.specs.Reasons.{ended};
 ghost use Rattle.edi_files.specs.declared.reason.Reason.{Reason};
-ghost use Rattle.edi_words.specs.Requests.{misuse_text};
 ghost use Rattle.edicad.specs.Answered.{not_text_lines};
 ghost use Rattle.edicad.specs.Effects.{written};
+ghost use Rattle.edicad.specs.Misuses.{bad_kinds_lines, kinds_fault_words, misuse_lines, shows_words};
 ghost use Rattle.edicad.specs.Outcome.{FaultHasNames, HasNames, line_for, status_for, texts};
 ghost use Rattle.edicad.specs.Reasons.{IsReason, lines_for};
 ghost use Rattle.edicad.specs.Statuses.{IsAnsweredAs, IsSaid, IsUnsaid, IsWarned, OnlyLacksMemory, Warns};
@@ -17,7 +17,7 @@ use edi_compare::RunFault;
 use edi_files::Folder;
 use edi_line::ByteOut;
 use edi_shown::push_shown;
-use edi_words::Misuse;
+use edi_words::{BadKinds, KindsFault, Misuse};
 use edi_write::put_all;
 use std::alloc::{AllocError, Global};
 
@@ -137,19 +137,65 @@ pub fn unwritten<E: ByteOut>(err: &mut E) -> u8
     WRITE_STATUS
 }
 
-/// Says why words can't be meant.
-pub fn misused<E: ByteOut>(err: &mut E, misuse: Misuse) -> u8
-    ensures status { result ≡ 3 }
-    ensures text { Warns (written E.ByteOut err.old err.new) (ended (misuse_text misuse)) }
+/// Says why words can't be meant, and of codes that are bad what was given. Gives the exit status: 3, or 5 if there is no memory for
+/// the lines.
+pub fn misused<E: ByteOut>(alloc: Global, err: &mut E, misuse: Misuse<'_>) -> u8
+    ensures { ((result ≡ 3) × Warns (written E.ByteOut err.old err.new) (misuse_lines misuse.entry))
+        ⊎ ((result ≡ 5) × IsTrue (shows_words misuse.entry) × LacksMemory (written E.ByteOut err.old err.new)) }
 {
     match misuse {
-        Misuse::BadKinds => warn(err, b"bad kinds\n"),
-        Misuse::TwoStandard => warn(err, b"only one input can be -\n"),
-        Misuse::NoSheet => warn(err, b"explain takes RULE, or SCD, DIC and VEC\n"),
-        Misuse::StandardPairing => warn(err, b"--pairing takes a file, and not -\n"),
-        Misuse::StandardPicture => warn(err, b"--picture takes a file, and not -\n"),
+        Misuse::BadKinds(bad) => bad_kinds(alloc, err, bad),
+        Misuse::TwoStandard => wrong_words(err, b"only one input can be -\n"),
+        Misuse::NoSheet => wrong_words(err, b"explain takes RULE, or SCD, DIC and VEC\n"),
+        Misuse::StandardPairing => wrong_words(err, b"--pairing takes a file, and not -\n"),
+        Misuse::StandardPicture => wrong_words(err, b"--picture takes a file, and not -\n"),
     }
+}
+
+// Says why words are wrong.
+fn wrong_words<E: ByteOut>(err: &mut E, lines: &[u8]) -> u8
+    ensures status { result ≡ 3 }
+    ensures text { Warns (written E.ByteOut err.old err.new) lines.now }
+{
+    warn(err, lines);
     USAGE_STATUS
+}
+
+// Says that codes are bad, what was given, and what is wrong with that.
+fn bad_kinds<E: ByteOut>(alloc: Global, err: &mut E, bad: BadKinds<'_>) -> u8
+    ensures { ((result ≡ 3) × Warns (written E.ByteOut err.old err.new) (bad_kinds_lines bad.entry))
+        ⊎ ((result ≡ 5) × LacksMemory (written E.ByteOut err.old err.new)) }
+{
+    match lines_of_kinds(alloc, bad) {
+        Ok(lines) => wrong_words(err, &lines),
+        Err(_) => out_of_memory(err),
+    }
+}
+
+// The line for codes that are bad, and then that of what was given.
+fn lines_of_kinds(alloc: Global, bad: BadKinds<'_>) -> Result<Vec<u8>, AllocError>
+    ensures { IfOk result (λ lines. lines.items ≡ bad_kinds_lines bad.entry) }
+{
+    let mut lines = Vec::from_slice(alloc, b"bad kinds\nedicad: --kinds ")?;
+    push_shown(&mut lines, bad.given.as_bytes())?;
+    lines.extend_from_slice(b": ")?;
+    push_kinds_fault(&mut lines, bad.fault)?;
+    lines.push(b'\n')?;
+    Ok(lines)
+}
+
+// Appends what is wrong with codes.
+fn push_kinds_fault(lines: &mut Vec<u8>, fault: KindsFault<'_>) -> Result<(), AllocError>
+    ensures { OnOk result (lines.new.items ≡ lines.old.items ++ kinds_fault_words fault.entry) }
+{
+    match fault {
+        KindsFault::Count => lines.extend_from_slice(b"takes four codes parted by commas"),
+        KindsFault::Empty => lines.extend_from_slice(b"a code is empty"),
+        KindsFault::Twice(code) => {
+            push_shown(lines, code.as_bytes())?;
+            lines.extend_from_slice(b" is there twice")
+        }
+    }
 }
 
 /// Says that no rule has a number.

@@ -238,9 +238,9 @@ pub fn verify<F: Folder>(
     ensures ok { IfOk result (λ answer. OfFive (inputs F.Folder F.Reader.ByteIn folder.now) files.now pairing.now
         (λ s d a b f. IsVerifiedUnder kinds.now s d a b f answer)) }
     ensures err { IfErr result (λ e. MatchRun e (VerifyFileFault (inputs F.Folder F.Reader.ByteIn folder.now) kinds.now
-        files.now pairing.now) (λ at. OfFive (inputs F.Folder F.Reader.ByteIn folder.now) files.now pairing.now
-        (λ s d a b f. RefusesFile kinds.now s d a b f at))) }
-    ensures names { IfErr result (λ e. MatchRun e (λ f. FaultHasNames f 6) (λ _. ⊤)) }
+        files.now pairing.now) (λ at why. OfFive (inputs F.Folder F.Reader.ByteIn folder.now) files.now pairing.now
+        (λ s d a b f. RefusesFile kinds.now s d a b f at why))) }
+    ensures names { IfErr result (λ e. MatchRun e (λ f. FaultHasNames f 6) (λ _ _. ⊤)) }
 {
     let mut scd = opened(folder, files.scd, 1)?;
     let mut dic = opened(folder, files.dic, 2)?;

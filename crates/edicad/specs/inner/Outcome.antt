@@ -26,4 +26,4 @@ abbrev pub verified_outcome : Result Bool VerifyRunFault → Outcome
 verified_outcome (Ok true) = Pairs
 verified_outcome (Ok false) = Unpaired
 verified_outcome (Err (verifying.Run fault)) = Fault fault
-verified_outcome (Err (verifying.Pairing at)) = WrongPairing at
+verified_outcome (Err (verifying.Pairing at why)) = WrongPairing at why

@@ -3,7 +3,8 @@ use Rattle.std.specs.Prelude.{◌↔◌, IfSome, IsTrue, unwrap_or}
 use Rattle.std.proofs.lemmas.Bool.{false≢true}
 use Rattle.clap.specs.Words.{Row, Text, found_of, rows_of}
 use Rattle.clap.proofs.WalkLemmas.{first_value-rows}
-use Rattle.edi_words.specs.Requests.{AreKindsOf, Means, standard_count}
+use Rattle.edi_schema.specs.Roles.{KindCodes}
+use Rattle.edi_words.specs.Requests.{AreBadKinds, AreKindsOf, Means, standard_count}
 use Rattle.edi_words.specs.inner.Requests.{IsOwn}
 use Rattle.edi_words.proofs.words.meant.Goals as goal
 
@@ -19,14 +20,11 @@ at_most_one b zero h e = omega arith
 at_most_one b (suc zero) h e = omega arith
 at_most_one b (suc (suc n)) h e = absurd (false≢true (sym e ∙ h.1 (omega arith)))
 
-pub returns-in_default-kinds_of-clause-means : goal.returns-in_default-kinds_of-clause-means
-returns-in_default-kinds_of-clause-means g c =
-    let text_is = c.get_str.ensures ∙ first_value-rows (found_of c.in-Some.given.now) _ in (
-      c.in-Some.name.now,
-      rows_of (found_of c.in-Some.given.now),
-      pair_of _ _ _ _ c.in-Some.ensures.name c.in-Some.ensures.rows,
-      (λ k are. c.in_default-kinds_of.ensures k (subst (λ t. AreKindsOf t k) (sym text_is) are)),
-    )
+pub returns-in-Err-clause-means : goal.returns-in-Err-clause-means
+returns-in-Err-clause-means g c =
+    let text_is = c.get_str.ensures ∙ first_value-rows (found_of c.in-Some.given.now) _ in
+    let bad = subst (λ t. ((k : KindCodes) → ¬ (AreKindsOf t k)) × AreBadKinds t c.in-Err.bad) text_is c.in-Err.ensures in
+    (c.in-Some.name.now, rows_of (found_of c.in-Some.given.now), pair_of _ _ _ _ c.in-Some.ensures.name c.in-Some.ensures.rows, bad)
 
 pub returns-then-reads_input_twice-clause-means : goal.returns-then-reads_input_twice-clause-means
 returns-then-reads_input_twice-clause-means g c = (
@@ -41,7 +39,7 @@ returns-clause-means g c =
     let text_is = c.get_str.ensures ∙ first_value-rows (found_of c.in-Some.given.now) _ in
     let met = pair_of _ _ _ _ c.in-Some.ensures.name c.in-Some.ensures.rows in
     subst (λ m. Means m c.subcommand_meant.result) (sym met)
-    (c.subcommand_meant.ensures (subst IsOwn met c.requires) (subst (λ t. AreKindsOf t c.in-Some-kinds_of.kinds) text_is c.in-Some-kinds_of.ensures))
+    (c.subcommand_meant.ensures (subst IsOwn met c.requires) (subst (λ t. AreKindsOf t c.in-Ok.kinds) text_is c.in-Ok.ensures))
 
 pub returns-clause-once : goal.returns-clause-once
 returns-clause-once g c = λ _.

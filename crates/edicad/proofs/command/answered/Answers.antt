@@ -1,4 +1,10 @@
-use Rattle.std.proofs.Common.{refl}
+use Rattle.std.proofs.Common.{◌≡◌, ◌⊎◌, ℕ, [], IsTrue, inl, inr, refl}
+use Rattle.edi_compare.specs.Runs.{Seen}
+use Rattle.edi_words.specs.declared.words.Misuse.{Misuse}
+use Rattle.edicad.specs.Answered.{IsMisusedStatus}
+use Rattle.edicad.specs.Effects.{written}
+use Rattle.edicad.specs.Misuses.{misuse_lines, shows_words}
+use Rattle.edicad.specs.Statuses.{LacksMemory, Prints, Warns}
 use Rattle.edicad.proofs.Answering.{appends_nothing}
 use Rattle.edicad.proofs.command.answered.Goals as goal
 
@@ -8,3 +14,14 @@ returns-in-Answered-clause-answer g c =
 
 pub returns-in-Answered-clause-status : goal.returns-in-Answered-clause-status
 returns-in-Answered-clause-status g c = rw c.in-Answered.is refl
+
+-- what was said of words that can't be meant, where nothing went out
+misused_status : (out err : Seen) (misuse : Misuse) (s : ℕ) → Prints out [] → ((s ≡ 3) × Warns err (misuse_lines misuse)) ⊎ ((s ≡ 5) × IsTrue (shows_words misuse) × LacksMemory err) → IsMisusedStatus out err misuse s
+misused_status out err misuse s none (inl h) = inl (h.0, (none, h.1))
+misused_status out err misuse s none (inr h) = inr (h.0, h.1, none, h.2)
+
+pub returns-in-Misused-clause-answer : goal.returns-in-Misused-clause-answer
+returns-in-Misused-clause-answer g c =
+    let out = written g.O.ByteOut c.args.out.now c.args.out.now in
+    let err = written g.E.ByteOut c.args.err.now c.misused.new.err in
+    rw c.in-Misused.is (refl, misused_status out err c.in-Misused.misuse c.misused.result (appends_nothing (g.O.ByteOut.contents c.args.out.now)) c.misused.ensures)
