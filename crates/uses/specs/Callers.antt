@@ -19,12 +19,12 @@ MatchUnwritten P Q (Refused fault) = P fault
 MatchUnwritten P Q (Failed written) = Q written
 
 -- a writer got the canonical file of the sheet
-abbrev pub WritesForm : Classes → List ℕ → Option (List ℕ) → Option (List ℕ) → Type 0
-WritesForm s sheet old new = (c : List ℕ) × IsFormOf s sheet c × Appends old new c
+abbrev pub GetsForm : Classes → List ℕ → Option (List ℕ) → Option (List ℕ) → Type 0
+GetsForm s sheet old new = (c : List ℕ) × IsFormOf s sheet c × Appends old new c
 
 -- a writer got the first bytes of the canonical file of the sheet, this many
-abbrev pub WritesFirst : Classes → List ℕ → ℕ → Option (List ℕ) → Option (List ℕ) → Type 0
-WritesFirst s sheet count old new = (c : List ℕ) × IsFormOf s sheet c × (count ≤ length c) × Appends old new (take count c)
+abbrev pub GetsFirst : Classes → List ℕ → ℕ → Option (List ℕ) → Option (List ℕ) → Type 0
+GetsFirst s sheet count old new = (c : List ℕ) × IsFormOf s sheet c × (count ≤ length c) × Appends old new (take count c)
 
 -- the pairing carries the plan of the one sheet onto that of the other
 abbrev pub SomePairing : Classes → List ℕ → List ℕ → Pairing → Type 0

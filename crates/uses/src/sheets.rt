@@ -9,7 +9,7 @@ ghost use Rattle.edi_plan.specs.Agreeing.{HasClasses};
 ghost use Rattle.edi_compare.specs.Pairings.{PairingCarries};
 ghost use Rattle.edi_compare.specs.PlanOfFile.{IsPlanOfFile, StateSame};
 ghost use Rattle.edi_compare.specs.Refused.{IsPairRefusal, IsRefusal};
-ghost use Rattle.uses.specs.Callers.{MatchUnwritten, SomePairing, WritesFirst, WritesForm, own_kinds};
+ghost use Rattle.uses.specs.Callers.{MatchUnwritten, SomePairing, GetsFirst, GetsForm, own_kinds};
 
 use edi_compare::{
     Accepted, CompareFault, Fault, Pairing, Verdict, accept, canon, check_pairing, compare,
@@ -47,10 +47,10 @@ pub fn write_canonical<W: ByteOut>(
     sheet: &[u8],
     writer: &mut W,
 ) -> Result<(), Unwritten>
-    ensures written { IfOk result (λ _. WritesForm schema.now sheet.now (W.contents writer.old) (W.contents writer.new)) }
+    ensures written { IfOk result (λ _. GetsForm schema.now sheet.now (W.contents writer.old) (W.contents writer.new)) }
     ensures unwritten { IfErr result (MatchUnwritten
         (λ fault. (writer.new ≡ writer.old) × IsRefusal schema.now sheet.now fault)
-        (λ written. WritesFirst schema.now sheet.now written.count (W.contents writer.old) (W.contents writer.new))) }
+        (λ written. GetsFirst schema.now sheet.now written.count (W.contents writer.old) (W.contents writer.new))) }
     ensures failed { IfErr result (MatchUnwritten (λ fault. ⊤) (λ written. IsTrue (W.has_failed writer.new))) }
 {
     let file = match canon(alloc, schema, sheet) {
