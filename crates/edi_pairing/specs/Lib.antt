@@ -5,4 +5,5 @@ pub mod Verified
 pub mod CompareRuns
 pub mod VerifyRuns
 pub mod Laws
+pub mod Known
 pub mod inner

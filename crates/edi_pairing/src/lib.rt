@@ -2,6 +2,7 @@
 #![tactic(auto)]
 
 pub mod fault;
+pub mod known;
 pub mod laws;
 mod lines;
 pub mod names;
