@@ -8,7 +8,7 @@ ghost use Rattle.edicad.specs.Effects.{written};
 ghost use Rattle.edicad.specs.Misuses.{bad_kinds_lines, kinds_fault_words, misuse_lines, shows_words};
 ghost use Rattle.edicad.specs.Outcome.{FaultHasNames, HasNames, line_for, status_for, texts};
 ghost use Rattle.edicad.specs.Reasons.{IsReason, lines_for};
-ghost use Rattle.edicad.specs.Statuses.{IsAnsweredAs, IsSaid, IsUnsaid, IsWarned, OnlyLacksMemory, Warns};
+ghost use Rattle.edicad.specs.Statuses.{IsAnsweredAs, IsSaid, IsUnsaid, IsWarned, LacksMemory, OnlyLacksMemory, Warns};
 ghost use Rattle.edicad.specs.declared.outcome.Outcome.{Outcome};
 
 use crate::outcome::{Outcome, line_of, line_of_run, path_of_fault, status_of, status_of_fault};
