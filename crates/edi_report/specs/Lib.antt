@@ -3,4 +3,5 @@ pub mod Reports
 pub mod Located
 pub mod Lines
 pub mod Tables
+pub mod Known
 pub mod inner

@@ -1,6 +1,7 @@
 //! The text of what differs between two sheets, by what became of the records of the one in the other.
 #![tactic(auto)]
 
+pub mod known;
 mod lines;
 pub mod marks;
 mod numbers;
