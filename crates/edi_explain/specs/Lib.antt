@@ -10,4 +10,5 @@ pub mod Barring
 pub mod Hints
 pub mod Lengths
 pub mod Skipped
+pub mod Known
 pub mod inner

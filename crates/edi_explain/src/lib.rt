@@ -7,6 +7,7 @@ pub mod counts;
 pub mod examined;
 pub mod explained;
 pub mod hints;
+pub mod known;
 mod lengths;
 mod lines;
 pub mod links;
