@@ -103,7 +103,8 @@ link_tested role a k r link is ends =
     and_true (is_link r.kind) (same_role r.role role && are_two a k (targets r)) (ap is_link link)
     (and_true (same_role r.role role) (are_two a k (targets r)) (ap (λ (o : Role). same_role o role) is ∙ itself role) (two_tested a k (targets r) ends))
 
-tested : (p : Drawing) (role : Role) (a k : ℕ) → Side p a role k → is_beside p role a k ≡ true
+-- the test of a picture, and what an arc has by a role
+pub tested : (p : Drawing) (role : Role) (a k : ℕ) → Side p a role k → is_beside p role a k ≡ true
 tested p role a k s =
     and_true (is_arc (record_at p a).kind) (list_any (links role a k) p.list) (ap is_arc s.is_arc)
     (list_any_at (links role a k) p.list s.link blank s.there (link_tested role a k (record_at p s.link) s.is_link s.has_role s.ends))
@@ -124,7 +125,7 @@ found_at f (r ∷ rs) e = go (either (f r) (list_any f rs) e) (found_at f rs)
     go (inl h) later = (0, omega arith, h)
     go (inr h) later = let rest = later h in (suc rest.0, omega (arith, rest.1), rest.2)
 
-said : (p : Drawing) (role : Role) (a k : ℕ) → IsPlace p a → role ≢ Plain → is_beside p role a k ≡ true → Side p a role k
+pub said : (p : Drawing) (role : Role) (a k : ℕ) → IsPlace p a → role ≢ Plain → is_beside p role a k ≡ true → Side p a role k
 said p role a k there proper e =
     let parts = both (is_arc (record_at p a).kind) (list_any (links role a k) p.list) e in
     let found = found_at (links role a k) p.list parts.1 in

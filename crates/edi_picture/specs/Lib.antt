@@ -5,4 +5,6 @@ pub mod Titles
 pub mod Elements
 pub mod Faces
 pub mod Pictures
+pub mod Laws
+pub mod Known
 pub mod inner

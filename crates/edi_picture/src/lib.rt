@@ -6,6 +6,8 @@ pub mod drawing;
 mod ends;
 mod faces;
 mod frame;
+pub mod known;
+pub mod laws;
 mod layers;
 mod legend;
 pub mod mark;

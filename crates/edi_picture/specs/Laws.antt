@@ -1,0 +1,11 @@
+-- Laws of pictures.
+use Rattle.std.specs.Prelude.{◌≡◌, ◌≢◌, ◌↔◌, ℕ, true}
+use Rattle.edi_schema.specs.declared.role.Role.{Role}
+use Rattle.edi_schema.specs.declared.role.Role.TheVariants.{Plain}
+use Rattle.edi_plan.specs.Plans.{Drawing, IsPlace}
+use Rattle.edi_plan.specs.Sides.{Side}
+use Rattle.edi_picture.specs.Faces.{is_beside}
+
+-- a picture finds a face beside an arc exactly if the arc has it on that side
+abbrev pub BesideIsSide : Type 0
+BesideIsSide = (p : Drawing) (role : Role) (a k : ℕ) → IsPlace p a → role ≢ Plain → (is_beside p role a k ≡ true) ↔ Side p a role k

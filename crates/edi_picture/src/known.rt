@@ -1,0 +1,16 @@
+//! What the definitions say of known records.
+
+ghost use Rattle.std.specs.Prelude.{◌≡◌, [], ◌∷◌, codes};
+ghost use Rattle.edi_record.specs.declared.record.Kind.TheVariants.{Par, Pno};
+ghost use Rattle.edi_picture.specs.Elements.{arc_text, node_text};
+ghost use Rattle.edi_picture.specs.Known.{frame, known_point, one_class, one_record};
+ghost use Rattle.edi_picture.specs.declared.mark.Mark.TheVariants.{Changed, Hidden, OnlySecond};
+
+/// Some records, and what is drawn of them.
+pub fn known_records_are_drawn()
+    ensures node { node_text one_class frame (one_record Pno (known_point 1500000 20000000 ∷ []) OnlySecond) 0
+        ≡ codes "<path d='M 1,2.5h0' stroke='#0072B2'><title>PNO A&amp;B PGE;NOD_id</title></path>\n" }
+    ensures arc { arc_text one_class frame (one_record Par (known_point 500000 0 ∷ known_point 3000000 22500000 ∷ []) Changed) 0
+        ≡ codes "<polyline points=' 0,22.5 2.5,0' stroke='#E69F00'><title>PAR A&amp;B PGE;NOD_id</title></polyline>\n" }
+    ensures hidden { node_text one_class frame (one_record Pno (known_point 1500000 20000000 ∷ []) Hidden) 0 ≡ [] }
+{}
