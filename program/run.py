@@ -37,13 +37,13 @@ BUILDS = ("edicad", "edicad.by-rattle")
 # was lost, or wasn't made. Who adds or takes away checks or cases on purpose changes the number here.
 PARTS = {
     "cases": 3312,
-    "words": 164,
+    "words": 204,
     "files": 53,
     "standard streams": 49,
     "shown": 8,
     "hashes": 19,
     "explains": 66,
-    "pairings": 106,
+    "pairings": 112,
     "differences": 82,
     "pictures": 105,
     "explains partners": 5,
