@@ -1,4 +1,4 @@
-"""Bugs planted in copies of their functions. Beside the originals, which stay as they are, all of them can be checked at once: none hides
+"""Bugs planted in copies of their functions. Beside the originals, which stay as they are, many can be checked at once: none hides
 another, also where one function calls the other or both change one."""
 import os
 import re

@@ -82,7 +82,7 @@ class Room:
     as the dearest takes at its most, for it and for each that has just begun."""
 
     NEED = 5_000_000_000
-    SECONDS_TO_FILL = 60
+    SECONDS_TO_FILL = 180
 
     def __init__(self):
         self.lock = threading.Lock()

@@ -12,6 +12,8 @@ from .kit import RT, check
 # how long one check may take, in seconds: from nothing, and over kept work
 FROM_NOTHING = 1800
 OVER_KEPT = 900
+# how many copies of functions one check gets: with each it takes more memory
+MOST_COPIES = 24
 
 
 class Unfinished(Exception):
@@ -86,7 +88,14 @@ class Trial:
         return faults, judge.states_of(said.text)
 
     def try_copies(self, edits):
-        """The verdicts on those edits that are refused in copies of their functions, all planted at once."""
+        """The verdicts on those edits that are refused in copies of their functions. The first check leaves the work over which the others go,
+        side by side."""
+        parts = [edits[at : at + MOST_COPIES] for at in range(0, len(edits), MOST_COPIES)]
+        found = [self.refused_in_copies(it) for it in parts[:1]] + side_by_side(self.refused_in_copies, parts[1:])
+        return {name: verdict for it in found for name, verdict in it.items()}
+
+    def refused_in_copies(self, edits):
+        """The same of edits whose copies are all planted at once."""
         copies = planted_in_copies(edits, self.crate.folder)
         found = self.verdicts_of_copies(copies)
         unfit = {it: copies[it] for it in found if found[it].how == judge.ANSWER and found[it].path}
