@@ -1,5 +1,6 @@
 //! What the definitions say of digests.
-ghost use Rattle.edicad.specs.Hashes.{OneDigestOnePlan, OnePlanOneDigest};
+ghost use Rattle.std.specs.Prelude.{◌≡◌, ◌∷◌, [], codes};
+ghost use Rattle.edicad.specs.Hashes.{OneDigestOnePlan, OnePlanOneDigest, digest_line};
 
 use edi_compare::laws::equal_exactly_if_same;
 
@@ -11,3 +12,10 @@ pub fn digests_tell_plans()
 {
     equal_exactly_if_same();
 }
+
+/// The first bytes of a digest and some names, and the lines that `hash` would write of them.
+pub fn known_digests_are_written()
+    ensures plain { digest_line (227 ∷ 176 ∷ 196 ∷ 66 ∷ []) (codes "A.VEC") ≡ codes "e3b0c442  A.VEC\n" }
+    ensures backslash { digest_line (227 ∷ 176 ∷ 196 ∷ 66 ∷ []) (codes "a\\b.VEC") ≡ codes "\\e3b0c442  a\\\\b.VEC\n" }
+    ensures line_feed { digest_line (227 ∷ 176 ∷ 196 ∷ 66 ∷ []) (codes "a\nb.VEC") ≡ codes "\\e3b0c442  a\\nb.VEC\n" }
+{}
