@@ -10,7 +10,7 @@ import sys
 TOP = os.path.join(os.path.dirname(os.path.abspath(__file__)), "..")
 WORK = re.compile(r"^gate: +([\d.]+) min of one processor: (?:(proof|bugs|compile) (\w+)|all else)$")
 STAGE = re.compile(r"^gate: (.+): ([\d.]+) min by the clock, ([\d.]+) min of one processor$")
-NAMES = {"rt ci": "proofs, planted bugs, programs", "run.py": "the built program", "pages.py": "pages", "tests.py": "the driver's tests"}
+NAMES = {"rt ci": "proofs, planted bugs, programs", "run.py": "the built program", "pages.py": "pages", "tests.py": "the driver's tests, beside the next"}
 
 
 class Stage:
@@ -54,7 +54,7 @@ def cell(minutes):
 
 def section(stages, cores):
     rows = [f"| {named(it.command)} | {it.clock:.1f} | {it.processor:.1f} |" for it in stages]
-    clock, processor = sum(it.clock for it in stages), sum(it.processor for it in stages)
+    clock, processor = sum(it.clock for it in stages if "tests.py" not in it.command), sum(it.processor for it in stages)
     crates = [f"| `{it}` | {cell(total(stages, 'proof', it))} | {cell(total(stages, 'bugs', it))} |" for it in crates_in_order()]
     head = f"The last whole run of the gate on a clean checkout, on {cores} cores, in minutes by the clock and of one processor:"
     return "\n".join([
