@@ -17,6 +17,9 @@ pub trait ByteIn {
     /// How many calls of `read` it has counted.
     ghost reads: { Self → ℕ };
 
+    /// Which device it reads, as a number. No read changes it.
+    ghost device: { Self → ℕ };
+
     /// Puts the next bytes at the front of the buffer and says how many, at most as many as the
     /// buffer has. 0 for a buffer of one byte or more comes only where no bytes are left, if the
     /// bytes are known.
@@ -26,7 +29,15 @@ pub trait ByteIn {
         ensures fails { has_failed self.new ≡ is_none result }
         ensures for_good { IsTrue (has_failed self.old) → IsNone result }
         ensures at_least { reads self.old ≤ reads self.new }
-        ensures at_most { reads self.new ≤ reads self.old + 1 };
+        ensures at_most { reads self.new ≤ reads self.old + 1 }
+        ensures same { device self.new ≡ device self.old };
+
+    /// So many bytes are left at least, where that can be told without reading.
+    fn left(&self) -> Option<u64>
+        ensures { IfSome result (λ n. IfSome (contents self.now) (λ bytes. n ≤ length bytes)) }
+    {
+        None
+    }
 }
 
 /// A sink of bytes.
@@ -53,7 +64,8 @@ pub trait ByteOut {
         ensures at_most { writes self.new ≤ writes self.old + 1 };
 }
 
-/// A reader of std as a source. Any error is a failure, an interrupted read too. It counts no calls.
+/// A reader of std as a source. Any error is a failure, an interrupted read too. It counts no calls, and no device is told
+/// from another.
 #[derive(Drop)]
 pub struct FromRead<R> {
     inner: R,
@@ -79,6 +91,8 @@ impl<R: Read> ByteIn for FromRead<R> {
     ghost has_failed = { λ s. s.failed };
 
     ghost reads = { λ _. 0 };
+
+    ghost device = { λ _. 0 };
 
     fn read(&mut self, buffer: &mut [u8]) -> Option<usize> {
         if self.failed {

@@ -83,6 +83,8 @@ impl<'a> ByteIn for ScriptIn<'a> {
 
     ghost reads = { λ s. s.calls };
 
+    ghost device = { λ _. 0 };
+
     /// Counts the call, and gives the next piece, or fails if its turn to fail has come. The
     /// script stays as it is.
     fn read(&mut self, buffer: &mut [u8]) -> Option<usize>

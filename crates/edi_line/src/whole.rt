@@ -37,6 +37,7 @@ pub fn read_all<R: ByteIn>(alloc: Global, reader: &mut R, limit: u64) -> Result<
     ensures too_long { IsErrOf result ReadFault.TooLong → (came : List ℕ)
         × Consumes (R.contents reader.old) (R.contents reader.new) came × (limit < length came) }
     ensures cost { R.reads reader.new ≤ R.reads reader.old + limit + 2 }
+    ensures same { R.device reader.new ≡ R.device reader.old }
 {
     let mut bytes = Vec::new(alloc);
     let mut buffer = [0u8; CHUNK];
@@ -71,6 +72,7 @@ pub fn read_pieces<R: ByteIn>(
     ensures too_long { IsErrOf result ReadFault.TooLong → (came : List ℕ)
         × Consumes (R.contents reader.old) (R.contents reader.new) came × (limit < length came) }
     ensures cost { R.reads reader.new ≤ R.reads reader.old + limit + 2 }
+    ensures same { R.device reader.new ≡ R.device reader.old }
 {
     let mut pieces = Pieces::new(alloc);
     let mut chunk = [0u8; CHUNK];

@@ -1,4 +1,4 @@
-use Rattle.std.proofs.Common.{◌≡◌, ◌++◌, length, take, sym, ap, subst, arith, length-append}
+use Rattle.std.proofs.Common.{◌≡◌, ◌++◌, length, take, sym, ◌∙◌, ap, subst, arith, length-append}
 use Rattle.std.specs.Io.KnownBytes.{Consumes}
 use Rattle.std.proofs.lemmas.List.{length-take-le}
 use Rattle.edi_line.proofs.DeviceLemmas.{Consumes-append, mapped_value}
@@ -39,4 +39,5 @@ loop-pieces-preserved g c =
       omega (arith, ap length more, length-append bytes (take count chunk), piece, c.len.ensures, c.if-limit-len.false),
       subst (Consumes (g.R.ByteIn.contents c.args.reader.now) (g.R.ByteIn.contents c.read.new.self)) (sym more) (Consumes-append _ _ _ bytes (take count chunk) c.loop-pieces.invariant.1 call.bytes.0),
       omega (arith, ap length more, length-append bytes (take count chunk), piece, c.loop-pieces.invariant.2, call.at_most, c.in-Some.count-test),
+      call.same ∙ c.loop-pieces.invariant.3,
     )
