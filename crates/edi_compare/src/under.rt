@@ -21,11 +21,9 @@ pub fn schema_of<S: ByteIn, D: ByteIn>(
     dic: &mut D,
 ) -> Result<Schema, RunFault>
     ensures ok { IfOk result (λ schema. IfBothKnown (S.contents scd.old) (D.contents dic.old) (λ s d. IsGoodSchema s d kinds.now schema)) }
-    ensures read { OnOk result (IsRead (seen (S.contents scd.old) (S.contents scd.new) (S.has_failed scd.new)) × IsRead (seen (D.contents dic.old) (D.contents dic.new) (D.has_failed dic.new))) }
-    ensures err { IfErr result (SchemaFilesFault kinds.now (seen (S.contents scd.old) (S.contents scd.new) (S.has_failed scd.new))
-        (seen (D.contents dic.old) (D.contents dic.new) (D.has_failed dic.new)) (dic.new ≡ dic.old)) }
-    ensures after { IfErr result (λ e. AfterReading e (IsRead (seen (S.contents scd.old) (S.contents scd.new) (S.has_failed scd.new))
-        × IsRead (seen (D.contents dic.old) (D.contents dic.new) (D.has_failed dic.new)))) }
+    ensures read { OnOk result (IsRead (seen S.ByteIn scd.old scd.new) × IsRead (seen D.ByteIn dic.old dic.new)) }
+    ensures err { IfErr result (SchemaFilesFault kinds.now (seen S.ByteIn scd.old scd.new) (seen D.ByteIn dic.old dic.new)) }
+    ensures after { IfErr result (λ e. AfterReading e (IsRead (seen S.ByteIn scd.old scd.new) × IsRead (seen D.ByteIn dic.old dic.new))) }
 {
     let scd = read_input(alloc, scd, 1)?;
     let dic = read_input(alloc, dic, 2)?;
@@ -39,9 +37,9 @@ pub fn canon_under<V: ByteIn>(
     vec: &mut V,
 ) -> Result<Vec<u8>, RunFault>
     ensures ok { IfOk result (λ c. IfSome (V.contents vec.old) (λ v. IsFormOf schema.now v c.items)) }
-    ensures read { OnOk result (IsRead (seen (V.contents vec.old) (V.contents vec.new) (V.has_failed vec.new))) }
-    ensures err { IfErr result (UnderFault schema.now (seen (V.contents vec.old) (V.contents vec.new) (V.has_failed vec.new))) }
-    ensures after { IfErr result (λ e. AfterReading e (IsRead (seen (V.contents vec.old) (V.contents vec.new) (V.has_failed vec.new)))) }
+    ensures read { OnOk result (IsRead (seen V.ByteIn vec.old vec.new)) }
+    ensures err { IfErr result (UnderFault schema.now (seen V.ByteIn vec.old vec.new)) }
+    ensures after { IfErr result (λ e. AfterReading e (IsRead (seen V.ByteIn vec.old vec.new))) }
 {
     let vec = read_input_pieces(alloc, vec, 3)?;
     form_or_fault(alloc, schema, vec)

@@ -1,13 +1,17 @@
 -- What is checked of a pairing, record by record.
-use Rattle.std.specs.Prelude.{◌≡◌, ℕ, ◌<◌, Bool, true, List, length, slice_index}
-use Rattle.edi_record.specs.declared.record.Kind.TheVariants.{Par}
-use Rattle.edi_schema.specs.Classes.{Classes, partner_of}
+use Rattle.std.specs.Prelude.{◌≡◌, ℕ, ◌<◌, Bool, true, false, List, length, slice_index, slice_index_or}
+use Rattle.edi_schema.specs.Classes.{Classes}
 use Rattle.edi_plan.specs.Plans.{Drawing, IsPlace, record_at}
 use Rattle.edi_plan.specs.declared.record.PlanEnd.{PlanEnd}
 use Rattle.edi_rank.specs.Labelling.{turned_at}
-use Rattle.edi_rank.specs.Same.{class_after, directed, CarriesRecord}
 use Rattle.edi_plan.specs.Agreeing.{HasClasses}
+use Rattle.edi_compare.specs.Uncarried.{AgreeIn, IsCarried, IsFirstUnlike, IsFirstUnmet, IsFirstUncarried, IsWrongPartner}
 use Rattle.edi_compare.specs.declared.moved_ends.MovedEnd.{MovedEnd}
+use Rattle.edi_compare.specs.declared.uncarried.RecordPart.{RecordPart}
+use Rattle.edi_compare.specs.declared.uncarried.RecordPart.TheVariants.{Reversal, Kind, Class, Points, Extras}
+use Rattle.edi_compare.specs.declared.uncarried.Uncarried.{Uncarried}
+use Rattle.edi_compare.specs.declared.uncarried.Uncarried.TheVariants.{Entries, CharacterSets, Record, Unmet}
+use Rattle.edi_compare.specs.declared.uncarried.WrongPartner.{WrongPartner}
 
 -- two plans of one schema, the places that the records of the first go to, and which of them are turned
 pub record Matching : Type 0 where
@@ -17,25 +21,60 @@ pub record Matching : Type 0 where
   pub to : List ℕ
   pub turned : List Bool
 
--- each record has a place in the other plan to go to
+-- each record has an entry
 pub record IsFitting (m : Matching) : Type 0 where
   pub classed : HasClasses m.classes m.plan
   pub all_paired : length m.to ≡ length m.plan.list
   pub all_directed : length m.turned ≡ length m.plan.list
-  pub within : (i : ℕ) → IsPlace m.plan i → slice_index m.to i < length m.other.list
 
--- the record at the place i is the one that it goes to, and is an arc if it is turned
-pub record IsCarried (m : Matching) (i : ℕ) : Type 0 where
-  pub arc : turned_at m.turned i ≡ true → (record_at m.plan i).kind ≡ Par
-  pub carries : CarriesRecord m.classes (slice_index m.to) (turned_at m.turned) i (record_at m.plan i) (record_at m.other (slice_index m.to i))
+-- the record at the place is carried, or isn't by this
+abbrev pub IsCarriedAt : Matching → ℕ → Type 0
+IsCarriedAt m i = IsCarried m.classes (slice_index m.to) (turned_at m.turned) m.plan m.other i
 
--- the same of what needs no order: kind, class, points and extra zones
-pub record HasSameBody (m : Matching) (i : ℕ) : Type 0 where
-  pub arc : turned_at m.turned i ≡ true → (record_at m.plan i).kind ≡ Par
-  pub kind : (record_at m.other (slice_index m.to i)).kind ≡ (record_at m.plan i).kind
-  pub class : (record_at m.other (slice_index m.to i)).class ≡ class_after (partner_of m.classes) (turned_at m.turned) (record_at m.plan i)
-  pub points : (record_at m.other (slice_index m.to i)).points ≡ directed (turned_at m.turned i) (record_at m.plan i).points
-  pub extras : (record_at m.other (slice_index m.to i)).extras ≡ (record_at m.plan i).extras
+abbrev pub IsWrongAt : Matching → ℕ → WrongPartner → Type 0
+IsWrongAt m i why = IsWrongPartner m.classes (slice_index m.to) (turned_at m.turned) m.plan m.other i why
+
+-- the record and the one that it goes to agree in a part
+abbrev pub AgreeAt : Matching → ℕ → RecordPart → Type 0
+AgreeAt m i part = AgreeIn m.classes (slice_index m.to) (turned_at m.turned) i (record_at m.plan i) (record_at m.other (slice_index m.to i)) part
+
+abbrev pub IsUnlikeAt : Matching → ℕ → RecordPart → Type 0
+IsUnlikeAt m i part = IsFirstUnlike m.classes (slice_index m.to) (turned_at m.turned) i (record_at m.plan i) (record_at m.other (slice_index m.to i)) part
+
+-- they agree in what needs no order
+pub record HaveSameBody (m : Matching) (i : ℕ) : Type 0 where
+  pub reversal : AgreeAt m i Reversal
+  pub kind : AgreeAt m i Kind
+  pub class : AgreeAt m i Class
+  pub points : AgreeAt m i Points
+  pub extras : AgreeAt m i Extras
+
+-- the first of these parts in which they don't
+abbrev pub HaveOtherBody : Matching → ℕ → RecordPart → Type 0
+HaveOtherBody m i Reversal = ¬ (AgreeAt m i Reversal)
+HaveOtherBody m i Kind = AgreeAt m i Reversal × (¬ (AgreeAt m i Kind))
+HaveOtherBody m i Class = AgreeAt m i Reversal × AgreeAt m i Kind × (¬ (AgreeAt m i Class))
+HaveOtherBody m i Points = AgreeAt m i Reversal × AgreeAt m i Kind × AgreeAt m i Class × (¬ (AgreeAt m i Points))
+HaveOtherBody m i Extras = AgreeAt m i Reversal × AgreeAt m i Kind × AgreeAt m i Class × AgreeAt m i Points × (¬ (AgreeAt m i Extras))
+HaveOtherBody m i _ = ⊥
+
+-- the marks of places: those to which the first so many records go
+pub record AreMarked (to : ℕ → ℕ) (marks : List Bool) (count done : ℕ) : Type 0 where
+  pub long : length marks ≡ count
+  pub found : (j : ℕ) → slice_index_or marks j false ≡ true → (k : ℕ) × (k < done) × (to k ≡ j)
+  pub marked : (k : ℕ) → k < done → slice_index_or marks (to k) false ≡ true
+
+-- each record is carried, and one goes to each of the second plan
+pub record AreCarried (m : Matching) : Type 0 where
+  pub each : (i : ℕ) → IsPlace m.plan i → IsCarriedAt m i
+  pub onto : (j : ℕ) → IsPlace m.other j → (i : ℕ) × IsPlace m.plan i × (slice_index m.to i ≡ j)
+
+-- what isn't so of two plans, where there is an entry for each record and one character set
+abbrev pub StopsAt : Matching → Uncarried → Type 0
+StopsAt m Entries = ⊥
+StopsAt m CharacterSets = ⊥
+StopsAt m (Record i why) = IsFirstUncarried m.classes (slice_index m.to) (turned_at m.turned) m.plan m.other i why
+StopsAt m (Unmet j) = IsFirstUnmet m.classes (slice_index m.to) (turned_at m.turned) m.plan m.other j
 
 -- an end as it is compared
 abbrev pub placed_end : PlanEnd → MovedEnd
