@@ -1,7 +1,7 @@
 -- How steps over a folder go on.
 use Rattle.std.proofs.Common.{◌≡◌, ◌≢◌, ◌⊎◌, ℕ, List, [], ◌++◌, Option, Some, None, IfSome, inl, inr, sym, ◌∙◌, ap, subst, ⊎_elim, arith}
 use Rattle.std.specs.Io.KnownBytes.{Appends}
-use Rattle.edi_files.specs.Folders.{Goes, IsFree, Leavings}
+use Rattle.edi_files.specs.Folders.{Goes, IsSpare, Leavings}
 use Rattle.edi_files.specs.Outputs.{IsWholeOrNew}
 
 -- nothing was done
@@ -34,24 +34,24 @@ filled (Some xs) (Some ys) bytes c e h is =
     (ys, h ∙ ap (λ (l : List ℕ). l ++ bytes) empty, is)
 
 -- after a step in which a new file came to be at a name where nothing was
-module _ (start mid end : ℕ) (past then since : Leavings) (out name : List ℕ) (drafted : Goes start mid past then (λ p c. (p ≢ out) × IsFree start past p))
-    (apart : (name ≢ out) × IsFree start past name) where
-  at_name : (W : List ℕ → Type 0) (p : List ℕ) (c : Option (List ℕ)) → p ≡ name → IsWholeOrNew out start past W p c
-  at_name W p c is = inr (subst (λ q. (q ≢ out) × IsFree start past q) (sym is) apart)
+module _ (Spare : List ℕ → Type 0) (start mid end : ℕ) (past then since : Leavings) (out name : List ℕ) (drafted : Goes start mid past then (λ p c. (p ≢ out) × Spare p))
+    (apart : (name ≢ out) × Spare name) where
+  at_name : (W : List ℕ → Type 0) (p : List ℕ) (c : Option (List ℕ)) → p ≡ name → IsWholeOrNew out Spare W p c
+  at_name W p c is = inr (subst (λ q. (q ≢ out) × Spare q) (sym is) apart)
 
-  so_far : (W : List ℕ → Type 0) → Goes start mid past then (IsWholeOrNew out start past W)
-  so_far W = goes_map start mid past then (λ p c. (p ≢ out) × IsFree start past p) (IsWholeOrNew out start past W) (λ p c h. inr h) drafted
+  so_far : (W : List ℕ → Type 0) → Goes start mid past then (IsWholeOrNew out Spare W)
+  so_far W = goes_map start mid past then (λ p c. (p ≢ out) × Spare p) (IsWholeOrNew out Spare W) (λ p c h. inr h) drafted
 
   -- the new file goes
-  pub discarded : (W : List ℕ → Type 0) → Goes mid end then since (λ p c. p ≡ name) → Goes start end past since (IsWholeOrNew out start past W)
+  pub discarded : (W : List ℕ → Type 0) → Goes mid end then since (λ p c. p ≡ name) → Goes start end past since (IsWholeOrNew out Spare W)
   discarded W gone =
-      goes_on start mid end past then since (IsWholeOrNew out start past W) (so_far W)
-      (goes_map mid end then since (λ p c. p ≡ name) (IsWholeOrNew out start past W) (at_name W) gone)
+      goes_on start mid end past then since (IsWholeOrNew out Spare W) (so_far W)
+      (goes_map mid end then since (λ p c. p ≡ name) (IsWholeOrNew out Spare W) (at_name W) gone)
 
   -- the new file, with these bytes, takes the path
   pub published : (empty full : Option (List ℕ)) (bytes : List ℕ) → empty ≡ Some [] → Appends empty full bytes
-      → Goes mid end then since (λ p c. ((p ≡ out) × IfSome full (λ b. c ≡ Some b)) ⊎ (p ≡ name)) → Goes start end past since (IsWholeOrNew out start past (λ b. b ≡ bytes))
+      → Goes mid end then since (λ p c. ((p ≡ out) × IfSome full (λ b. c ≡ Some b)) ⊎ (p ≡ name)) → Goes start end past since (IsWholeOrNew out Spare (λ b. b ≡ bytes))
   published empty full bytes is appends moved =
-      goes_on start mid end past then since (IsWholeOrNew out start past (λ b. b ≡ bytes)) (so_far (λ b. b ≡ bytes))
-      (goes_map mid end then since (λ p c. ((p ≡ out) × IfSome full (λ b. c ≡ Some b)) ⊎ (p ≡ name)) (IsWholeOrNew out start past (λ b. b ≡ bytes))
+      goes_on start mid end past then since (IsWholeOrNew out Spare (λ b. b ≡ bytes)) (so_far (λ b. b ≡ bytes))
+      (goes_map mid end then since (λ p c. ((p ≡ out) × IfSome full (λ b. c ≡ Some b)) ⊎ (p ≡ name)) (IsWholeOrNew out Spare (λ b. b ≡ bytes))
       (λ p c h. ⊎_elim (λ whole. inl (whole.0, filled empty full bytes c is appends whole.1)) (at_name (λ b. b ≡ bytes) p c) h) moved)

@@ -11,6 +11,10 @@ Leavings = ℕ → List ℕ → Option (List ℕ) → Type 0
 abbrev pub IsFree : ℕ → Leavings → List ℕ → Type 0
 IsFree now left path = (c : Option (List ℕ)) → left now path c → c ≡ None
 
+-- it leaves none there, or what lies there is the draft of a run that was stopped
+abbrev pub IsSpare : (List ℕ → Type 0) → ℕ → Leavings → List ℕ → Type 0
+IsSpare is_stray now left path = IsFree now left path ⊎ is_stray path
+
 -- Time goes on. What an interruption since an earlier moment might have left at a path, it might have left before, or P
 -- holds of it.
 pub record Goes (before now : ℕ) (past since : Leavings) (P : List ℕ → Option (List ℕ) → Type 0) : Type 0 where

@@ -1,7 +1,6 @@
 -- Where canonical files go, and what a failure leaves there.
 use Rattle.std.specs.Prelude.{◌≡◌, ◌≢◌, ◌⊎◌, ◌≤◌, ℕ, Bool, List, length, take, Option, Some, IsTrue}
 use Rattle.std.specs.Io.KnownBytes.{Appends, IsAtEnd}
-use Rattle.edi_files.specs.Folders.{IsFree, Leavings}
 
 -- an empty file was filled with the bytes, and the path holds it
 abbrev pub IsFilled : (Option (List ℕ) → Type 0) → List ℕ → Type 0
@@ -29,7 +28,7 @@ abbrev pub Stops : (S : Type 0) → Type 0 → (S → Type 0) → (S → Option 
 Stops S unmade opened contents failed count bytes =
     ((count ≡ 0) × unmade) ⊎ ((count ≤ length bytes) × PoursFirst S opened contents failed count bytes)
 
--- at the path there are whole bytes of this kind; at another there is something, and there was nothing
-abbrev pub IsWholeOrNew : List ℕ → ℕ → Leavings → (List ℕ → Type 0) → List ℕ → Option (List ℕ) → Type 0
-IsWholeOrNew out now left Whole path c =
-    ((path ≡ out) × ((bytes : List ℕ) × Whole bytes × (c ≡ Some bytes))) ⊎ ((path ≢ out) × IsFree now left path)
+-- at the path there are whole bytes of this kind; or it is another, and one that was spare
+abbrev pub IsWholeOrNew : List ℕ → (List ℕ → Type 0) → (List ℕ → Type 0) → List ℕ → Option (List ℕ) → Type 0
+IsWholeOrNew out WasSpare Whole path c =
+    ((path ≡ out) × ((bytes : List ℕ) × Whole bytes × (c ≡ Some bytes))) ⊎ ((path ≢ out) × WasSpare path)

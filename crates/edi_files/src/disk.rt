@@ -5,17 +5,17 @@ ghost use Rattle.std.specs.Prelude.{◌≡◌, [], None, ⊤};
 
 use crate::folder::{Destination, FileDraft, Folder, OutFault};
 use crate::reason::Reason;
-use edi_line::{ByteOut, FromRead};
+use edi_line::{ByteIn, ByteOut, FromRead};
 use std::alloc::AllocError;
 use std::cell::Cell;
-use std::fs::{Metadata, OpenFile, OpenOptions};
+use std::fs::{File, Metadata, OpenFile, OpenOptions, TryLockError};
 use std::io::{Input, Read, Write};
 use std::os::unix::fs::MetadataExt;
 use std::path::{Path, PathBuf};
 use std::rt::Files;
 use std::{fs, io};
 
-// How many names a draft tries: one for each run that goes on or was stopped.
+// How many names a draft tries: one for each run that goes on.
 const MOST_DRAFTS: u32 = 1_000_000;
 
 // What standard output and standard error lead to, where the system says.
@@ -65,6 +65,33 @@ impl<F: Read, I: Read> Read for FileOrInput<F, I> {
             FileOrInput::File(file) => file.read(buf),
             FileOrInput::Input(input) => input.read(buf),
         }
+    }
+}
+
+/// A file or standard input, with what is known of how much is left.
+#[derive(Drop)]
+pub struct DiskReader<F, I> {
+    inner: FromRead<FileOrInput<F, I>>,
+    // How long a file is, before it is read.
+    length: Option<u64>,
+}
+
+impl<F: Read, I: Read> ByteIn for DiskReader<F, I> {
+    ghost contents = { λ _. None };
+
+    ghost has_failed = { λ s. ⟦<FromRead<FileOrInput<F, I>> as ByteIn>⟧.has_failed s.inner };
+
+    ghost reads = { λ _. 0 };
+
+    ghost device = { λ _. 0 };
+
+    fn read(&mut self, buffer: &mut [u8]) -> Option<usize> {
+        self.length = None;
+        self.inner.read(buffer)
+    }
+
+    fn left(&self) -> Option<u64> {
+        self.length
     }
 }
 
@@ -121,12 +148,12 @@ impl<F: Write> ByteOut for OutFile<F> {
     }
 }
 
-impl<R: Files + Input + AllocGlobal> Folder for Disk<'_, R, R::File> {
-    type Reader = FromRead<FileOrInput<R::File, R::Reader>>;
+impl<R: Files<File = File> + Input + AllocGlobal> Folder for Disk<'_, R, File> {
+    type Reader = DiskReader<File, R::Reader>;
 
-    type Sink = OutFile<R::File>;
+    type Sink = OutFile<File>;
 
-    type NewFile = OutFile<R::File>;
+    type NewFile = OutFile<File>;
 
     type NewName = NewName;
 
@@ -135,6 +162,10 @@ impl<R: Files + Input + AllocGlobal> Folder for Disk<'_, R, R::File> {
     ghost closed = { λ _ _. ⊤ };
 
     ghost standard = { λ _ _. ⊤ };
+
+    ghost opens = { λ _ _ _. ⊤ };
+
+    ghost is_input = { λ _ _. ⊤ };
 
     ghost is_one = { λ _ _ _ _. ⊤ };
 
@@ -154,13 +185,17 @@ impl<R: Files + Input + AllocGlobal> Folder for Disk<'_, R, R::File> {
 
     ghost left_since = { λ _ _ _ _. ⊥ };
 
+    ghost is_stray = { λ _ _. ⊤ };
+
     ghost place = { λ _. [] };
 
-    fn open(&self, path: &str) -> Option<FromRead<FileOrInput<R::File, R::Reader>>> {
+    fn open(&self, path: &str) -> Option<DiskReader<File, R::Reader>> {
         match fs::open(self.rt, path) {
             Ok(file) => {
                 self.why.set(None);
-                Some(FromRead::new(FileOrInput::File(file)))
+                let length = length_of(&file);
+                let inner = FromRead::new(FileOrInput::File(file));
+                Some(DiskReader { inner, length })
             }
             Err(error) => {
                 self.why.set(reason_of(&error));
@@ -169,8 +204,11 @@ impl<R: Files + Input + AllocGlobal> Folder for Disk<'_, R, R::File> {
         }
     }
 
-    fn input(&self) -> FromRead<FileOrInput<R::File, R::Reader>> {
-        FromRead::new(FileOrInput::Input(self.rt.reader()))
+    fn input(&self) -> DiskReader<File, R::Reader> {
+        DiskReader {
+            inner: FromRead::new(FileOrInput::Input(self.rt.reader())),
+            length: None,
+        }
     }
 
     // It is asked of an input and of what is to be written, which is then refused.
@@ -199,7 +237,7 @@ impl<R: Files + Input + AllocGlobal> Folder for Disk<'_, R, R::File> {
         }
     }
 
-    fn sink(&self, path: &str) -> Option<OutFile<R::File>> {
+    fn sink(&self, path: &str) -> Option<OutFile<File>> {
         match OpenOptions::new().write(true).open(self.rt, path) {
             Ok(file) => Some(OutFile::new(file)),
             Err(error) => {
@@ -209,7 +247,7 @@ impl<R: Files + Input + AllocGlobal> Folder for Disk<'_, R, R::File> {
         }
     }
 
-    fn draft(&mut self, path: &str) -> Result<FileDraft<OutFile<R::File>, NewName>, OutFault> {
+    fn draft(&mut self, path: &str) -> Result<FileDraft<OutFile<File>, NewName>, OutFault> {
         let replaced = replaced_file(self.rt, &self.why, path)?;
         let (file, name) = match &replaced {
             Some(old) => new_file(self.rt, &self.why, old.as_path())?,
@@ -221,7 +259,7 @@ impl<R: Files + Input + AllocGlobal> Folder for Disk<'_, R, R::File> {
         })
     }
 
-    fn publish(&mut self, file: OutFile<R::File>, name: NewName, path: &str) -> bool {
+    fn publish(&mut self, file: OutFile<File>, name: NewName, path: &str) -> bool {
         let NewName { name, replaced } = name;
         let moved = match (file.file.sync_all(), &replaced) {
             (Ok(()), Some(old)) => fs::rename(self.rt, &name, old),
@@ -238,14 +276,14 @@ impl<R: Files + Input + AllocGlobal> Folder for Disk<'_, R, R::File> {
         }
     }
 
-    fn discard(&mut self, file: OutFile<R::File>, name: NewName) {
+    fn discard(&mut self, file: OutFile<File>, name: NewName) {
         self.why.set(file.why);
         let _ = fs::remove_file(self.rt, &name.name);
     }
 
-    fn end(&self, _path: &str, _sink: OutFile<R::File>) {}
+    fn end(&self, _path: &str, _sink: OutFile<File>) {}
 
-    fn give_up(&self, sink: OutFile<R::File>) {
+    fn give_up(&self, sink: OutFile<File>) {
         self.why.set(sink.why);
     }
 
@@ -256,6 +294,14 @@ impl<R: Files + Input + AllocGlobal> Folder for Disk<'_, R, R::File> {
             (None, Ok(found)) if found.is_dir() => Some(Reason::IsFolder),
             (None, _) => None,
         }
+    }
+}
+
+// How long a file is, if it is one and no device.
+fn length_of(file: &File) -> Option<u64> {
+    match file.metadata() {
+        Ok(found) if found.is_file() => Some(found.len()),
+        Ok(_) | Err(_) => None,
     }
 }
 
@@ -327,11 +373,12 @@ fn replaced_file<R: Files + AllocGlobal>(
 }
 
 // A new file in the folder of another, with the first name that is free, and with the permissions of the other.
-fn new_file<R: Files + AllocGlobal>(
+fn new_file<R: Files<File = File> + AllocGlobal>(
     rt: &R,
     why: &Cell<Option<Reason>>,
     other: Path<'_>,
-) -> Result<(R::File, PathBuf), OutFault> {
+) -> Result<(File, PathBuf), OutFault> {
+    remove_strays(rt, other)?;
     for number in 0..MOST_DRAFTS {
         let name = draft_name(rt, other, number)?;
         match OpenOptions::new()
@@ -339,13 +386,61 @@ fn new_file<R: Files + AllocGlobal>(
             .create_new(true)
             .open(rt, &name)
         {
-            Ok(file) => return with_permissions(rt, why, file, name, other),
+            Ok(file) if is_held(rt, &file, &name) => {
+                return with_permissions(rt, why, file, name, other);
+            }
+            Ok(_) => {}
             Err(error) if error.kind() == io::ErrorKind::AlreadyExists => {}
             Err(error) => return Err(no_draft(why, error)),
         }
     }
     why.set(None);
     Err(OutFault::Unwritable)
+}
+
+// Removes the drafts that stopped runs left in the folder of a file, up to the first name that is free. A run locks its draft for as long
+// as it writes it, so one that isn't locked is nobody's.
+fn remove_strays<R: Files<File = File> + AllocGlobal>(
+    rt: &R,
+    other: Path<'_>,
+) -> Result<(), OutFault> {
+    for number in 0..MOST_DRAFTS {
+        let name = draft_name(rt, other, number)?;
+        match fs::symlink_metadata(rt, &name) {
+            Ok(found) if found.is_file() => remove_stray(rt, &name),
+            Ok(_) => {}
+            Err(_) => return Ok(()),
+        }
+    }
+    Ok(())
+}
+
+// Removes a draft that no run has locked. One that can't be opened or locked stays.
+fn remove_stray<R: Files<File = File>>(rt: &R, name: &PathBuf) {
+    let Ok(file) = fs::open(rt, name) else {
+        return;
+    };
+    if file.try_lock().is_ok() && is_still(rt, &file, name) {
+        let _ = fs::remove_file(rt, name);
+    }
+}
+
+// Locks a new draft, and says whether it is this run's: another run may have taken it for one that nobody locked. Where the system has no
+// locks none is needed, since no run removes a draft there.
+fn is_held<R: Files<File = File>>(rt: &R, file: &File, name: &PathBuf) -> bool {
+    match file.try_lock() {
+        Ok(()) => is_still(rt, file, name),
+        Err(TryLockError::WouldBlock) => false,
+        Err(TryLockError::Error(_)) => true,
+    }
+}
+
+// Whether a file is still the one of this name.
+fn is_still<R: Files<File = File>>(rt: &R, file: &File, name: &PathBuf) -> bool {
+    match (file.metadata(), fs::symlink_metadata(rt, name)) {
+        (Ok(opened), Ok(found)) => opened.dev() == found.dev() && opened.ino() == found.ino(),
+        _ => false,
+    }
 }
 
 // Why a draft can't be made: where the system finds none, its folder is missing.
@@ -373,10 +468,10 @@ fn draft_name<R: AllocGlobal>(rt: &R, other: Path<'_>, number: u32) -> Result<Pa
 fn with_permissions<R: Files>(
     rt: &R,
     why: &Cell<Option<Reason>>,
-    file: R::File,
+    file: File,
     name: PathBuf,
     other: Path<'_>,
-) -> Result<(R::File, PathBuf), OutFault> {
+) -> Result<(File, PathBuf), OutFault> {
     let set = match fs::metadata(rt, other) {
         Ok(found) => file.set_permissions(found.permissions()),
         Err(_) => Ok(()),

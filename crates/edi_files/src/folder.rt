@@ -2,7 +2,7 @@
 ghost use Rattle.std.specs.Prelude.{◌≡◌, ◌≢◌, ◌⊎◌, ℕ, Bool, List, [], Option, Some, IfErr, IfOk, IfSome, MatchOption};
 ghost use Rattle.std.specs.Bool.{OnFalse, OnTrue};
 ghost use Rattle.std.specs.Io.KnownBytes.{IsAtEnd};
-ghost use Rattle.edi_files.specs.Folders.{Goes, IsFree, Leavings, MatchOut};
+ghost use Rattle.edi_files.specs.Folders.{Goes, IsSpare, Leavings, MatchOut};
 ghost use Rattle.edi_files.specs.declared.folder.Destination.{Destination};
 ghost use Rattle.edi_files.specs.declared.reason.Reason.{Reason};
 
@@ -57,6 +57,12 @@ pub trait Folder {
     /// This may be known to be the contents of standard input.
     ghost standard: { Self → Option (List ℕ) → Type 0 };
 
+    /// The device of this number was opened to read the file of a path.
+    ghost opens: { Self → List ℕ → ℕ → Type 0 };
+
+    /// The device of this number is standard input.
+    ghost is_input: { Self → ℕ → Type 0 };
+
     /// Whether two paths lead to one file.
     ghost is_one: { Self → List ℕ → List ℕ → Bool → Type 0 };
 
@@ -84,16 +90,21 @@ pub trait Folder {
     /// What an interruption at some moment from that one on might have left at a path.
     ghost left_since: { Self → Leavings };
 
+    /// At the path lies the draft of a run that was stopped.
+    ghost is_stray: { Self → List ℕ → Type 0 };
+
     /// The path of a draft itself.
     ghost place: { Self.NewName → List ℕ };
 
     /// The file of a path, from its first byte on, if it can be opened.
     fn open(&self, path: &str) -> Option<Self::Reader>
-        ensures { MatchOption result (closed self.now path.now) (λ file. holds self.now path.now (Self.Reader.contents file)) };
+        ensures file { MatchOption result (closed self.now path.now) (λ file. holds self.now path.now (Self.Reader.contents file)) }
+        ensures device { IfSome result (λ file. opens self.now path.now (Self.Reader.device file)) };
 
     /// Standard input.
     fn input(&self) -> Self::Reader
-        ensures { standard self.now (Self.Reader.contents result) };
+        ensures contents { standard self.now (Self.Reader.contents result) }
+        ensures device { is_input self.now (Self.Reader.device result) };
 
     /// Whether two paths lead to one file, as links do.
     fn is_one_file(&self, path: &str, other: &str) -> bool
@@ -108,16 +119,16 @@ pub trait Folder {
         requires { leads self.now path.now Destination.Stream }
         ensures { MatchOption result (unwritable self.now path.now) (sinks self.now path.now) };
 
-    /// A draft of the file of a path, which is still empty.
+    /// A draft of the file of a path, which is still empty. Drafts that stopped runs left may be removed.
     fn draft(&mut self, path: &str) -> Result<FileDraft<Self::NewFile, Self::NewName>, OutFault>
         requires { leads self.old path.now Destination.File }
         ensures empty { IfOk result (λ draft. IsAtEnd (Self.NewFile.contents draft.file)) }
         ensures contents { tells self.old → IfOk result (λ draft. Self.NewFile.contents draft.file ≡ Some []) }
         ensures apart { tells self.old → IfOk result (λ draft. (place draft.name ≢ path.now)
-            × IsFree (moment self.old) (left_since self.old) (place draft.name)) }
+            × IsSpare (is_stray self.old) (moment self.old) (left_since self.old) (place draft.name)) }
         ensures err { IfErr result (λ e. MatchOut e (self.new ≡ self.old) (unwritable self.new path.now)) }
         ensures step { Goes (moment self.old) (moment self.new) (left_since self.old) (left_since self.new)
-            (λ p c. (p ≢ path.now) × IsFree (moment self.old) (left_since self.old) p) };
+            (λ p c. (p ≢ path.now) × IsSpare (is_stray self.old) (moment self.old) (left_since self.old) p) };
 
     /// Puts a new file in the place of the file of a path: its bytes are stored, and then it takes the path.
     fn publish(&mut self, file: Self::NewFile, name: Self::NewName, path: &str) -> bool

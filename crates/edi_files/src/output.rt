@@ -2,7 +2,7 @@
 ghost use Rattle.std.specs.Prelude.{◌≡◌, ◌≤◌, ℕ, Option, IfErr, OnOk, IsTrue, length, take};
 ghost use Rattle.std.specs.Io.KnownBytes.{Appends};
 ghost use Rattle.edi_compare.specs.Runs.{BeforeWriting, MatchFault};
-ghost use Rattle.edi_files.specs.Folders.{Goes};
+ghost use Rattle.edi_files.specs.Folders.{Goes, IsSpare};
 ghost use Rattle.edi_files.specs.Outputs.{IsFilled, IsUnmade, IsWholeOrNew, Pours, Reaches, Stops};
 
 use crate::folder::{Destination, FileDraft, Folder, OutFault};
@@ -18,7 +18,7 @@ pub fn put<F: Folder>(folder: &mut F, path: &str, bytes: &[u8]) -> Result<(), Ru
         (F.sinks folder.old path.now) F.Sink.contents F.Sink.has_failed count bytes.now)) }
     ensures unmade { IfErr result (λ e. BeforeWriting e (folder.new ≡ folder.old)) }
     ensures replaced { F.tells folder.old → Goes (F.moment folder.old) (F.moment folder.new) (F.left_since folder.old) (F.left_since folder.new)
-        (IsWholeOrNew path.now (F.moment folder.old) (F.left_since folder.old) (λ c. c ≡ bytes.now)) }
+        (IsWholeOrNew path.now (IsSpare (F.is_stray folder.old) (F.moment folder.old) (F.left_since folder.old)) (λ c. c ≡ bytes.now)) }
 {
     match folder.target(path) {
         Some(Destination::File) => replace(folder, path, bytes),
@@ -35,7 +35,7 @@ fn replace<F: Folder>(folder: &mut F, path: &str, bytes: &[u8]) -> Result<(), Ru
         (λ count. (count ≡ 0) × IsUnmade F.NewFile (F.unwritable folder.new path.now) F.NewFile.has_failed)) }
     ensures unmade { IfErr result (λ e. BeforeWriting e (folder.new ≡ folder.old)) }
     ensures replaced { F.tells folder.old → Goes (F.moment folder.old) (F.moment folder.new) (F.left_since folder.old) (F.left_since folder.new)
-        (IsWholeOrNew path.now (F.moment folder.old) (F.left_since folder.old) (λ c. c ≡ bytes.now)) }
+        (IsWholeOrNew path.now (IsSpare (F.is_stray folder.old) (F.moment folder.old) (F.left_since folder.old)) (λ c. c ≡ bytes.now)) }
 {
     let FileDraft { mut file, name } = match folder.draft(path) {
         Ok(draft) => draft,
