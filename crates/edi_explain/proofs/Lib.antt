@@ -18,3 +18,4 @@ pub mod Earlier
 pub mod Remarks
 pub mod Zipped
 pub mod SitesFound
+pub mod KindRows

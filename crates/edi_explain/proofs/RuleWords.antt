@@ -4,8 +4,9 @@ use Rattle.std.specs.Prelude.{MatchOption, decimal}
 use Rattle.std.specs.Str.Parse.{ParsesUnsigned}
 use Rattle.std.proofs.lemmas.Bool.{eqb-true, false≢true, ltb-true}
 use Rattle.std.proofs.lemmas.Fmt.{parse-decimal}
-use Rattle.edi_explain.specs.Explained.{IsRuleWord}
-use Rattle.edi_explain.specs.Rules.{IsTextIfAny, is_among, rules}
+use Rattle.edi_explain.specs.Explained.{IsRuleWord, IsTextOfWord}
+use Rattle.edi_explain.specs.Rules.{is_among, rules}
+use Rattle.edi_explain.specs.Texts.{IsRuleText, SaysRule}
 use Rattle.edi_explain.specs.declared.text.RuleText.{RuleText}
 
 -- each number is below a bound
@@ -39,7 +40,8 @@ pub read_word : {E : Type 0} (word : List ℕ) (r : Result ℕ E) (rule : ℕ) �
 read_word word r rule parses w = let small = rule_below rule w.1 in parse-decimal 16 rule word r small (omega (arith, small)) w.0 parses
 
 -- the text of the number that a word spells
-pub texts : (word : List ℕ) (number : ℕ) (found : Option RuleText) → word ≡ decimal number → ((rule : ℕ) → IsRuleWord word rule → rule ≡ number) → IsTextIfAny rules number found
-    → MatchOption found ((rule : ℕ) → ¬ (IsRuleWord word rule)) (λ text. IsRuleWord word text.rule)
-texts word number None is one h = λ rule w. absurd (false≢true (sym (sym (subst (λ n. is_among rules n ≡ true) (one rule w) w.1) ∙ h)))
-texts word number (Some text) is one h = (is ∙ ap decimal (sym h.1), subst (λ n. is_among rules n ≡ true) (sym h.1) h.0)
+pub texts : (word : List ℕ) (number : ℕ) (found : Option RuleText) → word ≡ decimal number → ((rule : ℕ) → IsRuleWord word rule → rule ≡ number) → IsRuleText number found
+    → MatchOption found ((rule : ℕ) → ¬ (IsRuleWord word rule)) (IsTextOfWord word)
+texts word number None is one h = λ rule w. absurd (false≢true (sym (sym (subst (λ n. is_among rules n ≡ true) (one rule w) w.1) ∙ h.0)))
+texts word number (Some text) is one h =
+    ((is ∙ ap decimal (sym h.0.1), subst (λ n. is_among rules n ≡ true) (sym h.0.1) h.0.0), subst (λ n. SaysRule n (Some text)) (sym h.0.1) h.1)

@@ -6,6 +6,7 @@ use Rattle.edi_record.specs.declared.record.Kind.{Kind}
 use Rattle.edi_record.specs.declared.record.Kind.TheVariants.{Pno, Par, Pfe, Fea, Lnk}
 use Rattle.edi_plan.specs.Plans.{Drawing, same_kind}
 use Rattle.edi_schema.specs.Classes.{Classes}
+use Rattle.edi_schema.specs.Roles.{KindCodes}
 use Rattle.edi_schema.specs.declared.fault.Source.{Source}
 use Rattle.edi_schema.specs.declared.fault.Source.TheVariants.{Scd, Dic}
 use Rattle.edi_schema.specs.declared.fault.SchemaFault.{SchemaFault}
@@ -14,11 +15,13 @@ use Rattle.edi_compare.specs.declared.fault.Fault.{Fault}
 use Rattle.edi_compare.specs.declared.fault.Fault.TheVariants.{Memory, Line, Entry}
 use Rattle.edi_plan.specs.Extents.{IsExtentIfAny, points_of}
 use Rattle.edi_explain.specs.Lengths.{CountsCharacters, length_hint}
-use Rattle.edi_explain.specs.Lines.{file_line, lines_of_line, lines_of_sites, sentence_of}
+use Rattle.edi_explain.specs.KindLines.{ExplainsKinds}
+use Rattle.edi_explain.specs.Lines.{lines_of_line, lines_of_sites, sentence_of}
 use Rattle.edi_explain.specs.Barring.{IsBarredBy}
 use Rattle.edi_explain.specs.Partners.{IsLeastIfAny}
 use Rattle.edi_explain.specs.Refusals.{IsRefusedAt, IsRowRefusedAt}
-use Rattle.edi_explain.specs.Rules.{IsTextIfAny, is_among, rules}
+use Rattle.edi_explain.specs.Rules.{is_among, rules}
+use Rattle.edi_explain.specs.Texts.{IsRuleText, SaysRule}
 use Rattle.edi_plan.specs.declared.extent.Extent.{Extent}
 use Rattle.edi_plan.specs.declared.extent.Span.{Span}
 use Rattle.edi_explain.specs.declared.refused.Refused.{Refused}
@@ -28,7 +31,7 @@ use Rattle.edi_shown.specs.Shown.{shown_bytes}
 -- The lines that explain the refusal of the file b by a rule of lines: the broken line with the sentence of the rule, the
 -- earlier line that bars it, and a hint where 103 is broken since the stated length counts characters.
 abbrev pub ExplainsLine : List ℕ → List ℕ → ℕ → ℕ → List ℕ → Type 0
-ExplainsLine b name rule at lines = (text : Option RuleText) × (earlier : Option ℕ) × (counts : Bool) × IsTextIfAny rules rule text × IsLeastIfAny (IsBarredBy b rule at) earlier
+ExplainsLine b name rule at lines = (text : Option RuleText) × (earlier : Option ℕ) × (counts : Bool) × IsRuleText rule text × IsLeastIfAny (IsBarredBy b rule at) earlier
     × (IsTrue counts ↔ ((rule ≡ 103) × CountsCharacters b at)) × (lines ≡ lines_of_line name at earlier (sentence_of text) rule ++ length_hint name counts)
 
 -- The lines that explain the refusal of the sheet b, whose file has this name: those of the broken line; or the record with
@@ -36,7 +39,7 @@ ExplainsLine b name rule at lines = (text : Option RuleText) × (earlier : Optio
 abbrev pub ExplainsSheet : Classes → List ℕ → List ℕ → Fault → List ℕ → Type 0
 ExplainsSheet s b name (Memory e) lines = ⊥
 ExplainsSheet s b name (Line rule at) lines = ExplainsLine b name rule at lines
-ExplainsSheet s b name (Entry rule at) lines = (text : Option RuleText) × (sites : Refused) × IsTextIfAny rules rule text × IsRefusedAt s b rule at sites
+ExplainsSheet s b name (Entry rule at) lines = (text : Option RuleText) × (sites : Refused) × IsRuleText rule text × IsRefusedAt s b rule at sites
     × (lines ≡ lines_of_sites name sites (sentence_of text) rule)
 
 -- the one of two that belongs to a file of a schema
@@ -44,13 +47,13 @@ abbrev pub of_source : Source → List ℕ → List ℕ → List ℕ
 of_source Scd scd dic = scd
 of_source Dic scd dic = dic
 
--- the same of the refusal of two files of a schema, whose names are given; 604 is of the first file
-abbrev pub ExplainsSchema : List ℕ → List ℕ → List ℕ → List ℕ → SchemaFault → List ℕ → Type 0
-ExplainsSchema scd dic scd_name dic_name (schema.Memory e) lines = ⊥
-ExplainsSchema scd dic scd_name dic_name (schema.Line file rule at) lines = ExplainsLine (of_source file scd dic) (of_source file scd_name dic_name) rule at lines
-ExplainsSchema scd dic scd_name dic_name (schema.Entry file rule at) lines = (text : Option RuleText) × (sites : Refused) × IsTextIfAny rules rule text
+-- the same of the refusal of two files of a schema under these codes, whose names are given; 604 is of classes of the first file
+abbrev pub ExplainsSchema : KindCodes → List ℕ → List ℕ → List ℕ → List ℕ → SchemaFault → List ℕ → Type 0
+ExplainsSchema kinds scd dic scd_name dic_name (schema.Memory e) lines = ⊥
+ExplainsSchema kinds scd dic scd_name dic_name (schema.Line file rule at) lines = ExplainsLine (of_source file scd dic) (of_source file scd_name dic_name) rule at lines
+ExplainsSchema kinds scd dic scd_name dic_name (schema.Entry file rule at) lines = (text : Option RuleText) × (sites : Refused) × IsRuleText rule text
     × IsRowRefusedAt (of_source file scd dic) rule at sites × (lines ≡ lines_of_sites (of_source file scd_name dic_name) sites (sentence_of text) rule)
-ExplainsSchema scd dic scd_name dic_name schema.Kinds lines = (text : Option RuleText) × IsTextIfAny rules 604 text × (lines ≡ file_line scd_name (sentence_of text) 604)
+ExplainsSchema kinds scd dic scd_name dic_name schema.Kinds lines = ExplainsKinds kinds scd scd_name lines
 
 -- a sentence behind words, as a line
 abbrev pub worded_line : List ℕ → List ℕ → List ℕ
@@ -92,3 +95,7 @@ rule_page text = decimal text.rule ++ worded_line (codes ": ") text.sentence.now
 -- a word is the number of a rule, as it is usually written
 abbrev pub IsRuleWord : List ℕ → ℕ → Type 0
 IsRuleWord word rule = (word ≡ decimal rule) × (is_among rules rule ≡ true)
+
+-- the word is the number of a rule, and this is the text of that rule
+abbrev pub IsTextOfWord : List ℕ → RuleText → Type 0
+IsTextOfWord word text = IsRuleWord word text.rule × SaysRule text.rule (Some text)

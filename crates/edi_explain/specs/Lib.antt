@@ -1,5 +1,6 @@
 pub mod Sites
 pub mod Rules
+pub mod Texts
 pub mod Partners
 pub mod RowPartners
 pub mod Refusals
@@ -11,4 +12,6 @@ pub mod Hints
 pub mod Lengths
 pub mod Skipped
 pub mod Known
+pub mod KindClasses
+pub mod KindLines
 pub mod inner

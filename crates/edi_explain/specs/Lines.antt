@@ -42,10 +42,6 @@ abbrev pub line_of_site : List ℕ → Option RecordSite → List ℕ → ℕ �
 line_of_site name (Some site) sentence rule = record_line name site sentence rule
 line_of_site name None sentence rule = []
 
--- FILE: sentence [RULE]
-abbrev pub file_line : List ℕ → List ℕ → ℕ → List ℕ
-file_line name sentence rule = shown_bytes name ++ codes ": " ++ sentence ++ rule_mark rule
-
 -- the sentence of a rule
 abbrev pub sentence_of : Option RuleText → List ℕ
 sentence_of (Some text) = text.sentence.now
@@ -59,6 +55,7 @@ earlier_sentence rule =
     else if rule == 403 then codes "the earlier node"
     else if rule == 405 then codes "the earlier arc"
     else if rule == 501 then codes "the earlier object"
+    else if rule == 604 then codes "the earlier class"
     else codes "the earlier record"
 
 -- the line of a refused record, and that of the earlier one

@@ -1,6 +1,7 @@
 -- What the public contracts do not reach: how the code goes about it, and what private contracts and proofs need.
 pub mod Arcs
 pub mod Barring
+pub mod KindClasses
 pub mod Lengths
 pub mod Objects
 pub mod Repeats

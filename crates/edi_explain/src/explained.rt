@@ -3,27 +3,28 @@
 ghost use Rattle.std.specs.Prelude.{◌≡◌, ◌↔◌, ◌++◌, ◌∷◌, [], ℕ, Option, IsTrue, IfOk, MatchOption, OnOk, codes, decimal, option_copied};
 ghost use Rattle.edi_line.specs.LineRules.{BreaksLineRule};
 ghost use Rattle.edi_line.specs.Refusal.{IsLeastBroken};
-ghost use Rattle.edi_schema.specs.Roles.{KindCodes};
 ghost use Rattle.edi_schema.specs.SchemaRefusal.{IsSchemaRefusal};
-ghost use Rattle.edi_explain.specs.Explained.{DescribesPlan, ExplainsLine, ExplainsSchema, ExplainsSheet, IsRuleWord, charset_line, count_line, count_lines, extent_lines, of_source, reason_lines, rule_page, span_line, worded_line};
+ghost use Rattle.edi_explain.specs.Explained.{DescribesPlan, ExplainsLine, ExplainsSchema, ExplainsSheet, IsRuleWord, IsTextOfWord, charset_line, count_line, count_lines, extent_lines, of_source, reason_lines, rule_page, span_line, worded_line};
 ghost use Rattle.edi_explain.specs.Found.{IsFound};
+ghost use Rattle.edi_explain.specs.KindClasses.{codes_of};
 ghost use Rattle.edi_explain.specs.Lines.{sentence_of};
-ghost use Rattle.edi_explain.specs.Rules.{IsTextIfAny, rules};
+ghost use Rattle.edi_explain.specs.Texts.{IsRuleText};
 ghost use Rattle.edi_explain.specs.declared.text.RuleText.{RuleText as Texts};
 ghost use Rattle.edi_shown.specs.Shown.{shown_bytes};
 
 use crate::barring::barring_line;
 use crate::counts::count_of;
 use crate::examined::Found;
+use crate::kind_lines::explain_kinds;
 use crate::lengths::{counts_characters, push_length_hint};
-use crate::lines::{line_of_file, lines_of_broken, lines_of_refused};
+use crate::lines::{lines_of_broken, lines_of_refused};
 use crate::refused::{refused_row, refused_with};
 use crate::text::{RuleText, rule_text};
 use edi_compare::Fault;
 use edi_line::push_number;
 use edi_plan::{Extent, Plan, Span, extent_of};
 use edi_record::Kind;
-use edi_schema::{Schema, SchemaFault, Source};
+use edi_schema::{ByRole, Schema, SchemaFault, Source};
 use edi_shown::push_shown;
 use itoa::Buffer;
 use std::alloc::{AllocError, Global};
@@ -37,7 +38,7 @@ pub struct NamedFile<'a> {
 
 /// The sentence of a rule.
 fn sentence_for(rule: u16) -> &'static str
-    ensures { (text : Option Texts) × IsTextIfAny rules rule text × (result.now ≡ sentence_of text) }
+    ensures { (text : Option Texts) × IsRuleText rule text × (result.now ≡ sentence_of text) }
 {
     match rule_text(rule) {
         Some(text) => text.sentence,
@@ -80,10 +81,16 @@ pub fn explain_sheet(
         Fault::Memory(error) => Err(*error),
         Fault::Line { rule, at } => explain_line(alloc, &NamedFile { name, bytes }, *rule, *at),
         Fault::Entry { rule, at } => match &found.sites {
-            Some(sites) => lines_of_refused(alloc, name, sites, sentence_for(*rule), *rule),
+            Some(sites) => lines_of_refused(
+                alloc,
+                name,
+                sites,
+                sentence_for(*rule).as_bytes(),
+                *rule,
+            ),
             None => {
                 let sites = refused_with(alloc, schema, bytes, *rule, *at, found.earlier)?;
-                lines_of_refused(alloc, name, &sites, sentence_for(*rule), *rule)
+                lines_of_refused(alloc, name, &sites, sentence_for(*rule).as_bytes(), *rule)
             }
         },
     }
@@ -100,15 +107,17 @@ fn file_of<'a>(file: Source, scd: &NamedFile<'a>, dic: &NamedFile<'a>) -> NamedF
     }
 }
 
-/// The lines that explain the refusal of a schema, in the same form; rule 604 has a line without a number.
+/// The lines that explain the refusal of a schema under the codes of the kinds, in the same form; for rule 604 those of the
+/// classes that break it.
 pub fn explain_schema(
     alloc: Global,
     scd: &NamedFile<'_>,
     dic: &NamedFile<'_>,
+    codes: &ByRole<&[u8]>,
     fault: &SchemaFault,
 ) -> Result<Vec<u8>, AllocError>
-    requires { (kinds : KindCodes) × IsSchemaRefusal scd.now.bytes.now dic.now.bytes.now kinds fault.now }
-    ensures { IfOk result (λ lines. ExplainsSchema scd.now.bytes.now dic.now.bytes.now scd.now.name.now dic.now.name.now fault.now lines.items) }
+    requires { IsSchemaRefusal scd.now.bytes.now dic.now.bytes.now (codes_of codes.now) fault.now }
+    ensures { IfOk result (λ lines. ExplainsSchema (codes_of codes.now) scd.now.bytes.now dic.now.bytes.now scd.now.name.now dic.now.name.now fault.now lines.items) }
 {
     match fault {
         SchemaFault::Memory(error) => Err(*error),
@@ -119,9 +128,15 @@ pub fn explain_schema(
         SchemaFault::Entry { file, rule, at } => {
             let refused = file_of(*file, scd, dic);
             let sites = refused_row(alloc, refused.bytes, *rule, *at)?;
-            lines_of_refused(alloc, refused.name, &sites, sentence_for(*rule), *rule)
+            lines_of_refused(
+                alloc,
+                refused.name,
+                &sites,
+                sentence_for(*rule).as_bytes(),
+                *rule,
+            )
         }
-        SchemaFault::Kinds => line_of_file(alloc, scd.name, sentence_for(604), 604),
+        SchemaFault::Kinds => explain_kinds(alloc, scd, codes),
     }
 }
 
@@ -218,7 +233,7 @@ fn spells(word: &str, number: u16) -> bool
 
 /// The text of the rule whose number a word is, in its usual spelling.
 pub fn rule_of_word(word: &str) -> Option<RuleText>
-    ensures { MatchOption result ((rule : ℕ) → ¬ (IsRuleWord word.now rule)) (λ text. IsRuleWord word.now text.rule) }
+    ensures { MatchOption result ((rule : ℕ) → ¬ (IsRuleWord word.now rule)) (IsTextOfWord word.now) }
 {
     let Ok(rule) = word.parse::<u16>() else {
         return None;

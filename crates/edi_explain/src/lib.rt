@@ -7,6 +7,9 @@ pub mod counts;
 pub mod examined;
 pub mod explained;
 pub mod hints;
+pub mod kind_causes;
+pub mod kind_classes;
+pub mod kind_lines;
 pub mod known;
 mod lengths;
 mod lines;
@@ -30,6 +33,8 @@ pub use explained::{
     NamedFile, describe_plan, explain_schema, explain_sheet, page_of, rule_of_word,
 };
 pub use hints::{Part, hints_of, hints_on, part_of, part_of_type};
+pub use kind_causes::{KindsCase, KindsCause, kinds_cause};
+pub use kind_lines::{describe_kinds, lacking_kinds};
 pub use links::same_side;
 pub use objects::equal_object;
 pub use partner::{equal_node, first_link, namesake, same_arc};

@@ -1,7 +1,7 @@
 //! Lines that say where something is refused and why.
 
 ghost use Rattle.std.specs.Prelude.{◌≡◌, ◌++◌, IfOk, OnOk, codes};
-ghost use Rattle.edi_explain.specs.Lines.{barring_text, earlier_sentence, file_line, identifier_text, line_line, line_of_site, lines_of_line, lines_of_sites, position_text, record_line, rule_mark};
+ghost use Rattle.edi_explain.specs.Lines.{barring_text, earlier_sentence, identifier_text, line_line, line_of_site, lines_of_line, lines_of_sites, position_text, record_line, rule_mark};
 ghost use Rattle.edi_shown.specs.Shown.{shown_bytes};
 
 use crate::refused::Refused;
@@ -21,10 +21,10 @@ fn push_position(text: &mut Vec<u8>, name: &[u8], line: u64) -> Result<(), Alloc
 }
 
 /// Appends a sentence, the number of its rule, and the end of the line.
-fn push_sentence(text: &mut Vec<u8>, sentence: &str, rule: u16) -> Result<(), AllocError>
+fn push_sentence(text: &mut Vec<u8>, sentence: &[u8], rule: u16) -> Result<(), AllocError>
     ensures { OnOk result (text.new.items ≡ text.old.items ++ (sentence.now ++ rule_mark rule)) }
 {
-    text.extend_from_slice(sentence.as_bytes())?;
+    text.extend_from_slice(sentence)?;
     text.extend_from_slice(b" [")?;
     push_number(text, u64::from(rule))?;
     text.extend_from_slice(b"]\n")
@@ -41,7 +41,7 @@ fn push_broken(
     ensures { OnOk result (text.new.items ≡ text.old.items ++ line_line name.now line sentence.now rule) }
 {
     push_position(text, name, line)?;
-    push_sentence(text, sentence, rule)
+    push_sentence(text, sentence.as_bytes(), rule)
 }
 
 /// Appends the line that bars another, if there is one.
@@ -76,28 +76,12 @@ pub(crate) fn lines_of_broken(
     Ok(text)
 }
 
-/// A file with the sentence of the rule that it breaks.
-pub(crate) fn line_of_file(
-    alloc: Global,
-    name: &[u8],
-    sentence: &str,
-    rule: u16,
-) -> Result<Vec<u8>, AllocError>
-    ensures { IfOk result (λ text. text.items ≡ file_line name.now sentence.now rule) }
-{
-    let mut text = Vec::new(alloc);
-    push_shown(&mut text, name)?;
-    text.extend_from_slice(b": ")?;
-    push_sentence(&mut text, sentence, rule)?;
-    Ok(text)
-}
-
 /// Appends the line of a record.
 fn push_record(
     text: &mut Vec<u8>,
     name: &[u8],
     site: &RecordSite,
-    sentence: &str,
+    sentence: &[u8],
     rule: u16,
 ) -> Result<(), AllocError>
     ensures { OnOk result (text.new.items ≡ text.old.items ++ record_line name.now site.now sentence.now rule) }
@@ -107,7 +91,11 @@ fn push_record(
 }
 
 /// Appends where a record stands, its type, and its identifier behind a space, if it has one.
-fn push_site_name(text: &mut Vec<u8>, name: &[u8], site: &RecordSite) -> Result<(), AllocError>
+pub(crate) fn push_site_name(
+    text: &mut Vec<u8>,
+    name: &[u8],
+    site: &RecordSite,
+) -> Result<(), AllocError>
     ensures { OnOk result (text.new.items ≡ text.old.items ++ (position_text name.now site.now.line ++ shown_bytes site.now.rty
         ++ identifier_text site.now.rid)) }
 {
@@ -117,7 +105,7 @@ fn push_site_name(text: &mut Vec<u8>, name: &[u8], site: &RecordSite) -> Result<
 }
 
 /// Appends what is told of a record.
-fn push_told(text: &mut Vec<u8>, sentence: &str, rule: u16) -> Result<(), AllocError>
+fn push_told(text: &mut Vec<u8>, sentence: &[u8], rule: u16) -> Result<(), AllocError>
     ensures { OnOk result (text.new.items ≡ text.old.items ++ (codes ": " ++ sentence.now ++ rule_mark rule)) }
 {
     text.extend_from_slice(b": ")?;
@@ -140,7 +128,7 @@ fn push_site(
     text: &mut Vec<u8>,
     name: &[u8],
     site: &Option<RecordSite>,
-    sentence: &str,
+    sentence: &[u8],
     rule: u16,
 ) -> Result<(), AllocError>
     ensures { OnOk result (text.new.items ≡ text.old.items ++ line_of_site name.now site.now sentence.now rule) }
@@ -152,16 +140,17 @@ fn push_site(
 }
 
 /// What is said of the earlier record that a rule speaks of.
-fn sentence_of_earlier(rule: u16) -> &'static str
+fn sentence_of_earlier(rule: u16) -> &'static [u8]
     ensures { result.now ≡ earlier_sentence rule }
 {
     match rule {
-        304 => "the first link with an end",
-        307 => "the earlier link",
-        403 => "the earlier node",
-        405 => "the earlier arc",
-        501 => "the earlier object",
-        _ => "the earlier record",
+        304 => b"the first link with an end",
+        307 => b"the earlier link",
+        403 => b"the earlier node",
+        405 => b"the earlier arc",
+        501 => b"the earlier object",
+        604 => b"the earlier class",
+        _ => b"the earlier record",
     }
 }
 
@@ -170,7 +159,7 @@ pub(crate) fn lines_of_refused(
     alloc: Global,
     name: &[u8],
     sites: &Refused,
-    sentence: &str,
+    sentence: &[u8],
     rule: u16,
 ) -> Result<Vec<u8>, AllocError>
     ensures { IfOk result (λ text. text.items ≡ lines_of_sites name.now sites.now sentence.now rule) }

@@ -263,7 +263,7 @@ pub fn earlier_record(
 
 /// The sites of the record with a number and of the one at an earlier place, if there is one, in a file that breaks no
 /// rule of lines.
-fn sites_of(
+pub(crate) fn sites_of(
     alloc: Global,
     bytes: &[u8],
     number: u64,

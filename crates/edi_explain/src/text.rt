@@ -1,7 +1,8 @@
 //! Rules in words.
 
-ghost use Rattle.std.specs.Prelude.{map};
-ghost use Rattle.edi_explain.specs.Rules.{IsTextIfAny, rules};
+ghost use Rattle.std.specs.Prelude.{◌≡◌, map, option_map};
+ghost use Rattle.edi_explain.specs.Rules.{IsTextIfAny};
+ghost use Rattle.edi_explain.specs.Texts.{IsRuleText, words_among, words_of_text};
 
 use crate::texts::{of_lines, of_objects, of_records, of_references, of_schemas, of_topology};
 
@@ -22,7 +23,8 @@ pub struct RuleText {
 
 /// The text of a rule among these.
 fn text_among(texts: &[RuleText], rule: u16) -> Option<RuleText>
-    ensures { IsTextIfAny (map (λ text. text.rule) texts.now) rule result }
+    ensures numbers { IsTextIfAny (map (λ text. text.rule) texts.now) rule result }
+    ensures words { option_map words_of_text result ≡ words_among (map words_of_text texts.now) rule }
 {
     let mut rest = texts;
     while let [text, behind @ ..] = rest {
@@ -37,7 +39,7 @@ fn text_among(texts: &[RuleText], rule: u16) -> Option<RuleText>
 /// A rule in words, or `None` where no rule has this number (docs/FORMAT.md, "Schemas" and "The
 /// rules of a sheet").
 pub fn rule_text(rule: u16) -> Option<RuleText>
-    ensures { IsTextIfAny rules rule result }
+    ensures { IsRuleText rule result }
 {
     text_among(of_lines(), rule)
         .or(text_among(of_records(), rule))

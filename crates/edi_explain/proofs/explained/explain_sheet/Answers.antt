@@ -21,5 +21,5 @@ returns-in_ok-sites-in-None c =
       sites,
       said.1,
       c.in_ok-sites-in-None.ensures,
-      is ∙ ap (λ (s : List ℕ). lines_of_sites c.args.name.now sites s c.in-Entry.rule) said.2,
+      is ∙ ap (λ (s : List ℕ). lines_of_sites c.args.name.now sites s c.in-Entry.rule) (c.as_bytes-in-None.ensures.value ∙ said.2),
     )) c.lines_of_refused-in-None.ensures)

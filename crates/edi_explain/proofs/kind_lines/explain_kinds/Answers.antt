@@ -1,0 +1,33 @@
+use Rattle.std.proofs.Common.{◌∙◌, List, [], ℕ, ap, subst}
+use Rattle.std.proofs.lemmas.Result.{IfOk-weaker}
+use Rattle.edi_line.specs.Entry.{Entry, entries}
+use Rattle.edi_line.specs.Zones.{groups_of}
+use Rattle.edi_line.specs.declared.zone.Zone.{Zone}
+use Rattle.edi_line.proofs.ZonesSaid.{zones_of_one}
+use Rattle.edi_schema.specs.SchemaRules.{BreaksKinds}
+use Rattle.edi_explain.specs.KindClasses.{IsKindsCause, codes_of}
+use Rattle.edi_explain.specs.Lines.{lines_of_sites}
+use Rattle.edi_explain.specs.Refusals.{AreSites}
+use Rattle.edi_explain.proofs.kind_lines.explain_kinds.Goals as goal
+
+pub unreachable-requires : goal.unreachable-requires
+unreachable-requires c =
+    subst (λ (zs : List Zone). ¬ (BreaksKinds (groups_of (entries zs)) [] (codes_of c.args.codes.now))) c.deref.ensures.value c.in_default.ensures
+    (c.requires.broken (entries c.in_ok-zones.zones.items) c.in_ok-zones.ensures)
+
+pub returns : goal.returns
+returns c =
+    let b = c.args.scd.now.bytes.now in
+    let zones = entries c.in_ok-zones.zones.items in
+    let cause = c.in-Some.cause in
+    let sites = c.in_ok-sites.sites in
+    let there = c.in_ok-sites.ensures in
+    IfOk-weaker c.lines_of_refused.result _ _ (λ lines is. (
+      zones,
+      cause,
+      sites,
+      c.in_ok-zones.ensures,
+      subst (λ (zs : List Zone). IsKindsCause (groups_of (entries zs)) (codes_of c.args.codes.now) cause) c.deref.ensures.value c.in-Some.ensures,
+      subst (λ (zs : List Entry). AreSites zs cause.number cause.earlier sites) (zones_of_one b there.0 zones there.1 c.in_ok-zones.ensures) there.2,
+      is ∙ ap (λ (words : List ℕ). lines_of_sites c.args.scd.now.name.now sites words 604) (c.deref-2.ensures.value ∙ c.in_ok-words.ensures),
+    )) c.lines_of_refused.ensures
