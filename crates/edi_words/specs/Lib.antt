@@ -1,3 +1,4 @@
+pub mod Codes
 pub mod Known
 pub mod Requests
 pub mod inner

@@ -2,9 +2,11 @@
 #![tactic(auto)]
 
 mod command_line;
+pub mod given_kinds;
 pub mod known;
 pub mod words;
 
+pub use given_kinds::GivenKinds;
 pub use words::{
     BadKinds, KindsFault, ManyFiles, Misuse, PairFiles, Request, SheetFiles, asked, is_standard,
 };

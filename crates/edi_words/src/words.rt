@@ -7,9 +7,9 @@ ghost use Rattle.edi_words.specs.Requests.{AreBadKinds, AreKindsIn, AreKindsOf, 
 ghost use Rattle.edi_words.specs.inner.Requests.{IsOwn};
 
 use crate::command_line::command;
+use crate::given_kinds::GivenKinds;
 use clap::error::ErrorKind;
 use clap::{ArgMatches, Error};
-use edi_schema::Kinds;
 use std::alloc::{AllocError, Global};
 
 // The path that stands for a standard stream.
@@ -51,29 +51,29 @@ pub enum Request<'a> {
     Bundle,
     /// Whether a sheet is accepted.
     Check {
-        kinds: Kinds<'a>,
+        kinds: GivenKinds<'a>,
         files: SheetFiles<'a>,
     },
     /// The canonical file of a sheet.
     Canon {
-        kinds: Kinds<'a>,
+        kinds: GivenKinds<'a>,
         files: SheetFiles<'a>,
         out: &'a str,
     },
     /// Whether two sheets state the same plan, and where a pairing of them goes.
     Compare {
-        kinds: Kinds<'a>,
+        kinds: GivenKinds<'a>,
         files: PairFiles<'a>,
         pairing: Option<&'a str>,
     },
     /// The digests of the canonical files of sheets.
     Hash {
-        kinds: Kinds<'a>,
+        kinds: GivenKinds<'a>,
         files: ManyFiles<'a>,
     },
     /// Where and why a sheet is refused, or what is in it.
     Explain {
-        kinds: Kinds<'a>,
+        kinds: GivenKinds<'a>,
         files: SheetFiles<'a>,
     },
     /// What the rule of this number means.
@@ -82,20 +82,20 @@ pub enum Request<'a> {
     },
     /// Whether a file states a pairing that carries the plan of one sheet onto that of another.
     Verify {
-        kinds: Kinds<'a>,
+        kinds: GivenKinds<'a>,
         files: PairFiles<'a>,
         pairing: &'a str,
     },
     /// What differs between two sheets, or only how many records differ, and where a picture of that goes.
     Diff {
-        kinds: Kinds<'a>,
+        kinds: GivenKinds<'a>,
         files: PairFiles<'a>,
         brief: bool,
         picture: Option<&'a str>,
     },
     /// The picture of a sheet.
     Draw {
-        kinds: Kinds<'a>,
+        kinds: GivenKinds<'a>,
         files: SheetFiles<'a>,
         out: &'a str,
     },
@@ -181,7 +181,7 @@ fn subcommand_meant<'a, R: Eprint + AllocGlobal>(
     rt: &R,
     name: &str,
     given: &ArgMatches<'a>,
-    kinds: Kinds<'a>,
+    kinds: GivenKinds<'a>,
 ) -> Request<'a>
     ensures { IsOwn (Some (name.now, rows_of (found_of given.now))) → GiveKinds (rows_of (found_of given.now)) kinds.entry
         → Means (Some (name.now, rows_of (found_of given.now))) result }
@@ -217,7 +217,7 @@ fn subcommand_meant<'a, R: Eprint + AllocGlobal>(
 }
 
 // What the arguments of `compare` ask for.
-fn compared<'a>(given: &ArgMatches<'a>, kinds: Kinds<'a>) -> Request<'a>
+fn compared<'a>(given: &ArgMatches<'a>, kinds: GivenKinds<'a>) -> Request<'a>
     ensures { GiveKinds (rows_of (found_of given.now)) kinds.entry → Means (Some (codes "compare", rows_of (found_of given.now))) result }
 {
     if is_standard(path(given, "pairing")) {
@@ -231,7 +231,7 @@ fn compared<'a>(given: &ArgMatches<'a>, kinds: Kinds<'a>) -> Request<'a>
 }
 
 // What the arguments of `diff` ask for.
-fn differing<'a>(given: &ArgMatches<'a>, kinds: Kinds<'a>) -> Request<'a>
+fn differing<'a>(given: &ArgMatches<'a>, kinds: GivenKinds<'a>) -> Request<'a>
     ensures { GiveKinds (rows_of (found_of given.now)) kinds.entry → Means (Some (codes "diff", rows_of (found_of given.now))) result }
 {
     if is_standard(path(given, "picture")) {
@@ -246,7 +246,7 @@ fn differing<'a>(given: &ArgMatches<'a>, kinds: Kinds<'a>) -> Request<'a>
 }
 
 // What the arguments of `explain` ask for.
-fn explained<'a>(given: &ArgMatches<'a>, kinds: Kinds<'a>) -> Request<'a>
+fn explained<'a>(given: &ArgMatches<'a>, kinds: GivenKinds<'a>) -> Request<'a>
     ensures { GiveKinds (rows_of (found_of given.now)) kinds.entry → Means (Some (codes "explain", rows_of (found_of given.now))) result }
 {
     match (is_given(given, "DIC"), is_given(given, "VEC")) {
@@ -372,12 +372,12 @@ fn path<'a>(given: &ArgMatches<'a>, name: &str) -> &'a str
 }
 
 // Four codes parted by commas, or the usual ones where none are given.
-fn kinds_of(text: Option<&str>) -> Result<Kinds<'_>, BadKinds<'_>>
+fn kinds_of(text: Option<&str>) -> Result<GivenKinds<'_>, BadKinds<'_>>
     ensures { MatchResult result (AreKindsOf (option_map (λ t. t.now) text.entry))
         (λ bad. ((k : KindCodes) → ¬ (AreKindsOf (option_map (λ t. t.now) text.entry) k)) × AreBadKinds (option_map (λ t. t.now) text.entry) bad) }
 {
     let Some(text) = text else {
-        return Ok(Kinds::usual());
+        return Ok(GivenKinds::usual());
     };
     match kinds_in(text) {
         Ok(kinds) => Ok(kinds),
@@ -386,13 +386,13 @@ fn kinds_of(text: Option<&str>) -> Result<Kinds<'_>, BadKinds<'_>>
 }
 
 // Four codes parted by commas.
-fn kinds_in(text: &str) -> Result<Kinds<'_>, KindsFault<'_>>
+fn kinds_in(text: &str) -> Result<GivenKinds<'_>, KindsFault<'_>>
     ensures { MatchResult result (AreKindsIn text.now) (λ fault. ((k : KindCodes) → ¬ (AreKindsIn text.now k)) × IsKindsFault (codes_in text.now) fault) }
 {
     let Some((initial, final_node, left, right)) = four_codes(text) else {
         return Err(KindsFault::Count);
     };
-    let kinds = Kinds::new(
+    let kinds = GivenKinds::new(
         initial.as_bytes(),
         final_node.as_bytes(),
         left.as_bytes(),
