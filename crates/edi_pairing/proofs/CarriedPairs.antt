@@ -18,7 +18,7 @@ module _ (s : Classes) (b : List ℕ) (names : List RecordName) (p : Drawing) (a
   one_sheet : names ≡ names_of plan.0.list
   one_sheet = are.2 ∙ ap names_of (reading_is_one.sheets b are.0 plan.0 are.1 plan.1).1
 
-  names_long : length names ≡ length p.list
+  pub names_long : length names ≡ length p.list
   names_long = ap length one_sheet ∙ (length-map plan.0.list (λ r. record { kind = r.kind; rid = r.rid }) ∙ zip_length (StatesPlanRecord s plan.0.list) plan.0.list p.list plan.2.each)
 
   kinds_same : (k : ℕ) → k < length p.list → (name_at names k).kind ≡ (record_at p k).kind

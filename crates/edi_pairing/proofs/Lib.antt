@@ -6,3 +6,4 @@ pub mod WrongLemmas
 pub mod VerifyLemmas
 pub mod CarriedPairs
 pub mod FiveKnown
+pub mod Appended

@@ -2,6 +2,7 @@ pub mod Names
 pub mod PairingText
 pub mod WrongLines
 pub mod Verified
+pub mod UnpairedText
 pub mod CompareRuns
 pub mod VerifyRuns
 pub mod Laws

@@ -7,6 +7,7 @@ ghost use Rattle.edi_pairing.specs.VerifyRuns.{AfterAllRead, AreAllRead, IsVerif
 ghost use Rattle.edi_pairing.specs.inner.VerifyRuns.{FilesFault};
 
 use crate::fault::{VerifyFault, VerifyRunFault};
+use crate::verified::Verified;
 use crate::verifying::verify;
 use crate::writing::{Compared, compare_to_file};
 use edi_compare::{RunFault, load_or_fault, read_input};
@@ -26,13 +27,12 @@ pub fn run_compare_to_file<S: ByteIn, D: ByteIn, A: ByteIn, B: ByteIn>(
 ) -> Result<Compared, RunFault>
     ensures ok { IfOk result (λ compared. IfFourKnown (S.contents scd.old) (D.contents dic.old) (A.contents first.old) (B.contents second.old)
         (λ s d a b. IsComparedUnder kinds.now s d a b compared)) }
-    ensures read { OnOk result (AreFourRead (seen (S.contents scd.old) (S.contents scd.new) (S.has_failed scd.new)) (seen (D.contents dic.old) (D.contents dic.new) (D.has_failed dic.new))
-        (seen (A.contents first.old) (A.contents first.new) (A.has_failed first.new)) (seen (B.contents second.old) (B.contents second.new) (B.has_failed second.new))) }
-    ensures err { IfErr result (ComparingFault kinds.now (seen (S.contents scd.old) (S.contents scd.new) (S.has_failed scd.new)) (seen (D.contents dic.old) (D.contents dic.new) (D.has_failed dic.new))
-        (seen (A.contents first.old) (A.contents first.new) (A.has_failed first.new)) (seen (B.contents second.old) (B.contents second.new) (B.has_failed second.new))
-        (record { dic = dic.new ≡ dic.old; first = first.new ≡ first.old; second = second.new ≡ second.old })) }
-    ensures after { IfErr result (λ e. AfterReading e (AreFourRead (seen (S.contents scd.old) (S.contents scd.new) (S.has_failed scd.new)) (seen (D.contents dic.old) (D.contents dic.new) (D.has_failed dic.new))
-        (seen (A.contents first.old) (A.contents first.new) (A.has_failed first.new)) (seen (B.contents second.old) (B.contents second.new) (B.has_failed second.new)))) }
+    ensures read { OnOk result (AreFourRead (seen S.ByteIn scd.old scd.new) (seen D.ByteIn dic.old dic.new)
+        (seen A.ByteIn first.old first.new) (seen B.ByteIn second.old second.new)) }
+    ensures err { IfErr result (ComparingFault kinds.now (seen S.ByteIn scd.old scd.new) (seen D.ByteIn dic.old dic.new)
+        (seen A.ByteIn first.old first.new) (seen B.ByteIn second.old second.new)) }
+    ensures after { IfErr result (λ e. AfterReading e (AreFourRead (seen S.ByteIn scd.old scd.new) (seen D.ByteIn dic.old dic.new)
+        (seen A.ByteIn first.old first.new) (seen B.ByteIn second.old second.new))) }
 {
     let scd = read_input(alloc, scd, 1)?;
     let dic = read_input(alloc, dic, 2)?;
@@ -42,7 +42,7 @@ pub fn run_compare_to_file<S: ByteIn, D: ByteIn, A: ByteIn, B: ByteIn>(
 }
 
 /// Reads five files, and answers whether the fifth states a pairing that carries the plan of the third onto that of the
-/// fourth, two sheets under the schema of the first two. All are read before one is looked at. The second sheet is looked
+/// fourth, two sheets under the schema of the first two, and why it doesn't. All are read before one is looked at. The second sheet is looked
 /// at only if the first is accepted, and the pairing's file only if both are.
 pub fn run_verify<S: ByteIn, D: ByteIn, A: ByteIn, B: ByteIn, F: ByteIn>(
     alloc: Global,
@@ -52,30 +52,29 @@ pub fn run_verify<S: ByteIn, D: ByteIn, A: ByteIn, B: ByteIn, F: ByteIn>(
     first: &mut A,
     second: &mut B,
     file: &mut F,
-) -> Result<bool, VerifyRunFault>
+) -> Result<Verified, VerifyRunFault>
     ensures ok { IfOk result (λ answer. IfFiveKnown (S.contents scd.old) (D.contents dic.old) (A.contents first.old) (B.contents second.old) (F.contents file.old)
         (λ s d a b f. IsVerifiedUnder kinds.now s d a b f answer)) }
     ensures read { OnOk result (AreAllRead (record {
-      scd = seen (S.contents scd.old) (S.contents scd.new) (S.has_failed scd.new);
-      dic = seen (D.contents dic.old) (D.contents dic.new) (D.has_failed dic.new);
-      first = seen (A.contents first.old) (A.contents first.new) (A.has_failed first.new);
-      second = seen (B.contents second.old) (B.contents second.new) (B.has_failed second.new);
-      file = seen (F.contents file.old) (F.contents file.new) (F.has_failed file.new);
+      scd = seen S.ByteIn scd.old scd.new;
+      dic = seen D.ByteIn dic.old dic.new;
+      first = seen A.ByteIn first.old first.new;
+      second = seen B.ByteIn second.old second.new;
+      file = seen F.ByteIn file.old file.new;
     })) }
     ensures err { IfErr result (VerifyingFault kinds.now (record {
-      scd = seen (S.contents scd.old) (S.contents scd.new) (S.has_failed scd.new);
-      dic = seen (D.contents dic.old) (D.contents dic.new) (D.has_failed dic.new);
-      first = seen (A.contents first.old) (A.contents first.new) (A.has_failed first.new);
-      second = seen (B.contents second.old) (B.contents second.new) (B.has_failed second.new);
-      file = seen (F.contents file.old) (F.contents file.new) (F.has_failed file.new);
-    })
-        (record { dic = dic.new ≡ dic.old; first = first.new ≡ first.old; second = second.new ≡ second.old; file = file.new ≡ file.old })) }
+      scd = seen S.ByteIn scd.old scd.new;
+      dic = seen D.ByteIn dic.old dic.new;
+      first = seen A.ByteIn first.old first.new;
+      second = seen B.ByteIn second.old second.new;
+      file = seen F.ByteIn file.old file.new;
+    })) }
     ensures after { IfErr result (λ e. AfterAllRead e (AreAllRead (record {
-      scd = seen (S.contents scd.old) (S.contents scd.new) (S.has_failed scd.new);
-      dic = seen (D.contents dic.old) (D.contents dic.new) (D.has_failed dic.new);
-      first = seen (A.contents first.old) (A.contents first.new) (A.has_failed first.new);
-      second = seen (B.contents second.old) (B.contents second.new) (B.has_failed second.new);
-      file = seen (F.contents file.old) (F.contents file.new) (F.has_failed file.new);
+      scd = seen S.ByteIn scd.old scd.new;
+      dic = seen D.ByteIn dic.old dic.new;
+      first = seen A.ByteIn first.old first.new;
+      second = seen B.ByteIn second.old second.new;
+      file = seen F.ByteIn file.old file.new;
     }))) }
 {
     let scd = read_input(alloc, scd, 1)?;
@@ -103,7 +102,7 @@ fn compare_or_fault(
     Ok(compared)
 }
 
-// Whether the file states a pairing that carries, of two sheets under the schema of the two files.
+// Whether the file states a pairing that carries, of two sheets under the schema of the two files, and why it doesn't.
 fn verify_or_fault(
     alloc: Global,
     kinds: &Kinds<'_>,
@@ -112,7 +111,7 @@ fn verify_or_fault(
     first: &[u8],
     second: &[u8],
     file: &[u8],
-) -> Result<bool, VerifyRunFault>
+) -> Result<Verified, VerifyRunFault>
     ensures ok { IfOk result (IsVerifiedUnder kinds.now scd.now dic.now first.now second.now file.now) }
     ensures err { IfErr result (FilesFault kinds.now scd.now dic.now first.now second.now file.now) }
 {

@@ -1,18 +1,22 @@
 //! Checking pairing files.
 
-ghost use Rattle.std.specs.Prelude.{◌≡◌, OnOk, IfOk, IfErr};
+ghost use Rattle.std.specs.Prelude.{◌≡◌, OnOk, IfOk, IfErr, length};
+ghost use Rattle.edi_plan.specs.Agreeing.{HasClasses};
 ghost use Rattle.edi_compare.specs.Rules.{IsAccepted};
-ghost use Rattle.edi_pairing.specs.Verified.{IsVerified, IsVerifyRefusal};
+ghost use Rattle.edi_pairing.specs.PairingText.{IsPairing};
+ghost use Rattle.edi_pairing.specs.Verified.{IsVerifyAnswer, IsVerified, IsVerifyRefusal};
 ghost use Rattle.edi_pairing.specs.inner.Verified.{of_first, of_second};
 
 use crate::fault::VerifyFault;
 use crate::reading::read_pairing;
-use crate::sheets::name_sheet;
-use edi_compare::{Fault, check_pairing};
+use crate::sheets::{NamedSheet, name_sheet};
+use crate::verified::{Verified, unpaired_by};
+use edi_compare::{Fault, Pairing, first_uncarried};
 use edi_schema::Schema;
-use std::alloc::Global;
+use std::alloc::{AllocError, Global};
 
-/// Whether a file states a pairing that carries the plan of the first sheet onto that of the second, under one schema.
+/// Whether a file states a pairing that carries the plan of the first sheet onto that of the second, under one schema, and if it states
+/// one that doesn't, why: the first record that isn't carried, by its name.
 /// `VerifyFault::First` where the first sheet is refused, `VerifyFault::Second` where the first is accepted and the
 /// second is refused, both as `edi_compare::compare` refuses them; `VerifyFault::Pairing` where both are accepted and
 /// the file states no pairing of them.
@@ -24,7 +28,7 @@ pub fn verify(
     a: &[u8],
     b: &[u8],
     file: &[u8],
-) -> Result<bool, VerifyFault>
+) -> Result<Verified, VerifyFault>
     ensures first { OnOk result (IsAccepted schema.now a.now) }
     ensures second { OnOk result (IsAccepted schema.now b.now) }
     ensures answer { IfOk result (IsVerified schema.now a.now b.now file.now) }
@@ -39,8 +43,31 @@ pub fn verify(
         Err(fault) => return Err(second_refused(fault)),
     };
     let pairing = read_pairing(alloc, &first.names, &second.names, file)?;
-    let carries = check_pairing(alloc, schema, &first.accepted, &second.accepted, &pairing)?;
-    Ok(carries)
+    let answer = judged(alloc, schema, &first, &second, &pairing)?;
+    Ok(answer)
+}
+
+// Whether a pairing of two sheets carries, and why it doesn't.
+fn judged(
+    alloc: Global,
+    schema: &Schema,
+    first: &NamedSheet,
+    second: &NamedSheet,
+    pairing: &Pairing,
+) -> Result<Verified, AllocError>
+    requires classes { HasClasses schema.now first.now.accepted }
+    requires first { length first.now.names ≡ length first.now.accepted.list }
+    requires second { length second.now.names ≡ length second.now.accepted.list }
+    requires pairing { IsPairing first.now.names second.now.names pairing.now }
+    ensures { IfOk result (IsVerifyAnswer schema.now first.now.accepted second.now.accepted first.now.names second.now.names pairing.now) }
+{
+    match first_uncarried(alloc, schema, &first.accepted, &second.accepted, pairing)? {
+        Some(why) => {
+            let why = unpaired_by(alloc, &first.names, &second.names, pairing, why)?;
+            Ok(Verified::Fails(why))
+        }
+        None => Ok(Verified::Carries),
+    }
 }
 
 fn first_refused(fault: Fault) -> VerifyFault
