@@ -18,7 +18,7 @@ use Rattle.edi_rank.specs.Labelling.{turned_at}
 use Rattle.edi_rank.specs.Same.{CarriesRecord, class_after, moved, Same}
 use Rattle.edi_rank.proofs.KeysApart.{one_node, one_arc}
 use Rattle.edi_rank.proofs.SameLaws.{after, after_none}
-use Rattle.edi_matching.specs.Differences.{HoldsSame, ArePartners, MatchesPartners, IsTotalIfSame}
+use Rattle.edi_matching.specs.Differences.{HoldsSame, ArePartners, MatchesFaces, MatchesLinks, MatchesPartners, IsTotalIfSame}
 use Rattle.edi_matching.specs.Laws.{matching_of}
 use Rattle.edi_matching.specs.Matchings.{GoesTo, IsMatched, MatchingHolds, targets_of}
 use Rattle.edi_matching.specs.declared.matching.Matching.{Matching}
@@ -131,12 +131,17 @@ partners_known two whole whole' sound to ts to' ts' e f n all long long' each =
 -- a matching is total exactly if the plans are the same
 
 pub pairing_known : {E : Type 0} (s : Classes) (p q : Drawing) (pairing : Pairing) → IsWholePlan p → PairingCarries s p q pairing → (r : Result Matching E) → IfOk r (λ m. m ≡ matching_of pairing)
-    → IfOk r (MatchingHolds s p q) × IfOk r (IsTotalIfSame s p q) × IfOk r (MatchesPartners p q)
-pairing_known s p q pairing whole c (Err e) is = (tt, tt, tt)
+    → IfOk r (MatchingHolds s p q) × IfOk r (IsTotalIfSame s p q) × IfOk r (MatchesPartners p q) × IfOk r (MatchesFaces s p q) × IfOk r (MatchesLinks s p q)
+pairing_known s p q pairing whole c (Err e) is = (tt, tt, tt, tt, tt)
 pairing_known s p q pairing whole c (Ok m) is = (
   subst (MatchingHolds s p q) (sym is) (pairing_holds s p q pairing whole c),
   subst (IsTotalIfSame s p q) (sym is) (λ total. (slice_index pairing.to, turned_at pairing.turned, c.carries), λ same. (pairing_total s p q pairing whole c, c.carries.cse)),
   subst (MatchesPartners p q) (sym is) (λ i j t both. (pairing_total s p q pairing whole c).each i both.here),
+  subst (MatchesFaces s p q) (sym is) (record {
+    on_left = λ arc f g b missed. missed.left ((pairing_total s p q pairing whole c).each f missed.here);
+    on_right = λ arc f g b missed. missed.left ((pairing_total s p q pairing whole c).each f missed.here);
+  }),
+  subst (MatchesLinks s p q) (sym is) (λ i j link missed. missed.left ((pairing_total s p q pairing whole c).each i missed.here)),
 )
 
 pub different_known : {E : Type 0} (s : Classes) (p q : Drawing) → ¬ (Same s p q) → (r : Result Matching E) → IfOk r (MatchingHolds s p q) → IfOk r (IsTotalIfSame s p q)

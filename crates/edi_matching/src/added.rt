@@ -1,49 +1,83 @@
 //! Records that are matched where neither is yet.
 
-ghost use Rattle.std.specs.Prelude.{◌<◌, length};
+ghost use Rattle.std.specs.Prelude.{◌≡◌, ◌↔◌, ◌<◌, ◌∷◌, [], IfOk, IsTrue, None, OnOk, drop, if◌then◌else◌, length, not, slice_index_or};
+ghost use Rattle.std.specs.List.{before_first};
+ghost use Rattle.edi_plan.specs.Sides.{Side};
+ghost use Rattle.edi_schema.specs.Roles.{exchanged};
+ghost use Rattle.edi_matching.specs.inner.Additions.{AddsPairs, AreAlike, AreAlikeBeside, AreFree, AreLone, HasKey, HaveLoneKey, HaveOneKey, IsFirstFrom, IsListed, IsLone, LeavesNoLone, PairsIfAlike, PairsIfBoth, PairsIfFree, StartsRun};
 
 use crate::entries::by_contents;
+use crate::links::is_free;
 use crate::partners::same_record;
+use crate::ranked::{Member, Ranked};
 use edi_plan::Plan;
 use edi_record::Kind;
 use edi_schema::Role;
 use std::alloc::{AllocError, Global};
 
-/// Adds the faces that matched arcs have on one side and hold the same.
+/// Adds the faces that matched arcs have on one side and hold the same. Arcs go by their points.
 pub(crate) fn add_faces(
     alloc: Global,
-    plan: &Plan,
+    first: Ranked<'_>,
     other: &Plan,
     turned: &[bool],
     to: &mut [Option<u32>],
     taken: &mut [bool],
-) -> Result<(), AllocError> {
-    for arc in 0..plan.len() {
-        let target = target_of(to, arc);
-        let is_turned = turned.get(arc as usize).copied().unwrap_or(false);
-        if let Some(target) = target
-            && plan.kind(arc) == Kind::Par
-            && target < other.len()
-        {
-            for role in [Role::Left, Role::Right] {
-                let there = if is_turned { role.exchanged() } else { role };
-                add_same(
-                    alloc,
-                    plan,
-                    plan.side(arc, role),
-                    other,
-                    other.side(target, there),
-                    to,
-                    taken,
-                )?;
-            }
+) -> Result<(), AllocError>
+    ensures { OnOk result (AddsPairs (AreAlikeBeside first.entry.plan.now other.now (record { to = to.new; turned = turned.now })) to.old taken.old to.new taken.new) }
+{
+    for arc in first.labels.order(Kind::Par) {
+        if let Some(target) = target_of(to, *arc) {
+            let is_turned = turned.get(*arc as usize).copied().unwrap_or(false);
+            add_sides(alloc, first, *arc, other, target, is_turned, to, taken)?;
         }
     }
     Ok(())
 }
 
+/// Adds the faces on the sides of an arc, of which the other plan has this one, if they hold the same.
+fn add_sides(
+    alloc: Global,
+    first: Ranked<'_>,
+    arc: u32,
+    other: &Plan,
+    target: u32,
+    is_turned: bool,
+    to: &mut [Option<u32>],
+    taken: &mut [bool],
+) -> Result<(), AllocError>
+    ensures { OnOk result (AddsPairs (λ i j. (role : Role) × Side first.entry.plan.now arc role i × Side other.now target (if is_turned then exchanged role else role) j × AreAlike first.entry.plan.now other.now i j) to.old taken.old to.new taken.new) }
+{
+    if arc >= first.plan.len() || target >= other.len() {
+        return Ok(());
+    }
+    for role in first.sides(arc) {
+        let there = role_if_turned(role, is_turned);
+        let place = first.plan.side(arc, role);
+        add_same(
+            alloc,
+            first.plan,
+            place,
+            other,
+            other.side(target, there),
+            to,
+            taken,
+        )?;
+    }
+    Ok(())
+}
+
+/// What a role of an arc becomes, if the arc is reversed or not.
+fn role_if_turned(role: Role, is_turned: bool) -> Role
+    ensures { result ≡ (if is_turned then exchanged role else role) }
+{
+    if is_turned { role.exchanged() } else { role }
+}
+
 /// Where a record goes.
-pub(crate) fn target_of(to: &[Option<u32>], place: u32) -> Option<u32> {
+pub(crate) fn target_of(to: &[Option<u32>], place: u32) -> Option<u32>
+    ensures { result ≡ slice_index_or to.now place None }
+{
     to.get(place as usize).copied().flatten()
 }
 
@@ -56,27 +90,64 @@ fn add_same(
     target: Option<u32>,
     to: &mut [Option<u32>],
     taken: &mut [bool],
-) -> Result<(), AllocError> {
-    if let (Some(place), Some(target)) = (place, target)
-        && place < plan.len()
-        && target < other.len()
-        && same_record(alloc, plan, place, other, target)?.is_some()
-    {
-        add(to, taken, place, target);
+) -> Result<(), AllocError>
+    ensures { OnOk result (PairsIfBoth plan.now other.now place target to.old taken.old to.new taken.new) }
+{
+    match (place, target) {
+        (Some(place), Some(target)) => add_alike(alloc, plan, place, other, target, to, taken),
+        _ => Ok(()),
     }
+}
+
+/// Adds one record, if the two hold the same.
+fn add_alike(
+    alloc: Global,
+    plan: &Plan,
+    place: u32,
+    other: &Plan,
+    target: u32,
+    to: &mut [Option<u32>],
+    taken: &mut [bool],
+) -> Result<(), AllocError>
+    ensures { OnOk result (PairsIfAlike plan.now other.now place target to.old taken.old to.new taken.new) }
+{
+    if !are_alike(alloc, plan, place, other, target)? {
+        return Ok(());
+    }
+    add(to, taken, place, target);
     Ok(())
+}
+
+/// Whether the one record holds what the other does.
+fn are_alike(
+    alloc: Global,
+    plan: &Plan,
+    place: u32,
+    other: &Plan,
+    target: u32,
+) -> Result<bool, AllocError>
+    ensures { IfOk result (λ answer. IsTrue answer ↔ AreAlike plan.now other.now place target) }
+{
+    if place >= plan.len() || target >= other.len() {
+        return Ok(false);
+    }
+    let found = same_record(alloc, plan, place, other, target)?;
+    Ok(found.is_some())
 }
 
 /// Adds objects with one key that hold the same, of lists in the order of their keys.
 pub(crate) fn add_objects<K: Ord>(
     alloc: Global,
     plan: &Plan,
-    objects: &[(K, u32)],
+    objects: &[(K, Member)],
     other: &Plan,
-    others: &[(K, u32)],
+    others: &[(K, Member)],
     to: &mut [Option<u32>],
     taken: &mut [bool],
-) -> Result<(), AllocError> {
+) -> Result<(), AllocError>
+    ensures pairs { OnOk result (AddsPairs (λ i j. HaveOneKey K.eq (λ m. m.place) objects.now others.now i j × AreAlike plan.now other.now i j) to.old taken.old to.new taken.new) }
+    ensures none_left { OnOk result (LeavesNoLone K.cmp K.eq plan.now other.now objects.now others.now to.new taken.new) }
+{
     let mut at = 0;
     for index in 0..objects.len() {
         if starts_run(objects, index) {
@@ -91,14 +162,20 @@ pub(crate) fn add_objects<K: Ord>(
 }
 
 /// Whether the entry before this position, if there is one, has another key.
-fn starts_run<K: Ord>(pairs: &[(K, u32)], at: usize) -> bool
+fn starts_run<K: Ord>(pairs: &[(K, Member)], at: usize) -> bool
     requires { at < length pairs.now }
+    ensures { IsTrue result ↔ StartsRun K.eq pairs.now at }
 {
-    at == 0 || pairs[at - 1].0 != pairs[at].0
+    if at == 0 {
+        return true;
+    }
+    !has_key(pairs, at - 1, &pairs[at].0)
 }
 
 /// The entries from this position on, up to the first with another key.
-fn run_with<'a, K: Ord>(pairs: &'a [(K, u32)], from: usize, key: &K) -> &'a [(K, u32)] {
+fn run_with<'a, K: Ord>(pairs: &'a [(K, Member)], from: usize, key: &K) -> &'a [(K, Member)]
+    ensures { result.now ≡ before_first (λ pair. not (K.eq pair.0 key.now)) (drop from pairs.now) }
+{
     let rest = &pairs[from.min(pairs.len())..];
     match rest.iter().position(|pair| pair.0 != *key) {
         Some(end) => &rest[..end],
@@ -110,16 +187,20 @@ fn run_with<'a, K: Ord>(pairs: &'a [(K, u32)], from: usize, key: &K) -> &'a [(K,
 fn add_run<K>(
     alloc: Global,
     plan: &Plan,
-    objects: &[(K, u32)],
+    objects: &[(K, Member)],
     other: &Plan,
-    others: &[(K, u32)],
+    others: &[(K, Member)],
     to: &mut [Option<u32>],
     taken: &mut [bool],
-) -> Result<(), AllocError> {
+) -> Result<(), AllocError>
+    ensures pairs { OnOk result (AddsPairs (λ i j. IsListed objects.now i × IsListed others.now j × AreAlike plan.now other.now i j) to.old taken.old to.new taken.new) }
+    ensures none_left { OnOk result ((x y : K × Member) → objects.now ≡ x ∷ [] → others.now ≡ y ∷ [] → AreAlike plan.now other.now x.1.place y.1.place → ¬ (AreFree to.new taken.new x.1.place y.1.place)) }
+{
     match (objects, others) {
         (_, []) => Ok(()),
         ([one], [another]) => {
-            add_same(alloc, plan, Some(one.1), other, Some(another.1), to, taken)
+            let place = one.1.place;
+            add_alike(alloc, plan, place, other, another.1.place, to, taken)
         }
         _ => {
             let objects = by_contents(alloc, plan, objects)?;
@@ -133,18 +214,20 @@ fn add_run<K>(
 fn add_in_order<K: Ord>(
     alloc: Global,
     plan: &Plan,
-    objects: &[(K, u32)],
+    objects: &[(K, Member)],
     other: &Plan,
-    others: &[(K, u32)],
+    others: &[(K, Member)],
     to: &mut [Option<u32>],
     taken: &mut [bool],
-) -> Result<(), AllocError> {
+) -> Result<(), AllocError>
+    ensures { OnOk result (AddsPairs (λ i j. HaveOneKey K.eq (λ m. m.place) objects.now others.now i j × AreAlike plan.now other.now i j) to.old taken.old to.new taken.new) }
+{
     let mut at = 0;
-    for (key, place) in objects {
+    for (key, member) in objects {
         at = first_from(others, at, key);
-        if at < others.len() && others[at].0 == *key {
-            let target = others[at].1;
-            add_same(alloc, plan, Some(*place), other, Some(target), to, taken)?;
+        if has_key(others, at, key) {
+            let target = others[at].1.place;
+            add_alike(alloc, plan, member.place, other, target, to, taken)?;
             at += 1;
         }
     }
@@ -155,36 +238,66 @@ fn add_in_order<K: Ord>(
 pub(crate) fn add_lone_objects<K: Ord>(
     alloc: Global,
     plan: &Plan,
-    objects: &[(K, u32)],
+    objects: &[(K, Member)],
     other: &Plan,
-    others: &[(K, u32)],
+    others: &[(K, Member)],
     to: &mut [Option<u32>],
     taken: &mut [bool],
-) -> Result<(), AllocError> {
+) -> Result<(), AllocError>
+    ensures pairs { OnOk result (AddsPairs (λ i j. HaveLoneKey K.eq (λ m. m.place) objects.now others.now i j × AreAlike plan.now other.now i j) to.old taken.old to.new taken.new) }
+    ensures none_left { OnOk result (LeavesNoLone K.cmp K.eq plan.now other.now objects.now others.now to.new taken.new) }
+{
     let mut at = 0;
     for index in 0..objects.len() {
-        let (key, place) = &objects[index];
+        let (key, member) = &objects[index];
         at = first_from(others, at, key);
-        if at < others.len()
-            && others[at].0 == *key
-            && is_lone(objects, index)
-            && is_lone(others, at)
-        {
-            let target = others[at].1;
-            add_same(alloc, plan, Some(*place), other, Some(target), to, taken)?;
+        if are_lone(objects, index, others, at) {
+            let target = others[at].1.place;
+            add_alike(alloc, plan, member.place, other, target, to, taken)?;
         }
     }
     Ok(())
 }
 
+/// Whether the entries at these positions have one key, which each list has once.
+fn are_lone<K: Ord>(
+    objects: &[(K, Member)],
+    index: usize,
+    others: &[(K, Member)],
+    at: usize,
+) -> bool
+    requires { index < length objects.now }
+    ensures { IsTrue result ↔ AreLone K.eq objects.now index others.now at }
+{
+    if !has_key(others, at, &objects[index].0) {
+        return false;
+    }
+    if !is_lone(objects, index) {
+        return false;
+    }
+    is_lone(others, at)
+}
+
+/// Whether there is an entry at this position, and it has this key.
+fn has_key<K: Ord, T>(entries: &[(K, T)], at: usize, key: &K) -> bool
+    ensures { IsTrue result ↔ HasKey K.eq entries.now at key.now }
+{
+    if at >= entries.len() {
+        return false;
+    }
+    entries[at].0 == *key
+}
+
 /// Whether neither neighbour has the key at this position.
-fn is_lone<K: Ord>(pairs: &[(K, u32)], at: usize) -> bool
+fn is_lone<K: Ord>(pairs: &[(K, Member)], at: usize) -> bool
     requires { at < length pairs.now }
+    ensures { IsTrue result ↔ IsLone K.eq pairs.now at }
 {
     let key = &pairs[at].0;
-    let repeats = at > 0 && pairs[at - 1].0 == *key;
-    let repeated = at + 1 < pairs.len() && pairs[at + 1].0 == *key;
-    !repeats && !repeated
+    if at > 0 && has_key(pairs, at - 1, key) {
+        return false;
+    }
+    !has_key(pairs, at + 1, key)
 }
 
 /// Adds the links with one key, of lists in the order of their keys, and lets the lists go.
@@ -193,12 +306,14 @@ pub(crate) fn add_links<K: Ord + Drop>(
     others: Vec<(K, u32)>,
     to: &mut [Option<u32>],
     taken: &mut [bool],
-) {
+)
+    ensures { AddsPairs (HaveOneKey K.eq (λ place. place) links.items others.items) to.old taken.old to.new taken.new }
+{
     let others = others.as_slice();
     let mut at = 0;
     for (key, place) in &links {
         at = first_from(others, at, key);
-        if at < others.len() && others[at].0 == *key {
+        if has_key(others, at, key) {
             add(to, taken, *place, others[at].1);
             at += 1;
         }
@@ -206,7 +321,9 @@ pub(crate) fn add_links<K: Ord + Drop>(
 }
 
 /// The first position from this one on whose key is not less.
-fn first_from<K: Ord>(others: &[(K, u32)], from: usize, key: &K) -> usize {
+fn first_from<K: Ord, T>(others: &[(K, T)], from: usize, key: &K) -> usize
+    ensures { IsFirstFrom K.cmp others.now from key.now result }
+{
     let mut at = from;
     while at < others.len() && others[at].0.cmp(key).is_lt() {
         at += 1;
@@ -215,11 +332,20 @@ fn first_from<K: Ord>(others: &[(K, u32)], from: usize, key: &K) -> usize {
 }
 
 /// Matches a record, if neither is matched yet.
-fn add(to: &mut [Option<u32>], taken: &mut [bool], place: u32, target: u32) {
-    let i = place as usize;
-    let j = target as usize;
-    if i < to.len() && j < taken.len() && to[i].is_none() && !taken[j] {
-        to[i] = Some(target);
-        taken[j] = true;
+fn add(to: &mut [Option<u32>], taken: &mut [bool], place: u32, target: u32)
+    ensures { PairsIfFree place target to.old taken.old to.new taken.new }
+{
+    if !are_free(to, taken, place, target) {
+        return;
     }
+    to[place as usize] = Some(target);
+    taken[target as usize] = true;
+}
+
+/// Whether neither is matched yet.
+fn are_free(to: &[Option<u32>], taken: &[bool], place: u32, target: u32) -> bool
+    ensures { IsTrue result ↔ AreFree to.now taken.now place target }
+{
+    let at = place as usize;
+    at < to.len() && to[at].is_none() && is_free(taken, target)
 }

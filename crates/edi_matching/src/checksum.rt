@@ -72,7 +72,7 @@ pub(crate) fn plan_checksum(plan: &Plan) -> u64
     sum
 }
 
-fn record_checksum(plan: &Plan, place: u32) -> u64
+pub(crate) fn record_checksum(plan: &Plan, place: u32) -> u64
     requires { IsPlace plan.now place }
     ensures { result ≡ record_checksum (record_at plan.now place) }
 {

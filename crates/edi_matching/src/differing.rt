@@ -3,11 +3,13 @@
 ghost use Rattle.std.specs.Prelude.{◌≡◌, IfOk, Some, map};
 ghost use Rattle.edi_schema.specs.Classes.{Classes};
 ghost use Rattle.edi_compare.specs.Laws.{IsAcceptedPlan};
-ghost use Rattle.edi_matching.specs.Differences.{IsTotalIfSame, MatchesPartners};
+ghost use Rattle.edi_matching.specs.Differences.{IsTotalIfSame, MatchesFaces, MatchesLinks, MatchesPartners};
 ghost use Rattle.edi_matching.specs.Laws.{matching_of};
 ghost use Rattle.edi_matching.specs.Matchings.{MatchingHolds};
 
+use crate::faces::with_all_faces;
 use crate::growing::grown;
+use crate::links::with_all_links;
 use crate::matching::Matching;
 use crate::partners::Partners;
 use crate::same::same_pairing;
@@ -18,10 +20,10 @@ use edi_topo::Sound;
 use std::alloc::{AllocError, Global};
 
 /// A matching of two sheets that were accepted under this schema. It leaves nothing out exactly if the plans and
-/// character sets are the same; and it leaves out no node and no arc that has a partner, whatever the rest. Which
-/// faces, objects and links it matches of sheets that differ is not promised: faces that matched arcs have on one side,
-/// objects that a link of one class joins to one matched record, or that alone hold what they do, and links whose ends are
-/// matched, each if it holds the same. The only error is want of memory.
+/// character sets are the same. Whatever the rest, it leaves out no node and no arc that has a partner, no face of a matched arc together
+/// with that on the same side of the arc it goes to, if the one is carried onto the other, and no link whose ends are matched together with
+/// one that it is carried onto. Which other faces and which objects it matches of sheets that differ is not promised: objects that a link of
+/// one class joins to one matched record, or that alone hold what they do, each if it holds the same. The only error is want of memory.
 pub fn differences(
     alloc: Global,
     schema: &Schema,
@@ -33,6 +35,8 @@ pub fn differences(
     ensures holds { IfOk result (MatchingHolds schema.now first.now second.now) }
     ensures total { IfOk result (IsTotalIfSame schema.now first.now second.now) }
     ensures partners { IfOk result (MatchesPartners first.now second.now) }
+    ensures faces { IfOk result (MatchesFaces schema.now first.now second.now) }
+    ensures links { IfOk result (MatchesLinks schema.now first.now second.now) }
 {
     first.sound().plan().keeps();
     match same_pairing(alloc, schema, first, second)? {
@@ -52,10 +56,15 @@ fn different_matching(
     requires second { IsAcceptedPlan schema.now second.now }
     ensures holds { IfOk result (MatchingHolds schema.now first.now second.now) }
     ensures partners { IfOk result (MatchesPartners first.now second.now) }
+    ensures faces { IfOk result (MatchesFaces schema.now first.now second.now) }
+    ensures links { IfOk result (MatchesLinks schema.now first.now second.now) }
 {
     schema.keeps();
     let matching = matched_by_keys(alloc, first.sound(), second.sound())?;
-    grown(alloc, schema, first, second, matching)
+    let more = grown(alloc, schema, first, second, matching)?;
+    first.sound().plan().keeps();
+    let faces = with_all_faces(alloc, schema, first, second, more)?;
+    with_all_links(alloc, schema, first, second, faces)
 }
 
 /// The matching that a pairing is.

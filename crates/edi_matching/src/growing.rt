@@ -1,20 +1,29 @@
 //! Faces, objects and links, added to a matching of nodes and arcs.
 
-ghost use Rattle.std.specs.Prelude.{◌≡◌, ◌<◌, ℕ, IfOk, IsTrue, Some, length};
-ghost use Rattle.edi_plan.specs.Plans.{IsPlace};
+ghost use Rattle.std.specs.Prelude.{◌≡◌, ◌⊎◌, ◌<◌, ◌-◌, ◌^◌, ℕ, IfOk, IsTrue, None, OnOk, Some, count_by, filter_map, flat_map, is_none, is_some, length, map, min, slice_index_or};
+ghost use Rattle.edi_record.specs.declared.record.Kind.TheVariants.{Fea, Lnk};
 ghost use Rattle.edi_plan.specs.Agreeing.{HasClasses};
-ghost use Rattle.edi_matching.specs.Matchings.{IsMatched, MatchingHolds};
+ghost use Rattle.edi_plan.specs.Places.{places_of};
+ghost use Rattle.edi_plan.specs.Plans.{IsPlace};
+ghost use Rattle.edi_compare.specs.Laws.{IsAcceptedPlan};
+ghost use Rattle.edi_matching.specs.Matchings.{GoesTo, IsMatched, MatchingHolds};
+ghost use Rattle.edi_matching.specs.inner.Additions.{AddsPairs, AreAlike, PairsByKey};
+ghost use Rattle.edi_matching.specs.inner.Entries.{content_entry, link_entries};
+ghost use Rattle.edi_matching.specs.inner.Inverses.{IsInverse, IsMore, IsMoreBackwards};
 
 use crate::added::{add_faces, add_links, add_lone_objects, add_objects, target_of};
 use crate::checking::check_matching;
-use crate::entries::{links_by_key, objects_beside, objects_by_contents};
+use crate::entries::{ContentKey, NeighbourKey, links_by_key, objects_beside, objects_by_contents};
 use crate::matching::Matching;
 use crate::plain_links::plain_links;
+use crate::ranked::Ranked;
+use crate::same::labels_of;
 use edi_compare::Accepted;
 use edi_line::Sequence;
 use edi_plan::Plan;
 use edi_record::Kind;
 use edi_schema::Schema;
+use edi_topo::Sound;
 use std::alloc::{AllocError, Global};
 
 /// How often objects are sought by what their links name beside them, at most: by nodes, arcs and faces first, then by the
@@ -31,11 +40,13 @@ pub(crate) fn grown(
 ) -> Result<Matching, AllocError>
     requires first { HasClasses schema.now first.now }
     requires second { HasClasses schema.now second.now }
+    requires accepted { IsAcceptedPlan schema.now first.now }
+    requires other_accepted { IsAcceptedPlan schema.now second.now }
     requires holds { MatchingHolds schema.now first.now second.now matching }
     ensures holds { IfOk result (MatchingHolds schema.now first.now second.now) }
     ensures keeps { IfOk result (λ m. (i : ℕ) → IsMatched matching.to i → IsMatched m.to i) }
 {
-    let more = with_more(alloc, schema, first, second, &matching)?;
+    let more = more_of(alloc, schema, first.sound(), second.sound(), &matching)?;
     if matches_all_of(more.to.as_slice(), matching.to.as_slice())
         && check_matching(alloc, schema, first, second, &more)?
     {
@@ -43,6 +54,68 @@ pub(crate) fn grown(
     } else {
         Ok(matching)
     }
+}
+
+/// The matching with faces, objects and links. Nothing rests on it: what it gives is checked. Of the two plans it begins with the one of
+/// the lesser fingerprint, so that what is matched does not depend on which of them comes first.
+fn more_of(
+    alloc: Global,
+    schema: &Schema,
+    first: &Sound,
+    second: &Sound,
+    matching: &Matching,
+) -> Result<Matching, AllocError>
+    requires first { HasClasses schema.now first.now }
+    requires second { HasClasses schema.now second.now }
+    requires accepted { IsAcceptedPlan schema.now first.now }
+    requires other_accepted { IsAcceptedPlan schema.now second.now }
+    requires long { length matching.now.turned ≡ length first.now.list }
+    ensures { IfOk result (λ m. IsMore matching.now m ⊎ IsMoreBackwards (length first.now.list) (length second.now.list) matching.now m) }
+{
+    let labels = labels_of(alloc, schema, first)?;
+    let others = labels_of(alloc, schema, second)?;
+    let here = Ranked {
+        plan: first.plan(),
+        labels: &labels,
+    };
+    let there = Ranked {
+        plan: second.plan(),
+        labels: &others,
+    };
+    if here.fingerprint() <= there.fingerprint() {
+        return with_more(alloc, schema, here, there, matching);
+    }
+    let back = inverse(alloc, matching, there.plan.len())?;
+    let more = with_more(alloc, schema, there, here, &back)?;
+    inverse(alloc, &more, here.plan.len())
+}
+
+/// The matching from the second plan, which has so many records, to the first.
+fn inverse(alloc: Global, matching: &Matching, count: u32) -> Result<Matching, AllocError>
+    ensures { IfOk result (IsInverse matching.now count (2 ^ 32 - 1)) }
+{
+    let mut to = vec![in alloc; None; count as usize]?;
+    let mut turned = vec![in alloc; false; count as usize]?;
+    let directions = matching.turned.as_slice();
+    for place in 0..count_of(matching) {
+        if let Some(target) = target_of(matching.to.as_slice(), place)
+            && target < count
+        {
+            to[target as usize] = Some(place);
+            turned[target as usize] = directions.get(place as usize).copied().unwrap_or(false);
+        }
+    }
+    Ok(Matching {
+        to: Sequence::from_vec(to),
+        turned: Sequence::from_vec(turned),
+    })
+}
+
+/// How many records a matching has entries for.
+fn count_of(matching: &Matching) -> u32
+    ensures { result ≡ min (length matching.now.to) (2 ^ 32 - 1) }
+{
+    u32::try_from(matching.to.as_slice().len()).unwrap_or(u32::MAX)
 }
 
 /// Whether each record that is matched there is matched here.
@@ -72,33 +145,32 @@ fn is_kept(here: Option<u32>, there: Option<u32>) -> bool
 }
 
 /// The matching with faces by the sides of arcs, objects by what their links name beside them, and links by all that
-/// they hold. Nothing rests on it: what it gives is checked.
+/// they hold.
 fn with_more(
     alloc: Global,
     schema: &Schema,
-    first: &Accepted,
-    second: &Accepted,
+    first: Ranked<'_>,
+    second: Ranked<'_>,
     matching: &Matching,
 ) -> Result<Matching, AllocError>
-    requires first { HasClasses schema.now first.now }
-    requires second { HasClasses schema.now second.now }
-    requires long { length matching.now.turned ≡ length first.now.list }
+    requires first { HasClasses schema.now first.plan.now }
+    requires second { HasClasses schema.now second.plan.now }
+    requires long { length matching.now.turned ≡ length first.plan.now.list }
+    ensures { IfOk result (IsMore matching.now) }
 {
-    let plan = first.sound().plan();
-    let other = second.sound().plan();
     let turned = matching.turned.as_slice();
     let mut to = copied(alloc, matching.to.as_slice())?;
-    let mut taken = vec![in alloc; false; other.len() as usize]?;
-    let itself = each_to_itself(alloc, other)?;
-    let unturned = vec![in alloc; false; other.len() as usize]?;
-    add_faces(alloc, plan, other, turned, &mut to, &mut taken)?;
-    add_objects_in_rounds(alloc, plan, other, &itself, &mut to, &mut taken)?;
-    add_objects_by_contents(alloc, plan, other, &mut to, &mut taken)?;
-    let links = plain_links(alloc, schema, plan, &to, turned)?;
-    let others = plain_links(alloc, schema, other, &itself, &unturned)?;
+    let mut taken = vec![in alloc; false; second.plan.len() as usize]?;
+    let itself = each_to_itself(alloc, second.plan)?;
+    let unturned = vec![in alloc; false; second.plan.len() as usize]?;
+    add_faces(alloc, first, second.plan, turned, &mut to, &mut taken)?;
+    add_objects_in_rounds(alloc, first, second, &itself, &mut to, &mut taken)?;
+    add_objects_by_contents(alloc, first, second, &mut to, &mut taken)?;
+    let links = plain_links(alloc, schema, first.plan, &to, turned)?;
+    let others = plain_links(alloc, schema, second.plan, &itself, &unturned)?;
     add_links(links, others, &mut to, &mut taken);
-    let links = links_by_key(alloc, schema, plan, &to, turned)?;
-    let others = links_by_key(alloc, schema, other, &itself, &unturned)?;
+    let links = links_by_key(alloc, schema, first.plan, &to, turned)?;
+    let others = links_by_key(alloc, schema, second.plan, &itself, &unturned)?;
     add_links(links, others, &mut to, &mut taken);
     Ok(Matching {
         to: Sequence::from_vec(to),
@@ -109,19 +181,21 @@ fn with_more(
 /// Adds objects by the matched records that their links name beside them, until none is left or a round finds none.
 fn add_objects_in_rounds(
     alloc: Global,
-    plan: &Plan,
-    other: &Plan,
+    first: Ranked<'_>,
+    second: Ranked<'_>,
     itself: &[Option<u32>],
     to: &mut [Option<u32>],
     taken: &mut [bool],
-) -> Result<(), AllocError> {
-    let mut left = count_left(plan, to);
+) -> Result<(), AllocError>
+    ensures { OnOk result (AddsPairs (AreAlike first.entry.plan.now second.entry.plan.now) to.old taken.old to.new taken.new) }
+{
+    let mut left = count_left(first.plan, to);
     for _ in 0..ROUNDS {
         if left == 0 {
             return Ok(());
         }
-        add_objects_beside(alloc, plan, other, itself, to, taken)?;
-        let still_left = count_left(plan, to);
+        add_objects_beside(alloc, first, second, itself, to, taken)?;
+        let still_left = count_left(first.plan, to);
         if still_left == left {
             return Ok(());
         }
@@ -131,7 +205,9 @@ fn add_objects_in_rounds(
 }
 
 /// How many objects aren't matched.
-fn count_left(plan: &Plan, to: &[Option<u32>]) -> usize {
+fn count_left(plan: &Plan, to: &[Option<u32>]) -> usize
+    ensures { result ≡ count_by (λ k. is_none (slice_index_or to.now k None)) (places_of Fea plan.now) }
+{
     let objects = plan.places(Kind::Fea).iter();
     objects
         .filter(|place| target_of(to, **place).is_none())
@@ -141,34 +217,46 @@ fn count_left(plan: &Plan, to: &[Option<u32>]) -> usize {
 /// Adds objects by the matched records that their links name beside them.
 fn add_objects_beside(
     alloc: Global,
-    plan: &Plan,
-    other: &Plan,
+    first: Ranked<'_>,
+    second: Ranked<'_>,
     itself: &[Option<u32>],
     to: &mut [Option<u32>],
     taken: &mut [bool],
-) -> Result<(), AllocError> {
+) -> Result<(), AllocError>
+    ensures { OnOk result (PairsByKey ⟦<NeighbourKey<'static> as PartialEq>⟧.eq first.entry.plan.now second.entry.plan.now
+        (flat_map (link_entries first.entry.plan.now first.entry.labels.now second.entry.labels.now to.old (map (λ target. is_some target) to.old)) (places_of Lnk first.entry.plan.now))
+        (flat_map (link_entries second.entry.plan.now second.entry.labels.now second.entry.labels.now itself.now taken.old) (places_of Lnk second.entry.plan.now))
+        to.old taken.old to.new taken.new) }
+{
     let done = matched_places(alloc, to)?;
-    let objects = objects_beside(alloc, plan, to, &done)?;
-    let others = objects_beside(alloc, other, itself, taken)?;
-    add_objects(alloc, plan, &objects, other, &others, to, taken)
+    let objects = objects_beside(alloc, first, second, to, &done)?;
+    let others = objects_beside(alloc, second, second, itself, taken)?;
+    add_objects(alloc, first.plan, &objects, second.plan, &others, to, taken)
 }
 
 /// Adds objects whose class, attributes and extras one object of each plan has that isn't matched yet.
 fn add_objects_by_contents(
     alloc: Global,
-    plan: &Plan,
-    other: &Plan,
+    first: Ranked<'_>,
+    second: Ranked<'_>,
     to: &mut [Option<u32>],
     taken: &mut [bool],
-) -> Result<(), AllocError> {
+) -> Result<(), AllocError>
+    ensures { OnOk result (PairsByKey ⟦<ContentKey<'static> as PartialEq>⟧.eq first.entry.plan.now second.entry.plan.now
+        (filter_map (content_entry first.entry.plan.now first.entry.labels.now (map (λ target. is_some target) to.old)) (places_of Fea first.entry.plan.now))
+        (filter_map (content_entry second.entry.plan.now second.entry.labels.now taken.old) (places_of Fea second.entry.plan.now))
+        to.old taken.old to.new taken.new) }
+{
     let done = matched_places(alloc, to)?;
-    let objects = objects_by_contents(alloc, plan, &done)?;
-    let others = objects_by_contents(alloc, other, taken)?;
-    add_lone_objects(alloc, plan, &objects, other, &others, to, taken)
+    let objects = objects_by_contents(alloc, first, &done)?;
+    let others = objects_by_contents(alloc, second, taken)?;
+    add_lone_objects(alloc, first.plan, &objects, second.plan, &others, to, taken)
 }
 
 /// Whether each record is matched, by place.
-fn matched_places(alloc: Global, to: &[Option<u32>]) -> Result<Vec<bool>, AllocError> {
+fn matched_places(alloc: Global, to: &[Option<u32>]) -> Result<Vec<bool>, AllocError>
+    ensures { IfOk result (λ marks. marks.items ≡ map (λ target. is_some target) to.now) }
+{
     to.iter().map(|target| target.is_some()).collect(alloc)
 }
 
@@ -178,7 +266,10 @@ fn copied<T: Copy>(alloc: Global, values: &[T]) -> Result<Vec<T>, AllocError>
     values.iter().copied().collect(alloc)
 }
 
-fn each_to_itself(alloc: Global, plan: &Plan) -> Result<Vec<Option<u32>>, AllocError> {
+fn each_to_itself(alloc: Global, plan: &Plan) -> Result<Vec<Option<u32>>, AllocError>
+    ensures long { IfOk result (λ to. length to.items ≡ length plan.now.list) }
+    ensures each { IfOk result (λ to. (k : ℕ) → IsPlace plan.now k → GoesTo to.items k k) }
+{
     let mut to = Vec::with_capacity(alloc, plan.len() as usize)?;
     for place in 0..plan.len() {
         to.push(Some(place))?;

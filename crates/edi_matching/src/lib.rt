@@ -6,14 +6,17 @@ pub mod checking;
 mod checksum;
 pub mod differing;
 mod entries;
+mod faces;
 mod growing;
 mod keys;
 pub mod known;
 pub mod laws;
+mod links;
 pub mod matching;
 mod partners;
 pub mod places;
 mod plain_links;
+mod ranked;
 pub mod record;
 mod same;
 

@@ -1,3 +1,5 @@
+ghost use Rattle.std.specs.Prelude.{◌≡◌};
+
 use edi_line::Sequence;
 
 /// Which record of a second sheet each record of a first goes to, if any, and whether it is an arc to reverse.
@@ -12,5 +14,15 @@ pub struct Matching {
 impl Drop for Matching {
     fn drop(self) {
         let Matching { to: _, turned: _ } = self;
+    }
+}
+
+impl Matching {
+    /// Which arcs are reversed, where the records go elsewhere.
+    pub(crate) fn into_turned(self) -> Sequence<bool>
+        ensures { result ≡ self.turned }
+    {
+        let Matching { to: _, turned } = self;
+        turned
     }
 }

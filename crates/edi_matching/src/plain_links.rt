@@ -1,8 +1,12 @@
 //! Links with two ends and nothing else, by the places where these go.
 
-ghost use Rattle.std.specs.Prelude.{◌≡◌, ◌<◌, length};
-ghost use Rattle.edi_plan.specs.Plans.{IsPlace, record_at};
+ghost use Rattle.std.specs.Prelude.{◌≡◌, length, IfOk, IsPermutation, IsSorted};
+ghost use Rattle.edi_record.specs.declared.record.Kind.TheVariants.{Lnk};
 ghost use Rattle.edi_plan.specs.Agreeing.{HasClasses};
+ghost use Rattle.edi_plan.specs.Places.{places_of};
+ghost use Rattle.edi_plan.specs.Plans.{record_at};
+ghost use Rattle.edi_matching.specs.inner.Entries.{keyed_places};
+ghost use Rattle.edi_matching.specs.inner.PlainLinks.{plain_link};
 
 use crate::added::target_of;
 use edi_plan::Plan;
@@ -30,13 +34,13 @@ pub(crate) fn plain_links(
 ) -> Result<Vec<(PlainLink, u32)>, AllocError>
     requires classes { HasClasses schema.now plan.now }
     requires long { length turned.now ≡ length plan.now.list }
+    ensures links { IfOk result (λ links. IsPermutation (keyed_places (λ k. plain_link schema.now to.now turned.now (record_at plan.now k)) (places_of Lnk plan.now)) links.items) }
+    ensures sorted { IfOk result (λ links. IsSorted ⟦<(PlainLink, u32) as Ord>⟧.cmp links.items) }
 {
     let places = plan.places(Kind::Lnk);
     let mut links = Vec::with_capacity(alloc, places.len())?;
     for place in places {
-        if *place < plan.len()
-            && let Some(link) = plain_link(schema, plan, to, turned, *place)
-        {
+        if let Some(link) = plain_link(schema, plan, to, turned, *place) {
             links.push((link, *place))?;
         }
     }
@@ -52,10 +56,13 @@ fn plain_link(
     turned: &[bool],
     place: u32,
 ) -> Option<PlainLink>
-    requires place { IsPlace plan.now place }
-    requires class { (record_at plan.now place).class < length schema.now }
+    requires classes { HasClasses schema.now plan.now }
     requires long { length turned.now ≡ length plan.now.list }
+    ensures { result ≡ plain_link schema.now to.now turned.now (record_at plan.now place) }
 {
+    if place >= plan.len() {
+        return None;
+    }
     let (origin, other) = plain_ends(plan, place)?;
     Some(PlainLink {
         class: class_turned(schema, plan, turned, place),

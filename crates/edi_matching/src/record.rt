@@ -77,7 +77,7 @@ impl<'a> Proposed<'a> {
     }
 
     /// Whether each end of a record is matched.
-    fn has_matched_ends(&self, place: u32) -> bool
+    pub(crate) fn has_matched_ends(&self, place: u32) -> bool
         requires { IsPlace self.now.plan place }
         ensures { IsTrue result ↔ AllByRecursion (λ e. IsMatched self.now.to e.target) (record_at self.now.plan place).ends }
     {

@@ -77,7 +77,7 @@ fn pairing_by_labels(
 }
 
 /// The labels of the plan of an accepted sheet.
-fn labels_of(alloc: Global, schema: &Schema, sound: &Sound) -> Result<Labels, AllocError>
+pub(crate) fn labels_of(alloc: Global, schema: &Schema, sound: &Sound) -> Result<Labels, AllocError>
     requires { IsAcceptedPlan schema.now sound.now }
     ensures { IfOk result (AreLabels schema.now sound.now) }
 {

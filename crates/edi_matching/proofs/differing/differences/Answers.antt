@@ -13,7 +13,7 @@ returns-in-Some c =
     let q = c.args.second.now in
     let carries = subst (λ (o : Option Pairing). MatchOption o (¬ (Same s p q)) (PairingCarries s p q)) c.in-Some.is c.in_ok-pairing.ensures in
     let contents = pairing_known s p q c.in-Some.pairing (subst IsWholePlan (c.plan.ensures.plan ∙ c.sound.ensures) c.keeps.ensures.whole) carries c.whole_matching.result c.whole_matching.ensures in
-    record { holds = contents.0; total = contents.1; partners = contents.2 }
+    record { holds = contents.0; total = contents.1; partners = contents.2; faces = contents.3; links = contents.4 }
 
 pub returns-in-None-clause-total : goal.returns-in-None-clause-total
 returns-in-None-clause-total c =
