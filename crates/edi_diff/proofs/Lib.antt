@@ -1,3 +1,9 @@
+pub mod SharedPoints
 pub mod Outcomes
 pub mod Steps
 pub mod PartsReported
+pub mod Alone
+pub mod JoinedNames
+pub mod Coded
+pub mod EndsKeyed
+pub mod OpenPlaces

@@ -22,6 +22,7 @@ no_changes s p q m h = record {
   keeps = λ i j goes. goes;
   directions = λ i matched. refl;
   arcs = λ i place turned. (h.arcs i place turned).1;
+  turns = λ i j left goes. absurd (left (j, goes));
   within = h.within;
   apart = h.apart;
   types = λ i j goes. (h.each i j goes).kind;

@@ -6,16 +6,18 @@ use Rattle.edi_record.specs.declared.record.Kind.TheVariants.{Par}
 use Rattle.std.specs.Option.{is_some}
 use Rattle.edi_schema.specs.Classes.{Classes}
 use Rattle.edi_plan.specs.Plans.{Drawing, IsPlace, record_at}
-use Rattle.edi_matching.specs.Matchings.{GoesTo, MatchingHolds}
+use Rattle.edi_matching.specs.Matchings.{GoesTo, IsMatched, MatchingHolds}
 use Rattle.edi_matching.specs.declared.matching.Matching.{Matching}
 use Rattle.edi_report.specs.Lines.{is_reached}
 use Rattle.edi_report.specs.Tables.{AreMarks}
 use Rattle.edi_diff.specs.Changes.{AreChanges}
+use Rattle.edi_diff.specs.Directions.{RunsBackwards}
 use Rattle.edi_diff.specs.inner.Steps.{AreSteps, MayGo}
 use Rattle.edi_diff.proofs.Outcomes.{goes_reached, no_changes, reached_goes}
 
 module _ (p q : Drawing) (unchanged : Matching) (to : List (Option ℕ)) (turned reached : List Bool) (are : AreSteps p q unchanged to turned reached)
-    (i j : ℕ) (t : Bool) (may : MayGo p q i j) (arc : t ≡ true → (record_at p i).kind ≡ Par) (free : get_or to i None ≡ None) (unmet : get_or reached j false ≡ false) where
+    (i j : ℕ) (t : Bool) (may : MayGo p q i j) (arc : t ≡ true → (record_at p i).kind ≡ Par)
+    (turn : (record_at p i).kind ≡ Par → RunsBackwards (record_at p i).points (record_at q j).points t) (free : get_or to i None ≡ None) (unmet : get_or reached j false ≡ false) where
   here : i < length to
   here = subst (λ (n : ℕ). i < n) (sym are.changes.all_entered) may.here
 
@@ -68,6 +70,17 @@ module _ (p q : Drawing) (unchanged : Matching) (to : List (Option ℕ)) (turned
       ap (λ x. (record_at p x).kind) same ∙ arc (sym (get_or-set_same turned i t false here_turned) ∙ there)
   arcs_more k place is (inr ne) = are.changes.arcs k place (sym (turned_other k ne) ∙ is)
 
+  turns_more : (k l : ℕ) → ¬ (IsMatched unchanged.to k) → ((k ≡ i) × (l ≡ j)) ⊎ GoesTo to k l → (record_at p k).kind ≡ Par
+      → RunsBackwards (record_at p k).points (record_at q l).points (get_or (set turned i t) k false)
+  turns_more k l left (inl a) par =
+      subst (λ (m : ℕ). RunsBackwards (record_at p m).points (record_at q l).points (get_or (set turned i t) m false)) (sym a.0)
+      (subst (λ (m : ℕ). RunsBackwards (record_at p i).points (record_at q m).points (get_or (set turned i t) i false)) (sym a.1)
+      (subst (λ (b : Bool). RunsBackwards (record_at p i).points (record_at q j).points b) (sym (get_or-set_same turned i t false here_turned))
+      (turn (ap (λ m. (record_at p m).kind) (sym a.0) ∙ par))))
+  turns_more k l left (inr a) par =
+      subst (λ (b : Bool). RunsBackwards (record_at p k).points (record_at q l).points b) (sym (turned_other k (λ same. nowhere k l same a)))
+      (are.changes.turns k l left a par)
+
   pub changed_more : AreChanges p q unchanged (record { to = set to i (Some j); turned = set turned i t })
   changed_more = record {
     all_entered = length-set to i (Some j) ∙ are.changes.all_entered;
@@ -75,6 +88,7 @@ module _ (p q : Drawing) (unchanged : Matching) (to : List (Option ℕ)) (turned
     keeps = λ k l goes. went_before k l (are.changes.keeps k l goes);
     directions = λ k matched. turned_other k (λ same. nowhere k matched.0 same (are.changes.keeps k matched.0 matched.1)) ∙ are.changes.directions k matched;
     arcs = λ k place is. arcs_more k place is (cases_eq k i);
+    turns = λ k l left goes. turns_more k l left (went_after k l goes);
     within = λ k l goes. within_more k l (went_after k l goes);
     apart = λ k m l a b. apart_more k m l (went_after k l a) (went_after m l b);
     types = λ k l goes. types_more k l (went_after k l goes);

@@ -9,17 +9,20 @@ use Rattle.edi_rank.specs.Labelling.{turned_at}
 use Rattle.edi_rank.specs.Same.{class_after, directed, moved}
 use Rattle.edi_matching.specs.Matchings.{GoesTo, IsMatched, targets_of}
 use Rattle.edi_matching.specs.declared.matching.Matching.{Matching}
+use Rattle.edi_diff.specs.Directions.{RunsBackwards}
 use Rattle.edi_report.specs.Reports.{parts_at}
 use Rattle.edi_report.specs.declared.parts.Parts.{Parts}
 
 -- Beside the records of p that are matched, some others go to records of q of their types, which they became; no two go to one.
--- Those of them that are reversed are arcs.
+-- Those of them that are reversed are arcs, and an arc that became another is reversed if it runs the other way.
 pub record AreChanges (p q : Drawing) (unchanged became : Matching) : Type 0 where
   pub all_entered : length became.to ≡ length p.list
   pub all_directed : length became.turned ≡ length p.list
   pub keeps : (i j : ℕ) → GoesTo unchanged.to i j → GoesTo became.to i j
   pub directions : (i : ℕ) → IsMatched unchanged.to i → turned_at became.turned i ≡ turned_at unchanged.turned i
   pub arcs : (i : ℕ) → IsPlace p i → turned_at became.turned i ≡ true → (record_at p i).kind ≡ Par
+  pub turns : (i j : ℕ) → ¬ (IsMatched unchanged.to i) → GoesTo became.to i j → (record_at p i).kind ≡ Par
+      → RunsBackwards (record_at p i).points (record_at q j).points (turned_at became.turned i)
   pub within : (i j : ℕ) → GoesTo became.to i j → IsPlace q j
   pub apart : (i k j : ℕ) → GoesTo became.to i j → GoesTo became.to k j → i ≡ k
   pub types : (i j : ℕ) → GoesTo became.to i j → (record_at q j).kind ≡ (record_at p i).kind

@@ -2,7 +2,7 @@
 use Rattle.std.specs.Prelude.{◌≡◌, ◌↔◌, ℕ, Bool, List, IsTrue}
 use Rattle.edi_schema.specs.Classes.{Classes}
 use Rattle.edi_rank.specs.Same.{Same}
-use Rattle.edi_matching.specs.Differences.{IsTotalIfSame, MatchesPartners}
+use Rattle.edi_matching.specs.Differences.{IsTotalIfSame, MatchesFaces, MatchesLinks, MatchesPartners}
 use Rattle.edi_matching.specs.Matchings.{MatchingHolds}
 use Rattle.edi_matching.specs.declared.matching.Matching.{Matching}
 use Rattle.edi_report.specs.Lines.{text_of_report}
@@ -23,8 +23,8 @@ pub record IsDifferenceText (s : Classes) (first second : LocatedSheet) (unchang
   pub is_text : text ≡ text_of_report brief (record { first = first; second = second; unchanged = unchanged.to; became = became.to; parts = parts })
 
 -- What differs between two files: the text, by a matching that holds between their plans, that leaves nothing out exactly if
--- these and their character sets are the same, and leaves out no node and no arc that has a partner; and whether the plans are
--- the same.
+-- these and their character sets are the same, and leaves out no node and no arc that has a partner, no face together with that on the
+-- same side of a matched arc, and no link, each together with one that it is carried onto; and whether the plans are the same.
 pub record IsDifference (s : Classes) (a b : List ℕ) (brief : Bool) (difference : Difference) : Type 0 where
   pub first : LocatedSheet
   pub second : LocatedSheet
@@ -34,6 +34,8 @@ pub record IsDifference (s : Classes) (a b : List ℕ) (brief : Bool) (differenc
   pub holds : MatchingHolds s first.accepted second.accepted unchanged
   pub total : IsTotalIfSame s first.accepted second.accepted unchanged
   pub partners : MatchesPartners first.accepted second.accepted unchanged
+  pub faces : MatchesFaces s first.accepted second.accepted unchanged
+  pub links : MatchesLinks s first.accepted second.accepted unchanged
   pub is_text : IsDifferenceText s first second unchanged brief difference.text.items
   pub same : IsTrue difference.same ↔ Same s first.accepted second.accepted
 

@@ -7,10 +7,13 @@ ghost use Rattle.edi_schema.specs.Classes.{Classes};
 ghost use Rattle.edi_matching.specs.Matchings.{MatchingHolds};
 ghost use Rattle.edi_matching.specs.declared.matching.Matching.{Matching as UnchangedMatching};
 ghost use Rattle.edi_report.specs.Tables.{AreMarks};
+ghost use Rattle.edi_diff.specs.Directions.{RunsBackwards};
+ghost use Rattle.edi_diff.specs.inner.LonePairs.{AreProposals};
+ghost use Rattle.edi_diff.specs.inner.Progress.{progress_by};
 ghost use Rattle.edi_diff.specs.inner.Steps.{AreSteps, MayGo};
 
+use crate::directions::runs_backwards;
 use crate::proposing::Open;
-use edi_compare::contents::same_points;
 use edi_matching::Matching;
 use edi_plan::Plan;
 use edi_record::Kind;
@@ -106,7 +109,9 @@ impl Changes {
         plan: &Plan,
         other: &Plan,
         way: Way,
-    ) -> Result<Vec<Proposal>, AllocError> {
+    ) -> Result<Vec<Proposal>, AllocError>
+        ensures { IfOk result (λ found. AreProposals (progress_by plan.now other.now self.now) way found.items) }
+    {
         let open = Open {
             plan,
             other,
@@ -159,14 +164,13 @@ fn may_go(plan: &Plan, other: &Plan, proposal: Proposal) -> bool
     other.kind(proposal.target) == plan.kind(proposal.place)
 }
 
-/// Whether an arc has the points of the other in the opposite direction.
+/// Whether an arc runs in the opposite direction of the other.
 fn is_turned(plan: &Plan, other: &Plan, proposal: Proposal) -> bool
     requires { MayGo plan.now other.now proposal.place proposal.target }
-    ensures { result ≡ true → (record_at plan.now proposal.place).kind ≡ Par }
+    ensures arc { result ≡ true → (record_at plan.now proposal.place).kind ≡ Par }
+    ensures turn { (record_at plan.now proposal.place).kind ≡ Par
+        → RunsBackwards (record_at plan.now proposal.place).points (record_at other.now proposal.target).points result }
 {
-    let points = plan.points(proposal.place);
-    let others = other.points(proposal.target);
     plan.kind(proposal.place) == Kind::Par
-        && !same_points(points, false, others)
-        && same_points(points, true, others)
+        && runs_backwards(plan.points(proposal.place), other.points(proposal.target))
 }

@@ -3,6 +3,7 @@
 
 mod changes;
 pub mod differing;
+mod directions;
 mod parting;
 mod proposing;
 pub mod runs;

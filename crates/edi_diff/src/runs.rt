@@ -25,13 +25,12 @@ pub fn run_diff<S: ByteIn, D: ByteIn, A: ByteIn, B: ByteIn>(
 ) -> Result<Difference, RunFault>
     ensures ok { IfOk result (λ difference. IfFourKnown (S.contents scd.old) (D.contents dic.old) (A.contents first.old) (B.contents second.old)
         (λ s d a b. IsDifferenceUnder kinds.now s d a b brief difference)) }
-    ensures read { OnOk result (AreFourRead (seen (S.contents scd.old) (S.contents scd.new) (S.has_failed scd.new)) (seen (D.contents dic.old) (D.contents dic.new) (D.has_failed dic.new))
-        (seen (A.contents first.old) (A.contents first.new) (A.has_failed first.new)) (seen (B.contents second.old) (B.contents second.new) (B.has_failed second.new))) }
-    ensures err { IfErr result (ComparingFault kinds.now (seen (S.contents scd.old) (S.contents scd.new) (S.has_failed scd.new)) (seen (D.contents dic.old) (D.contents dic.new) (D.has_failed dic.new))
-        (seen (A.contents first.old) (A.contents first.new) (A.has_failed first.new)) (seen (B.contents second.old) (B.contents second.new) (B.has_failed second.new))
-        (record { dic = dic.new ≡ dic.old; first = first.new ≡ first.old; second = second.new ≡ second.old })) }
-    ensures after { IfErr result (λ e. AfterReading e (AreFourRead (seen (S.contents scd.old) (S.contents scd.new) (S.has_failed scd.new)) (seen (D.contents dic.old) (D.contents dic.new) (D.has_failed dic.new))
-        (seen (A.contents first.old) (A.contents first.new) (A.has_failed first.new)) (seen (B.contents second.old) (B.contents second.new) (B.has_failed second.new)))) }
+    ensures read { OnOk result (AreFourRead (seen S.ByteIn scd.old scd.new) (seen D.ByteIn dic.old dic.new)
+        (seen A.ByteIn first.old first.new) (seen B.ByteIn second.old second.new)) }
+    ensures err { IfErr result (ComparingFault kinds.now (seen S.ByteIn scd.old scd.new) (seen D.ByteIn dic.old dic.new)
+        (seen A.ByteIn first.old first.new) (seen B.ByteIn second.old second.new)) }
+    ensures after { IfErr result (λ e. AfterReading e (AreFourRead (seen S.ByteIn scd.old scd.new) (seen D.ByteIn dic.old dic.new)
+        (seen A.ByteIn first.old first.new) (seen B.ByteIn second.old second.new))) }
 {
     let scd = read_input(alloc, scd, 1)?;
     let dic = read_input(alloc, dic, 2)?;

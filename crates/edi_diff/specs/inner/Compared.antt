@@ -2,7 +2,7 @@
 use Rattle.std.specs.Prelude.{◌≡◌, ◌↔◌, Bool, IsTrue}
 use Rattle.edi_schema.specs.Classes.{Classes}
 use Rattle.edi_rank.specs.Same.{Same}
-use Rattle.edi_matching.specs.Differences.{IsTotalIfSame, MatchesPartners}
+use Rattle.edi_matching.specs.Differences.{IsTotalIfSame, MatchesFaces, MatchesLinks, MatchesPartners}
 use Rattle.edi_matching.specs.Matchings.{MatchingHolds}
 use Rattle.edi_report.specs.declared.sheet.LocatedSheet.{LocatedSheet}
 use Rattle.edi_diff.specs.Differences.{IsDifferenceText}
@@ -13,6 +13,8 @@ pub record AreCompared (s : Classes) (first second : LocatedSheet) (brief : Bool
   pub holds : MatchingHolds s first.accepted second.accepted compared.unchanged
   pub total : IsTotalIfSame s first.accepted second.accepted compared.unchanged
   pub partners : MatchesPartners first.accepted second.accepted compared.unchanged
+  pub faces : MatchesFaces s first.accepted second.accepted compared.unchanged
+  pub links : MatchesLinks s first.accepted second.accepted compared.unchanged
   pub is_text : IsDifferenceText s first second compared.unchanged brief compared.difference.text.items
   pub by_became : is_text.became ≡ compared.became
   pub same : IsTrue compared.difference.same ↔ Same s first.accepted second.accepted

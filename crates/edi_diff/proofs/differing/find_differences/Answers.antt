@@ -34,6 +34,8 @@ returns c =
           holds = compared.holds;
           total = compared.total;
           partners = compared.partners;
+          faces = compared.faces;
+          links = compared.links;
           is_text = compared.is_text;
           same = compared.same;
         };
