@@ -22,13 +22,11 @@ pub fn run_draw<S: ByteIn, D: ByteIn, V: ByteIn>(
     vec: &mut V,
 ) -> Result<Vec<u8>, RunFault>
     ensures ok { IfOk result (λ picture. IfThreeKnown (S.contents scd.old) (D.contents dic.old) (V.contents vec.old) (λ s d v. IsPictureUnder kinds.now s d v picture.items)) }
-    ensures read { OnOk result (AreRead (seen (S.contents scd.old) (S.contents scd.new) (S.has_failed scd.new))
-        (seen (D.contents dic.old) (D.contents dic.new) (D.has_failed dic.new)) (seen (V.contents vec.old) (V.contents vec.new) (V.has_failed vec.new))) }
-    ensures err { IfErr result (FilesFault kinds.now (seen (S.contents scd.old) (S.contents scd.new) (S.has_failed scd.new))
-        (seen (D.contents dic.old) (D.contents dic.new) (D.has_failed dic.new)) (seen (V.contents vec.old) (V.contents vec.new) (V.has_failed vec.new))
-        (dic.new ≡ dic.old) (vec.new ≡ vec.old) (λ _. ⊥)) }
-    ensures after { IfErr result (λ e. AfterReading e (AreRead (seen (S.contents scd.old) (S.contents scd.new) (S.has_failed scd.new))
-        (seen (D.contents dic.old) (D.contents dic.new) (D.has_failed dic.new)) (seen (V.contents vec.old) (V.contents vec.new) (V.has_failed vec.new)))) }
+    ensures read { OnOk result (AreRead (seen S.ByteIn scd.old scd.new) (seen D.ByteIn dic.old dic.new) (seen V.ByteIn vec.old vec.new)) }
+    ensures err { IfErr result (FilesFault kinds.now
+        (seen S.ByteIn scd.old scd.new) (seen D.ByteIn dic.old dic.new) (seen V.ByteIn vec.old vec.new) (λ _. ⊥)) }
+    ensures after { IfErr result (λ e. AfterReading e
+        (AreRead (seen S.ByteIn scd.old scd.new) (seen D.ByteIn dic.old dic.new) (seen V.ByteIn vec.old vec.new))) }
 {
     let scd = read_input(alloc, scd, 1)?;
     let dic = read_input(alloc, dic, 2)?;
@@ -49,13 +47,12 @@ pub fn run_draw_difference<S: ByteIn, D: ByteIn, A: ByteIn, B: ByteIn>(
 ) -> Result<DrawnDifference, RunFault>
     ensures ok { IfOk result (λ drawn. IfFourKnown (S.contents scd.old) (D.contents dic.old) (A.contents first.old) (B.contents second.old)
         (λ s d a b. IsDrawnDifferenceUnder kinds.now s d a b brief drawn)) }
-    ensures read { OnOk result (AreFourRead (seen (S.contents scd.old) (S.contents scd.new) (S.has_failed scd.new)) (seen (D.contents dic.old) (D.contents dic.new) (D.has_failed dic.new))
-        (seen (A.contents first.old) (A.contents first.new) (A.has_failed first.new)) (seen (B.contents second.old) (B.contents second.new) (B.has_failed second.new))) }
-    ensures err { IfErr result (ComparingFault kinds.now (seen (S.contents scd.old) (S.contents scd.new) (S.has_failed scd.new)) (seen (D.contents dic.old) (D.contents dic.new) (D.has_failed dic.new))
-        (seen (A.contents first.old) (A.contents first.new) (A.has_failed first.new)) (seen (B.contents second.old) (B.contents second.new) (B.has_failed second.new))
-        (record { dic = dic.new ≡ dic.old; first = first.new ≡ first.old; second = second.new ≡ second.old })) }
-    ensures after { IfErr result (λ e. AfterReading e (AreFourRead (seen (S.contents scd.old) (S.contents scd.new) (S.has_failed scd.new)) (seen (D.contents dic.old) (D.contents dic.new) (D.has_failed dic.new))
-        (seen (A.contents first.old) (A.contents first.new) (A.has_failed first.new)) (seen (B.contents second.old) (B.contents second.new) (B.has_failed second.new)))) }
+    ensures read { OnOk result (AreFourRead (seen S.ByteIn scd.old scd.new) (seen D.ByteIn dic.old dic.new)
+        (seen A.ByteIn first.old first.new) (seen B.ByteIn second.old second.new)) }
+    ensures err { IfErr result (ComparingFault kinds.now (seen S.ByteIn scd.old scd.new) (seen D.ByteIn dic.old dic.new)
+        (seen A.ByteIn first.old first.new) (seen B.ByteIn second.old second.new)) }
+    ensures after { IfErr result (λ e. AfterReading e (AreFourRead (seen S.ByteIn scd.old scd.new) (seen D.ByteIn dic.old dic.new)
+        (seen A.ByteIn first.old first.new) (seen B.ByteIn second.old second.new))) }
 {
     let scd = read_input(alloc, scd, 1)?;
     let dic = read_input(alloc, dic, 2)?;
