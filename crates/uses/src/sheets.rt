@@ -1,6 +1,6 @@
 //! Sheets under a schema that was loaded once.
 
-ghost use Rattle.std.specs.Prelude.{◌≡◌, ◌↔◌, ℕ, List, length, IfOk, IfErr, IsTrue, MatchOption, ⊤};
+ghost use Rattle.std.specs.Prelude.{◌≡◌, ◌↔◌, ℕ, List, length, IfOk, IfErr, IfSome, IsTrue, MatchOption, ⊤};
 ghost use Rattle.edi_schema.specs.SchemaRefusal.{IsGoodSchema, IsSchemaRefusal};
 ghost use Rattle.edi_plan.specs.Plans.{Drawing};
 ghost use Rattle.edi_rank.specs.Same.{Same};
@@ -9,11 +9,13 @@ ghost use Rattle.edi_plan.specs.Agreeing.{HasClasses};
 ghost use Rattle.edi_compare.specs.Pairings.{PairingCarries};
 ghost use Rattle.edi_compare.specs.PlanOfFile.{IsPlanOfFile, StateSame};
 ghost use Rattle.edi_compare.specs.Refused.{IsPairRefusal, IsRefusal};
+ghost use Rattle.edi_compare.specs.Uncarried.{IsUncarriedBy};
+ghost use Rattle.edi_compare.specs.declared.uncarried.WrongPartner.{WrongPartner};
 ghost use Rattle.uses.specs.Callers.{MatchUnwritten, SomePairing, GetsFirst, GetsForm, own_kinds};
 
 use edi_compare::{
-    Accepted, CompareFault, Fault, Pairing, Verdict, accept, canon, check_pairing, compare,
-    compare_accepted, first_refused, second_refused,
+    Accepted, CompareFault, Fault, Pairing, Uncarried, Verdict, accept, canon, check_pairing,
+    compare, compare_accepted, first_refused, first_uncarried, second_refused,
 };
 use edi_line::ByteOut;
 use edi_schema::{Kinds, Schema, SchemaFault};
@@ -162,5 +164,25 @@ fn kinds() -> Kinds<'static>
     match Kinds::new(b"INI_id", b"FIN_id", b"GCH_id", b"DRT_id") {
         Some(kinds) => kinds,
         None => unreachable!(),
+    }
+}
+
+/// The place of the first record of an accepted sheet that a pairing doesn't carry onto one of another; none where it carries each, or
+/// where something else keeps it from carrying: an entry that is missing, the character sets, or a record of the other that is left.
+pub fn first_wrong_record(
+    alloc: Global,
+    schema: &Schema,
+    first: &Accepted,
+    second: &Accepted,
+    pairing: &Pairing,
+) -> Result<Option<u32>, AllocError>
+    requires { HasClasses schema.now first.now }
+    ensures wrong { IfOk result (λ found. IfSome found (λ place. (why : WrongPartner)
+        × IsUncarriedBy schema.now first.now second.now pairing.now (Uncarried.Record place why))) }
+    ensures not { IfOk result (λ found. IfSome found (λ _. ¬ (PairingCarries schema.now first.now second.now pairing.now))) }
+{
+    match first_uncarried(alloc, schema, first, second, pairing)? {
+        Some(Uncarried::Record { place, .. }) => Ok(Some(place)),
+        Some(_) | None => Ok(None),
     }
 }
