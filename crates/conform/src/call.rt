@@ -2,7 +2,9 @@
 
 use crate::case::Case;
 use crate::setting::Setting;
-use crate::{devices, layers, lines, numbers, pairs, records, runs, schemas, sheets, texts};
+use crate::{
+    devices, layers, lines, numbers, outcomes, pairs, records, runs, schemas, sheets, texts,
+};
 use edi_schema::Schema;
 use std::alloc::{AllocError, Global};
 
@@ -53,6 +55,7 @@ fn push_over_devices(
         "interrupted read" => devices::push_interrupted(alloc, text),
         "failing reads" => runs::push_reads(alloc, setting, case, text),
         "failing writes" => runs::push_writes(alloc, setting, case, text),
+        "outcomes" => outcomes::push_outcome(alloc, case, text),
         _ => match &setting.schema {
             Some(schema) => push_over_sheets(alloc, call, setting, schema, case, text),
             None => text.push_str("no such call, or no schema\n"),
@@ -75,6 +78,7 @@ fn push_over_sheets(
         "compare" => pairs::push_compared(alloc, setting, schema, case, text),
         "pairing" => pairs::push_paired(alloc, schema, case, text),
         "check_pairing" => pairs::push_checked(alloc, schema, case, text),
+        "first_uncarried" => pairs::push_uncarried(alloc, schema, case, text),
         _ => text.push_str("no such call\n"),
     }
 }

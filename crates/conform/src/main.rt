@@ -7,6 +7,7 @@ mod devices;
 mod layers;
 mod lines;
 mod numbers;
+mod outcomes;
 mod pairs;
 mod phases;
 mod records;

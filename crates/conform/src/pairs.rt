@@ -6,7 +6,10 @@ ghost use Rattle.edi_plan.specs.Agreeing.{HasClasses};
 use crate::case::Case;
 use crate::refusals::{push_pair_fault, push_run_fault, push_sheet_fault};
 use crate::setting::Setting;
-use edi_compare::{Accepted, Fault, Pairing, Verdict, accept, check_pairing, compare, run_compare};
+use edi_compare::{
+    Accepted, Fault, Pairing, RecordPart, Uncarried, Verdict, WrongPartner, accept, check_pairing,
+    compare, first_uncarried, run_compare,
+};
 use edi_line::{ScriptIn, Sequence};
 use edi_schema::Schema;
 use std::alloc::{AllocError, Global};
@@ -178,4 +181,71 @@ fn push_answer(
         Err(_) => check_pairing(alloc, schema, first, second, pairing)?,
     };
     writeln!(text, "{carries}")
+}
+
+/// What `first_uncarried` answers of two sheets and a pairing, with the numbers of records from 1.
+pub(crate) fn push_uncarried(
+    alloc: Global,
+    schema: &Schema,
+    case: &Case<'_>,
+    text: &mut String,
+) -> Result<(), AllocError> {
+    let pairing = pairing_of(alloc, case.input(2))?;
+    match accepted(alloc, schema, case.input(0).as_bytes()) {
+        Ok(first) => push_uncarried_from(alloc, schema, &first, case, &pairing, text),
+        Err(fault) => push_sheet_fault(text, "first ", fault),
+    }
+}
+
+// The same of a first sheet that is accepted.
+fn push_uncarried_from(
+    alloc: Global,
+    schema: &Schema,
+    first: &Accepted,
+    case: &Case<'_>,
+    pairing: &Pairing,
+    text: &mut String,
+) -> Result<(), AllocError>
+    requires { HasClasses schema.now first.now }
+{
+    match accept(alloc, schema, case.input(1).as_bytes()) {
+        Ok(second) => {
+            let why = first_uncarried(alloc, schema, first, &second, pairing)?;
+            push_reason(text, why)
+        }
+        Err(fault) => push_sheet_fault(text, "second ", fault),
+    }
+}
+
+fn push_reason(text: &mut String, why: Option<Uncarried>) -> Result<(), AllocError> {
+    match why {
+        None => text.push_str("carries\n"),
+        Some(Uncarried::Entries) => text.push_str("entries\n"),
+        Some(Uncarried::CharacterSets) => text.push_str("character sets\n"),
+        Some(Uncarried::Record { place, why }) => {
+            write!(text, "record {}: ", u64::from(place).saturating_add(1))?;
+            push_wrong_partner(text, why)
+        }
+        Some(Uncarried::Unmet { place }) => {
+            writeln!(text, "unmet {}", u64::from(place).saturating_add(1))
+        }
+    }
+}
+
+fn push_wrong_partner(text: &mut String, why: WrongPartner) -> Result<(), AllocError> {
+    match why {
+        WrongPartner::Nowhere => text.push_str("nowhere\n"),
+        WrongPartner::Shared { earlier } => {
+            writeln!(text, "shared with {}", u64::from(earlier).saturating_add(1))
+        }
+        WrongPartner::Unlike { part } => text.push_str(match part {
+            RecordPart::Reversal => "reversal\n",
+            RecordPart::Kind => "kind\n",
+            RecordPart::Class => "class\n",
+            RecordPart::Points => "points\n",
+            RecordPart::Extras => "extras\n",
+            RecordPart::Attributes => "attributes\n",
+            RecordPart::Ends => "ends\n",
+        }),
+    }
 }
