@@ -6,11 +6,10 @@ use Rattle.std.specs.declared.cmp.Ordering.TheVariants.{Less, Equal, Greater}
 use Rattle.std.specs.Io.KnownBytes.{Appends}
 use Rattle.std.proofs.lemmas.List.Sums.{fold-append}
 use Rattle.edi_schema.specs.Classes.{Classes}
-use Rattle.edi_compare.specs.Runs.{seen}
 use Rattle.edicad.specs.Hashes.{AreAnswered, IsCutOff, IsStep, Step, worst_of}
 use Rattle.edicad.specs.inner.Hashes.{StepsOn, StopsAt}
 use Rattle.edi_files.specs.Reasons.{Why, ended}
-use Rattle.edicad.specs.Effects.{Inputs}
+use Rattle.edicad.specs.Effects.{Inputs, Stream}
 use Rattle.edicad.specs.Statuses.{GoesOut, IsSheetStatus}
 use Rattle.edi_explain.proofs.Zipped.{zip_push}
 
@@ -71,14 +70,18 @@ max_status a b (inr (inr (inr e))) (inr (inl f)) = inr (inr (inr (omega (arith, 
 max_status a b (inr (inr (inr e))) (inr (inr (inl f))) = inr (inr (inr (omega (arith, e, f))))
 max_status a b (inr (inr (inr e))) (inr (inr (inr f))) = inr (inr (inr (omega (arith, e, f))))
 
-pub none_answered : (inputs : Inputs) (why : Why) (s : Classes) (o : Option (List ℕ)) (of : Bool) (a : Option (List ℕ)) (af : Bool) → AreAnswered inputs why s (seen o o of) (seen a a af) [] 0
+-- a stream, by what it has before and after
+abbrev pub over : Option (List ℕ) → Option (List ℕ) → Bool → Stream
+over before after failed = record { before = before; after = after; failed = failed }
+
+pub none_answered : (inputs : Inputs) (why : Why) (s : Classes) (o : Option (List ℕ)) (of : Bool) (a : Option (List ℕ)) (af : Bool) → AreAnswered inputs why s (over o o of) (over a a af) [] 0
 none_answered inputs why s o of a af = ([], tt, appends_nothing o, inl (appends_nothing a), refl)
 
 -- over what the streams tell before the first sheet, before this one and after it
 module _ (inputs : Inputs) (why : Why) (s : Classes) (o p q : Option (List ℕ)) (pf qf : Bool) (a b c : Option (List ℕ)) (bf cf : Bool) where
-  pub answered_more : (paths : List (List ℕ)) (path : List ℕ) (worst status : ℕ) → AreAnswered inputs why s (seen o p pf) (seen a b bf) paths worst
-      → StepsOn inputs why s path (seen p q qf) (seen b c cf) status → (IsTrue bf → IsTrue cf)
-      → AreAnswered inputs why s (seen o q qf) (seen a c cf) (paths ++ path ∷ []) (max worst status)
+  pub answered_more : (paths : List (List ℕ)) (path : List ℕ) (worst status : ℕ) → AreAnswered inputs why s (over o p pf) (over a b bf) paths worst
+      → StepsOn inputs why s path (over p q qf) (over b c cf) status → (IsTrue bf → IsTrue cf)
+      → AreAnswered inputs why s (over o q qf) (over a c cf) (paths ++ path ∷ []) (max worst status)
   answered_more paths path worst status h k stays =
       let steps = h.0 in
       let step = k.0 in (
@@ -89,9 +92,9 @@ module _ (inputs : Inputs) (why : Why) (s : Classes) (o p q : Option (List ℕ))
         ap (λ w. max w status) h.4 ∙ (ap (max (worst_of steps)) (sym k.2) ∙ sym (fold-append (λ w (t : Step). max w t.status) 0 steps (step ∷ []))),
       )
 
-  pub cut_off : (paths done more : List (List ℕ)) (path : List ℕ) (worst status : ℕ) → paths ≡ done ++ path ∷ more → AreAnswered inputs why s (seen o p pf) (seen a b bf) done worst
-      → StopsAt inputs s path (seen p q qf) → GoesOut b c cf (ended (codes "cannot write standard output")) → (IsTrue bf → IsTrue cf) → status ≡ 4
-      → IsCutOff inputs why s (seen o q qf) (seen a c cf) paths status
+  pub cut_off : (paths done more : List (List ℕ)) (path : List ℕ) (worst status : ℕ) → paths ≡ done ++ path ∷ more → AreAnswered inputs why s (over o p pf) (over a b bf) done worst
+      → StopsAt inputs s path (over p q qf) → GoesOut b c cf (ended (codes "cannot write standard output")) → (IsTrue bf → IsTrue cf) → status ≡ 4
+      → IsCutOff inputs why s (over o q qf) (over a c cf) paths status
   cut_off paths done more path worst status is h k said stays four = (
     done,
     path,

@@ -3,17 +3,17 @@ use Rattle.std.proofs.Common.{◌≡◌, ◌≢◌, ◌⊎◌, ◌<◌, ℕ, Boo
 use Rattle.std.specs.Bool.{MatchBool}
 use Rattle.edi_schema.specs.Roles.{KindCodes}
 use Rattle.edi_compare.specs.declared.fault.RunFault.{RunFault}
-use Rattle.edi_compare.specs.Runs.{Seen}
 use Rattle.edi_diff.specs.Runs.{IsDifferenceUnder}
 use Rattle.edi_diff.specs.declared.differing.Difference.{Difference}
 use Rattle.edi_drawing.specs.Runs.{IsDrawnDifferenceUnder}
 use Rattle.edi_drawing.specs.declared.drawn.DrawnDifference.{DrawnDifference}
 use Rattle.edi_words.specs.declared.words.PairFiles.{PairFiles}
-use Rattle.edicad.specs.Outcome.{status_of_fault}
-use Rattle.edicad.specs.Effects.{Effects, Inputs}
+use Rattle.edi_outcome.specs.Status.{status_of_fault}
+use Rattle.edicad.specs.Paths.{names_of_paths}
+use Rattle.edicad.specs.Effects.{Effects, Inputs, Stream}
 use Rattle.edicad.specs.SheetRuns.{IsPairPut, IsPairReplaced, IsPictureOfPair, OfPair, PairFileFault, PutPairFault, ShowsDifference}
 use Rattle.edicad.specs.Statuses.{Answers, IsDiffStatus, IsPictureStatus, IsSaid, IsUnsaid, pair_paths_of}
-use Rattle.edicad.specs.declared.outcome.Outcome.TheVariants as outcome
+use Rattle.edi_outcome.specs.declared.outcome.Outcome.TheVariants as outcome
 use Rattle.edicad.proofs.Refusals.{fault_status, means_fault, not_one, pair_refused, pair_tried, known_fault}
 use Rattle.edicad.proofs.Made.{pair_map, were_four}
 use Rattle.edicad.proofs.Pairings.{put_pair_refused, put_pair_tried}
@@ -42,7 +42,7 @@ never_five b s (inl four) five = absurd (omega (arith, four, five))
 never_five true s (inr h) five = absurd (omega (arith, h, five))
 never_five false s (inr h) five = absurd (omega (arith, h, five))
 
-module _ (run : Effects) (out err : Seen) (kinds : KindCodes) (files : PairFiles) (brief : Bool) (s : ℕ) where
+module _ (run : Effects) (out err : Stream) (kinds : KindCodes) (files : PairFiles) (brief : Bool) (s : ℕ) where
   pub put_status : (difference : Difference) → OfPair run.inputs files (λ scd dic a b. IsDifferenceUnder kinds scd dic a b brief difference)
       → IsPutAs difference.same s → (s < 3 → Answers out err difference.text.items) → (s ≡ 4 → IsUnsaid out err) → IsDiffStatus run out err kinds files brief s
   put_status difference h status written unsaid = record {
@@ -62,7 +62,7 @@ module _ (run : Effects) (out err : Seen) (kinds : KindCodes) (files : PairFiles
     tried = pair_tried run.inputs kinds files (λ _. ⊥) e h;
     different = λ one. absurd (not_one s (known_fault (status_of_fault e) s (fault_status e) said.status) one);
     means = means_fault _ _ _ run.why (pair_paths_of files (codes "-")) out err s e (λ silent. (h, silent))
-        (λ is line. pair_refused (Answers out err) kinds (pair_paths_of files (codes "-")) refl run.inputs files (λ _. ⊥) e h is line) said;
+        (λ is line. pair_refused (Answers out err) kinds (names_of_paths (pair_paths_of files (codes "-"))) refl run.inputs files (λ _. ⊥) e h is line) said;
   }
 
 -- a picture that was drawn shows what differs
@@ -76,7 +76,7 @@ pub shown_of_some : (inputs : Inputs) (kinds : KindCodes) (files : PairFiles) (b
 shown_of_some inputs kinds files brief difference bytes h = pair_map inputs files _ _ (λ s d a b shows. (difference, shows)) h
 
 -- the same with a picture that is put
-module _ (run : Effects) (out err : Seen) (kinds : KindCodes) (files : PairFiles) (brief : Bool) (path : List ℕ) (s : ℕ)
+module _ (run : Effects) (out err : Stream) (kinds : KindCodes) (files : PairFiles) (brief : Bool) (path : List ℕ) (s : ℕ)
     (replaced : IsPairReplaced run (IsPictureOfPair kinds brief) files path) where
   pub drawn_status : (difference : Difference) → IsPairPut run (ShowsDifference kinds brief difference) files path
       → IsPutAs difference.same s → (s < 3 → Answers out err difference.text.items) → (s ≡ 4 → IsUnsaid out err) → IsPictureStatus run out err kinds files brief path s

@@ -16,11 +16,13 @@ use Rattle.edi_compare.specs.Runs.{IsProperSchemaFault, IfThreeKnown}
 use Rattle.edi_compare.specs.declared.fault.Fault.{Fault}
 use Rattle.edi_explain.specs.Explained.{DescribesPlan, ExplainsSchema, ExplainsSheet}
 use Rattle.edi_explain.specs.Hints.{AreHintsOfSheet}
+use Rattle.edi_explain.specs.KindLines.{DescribesKinds}
 use Rattle.edi_explain.specs.Skipped.{DescribesSkipped}
 use Rattle.edi_words.specs.declared.words.SheetFiles.{SheetFiles}
-use Rattle.edicad.specs.Explains.{GiveHints, TellsAccepted, TellsCause, TellsPlan, TellsRefusal}
+use Rattle.edicad.specs.Explains.{DescribesRest, GiveHints, TellsAccepted, TellsCause, TellsPlan, TellsRefusal}
 use Rattle.edi_files.specs.Reasons.{ended}
-use Rattle.edicad.specs.Outcome.{input_name, schema_text, sheet_text}
+use Rattle.edi_outcome.specs.Words.{schema_text, sheet_text}
+use Rattle.edicad.specs.Paths.{input_name}
 
 module _ (kinds : KindCodes) (files : SheetFiles) (scd dic b : List ℕ) (said : Bool) (text : List ℕ) where
   abbrev pub Tells : Type 0
@@ -43,16 +45,28 @@ module _ (kinds : KindCodes) (files : SheetFiles) (scd dic b : List ℕ) (said :
         no h.0 (inr (f, s, h.2.0, good, h.1, refusal, subst (λ (n : List ℕ). ExplainsSheet s b n f h.2.0) is h.2.1, h.2.2))
 
   pub schema_said : (f : SchemaFault) (x y : List ℕ) → x ≡ input_name files.scd.now → y ≡ input_name files.dic.now → IsSchemaRefusal scd dic kinds f
-      → (said ≡ false) × IsProperSchemaFault f × ((lines : List ℕ) × ExplainsSchema scd dic x y f lines × (text ≡ ended (schema_text f) ++ lines)) → Tells
+      → (said ≡ false) × IsProperSchemaFault f × ((lines : List ℕ) × ExplainsSchema kinds scd dic x y f lines × (text ≡ ended (schema_text f) ++ lines)) → Tells
   schema_said f x y first second refusal h =
-      let named = subst (λ (m : List ℕ). ExplainsSchema scd dic (input_name files.scd.now) m f h.2.0) second
-      (subst (λ (n : List ℕ). ExplainsSchema scd dic n y f h.2.0) first h.2.1) in
+      let named = subst (λ (m : List ℕ). ExplainsSchema kinds scd dic (input_name files.scd.now) m f h.2.0) second
+      (subst (λ (n : List ℕ). ExplainsSchema kinds scd dic n y f h.2.0) first h.2.1) in
       no h.0 (inl (f, h.2.0, (h.1, refusal), named, h.2.2))
 
-  -- an accepted sheet breaks no rule of lines
-  pub lines_hold : Tells → IsTrue said → IsUnbroken (BreaksLineRule b)
+  -- where a sheet is accepted, the file of classes breaks no rule of lines, nor does the sheet
+  pub lines_hold : Tells → IsTrue said → IsUnbroken (BreaksLineRule scd) × IsUnbroken (BreaksLineRule b)
   lines_hold h t = let plan = subst (λ (a : Bool). MatchBool a (TellsPlan kinds scd dic b text) (TellsCause kinds files scd dic b text)) t h in
-      λ rule at g. plan.4 rule at (of_lines g)
+      (plan.3.lines.0, λ rule at g. plan.4 rule at (of_lines g))
+
+-- the lines behind those of an accepted sheet, by the names and the bytes that were read
+pub rest_said : (kinds k : KindCodes) (files : SheetFiles) (scd b x p r classes skipped lines : List ℕ) → k ≡ kinds → x ≡ input_name files.scd.now → p ≡ scd → r ≡ b
+    → DescribesKinds k p x classes → DescribesSkipped r skipped → lines ≡ classes ++ skipped → DescribesRest kinds files scd b lines
+rest_said kinds k files scd b x p r classes skipped lines e f g h described left is = (
+  classes,
+  skipped,
+  subst (λ (c : KindCodes). DescribesKinds c scd (input_name files.scd.now) classes) e
+      (subst (λ (y : List ℕ). DescribesKinds k scd y classes) f (subst (λ (y : List ℕ). DescribesKinds k y x classes) g described)),
+  subst (λ (y : List ℕ). DescribesSkipped y skipped) h left,
+  is,
+)
 
 -- the hints of the files that were read, by the names that they were given
 pub hints_named : (files : SheetFiles) (scd dic b x y z p q r lines : List ℕ) → x ≡ input_name files.scd.now → p ≡ scd → y ≡ input_name files.dic.now → q ≡ dic → z ≡ input_name files.vec.now → r ≡ b
@@ -69,8 +83,8 @@ hints_named files scd dic b x y z p q r lines e f g h i j are =
 
 -- what is said, with the lines behind it
 pub all_reported : (kinds : KindCodes) (files : SheetFiles) (scd dic b : List ℕ) (said : Bool) (text lines all : List ℕ)
-    → MatchBool said (TellsPlan kinds scd dic b text) (TellsCause kinds files scd dic b text) → MatchBool said (DescribesSkipped b lines) (GiveHints files scd dic b lines) → all ≡ text ++ lines
-    → MatchBool said (TellsAccepted kinds scd dic b all) (TellsRefusal kinds files scd dic b all)
+    → MatchBool said (TellsPlan kinds scd dic b text) (TellsCause kinds files scd dic b text) → MatchBool said (DescribesRest kinds files scd b lines) (GiveHints files scd dic b lines) → all ≡ text ++ lines
+    → MatchBool said (TellsAccepted kinds files scd dic b all) (TellsRefusal kinds files scd dic b all)
 all_reported kinds files scd dic b true text lines all h k e = (text, lines, h, k, e)
 all_reported kinds files scd dic b false text lines all h k e = (text, lines, h, k, e)
 

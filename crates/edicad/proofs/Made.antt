@@ -7,7 +7,6 @@ use Rattle.edi_compare.specs.declared.fault.RunFault.TheVariants.{Memory, Read, 
 use Rattle.edi_compare.specs.Runs.{BeforeWriting, MatchFault, IfFourKnown, IfThreeKnown}
 use Rattle.edi_words.specs.declared.words.PairFiles.{PairFiles}
 use Rattle.edi_words.specs.declared.words.SheetFiles.{SheetFiles}
-use Rattle.edi_files.specs.Folders.{Leavings}
 use Rattle.edi_files.specs.Outputs.{IsWholeOrNew}
 use Rattle.edi_files.specs.declared.product.Product.{Product}
 use Rattle.edicad.specs.Effects.{Inputs}
@@ -79,9 +78,9 @@ module _ (inputs : Inputs) (product : Product) (kinds : KindCodes) (files : Shee
   put_fault W V f (Write w) h = inr (were_there inputs files _ form, f w.count h)
 
   -- whole bytes are all that was made
-  pub whole : (out : List ℕ) (now : ℕ) (left : Leavings) (path : List ℕ) (c : Option (List ℕ)) → IsWholeOrNew out now left (λ b. b ≡ bytes) path c
-      → IsWholeOrNew out now left (λ b. OfFiles inputs files (λ s d v. IsMadeOf product kinds s d v b)) path c
-  whole out now left path c h =
+  pub whole : (out : List ℕ) (Spare : List ℕ → Type 0) (path : List ℕ) (c : Option (List ℕ)) → IsWholeOrNew out Spare (λ b. b ≡ bytes) path c
+      → IsWholeOrNew out Spare (λ b. OfFiles inputs files (λ s d v. IsMadeOf product kinds s d v b)) path c
+  whole out Spare path c h =
       ⊎_elim
       (λ w. inl (w.0, (w.1.0, subst (λ b. OfFiles inputs files (λ s d v. IsMadeOf product kinds s d v b)) (sym (w.1.1 ∙ is)) form, w.1.2)))
       (λ new. inr new) h
@@ -105,9 +104,9 @@ module _ (inputs : Inputs) (kinds : KindCodes) (files : PairFiles) (IsMade : Lis
   pair_put_fault W V f (Write w) h = inr (were_four inputs files _ made, f w.count h)
 
   -- whole bytes are all that was made
-  pub whole_pair : (out : List ℕ) (now : ℕ) (left : Leavings) (path : List ℕ) (c : Option (List ℕ)) → IsWholeOrNew out now left (λ b. b ≡ bytes) path c
-      → IsWholeOrNew out now left (λ f. OfPair inputs files (λ s d a b. IsMade s d a b f)) path c
-  whole_pair out now left path c h =
+  pub whole_pair : (out : List ℕ) (Spare : List ℕ → Type 0) (path : List ℕ) (c : Option (List ℕ)) → IsWholeOrNew out Spare (λ b. b ≡ bytes) path c
+      → IsWholeOrNew out Spare (λ f. OfPair inputs files (λ s d a b. IsMade s d a b f)) path c
+  whole_pair out Spare path c h =
       ⊎_elim
       (λ w. inl (w.0, (w.1.0, subst (λ f. OfPair inputs files (λ s d a b. IsMade s d a b f)) (sym (w.1.1 ∙ is)) made, w.1.2)))
       (λ new. inr new) h

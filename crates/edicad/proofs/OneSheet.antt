@@ -3,22 +3,23 @@ use Rattle.std.proofs.Common.{◌≡◌, ◌≢◌, ◌⊎◌, ◌<◌, ℕ, Boo
 use Rattle.std.specs.Bool.{MatchBool}
 use Rattle.edi_line.specs.declared.device.ByteOut as byte_out
 use Rattle.edi_schema.specs.Roles.{KindCodes}
-use Rattle.edi_compare.specs.Runs.{BeforeWriting, IsSheetUnder, Seen}
+use Rattle.edi_compare.specs.Runs.{BeforeWriting, IsSheetUnder}
 use Rattle.edi_compare.specs.declared.fault.RunFault.{RunFault}
 use Rattle.edi_compare.specs.declared.fault.RunFault.TheVariants.{Memory, Read, TooLong, Schema, First, Second, Write}
 use Rattle.edi_files.specs.declared.product.Product.{Product}
 use Rattle.edi_words.specs.declared.words.SheetFiles.{SheetFiles}
-use Rattle.edicad.specs.Effects.{Effects, written}
+use Rattle.edicad.specs.Effects.{Effects, Stream, written}
 use Rattle.edicad.specs.Explains.{IsExplainStatus, TellsAccepted, TellsRefusal}
-use Rattle.edicad.specs.Outcome.{status_of_fault}
+use Rattle.edi_outcome.specs.Status.{status_of_fault}
+use Rattle.edicad.specs.Paths.{names_of_paths}
 use Rattle.edicad.specs.SheetRuns.{FileFault, IsPut, IsReplaced, OfFiles, OfMade, PutFault}
 use Rattle.edicad.specs.Statuses.{Answers, Complains, IsFileStatus, IsPutStatus, IsSaid, IsSendStatus, IsUnsaid, IsWarned, Prints, PrintsFirst, paths_of}
-use Rattle.edicad.specs.declared.outcome.Outcome.TheVariants as outcome
+use Rattle.edi_outcome.specs.declared.outcome.Outcome.TheVariants as outcome
 use Rattle.edicad.proofs.Answering.{appends_nothing}
 use Rattle.edicad.proofs.Made.{files_map, were_there}
 use Rattle.edicad.proofs.Refusals.{file_refused, file_tried, means_answer, means_fault, means_warned, put_refused, put_tried, refusal_line, unwritten}
 
-module _ (run : Effects) (out err : Seen) (kinds : KindCodes) (files : SheetFiles) (s : ℕ) where
+module _ (run : Effects) (out err : Stream) (kinds : KindCodes) (files : SheetFiles) (s : ℕ) where
   -- a sheet is accepted, or not
   pub accepted_status : OfFiles run.inputs files (IsSheetUnder kinds) → IsSaid run.why out err outcome.Accepted (paths_of files (codes "-")) s
       → IsFileStatus run out err kinds files s
@@ -32,7 +33,7 @@ module _ (run : Effects) (out err : Seen) (kinds : KindCodes) (files : SheetFile
   file_status e h said = record {
     tried = file_tried run.inputs kinds files _ e h;
     means = means_fault _ _ _ run.why (paths_of files (codes "-")) out err s e (λ silent. (h, silent))
-        (λ is line. file_refused (Answers out err) kinds (paths_of files (codes "-")) refl run.inputs files _ e h is line) said;
+        (λ is line. file_refused (Answers out err) kinds (names_of_paths (paths_of files (codes "-"))) refl run.inputs files _ e h is line) said;
   }
 
   module _ (product : Product) (path : List ℕ) (replaced : IsReplaced run product kinds files path) where
@@ -50,7 +51,7 @@ module _ (run : Effects) (out err : Seen) (kinds : KindCodes) (files : SheetFile
     unput_status e h said = record {
       tried = put_tried run product kinds files path e h;
       means = means_fault _ _ _ run.why (paths_of files path) out err s e (λ silent. (h, silent))
-          (λ is line. put_refused (Answers out err) kinds (paths_of files path) refl run product files path e h is line) said;
+          (λ is line. put_refused (Answers out err) kinds (names_of_paths (paths_of files path)) refl run product files path e h is line) said;
       leaves = inr (e, h);
       replaced = replaced;
     }
@@ -73,7 +74,7 @@ module _ (run : Effects) (out err : Seen) (kinds : KindCodes) (files : SheetFile
     unsent_status e h silent warned = record {
       tried = file_tried run.inputs kinds files _ e h;
       means = means_warned _ _ _ run.why (paths_of files (codes "-")) out err s e (h, silent) silent
-          (λ is told. file_refused (Complains out err) kinds (paths_of files (codes "-")) refl run.inputs files _ e h is
+          (λ is told. file_refused (Complains out err) kinds (names_of_paths (paths_of files (codes "-"))) refl run.inputs files _ e h is
           (unwritten e _ silent is, refusal_line run.why err e (paths_of files (codes "-")) is told)) warned;
     }
 
@@ -107,9 +108,9 @@ two_or_four_only s (inl four) five = absurd (omega (arith, four, five))
 two_or_four_only s (inr two) five = absurd (omega (arith, two, five))
 
 -- a sheet is explained, or not
-module _ (run : Effects) (out err : Seen) (kinds : KindCodes) (files : SheetFiles) (s : ℕ) where
+module _ (run : Effects) (out err : Stream) (kinds : KindCodes) (files : SheetFiles) (s : ℕ) where
   abbrev pub Explains : Bool → List ℕ → Type 0
-  Explains is_accepted text = OfFiles run.inputs files (λ scd dic b. MatchBool is_accepted (TellsAccepted kinds scd dic b text) (TellsRefusal kinds files scd dic b text))
+  Explains is_accepted text = OfFiles run.inputs files (λ scd dic b. MatchBool is_accepted (TellsAccepted kinds files scd dic b text) (TellsRefusal kinds files scd dic b text))
 
   pub explained_status : (is_accepted : Bool) (text : List ℕ) → Explains is_accepted text → (s ≡ 4) ⊎ MatchBool is_accepted (s ≡ 0) (s ≡ 2)
       → (s < 3 → Answers out err text) → (s ≡ 4 → IsUnsaid out err) → IsExplainStatus run out err kinds files s

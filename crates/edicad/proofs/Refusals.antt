@@ -1,5 +1,5 @@
 -- The status of a run that has no answer, and what a refusal says.
-use Rattle.std.proofs.Common.{◌≡◌, ◌≢◌, ◌⊎◌, ◌≤◌, ℕ, Bool, List, [], Option, None, IfSome, codes, length, refl, sym, subst, ◌∙◌, ap, inl, inr, arith, ◌<◌, Bor, Result, Ok, Err, IfOk, IfErr, append-nil}
+use Rattle.std.proofs.Common.{◌≡◌, ◌≢◌, ◌⊎◌, ◌≤◌, ℕ, Bool, List, [], Option, None, IfSome, codes, length, refl, sym, subst, ◌∙◌, ap, inl, inr, arith, ◌<◌, Result, Ok, Err, IfOk, IfErr, append-nil, ◌++◌}
 use Rattle.edi_schema.specs.Roles.{KindCodes}
 use Rattle.edi_schema.specs.declared.fault.SchemaFault.{SchemaFault}
 use Rattle.edi_schema.specs.declared.fault.SchemaFault.TheVariants as schema
@@ -10,19 +10,22 @@ use Rattle.edi_compare.specs.declared.pairing.Verdict.TheVariants as verdict
 use Rattle.edi_compare.specs.declared.fault.RunFault.{RunFault}
 use Rattle.edi_compare.specs.declared.fault.RunFault.TheVariants.{Memory, Read, TooLong, Schema, First, Second, Write}
 use Rattle.edi_compare.specs.Bundle.{OfParts}
-use Rattle.edi_compare.specs.Runs.{BeforeWriting, InputFault, IsVerdictOf, Seen}
+use Rattle.edi_compare.specs.Runs.{BeforeWriting, IsVerdictOf}
+use Rattle.edi_words.specs.Requests.{usual_kinds}
 use Rattle.edi_words.specs.declared.words.PairFiles.{PairFiles}
 use Rattle.edi_words.specs.declared.words.SheetFiles.{SheetFiles}
 use Rattle.edi_files.specs.declared.product.Product.{Product}
 use Rattle.edi_files.specs.declared.reason.Reason.{Reason}
 use Rattle.edi_files.specs.Reasons.{Why, ended}
-use Rattle.edicad.specs.Outcome.{FaultHasNames, HasNames, first_text, sheet_text, status_for, status_of_fault, status_of_schema, status_of_sheet, words_for, words_of_fault}
+use Rattle.edi_outcome.specs.Status.{status_for, status_of_fault, status_of_schema, status_of_sheet}
+use Rattle.edi_outcome.specs.Words.{FaultHasNames, HasNames, first_text, sheet_text, words_for, words_of_fault}
+use Rattle.edicad.specs.Paths.{names_of_paths}
 use Rattle.edicad.specs.inner.Outcome.{outcome_for}
-use Rattle.edicad.specs.declared.outcome.Outcome.TheVariants as outcome
-use Rattle.edicad.specs.Effects.{Effects, Inputs}
-use Rattle.edicad.specs.Reasons.{lines_for}
-use Rattle.edicad.specs.declared.outcome.Outcome.{Outcome}
-use Rattle.edicad.specs.SheetRuns.{FileFault, IsInput, MatchPairFault, OfFiles, OfPair, PairFileFault, PutFault}
+use Rattle.edi_outcome.specs.declared.outcome.Outcome.TheVariants as outcome
+use Rattle.edicad.specs.Effects.{Effects, Inputs, Stream}
+use Rattle.edicad.specs.Reasons.{length_line_for, lines_for}
+use Rattle.edi_outcome.specs.declared.outcome.Outcome.{Outcome}
+use Rattle.edicad.specs.SheetRuns.{FileFault, IsInput, MatchPairFault, OfFiles, OfPair, PairFileFault, PutFault, StandardFault}
 use Rattle.edicad.specs.Statuses.{Answers, AreFourTried, AreTried, IsAnsweredAs, IsCompareStatus, IsSaid, IsUnsaid, IsWarned, LacksMemory, MeansStatus, OnlyLacksMemory, Prints, SaysPairRefusal, SaysRefusal, Warns, WarnsWhy, pair_paths_of}
 use Rattle.edicad.proofs.Answering.{appends_nothing}
 use Rattle.edicad.proofs.Made.{files_map, pair_map, parts_map, were_four}
@@ -64,15 +67,15 @@ module _ (Says : List ℕ → Type 0) (kinds : KindCodes) (names : List (List �
   put_refused run product files path e (inl input) two line = absurd (omega (arith, ap status_of_fault input.1, two))
   put_refused run product files path e (inr h) two line = (file_refused run.inputs files _ e h.1 two line, unwritten e _ h.2 two)
 
-  pub input_refused : (contents : Option (List ℕ)) (failed : Bool) (W : ℕ → Type 0) (e : RunFault) → InputFault kinds contents failed W e → status_of_fault e ≡ 2
-      → Says (ended (words_of_fault e names)) → IfSome contents (λ b. OfParts b (SaysRefusal Says kinds))
-  input_refused contents failed W (Memory e) h two line = absurd (omega (arith, two))
-  input_refused contents failed W (Read n) h two line = absurd (omega (arith, two))
-  input_refused contents failed W (TooLong n) h two line = absurd (omega (arith, two))
-  input_refused contents failed W (Schema f) h two line = parts_map contents _ _ (λ s d v r. inl (f, r, line)) h
-  input_refused contents failed W (First f) h two line = parts_map contents _ _ (λ s d v r. inr (f, r, says_sheet f line)) h
-  input_refused contents failed W (Second f) h two line = absurd h
-  input_refused contents failed W (Write w) h two line = absurd (omega (arith, two))
+  pub input_refused : (inputs : Inputs) (contents : Option (List ℕ)) (W : ℕ → Type 0) (e : RunFault) → StandardFault inputs contents W e → status_of_fault e ≡ 2
+      → Says (ended (words_of_fault e names)) → IfSome contents (λ b. OfParts b (SaysRefusal Says usual_kinds))
+  input_refused inputs contents W (Memory e) h two line = absurd (omega (arith, two))
+  input_refused inputs contents W (Read n) h two line = absurd (omega (arith, two))
+  input_refused inputs contents W (TooLong n) h two line = absurd (omega (arith, two))
+  input_refused inputs contents W (Schema f) h two line = parts_map contents _ _ (λ s d v r. inl (f, r, line)) h
+  input_refused inputs contents W (First f) h two line = parts_map contents _ _ (λ s d v r. inr (f, r, says_sheet f line)) h
+  input_refused inputs contents W (Second f) h two line = absurd h
+  input_refused inputs contents W (Write w) h two line = absurd (omega (arith, two))
 
 -- the files were tried
 pub file_tried : (inputs : Inputs) (kinds : KindCodes) (files : SheetFiles) (W : ℕ → Type 0) (e : RunFault) → FileFault inputs kinds files W e → AreTried inputs files
@@ -151,40 +154,43 @@ not_four status s (inr (inl is)) five four = absurd (omega (arith, is, four))
 not_four status s (inr (inr is)) five four = absurd (omega (arith, is.0, five))
 
 -- an outcome without a reason has its line alone
-unreasoned : (err : Seen) (o : Outcome) (paths : List (List ℕ)) (reason : Option Reason) → reason ≡ None → Warns err (lines_for o paths reason) → Warns err (ended (words_for o paths))
-unreasoned err o paths reason is h =
-    subst (Warns err) (append-nil (ended (words_for o paths))) (subst (λ (r : Option Reason). Warns err (lines_for o paths r)) is h)
+unreasoned : (err : Stream) (o : Outcome) (paths : List (List ℕ)) (reason : Option Reason) → length_line_for o paths ≡ [] → reason ≡ None → Warns err (lines_for o paths reason)
+    → Warns err (ended (words_for o (names_of_paths paths)))
+unreasoned err o paths reason whole is h =
+    let said = ended (words_for o (names_of_paths paths)) in
+    let alone : lines_for o paths None ≡ said = ap (λ xs. (said ++ []) ++ xs) whole ∙ (append-nil (said ++ []) ∙ append-nil said) in
+    subst (Warns err) alone (subst (λ (r : Option Reason). Warns err (lines_for o paths r)) is h)
 
 -- a fault of status 5 is that there is no memory
-memory_words : (why : Why) (err : Seen) (e : RunFault) (paths : List (List ℕ)) → status_of_fault e ≡ 5 → WarnsWhy why err (outcome.Fault e) paths → LacksMemory err
-memory_words why err (Memory e) paths five h = unreasoned err (outcome.Fault (Memory e)) paths h.0 h.1 h.2
+memory_words : (why : Why) (err : Stream) (e : RunFault) (paths : List (List ℕ)) → status_of_fault e ≡ 5 → WarnsWhy why err (outcome.Fault e) paths → LacksMemory err
+memory_words why err (Memory e) paths five h = unreasoned err (outcome.Fault (Memory e)) paths h.0 refl h.1 h.2
 memory_words why err (Read n) paths five h = absurd (omega (arith, five))
 memory_words why err (TooLong n) paths five h = absurd (omega (arith, five))
-memory_words why err (Schema (schema.Memory e)) paths five h = unreasoned err (outcome.Fault (Schema (schema.Memory e))) paths h.0 h.1 h.2
+memory_words why err (Schema (schema.Memory e)) paths five h = unreasoned err (outcome.Fault (Schema (schema.Memory e))) paths h.0 refl h.1 h.2
 memory_words why err (Schema (schema.Line file rule at)) paths five h = absurd (omega (arith, five))
 memory_words why err (Schema (schema.Entry file rule at)) paths five h = absurd (omega (arith, five))
 memory_words why err (Schema schema.Kinds) paths five h = absurd (omega (arith, five))
-memory_words why err (First (sheet.Memory e)) paths five h = unreasoned err (outcome.Fault (First (sheet.Memory e))) paths h.0 h.1 h.2
+memory_words why err (First (sheet.Memory e)) paths five h = unreasoned err (outcome.Fault (First (sheet.Memory e))) paths h.0 refl h.1 h.2
 memory_words why err (First (sheet.Line rule at)) paths five h = absurd (omega (arith, five))
 memory_words why err (First (sheet.Entry rule at)) paths five h = absurd (omega (arith, five))
-memory_words why err (Second (sheet.Memory e)) paths five h = unreasoned err (outcome.Fault (Second (sheet.Memory e))) paths h.0 h.1 h.2
+memory_words why err (Second (sheet.Memory e)) paths five h = unreasoned err (outcome.Fault (Second (sheet.Memory e))) paths h.0 refl h.1 h.2
 memory_words why err (Second (sheet.Line rule at)) paths five h = absurd (omega (arith, five))
 memory_words why err (Second (sheet.Entry rule at)) paths five h = absurd (omega (arith, five))
 memory_words why err (Write w) paths five h = absurd (omega (arith, five))
 
 -- the line of a refusal has no reason behind it
-pub refusal_line : (why : Why) (err : Seen) (e : RunFault) (paths : List (List ℕ)) → status_of_fault e ≡ 2 → WarnsWhy why err (outcome.Fault e) paths
-    → Warns err (ended (words_of_fault e paths))
+pub refusal_line : (why : Why) (err : Stream) (e : RunFault) (paths : List (List ℕ)) → status_of_fault e ≡ 2 → WarnsWhy why err (outcome.Fault e) paths
+    → Warns err (ended (words_of_fault e (names_of_paths paths)))
 refusal_line why err (Memory e) paths two h = absurd (omega (arith, two))
 refusal_line why err (Read n) paths two h = absurd (omega (arith, two))
 refusal_line why err (TooLong n) paths two h = absurd (omega (arith, two))
-refusal_line why err (Schema f) paths two h = unreasoned err (outcome.Fault (Schema f)) paths h.0 h.1 h.2
-refusal_line why err (First f) paths two h = unreasoned err (outcome.Fault (First f)) paths h.0 h.1 h.2
-refusal_line why err (Second f) paths two h = unreasoned err (outcome.Fault (Second f)) paths h.0 h.1 h.2
+refusal_line why err (Schema f) paths two h = unreasoned err (outcome.Fault (Schema f)) paths h.0 refl h.1 h.2
+refusal_line why err (First f) paths two h = unreasoned err (outcome.Fault (First f)) paths h.0 refl h.1 h.2
+refusal_line why err (Second f) paths two h = unreasoned err (outcome.Fault (Second f)) paths h.0 refl h.1 h.2
 refusal_line why err (Write w) paths two h = absurd (omega (arith, two))
 
 -- what a status says of a run that has no answer
-module _ (Done Refused : Type 0) (IsFault : RunFault → Type 0) (why : Why) (paths : List (List ℕ)) (out err : Seen) (s : ℕ) where
+module _ (Done Refused : Type 0) (IsFault : RunFault → Type 0) (why : Why) (paths : List (List ℕ)) (out err : Stream) (s : ℕ) where
   failure : (e : RunFault) → (3 ≤ status_of_fault e → s ≡ 4 → IsFault e × WarnsWhy why err (outcome.Fault e) paths) → (status_of_fault e < 3 → s ≡ 4 → IsUnsaid out err)
       → IsAnsweredAs (status_of_fault e) s → s ≡ 4 → IsFaultStatus (status_of_fault e)
       → IsUnsaid out err ⊎ ((f : RunFault) × IsFault f × (status_of_fault f ≡ 4) × WarnsWhy why err (outcome.Fault f) paths)
@@ -202,7 +208,7 @@ module _ (Done Refused : Type 0) (IsFault : RunFault → Type 0) (why : Why) (pa
     memory = memory;
   }
 
-  pub means_fault : (e : RunFault) → (Prints out [] → IsFault e) → (status_of_fault e ≡ 2 → Answers out err (ended (words_of_fault e paths)) → Refused)
+  pub means_fault : (e : RunFault) → (Prints out [] → IsFault e) → (status_of_fault e ≡ 2 → Answers out err (ended (words_of_fault e (names_of_paths paths))) → Refused)
       → IsSaid why out err (outcome.Fault e) paths s → MeansStatus Done Refused IsFault why paths out err s
   means_fault e h refuses said = means_told e (λ big four. (h (said.fault big four).1, (said.fault big four).0)) (λ is two. refuses is (said.answer (omega (arith, two))))
       said.unsaid said.status (λ five. let m = said.memory five in (m.1, inl m.0))
@@ -254,7 +260,7 @@ not_one_of_zero s one (inr (inl e)) = absurd (omega (arith, e, one))
 not_one_of_zero s one (inr (inr e)) = absurd (omega (arith, e.1, one))
 
 -- the status of a comparison
-module _ (run : Effects) (out err : Seen) (kinds : KindCodes) (files : PairFiles) (s : ℕ) where
+module _ (run : Effects) (out err : Stream) (kinds : KindCodes) (files : PairFiles) (s : ℕ) where
   pub compare_status : (r : Result Verdict RunFault) → IfOk r (λ v. OfPair run.inputs files (λ scd dic a b. IsVerdictOf kinds scd dic a b v))
       → IfErr r (PairFileFault run.inputs kinds files (λ _. ⊥)) → IsSaid run.why out err (outcome_for r) (pair_paths_of files (codes "-")) s
       → IsCompareStatus run out err kinds files s
@@ -273,17 +279,17 @@ module _ (run : Effects) (out err : Seen) (kinds : KindCodes) (files : PairFiles
     tried = pair_tried run.inputs kinds files (λ _. ⊥) e h;
     different = λ one. absurd (not_one s (known_fault (status_of_fault e) s (fault_status e) said.status) one);
     means = means_fault _ _ _ run.why (pair_paths_of files (codes "-")) out err s e (λ silent. (h, silent))
-        (λ is line. pair_refused (Answers out err) kinds (pair_paths_of files (codes "-")) refl run.inputs files (λ _. ⊥) e h is line) said;
+        (λ is line. pair_refused (Answers out err) kinds (names_of_paths (pair_paths_of files (codes "-"))) refl run.inputs files (λ _. ⊥) e h is line) said;
   }
 
 -- the names that the line of a comparison needs
-pub compare_names : (r : Result Verdict RunFault) (names : List (Bor (List ℕ))) → length names ≡ 5 → IfErr r (λ e. FaultHasNames e 5) → HasNames (outcome_for r) names
-compare_names (Ok (verdict.Same pairing)) names five h = tt
-compare_names (Ok (verdict.Different line)) names five h = tt
-compare_names (Err e) names five h = subst (FaultHasNames e) (sym five) h
+pub compare_names : (r : Result Verdict RunFault) → IfErr r (λ e. FaultHasNames e 5) → HasNames (outcome_for r) 5
+compare_names (Ok (verdict.Same pairing)) h = tt
+compare_names (Ok (verdict.Different line)) h = tt
+compare_names (Err e) h = h
 
 -- what was said of a fault that standard error was told, where the output is as it was
-pub said_of_warned : (why : Why) (stream : Option (List ℕ)) (failed : Bool) (err : Seen) (e : RunFault) (paths : List (List ℕ)) (s : ℕ) → 3 ≤ status_of_fault e
+pub said_of_warned : (why : Why) (stream : Option (List ℕ)) (failed : Bool) (err : Stream) (e : RunFault) (paths : List (List ℕ)) (s : ℕ) → 3 ≤ status_of_fault e
     → IsWarned why err e paths s → IsSaid why (record { before = stream; after = stream; failed = failed }) err (outcome.Fault e) paths s
 said_of_warned why stream failed err e paths s big (inl told) = record {
   status = inl told.0;
@@ -301,8 +307,8 @@ said_of_warned why stream failed err e paths s big (inr told) = record {
 }
 
 -- what was said of an answer or a refusal
-pub said_of_line : (why : Why) (out err : Seen) (o : Outcome) (paths : List (List ℕ)) (s : ℕ) → status_for o < 3 → IsAnsweredAs (status_for o) s
-    → (s < 3 → Answers out err (ended (words_for o paths))) → (s ≡ 4 → IsUnsaid out err) → (s ≡ 5 → OnlyLacksMemory out err) → IsSaid why out err o paths s
+pub said_of_line : (why : Why) (out err : Stream) (o : Outcome) (paths : List (List ℕ)) (s : ℕ) → status_for o < 3 → IsAnsweredAs (status_for o) s
+    → (s < 3 → Answers out err (ended (words_for o (names_of_paths paths)))) → (s ≡ 4 → IsUnsaid out err) → (s ≡ 5 → OnlyLacksMemory out err) → IsSaid why out err o paths s
 said_of_line why out err o paths s small status answer unsaid memory = record {
   status = status;
   answer = answer;

@@ -1,7 +1,6 @@
 -- What each request is answered by.
 use Rattle.std.specs.Prelude.{◌≡◌, ◌⊎◌, ◌++◌, ℕ, List, [], IsTrue, MatchOption, codes}
 use Rattle.std.specs.Bool.{MatchBool}
-use Rattle.edi_compare.specs.Runs.{Seen}
 use Rattle.edicad.specs.Explains.{IsExplainStatus, IsRuleStatus}
 use Rattle.edicad.specs.Hashes.{IsHashStatus}
 use Rattle.edi_files.specs.Reasons.{ended}
@@ -9,8 +8,9 @@ use Rattle.edi_files.specs.declared.product.Product.{Product}
 use Rattle.edi_files.specs.declared.product.Product.TheVariants.{Canonical, Picture}
 use Rattle.edi_words.specs.Requests.{IsAsked, is_standard_path}
 use Rattle.edi_words.specs.declared.words.Misuse.{Misuse}
-use Rattle.edicad.specs.Effects.{Effects}
+use Rattle.edicad.specs.Effects.{Effects, Stream}
 use Rattle.edicad.specs.Misuses.{misuse_lines, shows_words}
+use Rattle.edicad.specs.Notes.{InTurn, IsNoteOf, Notes}
 use Rattle.edicad.specs.Statuses.{IsBundleStatus, IsCompareStatus, IsDiffStatus, IsFileStatus, IsPairingStatus, IsPictureStatus, IsPutStatus, IsSendStatus, IsVerifyStatus, Complains, LacksMemory, Prints, Warns}
 use Rattle.edi_schema.specs.Roles.{KindCodes}
 use Rattle.edi_words.specs.declared.words.SheetFiles.{SheetFiles}
@@ -18,42 +18,48 @@ use Rattle.edi_words.specs.declared.words.Request.{Request}
 use Rattle.edi_words.specs.declared.words.Request.TheVariants.{Bundle, Check, Canon, Compare, Hash, Explain, Rule, Verify, Diff, Draw, Misused, Answered}
 
 -- The status of what is made of a sheet, which is sent to the output or put at a path.
-abbrev pub IsMadeStatus : Effects → Seen → Seen → Product → KindCodes → SheetFiles → List ℕ → ℕ → Type 0
+abbrev pub IsMadeStatus : Effects → Stream → Stream → Product → KindCodes → SheetFiles → List ℕ → ℕ → Type 0
 IsMadeStatus run out err product kinds files path s = MatchBool (is_standard_path path) (run.untouched × IsSendStatus run out err product kinds files s)
     (IsPutStatus run out err product kinds files path s)
 
 -- The status of words that can't be meant: 3, and the stream of errors says why; or 5, where there was no memory to show what was given.
-abbrev pub IsMisusedStatus : Seen → Seen → Misuse → ℕ → Type 0
+abbrev pub IsMisusedStatus : Stream → Stream → Misuse → ℕ → Type 0
 IsMisusedStatus out err misuse s =
     ((s ≡ 3) × Complains out err (misuse_lines misuse)) ⊎ ((s ≡ 5) × IsTrue (shows_words misuse) × Prints out [] × LacksMemory err)
 
--- The status of what was asked for, over what was found in the folder and left there, and what the two streams have before and after.
--- Where no OUT or FILE is named, nothing in the folder has changed.
-abbrev pub IsAnswered : Effects → Seen → Seen → Request → ℕ → Type 0
-IsAnswered run out err Bundle s = run.untouched × IsBundleStatus run out err s
-IsAnswered run out err (Check kinds files) s = run.untouched × IsFileStatus run out err kinds files s
-IsAnswered run out err (Canon kinds files path) s = IsMadeStatus run out err Canonical kinds files path.now s
-IsAnswered run out err (Compare kinds files pairing) s = MatchOption pairing (run.untouched × IsCompareStatus run out err kinds files s)
+-- The status of what was asked for but for the note on kinds, over what was found in the folder and left there, and what the two streams
+-- have before and after. Where no OUT or FILE is named, nothing in the folder has changed.
+abbrev pub IsReplied : Effects → Stream → Stream → Request → ℕ → Type 0
+IsReplied run out err Bundle s = run.untouched × IsBundleStatus run out err s
+IsReplied run out err (Check kinds files) s = run.untouched × IsFileStatus run out err kinds files s
+IsReplied run out err (Canon kinds files path) s = IsMadeStatus run out err Canonical kinds files path.now s
+IsReplied run out err (Compare kinds files pairing) s = MatchOption pairing (run.untouched × IsCompareStatus run out err kinds files s)
     (λ path. IsPairingStatus run out err kinds files path.now s)
-IsAnswered run out err (Hash kinds files) s = run.untouched × IsHashStatus run out err kinds files s
-IsAnswered run out err (Explain kinds files) s = run.untouched × IsExplainStatus run out err kinds files s
-IsAnswered run out err (Rule word) s = run.untouched × IsRuleStatus out err word.now s
-IsAnswered run out err (Verify kinds files pairing) s = run.untouched × IsVerifyStatus run out err kinds files pairing.now s
-IsAnswered run out err (Diff kinds files brief picture) s = MatchOption picture (run.untouched × IsDiffStatus run out err kinds files brief s)
+IsReplied run out err (Hash kinds files) s = run.untouched × IsHashStatus run out err kinds files s
+IsReplied run out err (Explain kinds files) s = run.untouched × IsExplainStatus run out err kinds files s
+IsReplied run out err (Rule word) s = run.untouched × IsRuleStatus out err word.now s
+IsReplied run out err (Verify kinds files pairing) s = run.untouched × IsVerifyStatus run out err kinds files pairing.now s
+IsReplied run out err (Diff kinds files brief picture) s = MatchOption picture (run.untouched × IsDiffStatus run out err kinds files brief s)
     (λ path. IsPictureStatus run out err kinds files brief path.now s)
-IsAnswered run out err (Draw kinds files path) s = IsMadeStatus run out err Picture kinds files path.now s
-IsAnswered run out err (Misused misuse) s = run.untouched × IsMisusedStatus out err misuse s
-IsAnswered run out err (Answered status) s = run.untouched × (s ≡ status) × Prints out [] × Prints err []
+IsReplied run out err (Draw kinds files path) s = IsMadeStatus run out err Picture kinds files path.now s
+IsReplied run out err (Misused misuse) s = run.untouched × IsMisusedStatus out err misuse s
+IsReplied run out err (Answered status) s = run.untouched × (s ≡ status) × Prints out [] × Prints err []
+
+-- The status of what was asked for: it was replied, and then the stream of errors got the note on the kinds that no class has, if there is
+-- one.
+abbrev pub IsAnswered : Effects → Stream → Stream → Request → ℕ → Type 0
+IsAnswered run out err request s = (note : List ℕ) × IsNoteOf run.inputs request s note
+    × InTurn err (λ e. IsReplied run out e request s) (λ e. Notes e note)
 
 -- what is said of words that are not all UTF-8
 abbrev pub not_text_lines : List ℕ
 not_text_lines = ended (codes "error: the words are not all UTF-8") ++ ended (codes "edicad: name such a file by a link whose name is, or read it by - from standard input")
 
 -- the words could not be had: not all are UTF-8, or memory ran out
-abbrev pub IsUnread : Effects → Seen → Seen → ℕ → Type 0
+abbrev pub IsUnread : Effects → Stream → Stream → ℕ → Type 0
 IsUnread run out err s = run.untouched × Prints out []
     × (((s ≡ 3) × Warns err not_text_lines) ⊎ ((s ≡ 5) × LacksMemory err))
 
 -- the words ask for something, and this is its answer
-abbrev pub AnswersWords : Effects → Seen → Seen → List (List ℕ) → ℕ → Type 0
+abbrev pub AnswersWords : Effects → Stream → Stream → List (List ℕ) → ℕ → Type 0
 AnswersWords run out err words s = (request : Request) × IsAsked words request × IsAnswered run out err request s

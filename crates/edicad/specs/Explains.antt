@@ -8,16 +8,18 @@ use Rattle.edi_plan.specs.Plans.{Drawing}
 use Rattle.edi_compare.specs.PlanOfFile.{IsPlanOfFile}
 use Rattle.edi_compare.specs.Refused.{IsProper, IsRefusal}
 use Rattle.edi_compare.specs.Rules.{IsAccepted}
-use Rattle.edi_compare.specs.Runs.{RefusesSchema, Seen}
+use Rattle.edi_compare.specs.Runs.{RefusesSchema}
 use Rattle.edi_compare.specs.declared.fault.Fault.{Fault}
-use Rattle.edi_explain.specs.Explained.{DescribesPlan, ExplainsSchema, ExplainsSheet, IsRuleWord, rule_page}
+use Rattle.edi_explain.specs.Explained.{DescribesPlan, ExplainsSchema, ExplainsSheet, IsRuleWord, IsTextOfWord, rule_page}
 use Rattle.edi_explain.specs.Hints.{AreHintsOfSheet}
+use Rattle.edi_explain.specs.KindLines.{DescribesKinds}
 use Rattle.edi_explain.specs.Skipped.{DescribesSkipped}
 use Rattle.edi_explain.specs.declared.text.RuleText.{RuleText}
 use Rattle.edi_words.specs.declared.words.SheetFiles.{SheetFiles}
 use Rattle.edi_files.specs.Reasons.{ended}
-use Rattle.edicad.specs.Outcome.{input_name, schema_text, sheet_text}
-use Rattle.edicad.specs.Effects.{Effects}
+use Rattle.edi_outcome.specs.Words.{schema_text, sheet_text}
+use Rattle.edicad.specs.Paths.{input_name}
+use Rattle.edicad.specs.Effects.{Effects, Stream}
 use Rattle.edicad.specs.SheetRuns.{FileFault, OfFiles}
 use Rattle.edicad.specs.Statuses.{Answers, AreTried, Complains, IsUnsaid, MeansStatus, OnlyLacksMemory, Prints, paths_of}
 
@@ -26,14 +28,19 @@ abbrev pub TellsPlan : KindCodes → List ℕ → List ℕ → List ℕ → List
 TellsPlan kinds scd dic b text = (s : Classes) × (p : Drawing) × (lines : List ℕ) × IsGoodSchema scd dic kinds s × IsAccepted s b × IsPlanOfFile s b p
     × DescribesPlan p lines × (text ≡ ended (codes "accepted") ++ lines)
 
--- and then the line on what is read and not compared
-abbrev pub TellsAccepted : KindCodes → List ℕ → List ℕ → List ℕ → List ℕ → Type 0
-TellsAccepted kinds scd dic b text = (plan skipped : List ℕ) × TellsPlan kinds scd dic b plan × DescribesSkipped b skipped × (text ≡ plan ++ skipped)
+-- the lines on the classes of the four kinds, and those on what is read and not compared
+abbrev pub DescribesRest : KindCodes → SheetFiles → List ℕ → List ℕ → List ℕ → Type 0
+DescribesRest kinds files scd b lines = (classes skipped : List ℕ) × DescribesKinds kinds scd (input_name files.scd.now) classes × DescribesSkipped b skipped
+    × (lines ≡ classes ++ skipped)
+
+-- an accepted sheet, and then those lines
+abbrev pub TellsAccepted : KindCodes → SheetFiles → List ℕ → List ℕ → List ℕ → List ℕ → Type 0
+TellsAccepted kinds files scd dic b text = (plan rest : List ℕ) × TellsPlan kinds scd dic b plan × DescribesRest kinds files scd b rest × (text ≡ plan ++ rest)
 
 -- a refused schema: the line of a check, and the lines that explain the refusal
 abbrev pub TellsSchema : KindCodes → SheetFiles → List ℕ → List ℕ → List ℕ → Type 0
 TellsSchema kinds files scd dic text = (f : SchemaFault) × (lines : List ℕ) × RefusesSchema kinds scd dic f
-    × ExplainsSchema scd dic (input_name files.scd.now) (input_name files.dic.now) f lines × (text ≡ ended (schema_text f) ++ lines)
+    × ExplainsSchema kinds scd dic (input_name files.scd.now) (input_name files.dic.now) f lines × (text ≡ ended (schema_text f) ++ lines)
 
 -- the same of a refused sheet
 abbrev pub TellsSheet : KindCodes → SheetFiles → List ℕ → List ℕ → List ℕ → List ℕ → Type 0
@@ -53,15 +60,15 @@ abbrev pub TellsRefusal : KindCodes → SheetFiles → List ℕ → List ℕ →
 TellsRefusal kinds files scd dic b text = (cause hints : List ℕ) × TellsCause kinds files scd dic b cause × GiveHints files scd dic b hints × (text ≡ cause ++ hints)
 
 -- The status of a run that explains a sheet, as that of a check; the output gets the check's line and what explains it.
-pub record IsExplainStatus (run : Effects) (out err : Seen) (kinds : KindCodes) (files : SheetFiles) (s : ℕ) : Type 0 where
+pub record IsExplainStatus (run : Effects) (out err : Stream) (kinds : KindCodes) (files : SheetFiles) (s : ℕ) : Type 0 where
   pub tried : AreTried run.inputs files
-  pub means : MeansStatus (OfFiles run.inputs files (λ scd dic b. (text : List ℕ) × TellsAccepted kinds scd dic b text × Answers out err text))
+  pub means : MeansStatus (OfFiles run.inputs files (λ scd dic b. (text : List ℕ) × TellsAccepted kinds files scd dic b text × Answers out err text))
       (OfFiles run.inputs files (λ scd dic b. (text : List ℕ) × TellsRefusal kinds files scd dic b text × Answers out err text))
       (λ e. FileFault run.inputs kinds files (λ _. ⊥) e × Prints out []) run.why (paths_of files (codes "-")) out err s
 
 -- The status of a run that explains a rule: 0 only where its page went out, 3 only where the word is no rule's number.
-pub record IsRuleStatus (out err : Seen) (word : List ℕ) (s : ℕ) : Type 0 where
-  pub done : s ≡ 0 → (text : RuleText) × IsRuleWord word text.rule × Answers out err (rule_page text)
+pub record IsRuleStatus (out err : Stream) (word : List ℕ) (s : ℕ) : Type 0 where
+  pub done : s ≡ 0 → (text : RuleText) × IsTextOfWord word text × Answers out err (rule_page text)
   pub unknown : s ≡ 3 → ((rule : ℕ) → ¬ IsRuleWord word rule) × Complains out err (ended (codes "no rule has this number"))
   pub failed : s ≡ 4 → IsUnsaid out err
   pub memory : s ≡ 5 → OnlyLacksMemory out err

@@ -14,17 +14,19 @@ use Rattle.edi_schema.specs.declared.fault.Source.TheVariants.{Scd, Dic}
 use Rattle.edi_compare.specs.Headline.{IsFormOf}
 use Rattle.edi_compare.specs.PlanOfFile.{StateSame}
 use Rattle.edi_compare.specs.Refused.{IsProper, IsRefusal}
-use Rattle.edi_compare.specs.Runs.{MatchFault, RefusesSchema, Seen, IfBothKnown}
+use Rattle.edi_compare.specs.Runs.{MatchFault, RefusesSchema, IfBothKnown}
 use Rattle.edi_compare.specs.Under.{OfTwo}
 use Rattle.edi_compare.specs.declared.fault.RunFault.{RunFault}
 use Rattle.edi_compare.specs.declared.fault.RunFault.TheVariants.{Memory, Read, TooLong, Schema, First, Second, Write}
 use Rattle.edi_shown.specs.Shown.{backslash}
 use Rattle.edi_files.specs.Reasons.{Why, ended, reason_line}
 use Rattle.edi_files.specs.declared.reason.Reason.{Reason}
-use Rattle.edicad.specs.Outcome.{sheet_fault_text, status_of_fault}
+use Rattle.edi_outcome.specs.Status.{status_of_fault}
+use Rattle.edi_outcome.specs.Words.{sheet_fault_text}
 use Rattle.edicad.specs.Reasons.{IsReasonOf}
-use Rattle.edicad.specs.Effects.{Effects, Inputs}
-use Rattle.edicad.specs.SheetRuns.{Gives, HoldsTooMuch, IsMissing, IsThere}
+use Rattle.edicad.specs.Effects.{Effects, Inputs, Stream}
+use Rattle.edicad.specs.Notes.{InTurn, IsNote, Notes}
+use Rattle.edicad.specs.SheetRuns.{Gives, HasFailedAt, HoldsTooMuch, IsMissing, IsThere}
 use Rattle.edicad.specs.Statuses.{LacksMemory, Prints, Warns}
 use Rattle.edi_words.specs.declared.words.ManyFiles.{ManyFiles}
 
@@ -46,7 +48,7 @@ abbrev pub HashFault : Inputs → Classes → List ℕ → RunFault → Type 0
 HashFault inputs s path e =
     (IsMissing inputs path × (e ≡ Read 3))
     ⊎ (IsThere inputs path × MatchFault e
-    (λ n. (n ≡ 3) × inputs.failed)
+    (λ n. (n ≡ 3) × HasFailedAt inputs path)
     (λ n. (n ≡ 3) × HoldsTooMuch inputs path)
     (λ _. ⊥)
     (λ f. (contents : Option (List ℕ)) × Gives inputs path contents × IfSome contents (λ b. IsProper f × IsRefusal s b f))
@@ -118,25 +120,25 @@ abbrev pub said_err : List Step → List ℕ
 said_err steps = flat_map (λ (step : Step). step.err) steps
 
 -- Each sheet was answered, in order: the streams got what the sheets add, and the status is the greatest of theirs.
-abbrev pub AreAnswered : Inputs → Why → Classes → Seen → Seen → List (List ℕ) → ℕ → Type 0
+abbrev pub AreAnswered : Inputs → Why → Classes → Stream → Stream → List (List ℕ) → ℕ → Type 0
 AreAnswered inputs why s out err paths status =
     (steps : List Step) × AllZip (IsStep inputs why s) paths steps × Prints out (said_out steps) × Warns err (said_err steps) × (status ≡ worst_of steps)
 
 -- Each sheet before that of a path was answered, and the output failed in the line of that one.
-abbrev pub IsCutOff : Inputs → Why → Classes → Seen → Seen → List (List ℕ) → ℕ → Type 0
+abbrev pub IsCutOff : Inputs → Why → Classes → Stream → Stream → List (List ℕ) → ℕ → Type 0
 IsCutOff inputs why s out err paths status =
     (done : List (List ℕ)) × (path : List ℕ) × (more : List (List ℕ)) × (steps : List Step) × (digest : List ℕ) × (count : ℕ)
     × (paths ≡ done ++ path ∷ more) × AllZip (IsStep inputs why s) done steps × IsAnswerOf inputs s path (Ok digest)
     × Prints out (said_out steps ++ take count (digest_line digest path)) × IsTrue out.failed
     × Warns err (said_err steps ++ ended (codes "cannot write standard output")) × (status ≡ 4)
 
-abbrev pub AnswersAll : Inputs → Why → Classes → Seen → Seen → List (List ℕ) → ℕ → Type 0
+abbrev pub AnswersAll : Inputs → Why → Classes → Stream → Stream → List (List ℕ) → ℕ → Type 0
 AnswersAll inputs why s out err paths status = AreAnswered inputs why s out err paths status ⊎ IsCutOff inputs why s out err paths status
 
--- the schema of the two files, where their contents are known
-abbrev pub GivesSchema : Inputs → KindCodes → ManyFiles → Classes → Type 0
-GivesSchema inputs kinds files s = (scd dic : Option (List ℕ)) × Gives inputs files.scd.now scd × Gives inputs files.dic.now dic
-    × IfBothKnown scd dic (λ a b. IsGoodSchema a b kinds s)
+-- the schema of the two files, and the note on its kinds, where their contents are known
+abbrev pub GivesSchema : Inputs → KindCodes → ManyFiles → Classes → List ℕ → Type 0
+GivesSchema inputs kinds files s note = (scd dic : Option (List ℕ)) × Gives inputs files.scd.now scd × Gives inputs files.dic.now dic
+    × IfBothKnown scd dic (λ a b. IsGoodSchema a b kinds s × IsNote kinds a (escaped_name files.scd.now) note)
 
 -- the path of an input of two
 abbrev pub schema_path_at : ManyFiles → ℕ → List ℕ
@@ -147,13 +149,13 @@ abbrev pub RefusesFiles : Inputs → KindCodes → ManyFiles → SchemaRefusal �
 RefusesFiles inputs kinds files f = (scd dic : Option (List ℕ)) × Gives inputs files.scd.now scd × Gives inputs files.dic.now dic
     × IfBothKnown scd dic (λ a b. RefusesSchema kinds a b f)
 
--- Why there is no schema. One of the two files is missing; or both were opened, and one failed or is too long, or the
+-- Why there is no schema. One of the two files is missing; or both were opened, and this one failed or is too long, or the
 -- schema is refused.
 abbrev pub LoadFault : Inputs → KindCodes → ManyFiles → RunFault → Type 0
 LoadFault inputs kinds files e =
     ((n : ℕ) × OfTwo n (IsThere inputs files.scd.now) (IsMissing inputs files.scd.now) (IsMissing inputs files.dic.now) × (e ≡ Read n))
     ⊎ (IsThere inputs files.scd.now × IsThere inputs files.dic.now × MatchFault e
-    (λ n. (1 ≤ n) × (n ≤ 2) × inputs.failed)
+    (λ n. (1 ≤ n) × (n ≤ 2) × HasFailedAt inputs (schema_path_at files n))
     (λ n. (1 ≤ n) × (n ≤ 2) × HoldsTooMuch inputs (schema_path_at files n))
     (RefusesFiles inputs kinds files)
     (λ _. ⊥) (λ _. ⊥) (λ _. ⊥))
@@ -179,14 +181,15 @@ schema_fault_path files (Write w) = []
 
 -- what standard error was told of a fault at a path, and the status: its line, and then that of its reason; or that there is no memory
 -- for them
-abbrev pub TellsFault : Why → Seen → RunFault → List ℕ → ℕ → Type 0
+abbrev pub TellsFault : Why → Stream → RunFault → List ℕ → ℕ → Type 0
 TellsFault why err e path s =
     ((s ≡ status_of_fault e) × ((reason : Option Reason) × IsReasonOf why e path reason × Warns err (fault_line e path ++ reason_line (escaped_name path) reason)))
     ⊎ ((s ≡ 5) × LacksMemory err)
 
--- The status of a run over many sheets. The schema is loaded, and each sheet was answered under it or the output failed; or
--- there is none, which is said of its file, and the output got nothing.
-abbrev pub IsHashStatus : Effects → Seen → Seen → KindCodes → ManyFiles → ℕ → Type 0
+-- The status of a run over many sheets. The schema is loaded, the errors got the note on its kinds first, and each sheet was answered under
+-- it or the output failed; or there is none, which is said of its file, and the output got nothing.
+abbrev pub IsHashStatus : Effects → Stream → Stream → KindCodes → ManyFiles → ℕ → Type 0
 IsHashStatus run out err kinds files status =
-    ((s : Classes) × GivesSchema run.inputs kinds files s × AnswersAll run.inputs run.why s out err (map (λ p. p.now) files.sheets.items) status)
+    ((s : Classes) × (note : List ℕ) × GivesSchema run.inputs kinds files s note
+    × InTurn err (λ e. Notes e note) (λ e. AnswersAll run.inputs run.why s out e (map (λ p. p.now) files.sheets.items) status))
     ⊎ ((e : RunFault) × LoadFault run.inputs kinds files e × TellsFault run.why err e (schema_fault_path files e) status × Prints out [])

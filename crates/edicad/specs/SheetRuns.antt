@@ -1,7 +1,8 @@
 -- What a run over the files of a folder answers.
-use Rattle.std.specs.Prelude.{◌≡◌, ◌≢◌, ◌⊎◌, ◌≤◌, ◌==◌, ℕ, Bool, true, false, List, Option, if◌then◌else◌}
+use Rattle.std.specs.Prelude.{◌≡◌, ◌≢◌, ◌⊎◌, ◌≤◌, ◌==◌, ℕ, Bool, true, false, List, Option, IfSome, if◌then◌else◌}
 use Rattle.std.specs.Bool.{MatchBool}
 use Rattle.edi_schema.specs.Roles.{KindCodes}
+use Rattle.edi_compare.specs.Bundle.{OfParts}
 use Rattle.edi_compare.specs.declared.fault.RunFault.{RunFault}
 use Rattle.edi_compare.specs.declared.fault.RunFault.TheVariants.{Read, Write}
 use Rattle.edi_compare.specs.Runs.{BeforeWriting, IsCanonOf, IsTooLong, MatchFault, OfFour, OfThree, RefusesSchema, RefusesSecond, RefusesSheet, IfFourKnown, IfThreeKnown}
@@ -9,7 +10,7 @@ use Rattle.edi_diff.specs.declared.differing.Difference.{Difference}
 use Rattle.edi_drawing.specs.Runs.{IsDrawnDifferenceUnder, IsPictureUnder}
 use Rattle.edi_drawing.specs.declared.drawn.DrawnDifference.{DrawnDifference}
 use Rattle.edi_pairing.specs.VerifyRuns.{IfFiveKnown}
-use Rattle.edi_words.specs.Requests.{is_standard_path}
+use Rattle.edi_words.specs.Requests.{is_standard_path, usual_kinds}
 use Rattle.edi_words.specs.declared.words.PairFiles.{PairFiles}
 use Rattle.edi_words.specs.declared.words.SheetFiles.{SheetFiles}
 use Rattle.edi_files.specs.declared.product.Product.{Product}
@@ -19,6 +20,14 @@ use Rattle.edicad.specs.Effects.{Effects, Inputs}
 -- the input of a path is there, and this may be known to be its contents
 abbrev pub Gives : Inputs → List ℕ → Option (List ℕ) → Type 0
 Gives inputs path contents = MatchBool (is_standard_path path) (inputs.standard contents) (inputs.holds path contents)
+
+-- the device of this number is the input of a path
+abbrev pub IsDeviceOf : Inputs → List ℕ → ℕ → Type 0
+IsDeviceOf inputs path device = MatchBool (is_standard_path path) (inputs.is_input device) (inputs.opens path device)
+
+-- the input of a path was opened, and has failed
+abbrev pub HasFailedAt : Inputs → List ℕ → Type 0
+HasFailedAt inputs path = (device : ℕ) × IsDeviceOf inputs path device × inputs.failed device
 
 -- the input of a path is there
 abbrev pub IsThere : Inputs → List ℕ → Type 0
@@ -49,13 +58,13 @@ path_at files n = if n == 1 then files.scd.now else if n == 2 then files.dic.now
 abbrev pub HoldsTooMuch : Inputs → List ℕ → Type 0
 HoldsTooMuch inputs path = (contents : Option (List ℕ)) × Gives inputs path contents × IsTooLong contents
 
--- Why a run over the files has no answer. One of the three is missing; or all were opened, and one failed or is too
+-- Why a run over the files has no answer. One of the three is missing; or all were opened, and this one failed or is too
 -- long, the schema or the sheet is refused, or so many bytes went out before the writer failed.
 abbrev pub FileFault : Inputs → KindCodes → SheetFiles → (ℕ → Type 0) → RunFault → Type 0
 FileFault inputs kinds files W e =
     ((n : ℕ) × FirstMissing inputs files n × (e ≡ Read n))
     ⊎ (AreThere inputs files × MatchFault e
-    (λ n. (1 ≤ n) × (n ≤ 3) × inputs.failed)
+    (λ n. (1 ≤ n) × (n ≤ 3) × HasFailedAt inputs (path_at files n))
     (λ n. (1 ≤ n) × (n ≤ 3) × HoldsTooMuch inputs (path_at files n))
     (λ f. OfFiles inputs files (λ s d v. RefusesSchema kinds s d f))
     (λ f. OfFiles inputs files (λ s d v. RefusesSheet kinds s d v f))
@@ -65,6 +74,16 @@ FileFault inputs kinds files W e =
 abbrev pub IsMadeOf : Product → KindCodes → List ℕ → List ℕ → List ℕ → List ℕ → Type 0
 IsMadeOf Canonical kinds s d v bytes = IsCanonOf kinds s d v bytes
 IsMadeOf Picture kinds s d v bytes = IsPictureUnder kinds s d v bytes
+
+-- Why a run over the bundle on standard input, which may hold these contents, has no answer: it failed or is too long, the
+-- schema or the sheet is refused, or so many bytes went out before the writer failed.
+abbrev pub StandardFault : Inputs → Option (List ℕ) → (ℕ → Type 0) → RunFault → Type 0
+StandardFault inputs contents W e = MatchFault e
+    (λ n. (n ≡ 1) × ((device : ℕ) × inputs.is_input device × inputs.failed device))
+    (λ n. (n ≡ 1) × IsTooLong contents)
+    (λ f. IfSome contents (λ b. OfParts b (λ s d v. RefusesSchema usual_kinds s d f)))
+    (λ f. IfSome contents (λ b. OfParts b (λ s d v. RefusesSheet usual_kinds s d v f)))
+    (λ _. ⊥) W
 
 -- what is made of the sheet, of which this holds
 abbrev pub OfMade : Inputs → Product → KindCodes → SheetFiles → (List ℕ → Type 0) → Type 0
@@ -119,7 +138,7 @@ FirstOfFourMissing inputs files n = OfFour n (IsThere inputs files.scd.now) (IsT
 abbrev pub pair_path_at : PairFiles → ℕ → List ℕ
 pair_path_at files n = if n == 1 then files.scd.now else if n == 2 then files.dic.now else if n == 3 then files.first.now else files.second.now
 
--- A fact for each reason why a run over two sheets that were opened has no answer: an input failed or is too long, the
+-- A fact for each reason why a run over two sheets that were opened has no answer: this input failed or is too long, the
 -- schema is refused, the first sheet is, or the second where the first is accepted, or so many bytes went out before the
 -- writer failed.
 abbrev pub MatchPairFault : Inputs → KindCodes → PairFiles → (ℕ → Type 0) → (ℕ → Type 0) → (ℕ → Type 0) → RunFault → Type 0
@@ -134,7 +153,7 @@ abbrev pub PairFileFault : Inputs → KindCodes → PairFiles → (ℕ → Type 
 PairFileFault inputs kinds files W e =
     ((n : ℕ) × FirstOfFourMissing inputs files n × (e ≡ Read n))
     ⊎ (AreFourThere inputs files × MatchPairFault inputs kinds files
-    (λ n. (1 ≤ n) × (n ≤ 4) × inputs.failed)
+    (λ n. (1 ≤ n) × (n ≤ 4) × HasFailedAt inputs (pair_path_at files n))
     (λ n. (1 ≤ n) × (n ≤ 4) × HoldsTooMuch inputs (pair_path_at files n))
     W e)
 
@@ -203,6 +222,6 @@ abbrev pub VerifyFileFault : Inputs → KindCodes → PairFiles → List ℕ →
 VerifyFileFault inputs kinds files pairing e =
     ((n : ℕ) × FirstOfFiveMissing inputs files pairing n × (e ≡ Read n))
     ⊎ (AreFiveThere inputs files pairing × MatchPairFault inputs kinds files
-    (λ n. (1 ≤ n) × (n ≤ 5) × inputs.failed)
+    (λ n. (1 ≤ n) × (n ≤ 5) × HasFailedAt inputs (verify_path_at files pairing n))
     (λ n. (1 ≤ n) × (n ≤ 5) × HoldsTooMuch inputs (verify_path_at files pairing n))
     (λ _. ⊥) e)

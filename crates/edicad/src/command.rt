@@ -1,8 +1,9 @@
 //! What the program does with its words.
 ghost use Rattle.std.specs.Prelude.{◌≡◌, ◌⊎◌, ◌<◌, ℕ, List, MatchOption, map, string_bytes};
 ghost use Rattle.std.specs.Bool.{MatchBool};
-ghost use Rattle.edicad.specs.Answered.{AnswersWords, IsAnswered, IsMadeStatus, IsUnread};
-ghost use Rattle.edicad.specs.Effects.{effects, written};
+ghost use Rattle.edicad.specs.Answered.{AnswersWords, IsAnswered, IsMadeStatus, IsReplied, IsUnread};
+ghost use Rattle.edicad.specs.Effects.{effects, inputs, written};
+ghost use Rattle.edicad.specs.inner.Notes.{HasNoteOf, LeavesNoteOf};
 ghost use Rattle.edicad.specs.inner.Outcome.{outcome_for, paired_outcome, verified_outcome};
 ghost use Rattle.edicad.specs.Statuses.{Answers, HasStatus, IsBundleStatus, IsCompareStatus, IsDiffStatus, IsFileStatus, IsPairStatus};
 ghost use Rattle.edicad.specs.Statuses.{IsPairingStatus, IsPictureStatus, IsPutStatus, IsSendStatus, IsSheetStatus, IsStatus, IsStatusOf};
@@ -10,25 +11,25 @@ ghost use Rattle.edicad.specs.Statuses.{IsUnsaid, IsVerifyStatus};
 
 use crate::explains::{explain, explain_rule};
 use crate::hashes::hash;
-use crate::outcome::Outcome;
-use crate::{report, sheets};
+use crate::{notes, report, sheets};
 use edi_compare::{RunFault, Verdict};
 use edi_diff::Difference;
 use edi_files::Product::{self, Canonical, Picture};
 use edi_files::{CommandLine, Disk, Errors, Folder, Words};
 use edi_line::{ByteOut, ToWrite};
-use edi_pairing::VerifyRunFault;
-use edi_schema::Kinds;
-use edi_words::{PairFiles, Request, SheetFiles, asked, is_standard};
+use edi_outcome::Outcome;
+use edi_pairing::{Verified, VerifyRunFault};
+use edi_words::{GivenKinds, PairFiles, Request, SheetFiles, asked, is_standard};
 use edi_write::put_all;
 use std::alloc::Global;
+use std::fs::File;
 use std::io;
-use std::rt::Runtime;
+use std::rt::{Files, Runtime};
 
 const DIFFERENT_STATUS: u8 = 1;
 
 /// Does what the words of the command line ask for, and gives the exit status.
-pub fn run<R: Runtime + AllocGlobal>(rt: &R) -> u8
+pub fn run<R: Runtime + Files<File = File> + AllocGlobal>(rt: &R) -> u8
     ensures { IsStatus result }
 {
     let line = CommandLine { rt };
@@ -60,7 +61,7 @@ pub fn run_line<R: Eprint + AllocGlobal, W: Words, F: Folder, O: ByteOut, E: Byt
 }
 
 /// Does what the words ask for, over the files and the streams of the system.
-pub fn run_words<R: Runtime + AllocGlobal>(rt: &R, words: &[String]) -> u8
+pub fn run_words<R: Runtime + Files<File = File> + AllocGlobal>(rt: &R, words: &[String]) -> u8
     ensures { HasStatus (map string_bytes words.now) result }
 {
     let mut folder = Disk::new(rt);
@@ -86,7 +87,8 @@ pub fn run_over<R: Eprint + AllocGlobal, F: Folder, O: ByteOut, E: ByteOut>(
     answered(rt.alloc(), folder, out, err, request)
 }
 
-/// Does what is asked for, and gives the exit status.
+/// Does what is asked for, and gives the exit status. Behind the answer to a request over one or two sheets, the errors get a note on the
+/// kinds of links that no class has.
 pub fn answered<F: Folder, O: ByteOut, E: ByteOut>(
     alloc: Global,
     folder: &mut F,
@@ -98,19 +100,41 @@ pub fn answered<F: Folder, O: ByteOut, E: ByteOut>(
     ensures answer { IsAnswered (effects F.Folder F.Reader.ByteIn F.Sink.ByteOut F.NewFile.ByteOut folder.old folder.new)
         (written O.ByteOut out.old out.new) (written E.ByteOut err.old err.new) request.entry result }
 {
+    let mut note = Vec::new(alloc);
+    let status = replied(alloc, folder, out, err, &mut note, request);
+    notes::say(err, &note);
+    status
+}
+
+// Does what is asked for but for the note, which it hands on, and gives the exit status.
+fn replied<F: Folder, O: ByteOut, E: ByteOut>(
+    alloc: Global,
+    folder: &mut F,
+    out: &mut O,
+    err: &mut E,
+    note: &mut Vec<u8>,
+    request: Request<'_>,
+) -> u8
+    ensures status { IsStatusOf request.entry result }
+    ensures answer { IsReplied (effects F.Folder F.Reader.ByteIn F.Sink.ByteOut F.NewFile.ByteOut folder.old folder.new)
+        (written O.ByteOut out.old out.new) (written E.ByteOut err.old err.new) request.entry result }
+    ensures note { LeavesNoteOf (inputs F.Folder F.Reader.ByteIn folder.old) request.entry result note.old.items note.new.items }
+{
     match request {
         Request::Bundle => bundle(alloc, folder, out, err),
-        Request::Check { kinds, files } => check(alloc, folder, &kinds, &files, out, err),
+        Request::Check { kinds, files } => check(alloc, folder, &kinds, &files, out, err, note),
         Request::Canon {
             kinds,
             files,
             out: path,
-        } => make(alloc, folder, Canonical, &kinds, &files, path, out, err),
+        } => make(
+            alloc, folder, Canonical, &kinds, &files, path, out, err, note,
+        ),
         Request::Compare {
             kinds,
             files,
             pairing,
-        } => compare_or_pair(alloc, folder, &kinds, &files, pairing, out, err),
+        } => compare_or_pair(alloc, folder, &kinds, &files, pairing, out, err, note),
         Request::Hash { kinds, files } => hash(alloc, folder, &kinds, &files, out, err),
         Request::Explain { kinds, files } => explain(alloc, folder, &kinds, &files, out, err),
         Request::Rule { word } => explain_rule(alloc, word, out, err),
@@ -118,18 +142,20 @@ pub fn answered<F: Folder, O: ByteOut, E: ByteOut>(
             kinds,
             files,
             pairing,
-        } => verify(alloc, folder, &kinds, &files, pairing, out, err),
+        } => verify(alloc, folder, &kinds, &files, pairing, out, err, note),
         Request::Diff {
             kinds,
             files,
             brief,
             picture,
-        } => diff_or_draw(alloc, folder, &kinds, &files, brief, picture, out, err),
+        } => diff_or_draw(
+            alloc, folder, &kinds, &files, brief, picture, out, err, note,
+        ),
         Request::Draw {
             kinds,
             files,
             out: path,
-        } => make(alloc, folder, Picture, &kinds, &files, path, out, err),
+        } => make(alloc, folder, Picture, &kinds, &files, path, out, err, note),
         Request::Misused(misuse) => report::misused(alloc, err, misuse),
         Request::Answered(status) => status,
     }
@@ -156,17 +182,19 @@ fn bundle<F: Folder, O: ByteOut, E: ByteOut>(
 fn check<F: Folder, O: ByteOut, E: ByteOut>(
     alloc: Global,
     folder: &F,
-    kinds: &Kinds<'_>,
+    kinds: &GivenKinds<'_>,
     files: &SheetFiles<'_>,
     out: &mut O,
     err: &mut E,
+    note: &mut Vec<u8>,
 ) -> u8
     ensures status { IsSheetStatus result }
     ensures answer { IsFileStatus (effects F.Folder F.Reader.ByteIn F.Sink.ByteOut F.NewFile.ByteOut folder.now folder.now)
         (written O.ByteOut out.old out.new) (written E.ByteOut err.old err.new) kinds.now files.now result }
+    ensures note { HasNoteOf (inputs F.Folder F.Reader.ByteIn folder.now) kinds.now files.now.scd.now result note.old.items note.new.items }
 {
     let paths = [files.scd, files.dic, files.vec, "-"];
-    match sheets::check(alloc, folder, kinds, files) {
+    match sheets::check(alloc, folder, kinds, files, note) {
         Ok(()) => report::answer(alloc, folder, out, err, &Outcome::Accepted, &paths),
         Err(fault) => report::answer(alloc, folder, out, err, &Outcome::Fault(fault), &paths),
     }
@@ -177,20 +205,22 @@ fn make<F: Folder, O: ByteOut, E: ByteOut>(
     alloc: Global,
     folder: &mut F,
     product: Product,
-    kinds: &Kinds<'_>,
+    kinds: &GivenKinds<'_>,
     files: &SheetFiles<'_>,
     path: &str,
     out: &mut O,
     err: &mut E,
+    note: &mut Vec<u8>,
 ) -> u8
     ensures status { IsSheetStatus result }
     ensures answer { IsMadeStatus (effects F.Folder F.Reader.ByteIn F.Sink.ByteOut F.NewFile.ByteOut folder.old folder.new)
         (written O.ByteOut out.old out.new) (written E.ByteOut err.old err.new) product kinds.now files.now path.now result }
+    ensures note { HasNoteOf (inputs F.Folder F.Reader.ByteIn folder.old) kinds.now files.now.scd.now result note.old.items note.new.items }
 {
     if is_standard(path) {
-        send(alloc, folder, product, kinds, files, out, err)
+        send(alloc, folder, product, kinds, files, out, err, note)
     } else {
-        put(alloc, folder, product, kinds, files, path, out, err)
+        put(alloc, folder, product, kinds, files, path, out, err, note)
     }
 }
 
@@ -199,18 +229,20 @@ fn put<F: Folder, O: ByteOut, E: ByteOut>(
     alloc: Global,
     folder: &mut F,
     product: Product,
-    kinds: &Kinds<'_>,
+    kinds: &GivenKinds<'_>,
     files: &SheetFiles<'_>,
     path: &str,
     out: &mut O,
     err: &mut E,
+    note: &mut Vec<u8>,
 ) -> u8
     ensures status { IsSheetStatus result }
     ensures answer { IsPutStatus (effects F.Folder F.Reader.ByteIn F.Sink.ByteOut F.NewFile.ByteOut folder.old folder.new)
         (written O.ByteOut out.old out.new) (written E.ByteOut err.old err.new) product kinds.now files.now path.now result }
+    ensures note { HasNoteOf (inputs F.Folder F.Reader.ByteIn folder.old) kinds.now files.now.scd.now result note.old.items note.new.items }
 {
     let paths = [files.scd, files.dic, files.vec, path];
-    match sheets::put(alloc, folder, product, kinds, files, path) {
+    match sheets::put(alloc, folder, product, kinds, files, path, note) {
         Ok(()) => report::answer(alloc, folder, out, err, &Outcome::Accepted, &paths),
         Err(fault) => report::answer(alloc, folder, out, err, &Outcome::Fault(fault), &paths),
     }
@@ -221,17 +253,19 @@ fn send<F: Folder, O: ByteOut, E: ByteOut>(
     alloc: Global,
     folder: &F,
     product: Product,
-    kinds: &Kinds<'_>,
+    kinds: &GivenKinds<'_>,
     files: &SheetFiles<'_>,
     out: &mut O,
     err: &mut E,
+    note: &mut Vec<u8>,
 ) -> u8
     ensures status { IsSheetStatus result }
     ensures answer { IsSendStatus (effects F.Folder F.Reader.ByteIn F.Sink.ByteOut F.NewFile.ByteOut folder.now folder.now)
         (written O.ByteOut out.old out.new) (written E.ByteOut err.old err.new) product kinds.now files.now result }
+    ensures note { HasNoteOf (inputs F.Folder F.Reader.ByteIn folder.now) kinds.now files.now.scd.now result note.old.items note.new.items }
 {
     let paths = [files.scd, files.dic, files.vec, "-"];
-    match sheets::send(alloc, folder, product, kinds, files, out) {
+    match sheets::send(alloc, folder, product, kinds, files, out, note) {
         Ok(()) => 0,
         Err(fault) => report::warned(alloc, folder, err, &fault, &paths),
     }
@@ -241,11 +275,12 @@ fn send<F: Folder, O: ByteOut, E: ByteOut>(
 fn compare_or_pair<F: Folder, O: ByteOut, E: ByteOut>(
     alloc: Global,
     folder: &mut F,
-    kinds: &Kinds<'_>,
+    kinds: &GivenKinds<'_>,
     files: &PairFiles<'_>,
     pairing: Option<&str>,
     out: &mut O,
     err: &mut E,
+    note: &mut Vec<u8>,
 ) -> u8
     ensures status { IsPairStatus result }
     ensures answer { MatchOption pairing.entry ((folder.new ≡ folder.old)
@@ -253,10 +288,11 @@ fn compare_or_pair<F: Folder, O: ByteOut, E: ByteOut>(
         (written O.ByteOut out.old out.new) (written E.ByteOut err.old err.new) kinds.now files.now result)
         (λ path. IsPairingStatus (effects F.Folder F.Reader.ByteIn F.Sink.ByteOut F.NewFile.ByteOut folder.old folder.new)
         (written O.ByteOut out.old out.new) (written E.ByteOut err.old err.new) kinds.now files.now path.now result) }
+    ensures note { HasNoteOf (inputs F.Folder F.Reader.ByteIn folder.old) kinds.now files.now.scd.now result note.old.items note.new.items }
 {
     match pairing {
-        Some(path) => pair(alloc, folder, kinds, files, path, out, err),
-        None => compare(alloc, folder, kinds, files, out, err),
+        Some(path) => pair(alloc, folder, kinds, files, path, out, err, note),
+        None => compare(alloc, folder, kinds, files, out, err, note),
     }
 }
 
@@ -264,17 +300,19 @@ fn compare_or_pair<F: Folder, O: ByteOut, E: ByteOut>(
 fn compare<F: Folder, O: ByteOut, E: ByteOut>(
     alloc: Global,
     folder: &F,
-    kinds: &Kinds<'_>,
+    kinds: &GivenKinds<'_>,
     files: &PairFiles<'_>,
     out: &mut O,
     err: &mut E,
+    note: &mut Vec<u8>,
 ) -> u8
     ensures status { IsPairStatus result }
     ensures answer { IsCompareStatus (effects F.Folder F.Reader.ByteIn F.Sink.ByteOut F.NewFile.ByteOut folder.now folder.now)
         (written O.ByteOut out.old out.new) (written E.ByteOut err.old err.new) kinds.now files.now result }
+    ensures note { HasNoteOf (inputs F.Folder F.Reader.ByteIn folder.now) kinds.now files.now.scd.now result note.old.items note.new.items }
 {
     let paths = [files.scd, files.dic, files.first, files.second, "-"];
-    let outcome = outcome_of(sheets::compare(alloc, folder, kinds, files));
+    let outcome = outcome_of(sheets::compare(alloc, folder, kinds, files, note));
     report::answer(alloc, folder, out, err, &outcome, &paths)
 }
 
@@ -282,34 +320,38 @@ fn compare<F: Folder, O: ByteOut, E: ByteOut>(
 fn pair<F: Folder, O: ByteOut, E: ByteOut>(
     alloc: Global,
     folder: &mut F,
-    kinds: &Kinds<'_>,
+    kinds: &GivenKinds<'_>,
     files: &PairFiles<'_>,
     path: &str,
     out: &mut O,
     err: &mut E,
+    note: &mut Vec<u8>,
 ) -> u8
     ensures status { IsPairStatus result }
     ensures answer { IsPairingStatus (effects F.Folder F.Reader.ByteIn F.Sink.ByteOut F.NewFile.ByteOut folder.old folder.new)
         (written O.ByteOut out.old out.new) (written E.ByteOut err.old err.new) kinds.now files.now path.now result }
+    ensures note { HasNoteOf (inputs F.Folder F.Reader.ByteIn folder.old) kinds.now files.now.scd.now result note.old.items note.new.items }
 {
     let paths = [files.scd, files.dic, files.first, files.second, path];
-    let outcome = outcome_of_paired(sheets::pair(alloc, folder, kinds, files, path));
+    let outcome = outcome_of_paired(sheets::pair(alloc, folder, kinds, files, path, note));
     report::answer(alloc, folder, out, err, &outcome, &paths)
 }
 
-// Whether a file states a pairing that carries the one plan onto the other.
+// Whether a file states a pairing that carries the one plan onto the other, and why it doesn't.
 fn verify<F: Folder, O: ByteOut, E: ByteOut>(
     alloc: Global,
     folder: &F,
-    kinds: &Kinds<'_>,
+    kinds: &GivenKinds<'_>,
     files: &PairFiles<'_>,
     pairing: &str,
     out: &mut O,
     err: &mut E,
+    note: &mut Vec<u8>,
 ) -> u8
     ensures status { IsPairStatus result }
     ensures answer { IsVerifyStatus (effects F.Folder F.Reader.ByteIn F.Sink.ByteOut F.NewFile.ByteOut folder.now folder.now)
         (written O.ByteOut out.old out.new) (written E.ByteOut err.old err.new) kinds.now files.now pairing.now result }
+    ensures note { HasNoteOf (inputs F.Folder F.Reader.ByteIn folder.now) kinds.now files.now.scd.now result note.old.items note.new.items }
 {
     let paths = [
         files.scd,
@@ -319,7 +361,7 @@ fn verify<F: Folder, O: ByteOut, E: ByteOut>(
         pairing,
         "-",
     ];
-    let outcome = outcome_of_verified(sheets::verify(alloc, folder, kinds, files, pairing));
+    let outcome = outcome_of_verified(sheets::verify(alloc, folder, kinds, files, pairing, note));
     report::answer(alloc, folder, out, err, &outcome, &paths)
 }
 
@@ -327,12 +369,13 @@ fn verify<F: Folder, O: ByteOut, E: ByteOut>(
 fn diff_or_draw<F: Folder, O: ByteOut, E: ByteOut>(
     alloc: Global,
     folder: &mut F,
-    kinds: &Kinds<'_>,
+    kinds: &GivenKinds<'_>,
     files: &PairFiles<'_>,
     brief: bool,
     picture: Option<&str>,
     out: &mut O,
     err: &mut E,
+    note: &mut Vec<u8>,
 ) -> u8
     ensures status { IsPairStatus result }
     ensures answer { MatchOption picture.entry ((folder.new ≡ folder.old)
@@ -340,10 +383,11 @@ fn diff_or_draw<F: Folder, O: ByteOut, E: ByteOut>(
         (written O.ByteOut out.old out.new) (written E.ByteOut err.old err.new) kinds.now files.now brief result)
         (λ path. IsPictureStatus (effects F.Folder F.Reader.ByteIn F.Sink.ByteOut F.NewFile.ByteOut folder.old folder.new)
         (written O.ByteOut out.old out.new) (written E.ByteOut err.old err.new) kinds.now files.now brief path.now result) }
+    ensures note { HasNoteOf (inputs F.Folder F.Reader.ByteIn folder.old) kinds.now files.now.scd.now result note.old.items note.new.items }
 {
     match picture {
-        Some(path) => draw_difference(alloc, folder, kinds, files, brief, path, out, err),
-        None => diff(alloc, folder, kinds, files, brief, out, err),
+        Some(path) => draw_difference(alloc, folder, kinds, files, brief, path, out, err, note),
+        None => diff(alloc, folder, kinds, files, brief, out, err, note),
     }
 }
 
@@ -351,18 +395,20 @@ fn diff_or_draw<F: Folder, O: ByteOut, E: ByteOut>(
 fn diff<F: Folder, O: ByteOut, E: ByteOut>(
     alloc: Global,
     folder: &F,
-    kinds: &Kinds<'_>,
+    kinds: &GivenKinds<'_>,
     files: &PairFiles<'_>,
     brief: bool,
     out: &mut O,
     err: &mut E,
+    note: &mut Vec<u8>,
 ) -> u8
     ensures status { IsPairStatus result }
     ensures answer { IsDiffStatus (effects F.Folder F.Reader.ByteIn F.Sink.ByteOut F.NewFile.ByteOut folder.now folder.now)
         (written O.ByteOut out.old out.new) (written E.ByteOut err.old err.new) kinds.now files.now brief result }
+    ensures note { HasNoteOf (inputs F.Folder F.Reader.ByteIn folder.now) kinds.now files.now.scd.now result note.old.items note.new.items }
 {
     let paths = [files.scd, files.dic, files.first, files.second, "-"];
-    match sheets::diff(alloc, folder, kinds, files, brief) {
+    match sheets::diff(alloc, folder, kinds, files, brief, note) {
         Ok(difference) => put_difference(&difference, out, err),
         Err(fault) => report::answer(alloc, folder, out, err, &Outcome::Fault(fault), &paths),
     }
@@ -372,19 +418,21 @@ fn diff<F: Folder, O: ByteOut, E: ByteOut>(
 fn draw_difference<F: Folder, O: ByteOut, E: ByteOut>(
     alloc: Global,
     folder: &mut F,
-    kinds: &Kinds<'_>,
+    kinds: &GivenKinds<'_>,
     files: &PairFiles<'_>,
     brief: bool,
     path: &str,
     out: &mut O,
     err: &mut E,
+    note: &mut Vec<u8>,
 ) -> u8
     ensures status { IsPairStatus result }
     ensures answer { IsPictureStatus (effects F.Folder F.Reader.ByteIn F.Sink.ByteOut F.NewFile.ByteOut folder.old folder.new)
         (written O.ByteOut out.old out.new) (written E.ByteOut err.old err.new) kinds.now files.now brief path.now result }
+    ensures note { HasNoteOf (inputs F.Folder F.Reader.ByteIn folder.old) kinds.now files.now.scd.now result note.old.items note.new.items }
 {
     let paths = [files.scd, files.dic, files.first, files.second, path];
-    match sheets::draw_difference(alloc, folder, kinds, files, brief, path) {
+    match sheets::draw_difference(alloc, folder, kinds, files, brief, path, note) {
         Ok(difference) => put_difference(&difference, out, err),
         Err(fault) => report::answer(alloc, folder, out, err, &Outcome::Fault(fault), &paths),
     }
@@ -414,12 +462,12 @@ fn outcome_of_paired(paired: Result<Option<u64>, RunFault>) -> Outcome
 }
 
 // What the check of a pairing's file came to.
-fn outcome_of_verified(verified: Result<bool, VerifyRunFault>) -> Outcome
+fn outcome_of_verified(verified: Result<Verified, VerifyRunFault>) -> Outcome
     ensures { result ≡ verified_outcome verified }
 {
     match verified {
-        Ok(true) => Outcome::Pairs,
-        Ok(false) => Outcome::Unpaired,
+        Ok(Verified::Carries) => Outcome::Pairs,
+        Ok(Verified::Fails(why)) => Outcome::Unpaired(why),
         Err(VerifyRunFault::Run(fault)) => Outcome::Fault(fault),
         Err(VerifyRunFault::Pairing { at, why }) => Outcome::WrongPairing(at, why),
     }

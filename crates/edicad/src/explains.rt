@@ -4,33 +4,34 @@ ghost use Rattle.std.specs.Bool.{MatchBool};
 ghost use Rattle.std.specs.Io.KnownBytes.{Appends};
 ghost use Rattle.edi_line.specs.LineRules.{BreaksLineRule};
 ghost use Rattle.edi_line.specs.Refusal.{IsUnbroken};
-ghost use Rattle.edi_schema.specs.Roles.{KindCodes};
 ghost use Rattle.edi_schema.specs.SchemaRefusal.{IsSchemaRefusal};
 ghost use Rattle.edi_compare.specs.Refused.{IsProper};
 ghost use Rattle.edi_compare.specs.Runs.{IsProperSchemaFault};
 ghost use Rattle.edi_explain.specs.Explained.{DescribesPlan, ExplainsSchema, ExplainsSheet};
 ghost use Rattle.edi_explain.specs.Found.{IsFound};
-ghost use Rattle.edi_explain.specs.Skipped.{DescribesSkipped};
-ghost use Rattle.edicad.specs.Explains.{GiveHints, IsExplainStatus, IsRuleStatus, TellsAccepted, TellsCause, TellsPlan, TellsRefusal};
+ghost use Rattle.edi_explain.specs.KindClasses.{codes_of};
+ghost use Rattle.edicad.specs.Explains.{DescribesRest, GiveHints, IsExplainStatus, IsRuleStatus, TellsAccepted, TellsCause, TellsPlan, TellsRefusal};
 ghost use Rattle.edi_files.specs.Reasons.{ended};
-ghost use Rattle.edicad.specs.Outcome.{FaultHasNames, schema_text, sheet_text, status_of_fault};
+ghost use Rattle.edi_outcome.specs.Status.{status_of_fault};
+ghost use Rattle.edi_outcome.specs.Words.{FaultHasNames, schema_text, sheet_text};
 ghost use Rattle.edicad.specs.Effects.{effects, inputs, written};
 ghost use Rattle.edicad.specs.SheetRuns.{FileFault, OfFiles};
 ghost use Rattle.edicad.specs.Statuses.{IsPageStatus, IsSheetStatus, IsUnsaid};
 
-use crate::outcome::{Outcome, input_name, line_of_fault, line_of_schema};
+use crate::paths::input_name;
 use crate::report;
 use crate::sheets::opened;
 use edi_compare::{RunFault, read_input};
 use edi_explain::{
-    Found, NamedFile, describe_plan, describe_skipped, examine, explain_schema, explain_sheet,
-    hints_of, page_of, rule_of_word,
+    Found, NamedFile, describe_kinds, describe_plan, describe_skipped, examine, explain_schema,
+    explain_sheet, hints_of, page_of, rule_of_word,
 };
 use edi_files::Folder;
 use edi_line::ByteOut;
+use edi_outcome::{Outcome, line_of_fault, line_of_schema};
 use edi_plan::Plan;
-use edi_schema::{Kinds, Schema, SchemaFault};
-use edi_words::SheetFiles;
+use edi_schema::{ByRole, Schema, SchemaFault};
+use edi_words::{GivenKinds, SheetFiles};
 use edi_write::put_all;
 use std::alloc::{AllocError, Global};
 
@@ -73,7 +74,7 @@ impl Drop for Account {
 pub fn explain<F: Folder, O: ByteOut, E: ByteOut>(
     alloc: Global,
     folder: &F,
-    kinds: &Kinds<'_>,
+    kinds: &GivenKinds<'_>,
     files: &SheetFiles<'_>,
     out: &mut O,
     err: &mut E,
@@ -105,11 +106,11 @@ fn put_said<O: ByteOut, E: ByteOut>(said: &Account, out: &mut O, err: &mut E) ->
 fn said<F: Folder>(
     alloc: Global,
     folder: &F,
-    kinds: &Kinds<'_>,
+    kinds: &GivenKinds<'_>,
     files: &SheetFiles<'_>,
 ) -> Result<Account, RunFault>
     ensures ok { IfOk result (λ said. OfFiles (inputs F.Folder F.Reader.ByteIn folder.now) files.now
-        (λ s d v. MatchBool said.is_accepted (TellsAccepted kinds.now s d v said.text.items) (TellsRefusal kinds.now
+        (λ s d v. MatchBool said.is_accepted (TellsAccepted kinds.now files.now s d v said.text.items) (TellsRefusal kinds.now
         files.now s d v said.text.items))) }
     ensures err { IfErr result (FileFault (inputs F.Folder F.Reader.ByteIn folder.now) kinds.now files.now (λ _. ⊥)) }
     ensures names { IfErr result (λ e. FaultHasNames e 4) }
@@ -130,33 +131,34 @@ fn said<F: Folder>(
 // What is said of a sheet that was read, with the lines behind that.
 fn all_said(
     alloc: Global,
-    kinds: &Kinds<'_>,
+    kinds: &GivenKinds<'_>,
     files: &SheetFiles<'_>,
     bytes: &SheetBytes,
 ) -> Result<Account, AllocError>
     ensures { IfOk result (λ said. MatchBool said.is_accepted (TellsAccepted
-        kinds.now bytes.now.scd.items bytes.now.dic.items bytes.now.vec.items said.text.items)
+        kinds.now files.now bytes.now.scd.items bytes.now.dic.items bytes.now.vec.items said.text.items)
         (TellsRefusal kinds.now files.now bytes.now.scd.items bytes.now.dic.items bytes.now.vec.items said.text.items)) }
 {
     let mut said = said_of(alloc, kinds, files, bytes)?;
-    let lines = lines_behind(alloc, files, bytes, said.is_accepted)?;
+    let lines = lines_behind(alloc, kinds, files, bytes, said.is_accepted)?;
     said.text.extend_from_slice(&lines)?;
     Ok(said)
 }
 
-// What is read of an accepted sheet and not compared; or what the files of a refused one hint at.
+// The classes of the four kinds, and what is read of an accepted sheet and not compared; or what the files of a refused one hint at.
 fn lines_behind(
     alloc: Global,
+    kinds: &GivenKinds<'_>,
     files: &SheetFiles<'_>,
     bytes: &SheetBytes,
     is_accepted: bool,
 ) -> Result<Vec<u8>, AllocError>
-    requires { IsTrue is_accepted → IsUnbroken (BreaksLineRule bytes.now.vec.items) }
-    ensures { IfOk result (λ lines. MatchBool is_accepted (DescribesSkipped bytes.now.vec.items lines.items) (GiveHints
+    requires { IsTrue is_accepted → IsUnbroken (BreaksLineRule bytes.now.scd.items) × IsUnbroken (BreaksLineRule bytes.now.vec.items) }
+    ensures { IfOk result (λ lines. MatchBool is_accepted (DescribesRest kinds.now files.now bytes.now.scd.items bytes.now.vec.items lines.items) (GiveHints
         files.now bytes.now.scd.items bytes.now.dic.items bytes.now.vec.items lines.items)) }
 {
     if is_accepted {
-        return describe_skipped(alloc, &bytes.vec);
+        return rest_of_accepted(alloc, kinds, files, bytes);
     }
     hints_of(
         alloc,
@@ -175,10 +177,31 @@ fn lines_behind(
     )
 }
 
+// The classes of the four kinds, and what is read of a sheet and not compared.
+fn rest_of_accepted(
+    alloc: Global,
+    kinds: &GivenKinds<'_>,
+    files: &SheetFiles<'_>,
+    bytes: &SheetBytes,
+) -> Result<Vec<u8>, AllocError>
+    requires scd { IsUnbroken (BreaksLineRule bytes.now.scd.items) }
+    requires vec { IsUnbroken (BreaksLineRule bytes.now.vec.items) }
+    ensures { IfOk result (λ lines. DescribesRest kinds.now files.now bytes.now.scd.items bytes.now.vec.items lines.items) }
+{
+    let scd = NamedFile {
+        name: input_name(files.scd),
+        bytes: &bytes.scd,
+    };
+    let mut lines = describe_kinds(alloc, &scd, kinds.codes())?;
+    let skipped = describe_skipped(alloc, &bytes.vec)?;
+    lines.extend_from_slice(&skipped)?;
+    Ok(lines)
+}
+
 // What is said of a sheet that was read.
 fn said_of(
     alloc: Global,
-    kinds: &Kinds<'_>,
+    kinds: &GivenKinds<'_>,
     files: &SheetFiles<'_>,
     bytes: &SheetBytes,
 ) -> Result<Account, AllocError>
@@ -186,7 +209,7 @@ fn said_of(
         kinds.now bytes.now.scd.items bytes.now.dic.items bytes.now.vec.items said.text.items)
         (TellsCause kinds.now files.now bytes.now.scd.items bytes.now.dic.items bytes.now.vec.items said.text.items)) }
 {
-    match Schema::load(alloc, &bytes.scd, &bytes.dic, kinds) {
+    match Schema::load(alloc, &bytes.scd, &bytes.dic, kinds.kinds()) {
         Ok(schema) => match examine(alloc, &schema, &bytes.vec) {
             Ok(sound) => said_of_accepted(alloc, sound.plan()),
             Err(found) => said_of_sheet(alloc, &schema, &bytes.vec, input_name(files.vec), &found),
@@ -201,6 +224,7 @@ fn said_of(
                 name: input_name(files.dic),
                 bytes: &bytes.dic,
             },
+            kinds.codes(),
             &fault,
         ),
     }
@@ -247,15 +271,16 @@ fn said_of_schema(
     alloc: Global,
     scd: &NamedFile<'_>,
     dic: &NamedFile<'_>,
+    codes: &ByRole<&[u8]>,
     fault: &SchemaFault,
 ) -> Result<Account, AllocError>
-    requires { (kinds : KindCodes) × IsSchemaRefusal scd.now.bytes.now dic.now.bytes.now kinds fault.now }
+    requires { IsSchemaRefusal scd.now.bytes.now dic.now.bytes.now (codes_of codes.now) fault.now }
     ensures { IfOk result (λ said. (said.is_accepted ≡ false) × IsProperSchemaFault fault.now × ((lines : List ℕ)
-        × ExplainsSchema scd.now.bytes.now dic.now.bytes.now scd.now.name.now dic.now.name.now fault.now lines
+        × ExplainsSchema (codes_of codes.now) scd.now.bytes.now dic.now.bytes.now scd.now.name.now dic.now.name.now fault.now lines
         × (said.text.items ≡ ended (schema_text fault.now) ++ lines))) }
 {
     let mut text = line_of_schema(alloc, fault)?;
-    let lines = explain_schema(alloc, scd, dic, fault)?;
+    let lines = explain_schema(alloc, scd, dic, codes, fault)?;
     text.extend_from_slice(&lines)?;
     Ok(Account {
         is_accepted: false,

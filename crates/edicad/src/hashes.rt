@@ -4,32 +4,37 @@ ghost use Rattle.std.specs.List.{list_any};
 ghost use Rattle.edicad.specs.Effects.{effects, inputs, written};
 ghost use Rattle.edicad.specs.Hashes.{AnswersAll, GivesSchema, IsAnswerOf, IsHashStatus, LoadFault, TellsFault, digest_line, fault_line};
 ghost use Rattle.edicad.specs.Hashes.{is_escaped, mark_of, refused_path, schema_fault_path, escaped_name};
+ghost use Rattle.edi_schema.specs.SchemaRefusal.{IsGoodSchema};
+ghost use Rattle.edi_compare.specs.Runs.{MatchFault, RefusesSchema};
+ghost use Rattle.edicad.specs.Notes.{IsNote, IsNoteOn};
 ghost use Rattle.edicad.specs.inner.Hashes.{StepsOn, StopsAt};
 ghost use Rattle.edi_files.specs.Reasons.{reason_line};
 ghost use Rattle.edi_files.specs.declared.reason.Reason.{Reason};
 ghost use Rattle.edicad.specs.Reasons.{IsReasonOf};
 ghost use Rattle.edicad.specs.Statuses.{IsSheetStatus};
 
-use crate::outcome::{line_of_sheet, status_of_fault};
+use crate::notes::note_of;
 use crate::reason::add_reason;
-use crate::report;
 use crate::sheets::opened;
-use edi_compare::{RunFault, canon_under, schema_of};
+use crate::{notes, report};
+use edi_compare::{RunFault, canon_under, load_or_fault, read_input};
 use edi_files::Folder;
 use edi_line::ByteOut;
-use edi_schema::{Kinds, Schema, SchemaFault, Source};
-use edi_words::ManyFiles;
+use edi_outcome::{line_of_sheet, status_of_fault};
+use edi_schema::{Schema, SchemaFault, Source};
+use edi_words::{GivenKinds, ManyFiles};
 use edi_write::{Written, put_all};
 use sha2::{Digest, Sha256};
 use std::alloc::{AllocError, Global};
 
 /// Writes a line for each sheet, in order: the digest of its canonical file and its name to `out`, or its name and why
 /// it has none to `err`. Gives the greatest of their statuses, or 4 as soon as `out` fails. The schema is loaded once, before
-/// any sheet is opened; where there is none, `err` says why by the name of its file.
+/// any sheet is opened; where there is none, `err` says why by the name of its file, and where a kind of link has no class, `err`
+/// says so first.
 pub fn hash<F: Folder, O: ByteOut, E: ByteOut>(
     alloc: Global,
     folder: &F,
-    kinds: &Kinds<'_>,
+    kinds: &GivenKinds<'_>,
     files: &ManyFiles<'_>,
     out: &mut O,
     err: &mut E,
@@ -39,24 +44,78 @@ pub fn hash<F: Folder, O: ByteOut, E: ByteOut>(
         (written O.ByteOut out.old out.new) (written E.ByteOut err.old err.new) kinds.now files.now result }
 {
     match loaded(alloc, folder, kinds, files) {
-        Ok(schema) => answer_all(alloc, folder, &schema, &files.sheets, out, err),
+        Ok(loaded) => {
+            notes::say(err, &loaded.note);
+            answer_all(alloc, folder, &loaded.schema, &files.sheets, out, err)
+        }
         Err(fault) => tell_fault(alloc, folder, &fault, path_of_schema(files, &fault), err),
     }
 }
 
-// The schema of two files. Both are opened before the first is read.
+// A schema, and the note on its kinds.
+struct NotedSchema {
+    schema: Schema,
+    note: Vec<u8>,
+}
+
+impl Drop for NotedSchema {
+    fn drop(self) {
+        let NotedSchema { schema: _, note: _ } = self;
+    }
+}
+
+// The schema of two files, with the note on its kinds. Both are opened before the first is read.
 fn loaded<F: Folder>(
     alloc: Global,
     folder: &F,
-    kinds: &Kinds<'_>,
+    kinds: &GivenKinds<'_>,
     files: &ManyFiles<'_>,
-) -> Result<Schema, RunFault>
-    ensures ok { IfOk result (GivesSchema (inputs F.Folder F.Reader.ByteIn folder.now) kinds.now files.now) }
+) -> Result<NotedSchema, RunFault>
+    ensures ok { IfOk result (λ loaded. GivesSchema (inputs F.Folder F.Reader.ByteIn folder.now) kinds.now files.now loaded.schema loaded.note.items) }
     ensures err { IfErr result (LoadFault (inputs F.Folder F.Reader.ByteIn folder.now) kinds.now files.now) }
 {
     let mut scd = opened(folder, files.scd, 1)?;
     let mut dic = opened(folder, files.dic, 2)?;
-    schema_of(alloc, kinds, &mut scd, &mut dic)
+    let scd = read_input(alloc, &mut scd, 1)?;
+    let dic = read_input(alloc, &mut dic, 2)?;
+    match noted_schema(alloc, kinds, files, &scd, &dic) {
+        Ok(noted) => Ok(noted),
+        Err(fault) => Err(fault),
+    }
+}
+
+// The schema of two files that were read, with the note on its kinds.
+fn noted_schema(
+    alloc: Global,
+    kinds: &GivenKinds<'_>,
+    files: &ManyFiles<'_>,
+    scd: &[u8],
+    dic: &[u8],
+) -> Result<NotedSchema, RunFault>
+    ensures ok { IfOk result (λ noted. IsGoodSchema scd.now dic.now kinds.now noted.schema
+        × IsNote kinds.now scd.now (escaped_name files.now.scd.now) noted.note.items) }
+    ensures err { IfErr result (λ e. MatchFault e (λ _. ⊥) (λ _. ⊥) (RefusesSchema kinds.now scd.now dic.now) (λ _. ⊥) (λ _. ⊥) (λ _. ⊥)) }
+{
+    match load_or_fault(alloc, kinds.kinds(), scd, dic) {
+        Ok(schema) => match note_on(alloc, kinds, files, scd) {
+            Ok(note) => Ok(NotedSchema { schema, note }),
+            Err(error) => Err(RunFault::Memory(error)),
+        },
+        Err(fault) => Err(fault),
+    }
+}
+
+// The note on the file of classes, by its name.
+fn note_on(
+    alloc: Global,
+    kinds: &GivenKinds<'_>,
+    files: &ManyFiles<'_>,
+    scd: &[u8],
+) -> Result<Vec<u8>, AllocError>
+    ensures { IfOk result (λ note. IsNoteOn kinds.now scd.now (escaped_name files.now.scd.now) note.items) }
+{
+    let name = escaped(alloc, files.scd.as_bytes())?;
+    note_of(alloc, kinds.codes(), scd, &name)
 }
 
 // Answers each sheet in order, and gives the greatest status.
@@ -71,6 +130,7 @@ fn answer_all<F: Folder, O: ByteOut, E: ByteOut>(
     ensures status { IsSheetStatus result }
     ensures answer { AnswersAll (inputs F.Folder F.Reader.ByteIn folder.now) (F.why folder.now) schema.now
         (written O.ByteOut out.old out.new) (written E.ByteOut err.old err.new) (map (λ p. p.now) sheets.now) result }
+    ensures stays { IsTrue (E.has_failed err.old) → IsTrue (E.has_failed err.new) }
 {
     let mut worst = 0;
     for path in sheets {

@@ -1,11 +1,13 @@
 //! The command: canonical files of cadastral sheets.
 #![tactic(auto)]
 
+mod classes;
 mod command;
 mod explains;
 mod hashes;
 mod known;
-mod outcome;
+mod notes;
+mod paths;
 mod reason;
 mod report;
 mod sheets;

@@ -6,16 +6,19 @@ ghost use Rattle.edi_files.specs.declared.reason.Reason.{Reason};
 ghost use Rattle.edicad.specs.Answered.{not_text_lines};
 ghost use Rattle.edicad.specs.Effects.{written};
 ghost use Rattle.edicad.specs.Misuses.{bad_kinds_lines, kinds_fault_words, misuse_lines, shows_words};
-ghost use Rattle.edicad.specs.Outcome.{FaultHasNames, HasNames, line_for, status_for, texts};
+ghost use Rattle.edi_outcome.specs.Status.{status_for};
+ghost use Rattle.edi_outcome.specs.Words.{FaultHasNames, HasNames, texts, words_for, words_of_fault};
+ghost use Rattle.edicad.specs.Paths.{names_of_paths};
 ghost use Rattle.edicad.specs.Reasons.{IsReason, lines_for};
 ghost use Rattle.edicad.specs.Statuses.{IsAnsweredAs, IsSaid, IsUnsaid, IsWarned, LacksMemory, OnlyLacksMemory, Warns};
-ghost use Rattle.edicad.specs.declared.outcome.Outcome.{Outcome};
+ghost use Rattle.edi_outcome.specs.declared.outcome.Outcome.{Outcome};
 
-use crate::outcome::{Outcome, line_of, line_of_run, path_of_fault, status_of, status_of_fault};
-use crate::reason::add_reason;
+use crate::paths::{names_of_paths, path_of_fault};
+use crate::reason::{add_length, add_reason};
 use edi_compare::RunFault;
 use edi_files::Folder;
 use edi_line::ByteOut;
+use edi_outcome::{Outcome, line_of, line_of_run, status_of, status_of_fault};
 use edi_shown::push_shown;
 use edi_words::{BadKinds, KindsFault, Misuse};
 use edi_write::put_all;
@@ -40,7 +43,7 @@ pub fn answer<F: Folder, O: ByteOut, E: ByteOut>(
     outcome: &Outcome,
     paths: &[&str],
 ) -> u8
-    requires { HasNames outcome.now paths.now }
+    requires { HasNames outcome.now (length paths.now) }
     ensures said { IsSaid (F.why folder.now) (written O.ByteOut out.old out.new) (written E.ByteOut err.old err.new)
         outcome.now (texts paths.now) result }
     ensures kept { 3 ≤ status_for outcome.now → out.new ≡ out.old }
@@ -61,20 +64,30 @@ fn said<O: ByteOut, E: ByteOut>(
     outcome: &Outcome,
     paths: &[&str],
 ) -> u8
-    requires names { HasNames outcome.now paths.now }
+    requires names { HasNames outcome.now (length paths.now) }
     requires small { status_for outcome.now < 3 }
     ensures status { IsAnsweredAs (status_for outcome.now) result }
-    ensures answer { result < 3 → Appends (O.contents out.old) (O.contents out.new) (line_for outcome.now paths.now) × (err.new ≡ err.old) }
+    ensures answer { result < 3 → Appends (O.contents out.old) (O.contents out.new) (ended (words_for outcome.now (names_of_paths (texts paths.now))))
+        × (err.new ≡ err.old) }
     ensures unsaid { result ≡ 4 → IsUnsaid (written O.ByteOut out.old out.new) (written E.ByteOut err.old err.new) }
     ensures memory { result ≡ 5 → OnlyLacksMemory (written O.ByteOut out.old out.new) (written E.ByteOut err.old err.new) }
 {
-    let Ok(line) = line_of(alloc, outcome, paths) else {
+    let Ok(line) = line_by_paths(alloc, outcome, paths) else {
         return out_of_memory(err);
     };
     match put_all(out, &line) {
         Ok(()) => status_of(outcome),
         Err(_) => unwritten(err),
     }
+}
+
+// The line of an outcome, by the names of the paths.
+fn line_by_paths(alloc: Global, outcome: &Outcome, paths: &[&str]) -> Result<Vec<u8>, AllocError>
+    requires { HasNames outcome.now (length paths.now) }
+    ensures { IfOk result (λ line. line.items ≡ ended (words_for outcome.now (names_of_paths (texts paths.now)))) }
+{
+    let names = names_of_paths(alloc, paths)?;
+    line_of(alloc, outcome, &names)
 }
 
 /// Says on `err` what a fault is, and why a path can't be read or written where the folder gives a reason. Gives the exit status: that of
@@ -98,7 +111,7 @@ pub fn warned<F: Folder, E: ByteOut>(
     }
 }
 
-// The line of a fault, and then that of its reason, if the folder gives one.
+// The line of a fault, then that of its reason, if the folder gives one, and then that of how much was written, if any was.
 fn lines_of<F: Folder>(
     alloc: Global,
     folder: &F,
@@ -109,12 +122,26 @@ fn lines_of<F: Folder>(
     ensures { IfOk result (λ lines. (reason : Option Reason) × IsReason (F.why folder.now) (Outcome.Fault fault.now) (texts paths.now) reason
         × (lines.items ≡ lines_for (Outcome.Fault fault.now) (texts paths.now) reason)) }
 {
-    let mut lines = line_of_run(alloc, fault, paths)?;
+    let mut lines = fault_line_by_paths(alloc, fault, paths)?;
     let path = path_of_fault(fault, paths);
     let mut name = Vec::new(alloc);
     push_shown(&mut name, path.as_bytes())?;
     add_reason(&mut lines, folder, fault, path, &name)?;
+    add_length(&mut lines, fault, path)?;
     Ok(lines)
+}
+
+// The line of a fault, by the names of the paths.
+fn fault_line_by_paths(
+    alloc: Global,
+    fault: &RunFault,
+    paths: &[&str],
+) -> Result<Vec<u8>, AllocError>
+    requires { FaultHasNames fault.now (length paths.now) }
+    ensures { IfOk result (λ line. line.items ≡ ended (words_of_fault fault.now (names_of_paths (texts paths.now)))) }
+{
+    let names = names_of_paths(alloc, paths)?;
+    line_of_run(alloc, fault, &names)
 }
 
 /// Says that there is no memory.

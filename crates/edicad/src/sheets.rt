@@ -3,27 +3,31 @@ ghost use Rattle.std.specs.Prelude.{◌≡◌, ◌≤◌, ℕ, List, MatchOption
 ghost use Rattle.std.specs.Bool.{MatchBool};
 ghost use Rattle.std.specs.Io.KnownBytes.{Appends};
 ghost use Rattle.edi_compare.specs.Bundle.{OfParts};
-ghost use Rattle.edi_compare.specs.Runs.{BeforeWriting, FilesFault, InputFault, IsSheetUnder, IsVerdictOf, MatchFault, IfThreeKnown, WritesAll, WritesFirst};
+ghost use Rattle.edi_compare.specs.Runs.{BeforeWriting, FilesFault, IsSheetUnder, IsVerdictOf, MatchFault, IfThreeKnown, WritesAll, WritesFirst, seen};
 ghost use Rattle.edi_compare.specs.declared.pairing.Verdict.TheVariants.{Different};
 ghost use Rattle.edi_diff.specs.Runs.{IsDifferenceUnder};
 ghost use Rattle.edi_drawing.specs.Runs.{IsDrawnDifferenceUnder};
 ghost use Rattle.edi_pairing.specs.CompareRuns.{IsComparedUnder, IsPairingFileOf};
 ghost use Rattle.edi_pairing.specs.VerifyRuns.{IsVerifiedUnder, MatchRun, RefusesFile};
-ghost use Rattle.edicad.specs.Outcome.{FaultHasNames};
+ghost use Rattle.edicad.specs.Notes.{GivesNote};
+ghost use Rattle.edi_outcome.specs.Words.{FaultHasNames};
+ghost use Rattle.edi_outcome.specs.Status.{status_of_fault};
+ghost use Rattle.edicad.specs.inner.Notes.{HasNoteOf};
 ghost use Rattle.edi_words.specs.Requests.{usual_kinds};
-ghost use Rattle.edicad.specs.Effects.{effects, inputs, read};
-ghost use Rattle.edicad.specs.SheetRuns.{FileFault, Gives, IsApart, IsInput, IsMadeOf, IsMissing, IsNoInput, IsNoPairInput, IsPairInput};
+ghost use Rattle.edicad.specs.Effects.{effects, inputs};
+ghost use Rattle.edicad.specs.SheetRuns.{FileFault, Gives, IsApart, IsDeviceOf, IsInput, IsMadeOf, IsMissing, IsNoInput, IsNoPairInput, IsPairInput};
 ghost use Rattle.edicad.specs.SheetRuns.{IsPairPut, IsPairReplaced, IsPictureOfPair, IsPut, IsReplaced, Meets, OfFiles, OfFive, OfMade, OfPair};
-ghost use Rattle.edicad.specs.SheetRuns.{PairFileFault, PutFault, PutPairFault, ShowsDifference, VerifyFileFault};
+ghost use Rattle.edicad.specs.SheetRuns.{PairFileFault, PutFault, PutPairFault, ShowsDifference, StandardFault, VerifyFileFault};
 
+use crate::classes::{Kept, read_classes};
 use edi_compare::{RunFault, Verdict, canon_of, run_bundle, run_check, run_compare};
 use edi_diff::{Difference, run_diff};
 use edi_drawing::{DrawnDifference, run_draw, run_draw_difference};
 use edi_files::{Folder, Product, output};
 use edi_line::{ByteIn, ByteOut};
-use edi_pairing::{Compared, VerifyRunFault, run_compare_to_file, run_verify};
+use edi_pairing::{Compared, Verified, VerifyRunFault, run_compare_to_file, run_verify};
 use edi_schema::Kinds;
-use edi_words::{PairFiles, SheetFiles, is_standard};
+use edi_words::{GivenKinds, PairFiles, SheetFiles, is_standard};
 use edi_write::{Written, put_all};
 use std::alloc::Global;
 
@@ -31,8 +35,8 @@ use std::alloc::Global;
 pub fn bundle<F: Folder, O: ByteOut>(alloc: Global, folder: &F, out: &mut O) -> Result<(), RunFault>
     ensures ok { OnOk result ((contents : Option (List ℕ)) × F.standard folder.now contents
         × IfSome contents (λ b. OfParts b (λ s d v. WritesAll usual_kinds s d v (O.contents out.old) (O.contents out.new)))) }
-    ensures err { IfErr result (λ e. (contents : Option (List ℕ)) × (input : F.Reader) × F.standard folder.now contents
-        × InputFault usual_kinds contents (F.Reader.has_failed input)
+    ensures err { IfErr result (λ e. (contents : Option (List ℕ)) × F.standard folder.now contents
+        × StandardFault (inputs F.Folder F.Reader.ByteIn folder.now) contents
         (λ count. IsTrue (O.has_failed out.new) × IfSome contents (λ b. OfParts b (λ s d v.
         WritesFirst usual_kinds s d v count (O.contents out.old) (O.contents out.new)))) e) }
     ensures unwritten { IfErr result (λ e. BeforeWriting e (out.new ≡ out.old)) }
@@ -46,17 +50,23 @@ pub fn bundle<F: Folder, O: ByteOut>(alloc: Global, folder: &F, out: &mut O) -> 
 pub fn check<F: Folder>(
     alloc: Global,
     folder: &F,
-    kinds: &Kinds<'_>,
+    kinds: &GivenKinds<'_>,
     files: &SheetFiles<'_>,
+    note: &mut Vec<u8>,
 ) -> Result<(), RunFault>
     ensures ok { OnOk result (OfFiles (inputs F.Folder F.Reader.ByteIn folder.now) files.now (IsSheetUnder kinds.now)) }
     ensures err { IfErr result (FileFault (inputs F.Folder F.Reader.ByteIn folder.now) kinds.now files.now (λ _. ⊥)) }
     ensures names { IfErr result (λ e. FaultHasNames e 4) }
+    ensures noted { OnOk result (GivesNote (inputs F.Folder F.Reader.ByteIn folder.now) kinds.now files.now.scd.now note.new.items) }
+    ensures unnoted { IfErr result (λ e. HasNoteOf (inputs F.Folder F.Reader.ByteIn folder.now) kinds.now files.now.scd.now (status_of_fault e)
+        note.old.items note.new.items) }
 {
     let mut scd = opened(folder, files.scd, 1)?;
     let mut dic = opened(folder, files.dic, 2)?;
     let mut vec = opened(folder, files.vec, 3)?;
-    run_check(alloc, kinds, &mut scd, &mut dic, &mut vec)
+    let classes = read_classes(alloc, kinds, files.scd, &mut scd, note)?;
+    let mut kept = Kept::new(&classes);
+    run_check(alloc, kinds.kinds(), &mut kept, &mut dic, &mut vec)
 }
 
 /// What is made of the sheet of three files, to a path that is none of them. It is written once the sheet is accepted,
@@ -65,9 +75,10 @@ pub fn put<F: Folder>(
     alloc: Global,
     folder: &mut F,
     product: Product,
-    kinds: &Kinds<'_>,
+    kinds: &GivenKinds<'_>,
     files: &SheetFiles<'_>,
     out: &str,
+    note: &mut Vec<u8>,
 ) -> Result<(), RunFault>
     ensures ok { OnOk result (IsPut (effects F.Folder F.Reader.ByteIn F.Sink.ByteOut F.NewFile.ByteOut folder.old folder.new)
         product kinds.now files.now out.now) }
@@ -76,11 +87,14 @@ pub fn put<F: Folder>(
     ensures replaced { IsReplaced (effects F.Folder F.Reader.ByteIn F.Sink.ByteOut F.NewFile.ByteOut folder.old folder.new)
         product kinds.now files.now out.now }
     ensures names { IfErr result (λ e. FaultHasNames e 4) }
+    ensures noted { OnOk result (GivesNote (inputs F.Folder F.Reader.ByteIn folder.old) kinds.now files.now.scd.now note.new.items) }
+    ensures unnoted { IfErr result (λ e. HasNoteOf (inputs F.Folder F.Reader.ByteIn folder.old) kinds.now files.now.scd.now (status_of_fault e)
+        note.old.items note.new.items) }
 {
     if is_input(folder, files, out) {
         return Err(RunFault::Write(Written { count: 0 }));
     }
-    match make(alloc, folder, product, kinds, files) {
+    match make(alloc, folder, product, kinds, files, note) {
         Ok(bytes) => output::put(folder, out, &bytes),
         Err(fault) => Err(fault),
     }
@@ -91,9 +105,10 @@ pub fn send<F: Folder, O: ByteOut>(
     alloc: Global,
     folder: &F,
     product: Product,
-    kinds: &Kinds<'_>,
+    kinds: &GivenKinds<'_>,
     files: &SheetFiles<'_>,
     out: &mut O,
+    note: &mut Vec<u8>,
 ) -> Result<(), RunFault>
     ensures ok { OnOk result (OfMade (inputs F.Folder F.Reader.ByteIn folder.now) product kinds.now
         files.now (Appends (O.contents out.old) (O.contents out.new))) }
@@ -102,8 +117,11 @@ pub fn send<F: Folder, O: ByteOut>(
         × Appends (O.contents out.old) (O.contents out.new) (take count bytes)))) }
     ensures unwritten { IfErr result (λ e. BeforeWriting e (out.new ≡ out.old)) }
     ensures names { IfErr result (λ e. FaultHasNames e 4) }
+    ensures noted { OnOk result (GivesNote (inputs F.Folder F.Reader.ByteIn folder.now) kinds.now files.now.scd.now note.new.items) }
+    ensures unnoted { IfErr result (λ e. HasNoteOf (inputs F.Folder F.Reader.ByteIn folder.now) kinds.now files.now.scd.now (status_of_fault e)
+        note.old.items note.new.items) }
 {
-    match make(alloc, folder, product, kinds, files) {
+    match make(alloc, folder, product, kinds, files, note) {
         Ok(bytes) => sent(out, &bytes),
         Err(fault) => Err(fault),
     }
@@ -113,19 +131,32 @@ pub fn send<F: Folder, O: ByteOut>(
 pub fn compare<F: Folder>(
     alloc: Global,
     folder: &F,
-    kinds: &Kinds<'_>,
+    kinds: &GivenKinds<'_>,
     files: &PairFiles<'_>,
+    note: &mut Vec<u8>,
 ) -> Result<Verdict, RunFault>
     ensures ok { IfOk result (λ verdict. OfPair (inputs F.Folder F.Reader.ByteIn folder.now) files.now
         (λ s d a b. IsVerdictOf kinds.now s d a b verdict)) }
     ensures err { IfErr result (PairFileFault (inputs F.Folder F.Reader.ByteIn folder.now) kinds.now files.now (λ _. ⊥)) }
     ensures names { IfErr result (λ e. FaultHasNames e 5) }
+    ensures noted { IfOk result (λ _. GivesNote (inputs F.Folder F.Reader.ByteIn folder.now) kinds.now files.now.scd.now note.new.items) }
+    ensures unnoted { IfErr result (λ e. HasNoteOf (inputs F.Folder F.Reader.ByteIn folder.now) kinds.now files.now.scd.now (status_of_fault e)
+        note.old.items note.new.items) }
 {
     let mut scd = opened(folder, files.scd, 1)?;
     let mut dic = opened(folder, files.dic, 2)?;
     let mut first = opened(folder, files.first, 3)?;
     let mut second = opened(folder, files.second, 4)?;
-    run_compare(alloc, kinds, &mut scd, &mut dic, &mut first, &mut second)
+    let classes = read_classes(alloc, kinds, files.scd, &mut scd, note)?;
+    let mut kept = Kept::new(&classes);
+    run_compare(
+        alloc,
+        kinds.kinds(),
+        &mut kept,
+        &mut dic,
+        &mut first,
+        &mut second,
+    )
 }
 
 /// What differs between the two sheets of four files, or that without the lines of records. All are opened before the first is
@@ -133,23 +164,29 @@ pub fn compare<F: Folder>(
 pub fn diff<F: Folder>(
     alloc: Global,
     folder: &F,
-    kinds: &Kinds<'_>,
+    kinds: &GivenKinds<'_>,
     files: &PairFiles<'_>,
     brief: bool,
+    note: &mut Vec<u8>,
 ) -> Result<Difference, RunFault>
     ensures ok { IfOk result (λ difference. OfPair (inputs F.Folder F.Reader.ByteIn folder.now) files.now
         (λ s d a b. IsDifferenceUnder kinds.now s d a b brief difference)) }
     ensures err { IfErr result (PairFileFault (inputs F.Folder F.Reader.ByteIn folder.now) kinds.now files.now (λ _. ⊥)) }
     ensures names { IfErr result (λ e. FaultHasNames e 5) }
+    ensures noted { IfOk result (λ _. GivesNote (inputs F.Folder F.Reader.ByteIn folder.now) kinds.now files.now.scd.now note.new.items) }
+    ensures unnoted { IfErr result (λ e. HasNoteOf (inputs F.Folder F.Reader.ByteIn folder.now) kinds.now files.now.scd.now (status_of_fault e)
+        note.old.items note.new.items) }
 {
     let mut scd = opened(folder, files.scd, 1)?;
     let mut dic = opened(folder, files.dic, 2)?;
     let mut first = opened(folder, files.first, 3)?;
     let mut second = opened(folder, files.second, 4)?;
+    let classes = read_classes(alloc, kinds, files.scd, &mut scd, note)?;
+    let mut kept = Kept::new(&classes);
     run_diff(
         alloc,
-        kinds,
-        &mut scd,
+        kinds.kinds(),
+        &mut kept,
         &mut dic,
         &mut first,
         &mut second,
@@ -163,9 +200,10 @@ pub fn diff<F: Folder>(
 pub fn pair<F: Folder>(
     alloc: Global,
     folder: &mut F,
-    kinds: &Kinds<'_>,
+    kinds: &GivenKinds<'_>,
     files: &PairFiles<'_>,
     out: &str,
+    note: &mut Vec<u8>,
 ) -> Result<Option<u64>, RunFault>
     ensures ok { IfOk result (λ line. MatchOption line (IsPairPut
         (effects F.Folder F.Reader.ByteIn F.Sink.ByteOut F.NewFile.ByteOut folder.old folder.new)
@@ -177,11 +215,14 @@ pub fn pair<F: Folder>(
     ensures replaced { IsPairReplaced (effects F.Folder F.Reader.ByteIn F.Sink.ByteOut F.NewFile.ByteOut folder.old folder.new)
         (IsPairingFileOf kinds.now) files.now out.now }
     ensures names { IfErr result (λ e. FaultHasNames e 5) }
+    ensures noted { IfOk result (λ _. GivesNote (inputs F.Folder F.Reader.ByteIn folder.old) kinds.now files.now.scd.now note.new.items) }
+    ensures unnoted { IfErr result (λ e. HasNoteOf (inputs F.Folder F.Reader.ByteIn folder.old) kinds.now files.now.scd.now (status_of_fault e)
+        note.old.items note.new.items) }
 {
     if is_pair_input(folder, files, out) {
         return Err(RunFault::Write(Written { count: 0 }));
     }
-    match compare_to_file(alloc, folder, kinds, files) {
+    match compare_to_file(alloc, folder, kinds, files, note) {
         Ok(Compared::Same { file }) => match output::put(folder, out, &file) {
             Ok(()) => Ok(None),
             Err(fault) => Err(fault),
@@ -196,10 +237,11 @@ pub fn pair<F: Folder>(
 pub fn draw_difference<F: Folder>(
     alloc: Global,
     folder: &mut F,
-    kinds: &Kinds<'_>,
+    kinds: &GivenKinds<'_>,
     files: &PairFiles<'_>,
     brief: bool,
     out: &str,
+    note: &mut Vec<u8>,
 ) -> Result<Difference, RunFault>
     ensures ok { IfOk result (λ difference. IsPairPut (effects F.Folder F.Reader.ByteIn F.Sink.ByteOut F.NewFile.ByteOut folder.old folder.new)
         (ShowsDifference kinds.now brief difference) files.now out.now) }
@@ -208,11 +250,14 @@ pub fn draw_difference<F: Folder>(
     ensures replaced { IsPairReplaced (effects F.Folder F.Reader.ByteIn F.Sink.ByteOut F.NewFile.ByteOut folder.old folder.new)
         (IsPictureOfPair kinds.now brief) files.now out.now }
     ensures names { IfErr result (λ e. FaultHasNames e 5) }
+    ensures noted { IfOk result (λ _. GivesNote (inputs F.Folder F.Reader.ByteIn folder.old) kinds.now files.now.scd.now note.new.items) }
+    ensures unnoted { IfErr result (λ e. HasNoteOf (inputs F.Folder F.Reader.ByteIn folder.old) kinds.now files.now.scd.now (status_of_fault e)
+        note.old.items note.new.items) }
 {
     if is_pair_input(folder, files, out) {
         return Err(RunFault::Write(Written { count: 0 }));
     }
-    match drawn_difference(alloc, folder, kinds, files, brief) {
+    match drawn_difference(alloc, folder, kinds, files, brief, note) {
         Ok(
             DrawnDifference {
                 difference,
@@ -226,31 +271,37 @@ pub fn draw_difference<F: Folder>(
     }
 }
 
-/// Whether a file states a pairing that carries the plan of the first sheet onto that of the second. All five files are
-/// opened before the first is read.
+/// Whether a file states a pairing that carries the plan of the first sheet onto that of the second, and why it doesn't. All five files
+/// are opened before the first is read.
 pub fn verify<F: Folder>(
     alloc: Global,
     folder: &F,
-    kinds: &Kinds<'_>,
+    kinds: &GivenKinds<'_>,
     files: &PairFiles<'_>,
     pairing: &str,
-) -> Result<bool, VerifyRunFault>
+    note: &mut Vec<u8>,
+) -> Result<Verified, VerifyRunFault>
     ensures ok { IfOk result (λ answer. OfFive (inputs F.Folder F.Reader.ByteIn folder.now) files.now pairing.now
         (λ s d a b f. IsVerifiedUnder kinds.now s d a b f answer)) }
     ensures err { IfErr result (λ e. MatchRun e (VerifyFileFault (inputs F.Folder F.Reader.ByteIn folder.now) kinds.now
         files.now pairing.now) (λ at why. OfFive (inputs F.Folder F.Reader.ByteIn folder.now) files.now pairing.now
         (λ s d a b f. RefusesFile kinds.now s d a b f at why))) }
     ensures names { IfErr result (λ e. MatchRun e (λ f. FaultHasNames f 6) (λ _ _. ⊤)) }
+    ensures noted { IfOk result (λ _. GivesNote (inputs F.Folder F.Reader.ByteIn folder.now) kinds.now files.now.scd.now note.new.items) }
+    ensures unnoted { IfErr result (λ e. MatchRun e (λ f. HasNoteOf (inputs F.Folder F.Reader.ByteIn folder.now) kinds.now files.now.scd.now (status_of_fault f)
+        note.old.items note.new.items) (λ _ _. GivesNote (inputs F.Folder F.Reader.ByteIn folder.now) kinds.now files.now.scd.now note.new.items)) }
 {
     let mut scd = opened(folder, files.scd, 1)?;
     let mut dic = opened(folder, files.dic, 2)?;
     let mut first = opened(folder, files.first, 3)?;
     let mut second = opened(folder, files.second, 4)?;
     let mut file = opened(folder, pairing, 5)?;
+    let classes = read_classes(alloc, kinds, files.scd, &mut scd, note)?;
+    let mut kept = Kept::new(&classes);
     run_verify(
         alloc,
-        kinds,
-        &mut scd,
+        kinds.kinds(),
+        &mut kept,
         &mut dic,
         &mut first,
         &mut second,
@@ -262,42 +313,61 @@ pub fn verify<F: Folder>(
 fn compare_to_file<F: Folder>(
     alloc: Global,
     folder: &F,
-    kinds: &Kinds<'_>,
+    kinds: &GivenKinds<'_>,
     files: &PairFiles<'_>,
+    note: &mut Vec<u8>,
 ) -> Result<Compared, RunFault>
     ensures ok { IfOk result (λ compared. OfPair (inputs F.Folder F.Reader.ByteIn folder.now) files.now
         (λ s d a b. IsComparedUnder kinds.now s d a b compared)) }
     ensures err { IfErr result (PairFileFault (inputs F.Folder F.Reader.ByteIn folder.now) kinds.now files.now (λ _. ⊥)) }
     ensures names { IfErr result (λ e. FaultHasNames e 5) }
+    ensures noted { IfOk result (λ _. GivesNote (inputs F.Folder F.Reader.ByteIn folder.now) kinds.now files.now.scd.now note.new.items) }
+    ensures unnoted { IfErr result (λ e. HasNoteOf (inputs F.Folder F.Reader.ByteIn folder.now) kinds.now files.now.scd.now (status_of_fault e)
+        note.old.items note.new.items) }
 {
     let mut scd = opened(folder, files.scd, 1)?;
     let mut dic = opened(folder, files.dic, 2)?;
     let mut first = opened(folder, files.first, 3)?;
     let mut second = opened(folder, files.second, 4)?;
-    run_compare_to_file(alloc, kinds, &mut scd, &mut dic, &mut first, &mut second)
+    let classes = read_classes(alloc, kinds, files.scd, &mut scd, note)?;
+    let mut kept = Kept::new(&classes);
+    run_compare_to_file(
+        alloc,
+        kinds.kinds(),
+        &mut kept,
+        &mut dic,
+        &mut first,
+        &mut second,
+    )
 }
 
 // What differs between the two sheets of four files, with a picture of both.
 fn drawn_difference<F: Folder>(
     alloc: Global,
     folder: &F,
-    kinds: &Kinds<'_>,
+    kinds: &GivenKinds<'_>,
     files: &PairFiles<'_>,
     brief: bool,
+    note: &mut Vec<u8>,
 ) -> Result<DrawnDifference, RunFault>
     ensures ok { IfOk result (λ drawn. OfPair (inputs F.Folder F.Reader.ByteIn folder.now) files.now
         (λ s d a b. IsDrawnDifferenceUnder kinds.now s d a b brief drawn)) }
     ensures err { IfErr result (PairFileFault (inputs F.Folder F.Reader.ByteIn folder.now) kinds.now files.now (λ _. ⊥)) }
     ensures names { IfErr result (λ e. FaultHasNames e 5) }
+    ensures noted { IfOk result (λ _. GivesNote (inputs F.Folder F.Reader.ByteIn folder.now) kinds.now files.now.scd.now note.new.items) }
+    ensures unnoted { IfErr result (λ e. HasNoteOf (inputs F.Folder F.Reader.ByteIn folder.now) kinds.now files.now.scd.now (status_of_fault e)
+        note.old.items note.new.items) }
 {
     let mut scd = opened(folder, files.scd, 1)?;
     let mut dic = opened(folder, files.dic, 2)?;
     let mut first = opened(folder, files.first, 3)?;
     let mut second = opened(folder, files.second, 4)?;
+    let classes = read_classes(alloc, kinds, files.scd, &mut scd, note)?;
+    let mut kept = Kept::new(&classes);
     run_draw_difference(
         alloc,
-        kinds,
-        &mut scd,
+        kinds.kinds(),
+        &mut kept,
         &mut dic,
         &mut first,
         &mut second,
@@ -325,33 +395,39 @@ fn make<F: Folder>(
     alloc: Global,
     folder: &F,
     product: Product,
-    kinds: &Kinds<'_>,
+    kinds: &GivenKinds<'_>,
     files: &SheetFiles<'_>,
+    note: &mut Vec<u8>,
 ) -> Result<Vec<u8>, RunFault>
     ensures ok { IfOk result (λ bytes. OfFiles (inputs F.Folder F.Reader.ByteIn folder.now) files.now
         (λ s d v. IsMadeOf product kinds.now s d v bytes.items)) }
     ensures err { IfErr result (FileFault (inputs F.Folder F.Reader.ByteIn folder.now) kinds.now files.now (λ _. ⊥)) }
     ensures names { IfErr result (λ e. FaultHasNames e 4) }
+    ensures noted { IfOk result (λ _. GivesNote (inputs F.Folder F.Reader.ByteIn folder.now) kinds.now files.now.scd.now note.new.items) }
+    ensures unnoted { IfErr result (λ e. HasNoteOf (inputs F.Folder F.Reader.ByteIn folder.now) kinds.now files.now.scd.now (status_of_fault e)
+        note.old.items note.new.items) }
 {
     let mut scd = opened(folder, files.scd, 1)?;
     let mut dic = opened(folder, files.dic, 2)?;
     let mut vec = opened(folder, files.vec, 3)?;
-    made_of(alloc, product, kinds, &mut scd, &mut dic, &mut vec)
+    let classes = read_classes(alloc, kinds, files.scd, &mut scd, note)?;
+    let mut kept = Kept::new(&classes);
+    made_of(alloc, product, kinds.kinds(), &mut kept, &mut dic, &mut vec)
 }
 
 // What is made of the sheet of three inputs.
-fn made_of<R: ByteIn>(
+fn made_of<S: ByteIn, D: ByteIn, V: ByteIn>(
     alloc: Global,
     product: Product,
     kinds: &Kinds<'_>,
-    scd: &mut R,
-    dic: &mut R,
-    vec: &mut R,
+    scd: &mut S,
+    dic: &mut D,
+    vec: &mut V,
 ) -> Result<Vec<u8>, RunFault>
-    ensures ok { IfOk result (λ bytes. IfThreeKnown (R.contents scd.old) (R.contents dic.old) (R.contents vec.old)
+    ensures ok { IfOk result (λ bytes. IfThreeKnown (S.contents scd.old) (D.contents dic.old) (V.contents vec.old)
         (λ s d v. IsMadeOf product kinds.now s d v bytes.items)) }
-    ensures err { IfErr result (FilesFault kinds.now (read R.ByteIn scd.old scd.new) (read R.ByteIn dic.old dic.new) (read R.ByteIn vec.old vec.new)
-        (dic.new ≡ dic.old) (vec.new ≡ vec.old) (λ _. ⊥)) }
+    ensures err { IfErr result (FilesFault kinds.now
+        (seen S.ByteIn scd.old scd.new) (seen D.ByteIn dic.old dic.new) (seen V.ByteIn vec.old vec.new) (λ _. ⊥)) }
 {
     match product {
         Product::Canonical => canon_of(alloc, kinds, scd, dic, vec),
@@ -362,6 +438,7 @@ fn made_of<R: ByteIn>(
 /// An input that is there to read.
 pub fn opened<F: Folder>(folder: &F, path: &str, input: u8) -> Result<F::Reader, RunFault>
     ensures ok { IfOk result (λ file. Gives (inputs F.Folder F.Reader.ByteIn folder.now) path.now (F.Reader.contents file)) }
+    ensures device { IfOk result (λ file. IsDeviceOf (inputs F.Folder F.Reader.ByteIn folder.now) path.now (F.Reader.device file)) }
     ensures err { IfErr result (λ e. IsMissing (inputs F.Folder F.Reader.ByteIn folder.now) path.now × (e ≡ RunFault.Read input)) }
 {
     if is_standard(path) {

@@ -17,5 +17,5 @@ returns-in-Err-clause-answer g c =
     let run = effects g.F.Folder g.F.Reader.ByteIn g.F.Sink.ByteOut g.F.NewFile.ByteOut c.args.folder.now c.args.folder.now in
     let err = written g.E.ByteOut c.args.err.now c.answer.new.err in
     let h = c.in-Err.ensures.err in
-    unbundled_status run g.O.ByteOut c.args.out.now c.bundle.new.out c.answer.new.out err c.answer.result c.in-Err.fault h.0 (g.F.Reader.ByteIn.has_failed h.1)
-    h.2 (λ f. (h.1, f)) h.3 c.in-Err.ensures.unwritten c.answer.ensures.said c.answer.ensures.kept
+    unbundled_status run g.O.ByteOut c.args.out.now c.bundle.new.out c.answer.new.out err c.answer.result c.in-Err.fault h.0
+    h.1 h.2 c.in-Err.ensures.unwritten c.answer.ensures.said c.answer.ensures.kept

@@ -1,11 +1,14 @@
-use Rattle.std.proofs.Common.{codes, refl, subst}
-use Rattle.edicad.specs.Effects.{effects, written}
-use Rattle.edicad.specs.Statuses.{IsSaid, pair_paths_of}
+use Rattle.std.proofs.Common.{codes, subst}
+use Rattle.edicad.specs.Effects.{effects, inputs, written}
+use Rattle.edi_outcome.specs.Status.{status_for}
+use Rattle.edicad.specs.inner.Outcome.{outcome_for}
+use Rattle.edicad.specs.Statuses.{IsAnsweredAs, IsSaid, pair_paths_of}
 use Rattle.edicad.proofs.Refusals.{compare_names, compare_status}
+use Rattle.edicad.proofs.Noted.{note_answered, note_compared}
 use Rattle.edicad.proofs.command.compare.Goals as goal
 
 pub answer-requires : goal.answer-requires
-answer-requires g c = rw c.outcome_of-outcome.ensures (compare_names c.compare.result _ refl c.compare.ensures.names)
+answer-requires g c = rw c.outcome_of-outcome.ensures (compare_names c.compare.result c.compare.ensures.names)
 
 pub returns-clause-answer : goal.returns-clause-answer
 returns-clause-answer g c =
@@ -14,3 +17,13 @@ returns-clause-answer g c =
     let err = written g.E.ByteOut c.args.err.now c.answer.new.err in
     compare_status run out err c.args.kinds.now c.args.files.now c.answer.result c.compare.result c.compare.ensures.ok c.compare.ensures.err
     (subst (λ o. IsSaid run.why out err o (pair_paths_of c.args.files.now (codes "-")) c.answer.result) c.outcome_of-outcome.ensures c.answer.ensures.said)
+
+pub returns-clause-note : goal.returns-clause-note
+returns-clause-note g c =
+    let inputs = inputs g.F.Folder g.F.Reader.ByteIn c.args.folder.now in
+    let kinds = c.args.kinds.now in
+    let path = c.args.files.now.scd.now in
+    let new = c.compare.new.note.items in
+    note_answered inputs kinds path c.args.note.now.items new (status_for (outcome_for c.compare.result)) c.answer.result
+    (subst (λ o. IsAnsweredAs (status_for o) c.answer.result) c.outcome_of-outcome.ensures c.answer.ensures.said.status)
+    (note_compared inputs kinds path c.args.note.now.items new c.compare.result c.compare.ensures.noted c.compare.ensures.unnoted)

@@ -1,5 +1,8 @@
-use Rattle.edicad.specs.Effects.{effects, written}
+use Rattle.std.proofs.Common.{inl}
+use Rattle.edicad.specs.Effects.{effects, inputs, written}
+use Rattle.edi_outcome.specs.Status.{status_of_fault}
 use Rattle.edicad.proofs.Differing.{put_status, unanswered_status}
+use Rattle.edicad.proofs.Noted.{note_answered}
 use Rattle.edicad.proofs.command.diff.Goals as goal
 
 pub returns-in-Ok-clause-answer : goal.returns-in-Ok-clause-answer
@@ -17,3 +20,14 @@ returns-in-Err-clause-answer g c =
     let out = written g.O.ByteOut c.args.out.now c.answer.new.out in
     let err = written g.E.ByteOut c.args.err.now c.answer.new.err in
     unanswered_status run out err c.args.kinds.now c.args.files.now c.args.brief c.answer.result c.in-Err.fault c.in-Err.ensures.err c.answer.ensures.said
+
+pub returns-in-Ok-clause-note : goal.returns-in-Ok-clause-note
+returns-in-Ok-clause-note g c = inl c.in-Ok.ensures.noted
+
+pub returns-in-Err-clause-note : goal.returns-in-Err-clause-note
+returns-in-Err-clause-note g c =
+    let inputs = inputs g.F.Folder g.F.Reader.ByteIn c.args.folder.now in
+    let kinds = c.args.kinds.now in
+    let path = c.args.files.now.scd.now in
+    note_answered inputs kinds path c.args.note.now.items c.diff.new.note.items (status_of_fault c.in-Err.fault) c.answer.result
+    c.answer.ensures.said.status c.in-Err.ensures.unnoted

@@ -1,7 +1,9 @@
-use Rattle.std.proofs.Common.{refl}
-use Rattle.edicad.specs.Effects.{effects, written}
+use Rattle.std.proofs.Common.{codes, inl, refl}
+use Rattle.edicad.specs.Effects.{effects, inputs, written}
+use Rattle.edicad.specs.Statuses.{paths_of}
 use Rattle.edicad.proofs.Answering.{appends_nothing}
 use Rattle.edicad.proofs.OneSheet.{send_status, silent_before, unsent_status}
+use Rattle.edicad.proofs.Noted.{note_warned}
 use Rattle.edicad.proofs.command.send.Goals as goal
 
 pub returns-in-Ok-clause-answer : goal.returns-in-Ok-clause-answer
@@ -18,3 +20,14 @@ returns-in-Err-clause-answer g c =
     let err = written g.E.ByteOut c.args.err.now c.warned.new.err in
     unsent_status run out err c.args.kinds.now c.args.files.now c.warned.result c.args.product c.in-Err.fault c.in-Err.ensures.err
     (silent_before g.O.ByteOut c.in-Err.fault c.args.out.now c.send.new.out c.in-Err.ensures.unwritten) c.warned.ensures
+
+pub returns-in-Ok-clause-note : goal.returns-in-Ok-clause-note
+returns-in-Ok-clause-note g c = inl c.in-Ok.ensures.noted
+
+pub returns-in-Err-clause-note : goal.returns-in-Err-clause-note
+returns-in-Err-clause-note g c =
+    let inputs = inputs g.F.Folder g.F.Reader.ByteIn c.args.folder.now in
+    let kinds = c.args.kinds.now in
+    let path = c.args.files.now.scd.now in
+    note_warned inputs kinds path c.args.note.now.items c.send.new.note.items (g.F.Folder.why c.args.folder.now)
+    (written g.E.ByteOut c.args.err.now c.warned.new.err) c.in-Err.fault (paths_of c.args.files.now (codes "-")) c.warned.result c.warned.ensures c.in-Err.ensures.unnoted

@@ -2,7 +2,7 @@ use Rattle.std.proofs.Common.{◌≡◌, ◌∙◌, ◌++◌, [], refl, inl, inr
 use Rattle.std.specs.Io.KnownBytes.{Appends}
 use Rattle.edicad.specs.Hashes.{digest_line, fault_line, escaped_name}
 use Rattle.edi_files.specs.Reasons.{ended, reason_line}
-use Rattle.edicad.specs.Outcome.{status_of_fault}
+use Rattle.edi_outcome.specs.Status.{status_of_fault}
 use Rattle.edicad.proofs.Answering.{appends_nothing}
 use Rattle.edicad.proofs.hashes.answer.Goals as goal
 

@@ -12,7 +12,7 @@ loop-path-init g c =
     let o = g.O.ByteOut.contents c.args.out.now in
     let e = g.E.ByteOut.contents c.args.err.now in
     let inputs = inputs g.F.Folder g.F.Reader.ByteIn c.args.folder.now in
-    (none_answered inputs (g.F.Folder.why c.args.folder.now) c.args.schema.now o (g.O.ByteOut.has_failed c.args.out.now) e (g.E.ByteOut.has_failed c.args.err.now), inl refl)
+    (none_answered inputs (g.F.Folder.why c.args.folder.now) c.args.schema.now o (g.O.ByteOut.has_failed c.args.out.now) e (g.E.ByteOut.has_failed c.args.err.now), inl refl, λ t. t)
 
 pub loop-path-preserved : goal.loop-path-preserved
 loop-path-preserved g c =
@@ -30,6 +30,7 @@ loop-path-preserved g c =
       subst (λ paths. AreAnswered inputs why s out err paths c.max-worst.result) (sym (one_more_path c.args.sheets.now c.loop-path.path-index _ c.loop-path-test.true))
           (subst (AreAnswered inputs why s out err _) (sym worst) more),
       subst IsSheetStatus (sym worst) (max_status c.loop-path.worst c.in-Ok.status c.loop-path.invariant.1 c.in-Ok.ensures.status),
+      λ t. c.in-Ok.ensures.stays (c.loop-path.invariant.2 t),
     )
 
 pub returns-in-Err-clause-answer : goal.returns-in-Err-clause-answer
@@ -52,3 +53,9 @@ returns-clause-answer g c =
     let out = written g.O.ByteOut c.args.out.now c.loop-path.out in
     let err = written g.E.ByteOut c.args.err.now c.loop-path.err in
     inl (subst (λ paths. AreAnswered inputs (g.F.Folder.why c.args.folder.now) c.args.schema.now out err paths c.loop-path.worst) (all_paths c.args.sheets.now c.loop-path.path-index (omega arith)) c.loop-path.invariant.0)
+
+pub returns-in-Err-clause-stays : goal.returns-in-Err-clause-stays
+returns-in-Err-clause-stays g c = λ t. c.unwritten.ensures.stays (c.in-Err.ensures.stays (c.loop-path.invariant.2 t))
+
+pub returns-clause-stays : goal.returns-clause-stays
+returns-clause-stays g c = c.loop-path.invariant.2

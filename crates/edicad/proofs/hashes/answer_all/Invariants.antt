@@ -1,4 +1,4 @@
-use Rattle.std.proofs.Common.{take}
+use Rattle.std.proofs.Common.{take, IsTrue}
 use Rattle.edicad.specs.Effects.{inputs, written}
 use Rattle.edicad.specs.Hashes.{AreAnswered}
 use Rattle.edicad.specs.Statuses.{IsSheetStatus}
@@ -11,3 +11,4 @@ invariant-loop-path g l =
     (g.F.Folder.why l.folder) l.schema (written g.O.ByteOut l.initial.out l.out)
     (written g.E.ByteOut l.initial.err l.err) (paths_of (take l.path-index l.sheets)) l.worst
     × IsSheetStatus l.worst
+    × (IsTrue (g.E.ByteOut.has_failed l.initial.err) → IsTrue (g.E.ByteOut.has_failed l.err))

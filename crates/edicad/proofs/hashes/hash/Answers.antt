@@ -1,6 +1,7 @@
 use Rattle.std.proofs.Common.{ℕ, List, inl, inr, subst, map, Bor}
 use Rattle.edicad.specs.Effects.{effects, written}
 use Rattle.edicad.specs.Hashes.{AnswersAll, TellsFault}
+use Rattle.edicad.specs.Notes.{Notes}
 use Rattle.edicad.proofs.Answering.{appends_nothing}
 use Rattle.edicad.proofs.hashes.hash.Goals as goal
 
@@ -8,11 +9,20 @@ pub returns-in-Ok-clause-answer : goal.returns-in-Ok-clause-answer
 returns-in-Ok-clause-answer g c =
     let run = effects g.F.Folder g.F.Reader.ByteIn g.F.Sink.ByteOut g.F.NewFile.ByteOut c.args.folder.now c.args.folder.now in
     let out = written g.O.ByteOut c.args.out.now c.answer_all.new.out in
-    let err = written g.E.ByteOut c.args.err.now c.answer_all.new.err in
+    let first = written g.E.ByteOut c.args.err.now c.say.new.err in
+    let rest = written g.E.ByteOut c.say.new.err c.answer_all.new.err in
     inl (
-      c.in-Ok.schema,
+      c.in-Ok.loaded.schema,
+      c.in-Ok.loaded.note.items,
       c.in-Ok.ensures.ok,
-      subst (λ (sheets : List (Bor (List ℕ))). AnswersAll run.inputs run.why c.in-Ok.schema out err (map (λ (p : Bor (List ℕ)). p.now) sheets) c.answer_all.result) c.deref.ensures.value c.answer_all.ensures.answer,
+      (
+        g.E.ByteOut.contents c.say.new.err,
+        g.E.ByteOut.has_failed c.say.new.err,
+        c.answer_all.ensures.stays,
+        subst (Notes first) c.deref.ensures.value c.say.ensures.text,
+        subst (λ (sheets : List (Bor (List ℕ))). AnswersAll run.inputs run.why c.in-Ok.loaded.schema out rest (map (λ (p : Bor (List ℕ)). p.now) sheets) c.answer_all.result)
+            c.deref-in-Ok.ensures.value c.answer_all.ensures.answer,
+      ),
     )
 
 pub returns-in-Err-clause-answer : goal.returns-in-Err-clause-answer

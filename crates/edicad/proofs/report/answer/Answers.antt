@@ -1,6 +1,6 @@
 use Rattle.std.proofs.Common.{arith}
 use Rattle.edicad.specs.Effects.{written}
-use Rattle.edicad.specs.Outcome.{texts}
+use Rattle.edi_outcome.specs.Words.{texts}
 use Rattle.edicad.proofs.Refusals.{said_of_warned}
 use Rattle.edicad.proofs.report.answer.Goals as goal
 

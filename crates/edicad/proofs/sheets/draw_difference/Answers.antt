@@ -1,4 +1,5 @@
 use Rattle.std.proofs.Common.{inr, refl}
+use Rattle.edi_files.specs.Folders.{IsSpare}
 use Rattle.edi_files.proofs.Steps.{goes_map}
 use Rattle.edicad.specs.Effects.{effects, inputs}
 use Rattle.edicad.specs.SheetRuns.{IsPictureOfPair, OfMadePair, ShowsDifference}
@@ -23,7 +24,7 @@ returns-in-Ok-put-clause-replaced g c tells =
     let made = shown inputs c.args.kinds.now c.args.files.now c.args.brief _ c.in-Ok.ensures.ok in
     goes_map _ _ _ _ _ _
     (whole_pair inputs c.args.kinds.now c.args.files.now (IsPictureOfPair c.args.kinds.now c.args.brief) c.in-Ok.field-0.picture.items _ c.deref.ensures.value
-    (shown_of_some inputs c.args.kinds.now c.args.files.now c.args.brief c.in-Ok.field-0.difference c.in-Ok.field-0.picture.items made) c.args.out.now (g.F.Folder.moment folder) (g.F.Folder.left_since folder))
+    (shown_of_some inputs c.args.kinds.now c.args.files.now c.args.brief c.in-Ok.field-0.difference c.in-Ok.field-0.picture.items made) c.args.out.now (IsSpare (g.F.Folder.is_stray folder) (g.F.Folder.moment folder) (g.F.Folder.left_since folder)))
     (c.in-Ok-put.ensures.replaced tells)
 
 pub returns-in-Err-put-clause-err : goal.returns-in-Err-put-clause-err
@@ -49,7 +50,7 @@ returns-in-Err-put-clause-replaced g c tells =
     let made = shown inputs c.args.kinds.now c.args.files.now c.args.brief _ c.in-Ok.ensures.ok in
     goes_map _ _ _ _ _ _
     (whole_pair inputs c.args.kinds.now c.args.files.now (IsPictureOfPair c.args.kinds.now c.args.brief) c.in-Ok.field-0.picture.items _ c.deref.ensures.value
-    (shown_of_some inputs c.args.kinds.now c.args.files.now c.args.brief c.in-Ok.field-0.difference c.in-Ok.field-0.picture.items made) c.args.out.now (g.F.Folder.moment folder) (g.F.Folder.left_since folder))
+    (shown_of_some inputs c.args.kinds.now c.args.files.now c.args.brief c.in-Ok.field-0.difference c.in-Ok.field-0.picture.items made) c.args.out.now (IsSpare (g.F.Folder.is_stray folder) (g.F.Folder.moment folder) (g.F.Folder.left_since folder)))
     (c.in-Err-put.ensures.replaced tells)
 
 pub returns-in-Err-clause-err : goal.returns-in-Err-clause-err

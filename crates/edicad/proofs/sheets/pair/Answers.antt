@@ -1,5 +1,6 @@
 use Rattle.std.proofs.Common.{inr, refl}
 use Rattle.edi_pairing.specs.CompareRuns.{IsPairingFileOf}
+use Rattle.edi_files.specs.Folders.{IsSpare}
 use Rattle.edi_files.proofs.Steps.{goes_map}
 use Rattle.edicad.specs.Effects.{effects, inputs}
 use Rattle.edicad.specs.SheetRuns.{OfMadePair}
@@ -19,7 +20,7 @@ pub returns-in-Ok-clause-replaced : goal.returns-in-Ok-clause-replaced
 returns-in-Ok-clause-replaced g c tells =
     let folder = c.args.folder.now in
     goes_map _ _ _ _ _ _
-    (whole_pair (inputs g.F.Folder g.F.Reader.ByteIn folder) c.args.kinds.now c.args.files.now (IsPairingFileOf c.args.kinds.now) c.in-Ok-Same.file.items _ c.deref.ensures.value (rw c.in-Ok-Same.field-0-is at c.in-Ok-Same.ensures.ok) c.args.out.now (g.F.Folder.moment folder) (g.F.Folder.left_since folder))
+    (whole_pair (inputs g.F.Folder g.F.Reader.ByteIn folder) c.args.kinds.now c.args.files.now (IsPairingFileOf c.args.kinds.now) c.in-Ok-Same.file.items _ c.deref.ensures.value (rw c.in-Ok-Same.field-0-is at c.in-Ok-Same.ensures.ok) c.args.out.now (IsSpare (g.F.Folder.is_stray folder) (g.F.Folder.moment folder) (g.F.Folder.left_since folder)))
     (c.in-Ok.ensures.replaced tells)
 
 pub returns-in-Ok-Same-clause-err : goal.returns-in-Ok-Same-clause-err
@@ -40,7 +41,7 @@ pub returns-in-Ok-Same-clause-replaced : goal.returns-in-Ok-Same-clause-replaced
 returns-in-Ok-Same-clause-replaced g c tells =
     let folder = c.args.folder.now in
     goes_map _ _ _ _ _ _
-    (whole_pair (inputs g.F.Folder g.F.Reader.ByteIn folder) c.args.kinds.now c.args.files.now (IsPairingFileOf c.args.kinds.now) c.in-Ok-Same.file.items _ c.deref.ensures.value (rw c.in-Ok-Same.field-0-is at c.in-Ok-Same.ensures.ok) c.args.out.now (g.F.Folder.moment folder) (g.F.Folder.left_since folder))
+    (whole_pair (inputs g.F.Folder g.F.Reader.ByteIn folder) c.args.kinds.now c.args.files.now (IsPairingFileOf c.args.kinds.now) c.in-Ok-Same.file.items _ c.deref.ensures.value (rw c.in-Ok-Same.field-0-is at c.in-Ok-Same.ensures.ok) c.args.out.now (IsSpare (g.F.Folder.is_stray folder) (g.F.Folder.moment folder) (g.F.Folder.left_since folder)))
     (c.in-Err-put.ensures.replaced tells)
 
 pub returns-clause-err : goal.returns-clause-err

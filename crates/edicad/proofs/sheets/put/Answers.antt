@@ -1,4 +1,5 @@
 use Rattle.std.proofs.Common.{inr, refl}
+use Rattle.edi_files.specs.Folders.{IsSpare}
 use Rattle.edi_files.proofs.Steps.{goes_map}
 use Rattle.edicad.specs.Effects.{effects, inputs}
 use Rattle.edicad.specs.SheetRuns.{IsPut, OfMade}
@@ -46,5 +47,5 @@ pub returns-in-Ok-clause-replaced : goal.returns-in-Ok-clause-replaced
 returns-in-Ok-clause-replaced g c tells =
     let folder = c.args.folder.now in
     goes_map _ _ _ _ _ _
-    (whole (inputs g.F.Folder g.F.Reader.ByteIn folder) c.args.product c.args.kinds.now c.args.files.now c.in-Ok.bytes.items _ c.deref.ensures.value c.in-Ok.ensures.ok c.args.out.now (g.F.Folder.moment folder) (g.F.Folder.left_since folder))
+    (whole (inputs g.F.Folder g.F.Reader.ByteIn folder) c.args.product c.args.kinds.now c.args.files.now c.in-Ok.bytes.items _ c.deref.ensures.value c.in-Ok.ensures.ok c.args.out.now (IsSpare (g.F.Folder.is_stray folder) (g.F.Folder.moment folder) (g.F.Folder.left_since folder)))
     (c.put.ensures.replaced tells)
