@@ -12,6 +12,7 @@ import json
 import os
 import re
 
+from classes import described, note, refused
 from pictured import draw_case, picture_case
 from room import line, status_of
 
@@ -70,6 +71,17 @@ def place_of(room, name, number):
     return f"{heads[number - 1] + 1}: ".encode() + own[0][8:] + (b" " + rid if rid is not None else b"") + b": "
 
 
+def codes_in(words):
+    """The codes of the kinds that are given by words."""
+    return (words[1] if words[:1] == ["--kinds"] else USUAL).encode().split(b",")
+
+
+def noted(room, words, answer):
+    """The note on the kinds of links that no class has, behind the answer of a command with these words. A file of classes that breaks a
+    rule of lines has none."""
+    return b"" if re.match(rb"refused scd 1\d\d ", answer) else note(b"s", room.read("s"), codes_in(words))
+
+
 def explain_case(room, name, words, wanted):
     """What explain says of a sheet that is checked: the line and the status of the check, and where it is refused."""
     status, out, err = room.run(["explain", *words])
@@ -85,6 +97,10 @@ def explain_case(room, name, words, wanted):
             where = b"%d: " % number if found[3] == b"line" else place_of(room, file, number)
             room.report.holds(name + ": explained, place", said.startswith(file.encode() + b":" + where))
         room.report.holds(name + ": explained, rule", said.split(b"\n")[0].endswith(b" [" + found[2] + b"]"))
+    elif b"NEX" not in room.read("s"):
+        codes = codes_in(words)
+        told = described if wanted[0] == 0 else refused
+        room.report.holds(name + ": explained, classes", told(b"s", room.read("s"), codes) in said)
 
 
 def pair_case(room, name, kinds, wanted):
@@ -94,14 +110,14 @@ def pair_case(room, name, kinds, wanted):
     room.expect(name + ": with a pairing", ["compare", *kinds, "--pairing", "p", "s", "d", "a", "b"], wanted)
     if wanted[:2] == (0, b"same\n"):
         room.report.holds(name + ": the pairing's first line", room.read("p").startswith(b"edicad pairing 1\n"))
-        room.expect(name + ": the pairing verified", ["verify", *kinds, "s", "d", "a", "b", "p"], (0, b"pairs\n", b""))
+        room.expect(name + ": the pairing verified", ["verify", *kinds, "s", "d", "a", "b", "p"], (0, b"pairs\n", wanted[2]))
         rows = room.read("p").splitlines(keepends=True)
         room.write("p", b"".join(rows[:-1]))
         late = line(f"refused pairing line {len(rows)}: the file ends before this line")
-        room.expect(name + ": the pairing without its last line", ["verify", *kinds, "s", "d", "a", "b", "p"], (2, late, b""))
+        room.expect(name + ": the pairing without its last line", ["verify", *kinds, "s", "d", "a", "b", "p"], (2, late, wanted[2]))
     else:
         check(name + ": FILE", room.read("p"), b"kept")
-        bad = (2, line("refused pairing line 1: the file ends within this line"), b"") if wanted[0] == 1 else wanted
+        bad = (2, line("refused pairing line 1: the file ends within this line"), wanted[2]) if wanted[0] == 1 else wanted
         room.expect(name + ": a file without a pairing", ["verify", *kinds, "s", "d", "a", "b", "p"], bad)
     os.remove(room.path("p"))
 
@@ -117,11 +133,11 @@ def diff_case(room, name, kinds, wanted):
     rows = out.splitlines(keepends=True)
     count = lambda mark: sum(it.startswith(mark) for it in rows)
     last = f"{count(b'- ')} only in A, {count(b'+ ')} only in B, {count(b'~ ') - count(b'~ CSE ')} changed"
-    check(name + ": diff, status and errors", (status, err), (wanted[0], b""))
+    check(name + ": diff, status and errors", (status, err), (wanted[0], wanted[2]))
     check(name + ": diff, last line", rows[-1:], [line(last)])
     check(name + ": diff, more than a line", len(rows) > 1, wanted[0] == 1)
     charsets = b"".join(it for it in rows if it.startswith(b"~ CSE "))
-    check(name + ": diff, brief", brief, (status, charsets + line(last), b""))
+    check(name + ": diff, brief", brief, (status, charsets + line(last), wanted[2]))
 
 
 def sheet_case(room, case, sheet):
@@ -129,7 +145,7 @@ def sheet_case(room, case, sheet):
     name, kinds = case.name, kinds_of(case)
     canonical = None if is_refused(case) else case.wanted.replace("\n", "\r\n").encode("latin-1")
     answer = case.wanted.encode("latin-1") if canonical is None else b"accepted\n"
-    wanted = (2 if canonical is None else 0, answer, b"")
+    wanted = (2 if canonical is None else 0, answer, noted(room, kinds, answer))
     room.write("v", sheet)
     room.expect(name, ["check", *kinds, "s", "d", "v"], wanted)
     explain_case(room, name, [*kinds, "s", "d", "v"], wanted)
@@ -139,13 +155,14 @@ def sheet_case(room, case, sheet):
         room.write("v", sheet.replace("\n", "\r\n"))
         canon_case(room, name + ", its lines ended by CR LF", kinds, wanted, canonical)
         room.write("v", sheet)
+    loaded = not answer.startswith((b"refused dic", b"refused scd", b"refused kinds"))
     if canonical is not None:
-        hashed = (0, digest_of(canonical) + b"  v\n", b"")
+        hashed = (0, digest_of(canonical) + b"  v\n", wanted[2])
         room.write("w", canonical)
-        room.expect(name + ": the canonical file again", ["canon", *kinds, "s", "d", "w", "-"], (0, canonical, b""))
+        room.expect(name + ": the canonical file again", ["canon", *kinds, "s", "d", "w", "-"], (0, canonical, wanted[2]))
     else:
         file = b"d" if answer.startswith(b"refused dic") else b"s" if answer.startswith((b"refused scd", b"refused kinds")) else b"v"
-        hashed = (2, b"", file + b": " + answer)
+        hashed = (2, b"", (wanted[2] if loaded else b"") + file + b": " + answer)
     room.expect(name + ": hash", ["hash", *kinds, "s", "d", "v"], hashed)
     if not kinds and b"EOM" in room.read("s") and b"EOM" in room.read("d"):
         bundle = room.read("s") + room.read("d") + room.read("v")
@@ -168,7 +185,8 @@ def kinds_of(case):
 def compare_case(room, case):
     """Two sheets: whether they are the same, a pairing of them, what differs, and a picture of that."""
     kinds = kinds_of(case)
-    wanted = (status_of(case.wanted), case.wanted.encode("latin-1"), b"")
+    answer = case.wanted.encode("latin-1")
+    wanted = (status_of(case.wanted), answer, noted(room, kinds, answer))
     room.expect(case.name, ["compare", *kinds, "s", "d", "a", "b"], wanted)
     pair_case(room, case.name, kinds, wanted)
     diff_case(room, case.name, kinds, wanted)
@@ -179,7 +197,8 @@ def text_case(room, case):
     """Two sheets and the text of what differs between them, or the refusal."""
     kinds = kinds_of(case)
     word, text = ("", case.wanted) if is_refused(case) else case.wanted.split("\n", 1)
-    wanted = ({"same": 0, "different": 1, "": 2}[word], text.encode("latin-1"), b"")
+    answer = text.encode("latin-1")
+    wanted = ({"same": 0, "different": 1, "": 2}[word], answer, noted(room, kinds, answer))
     room.report.check(case.name + ": compare, status", room.run(["compare", *kinds, "s", "d", "a", "b"])[0], wanted[0])
     room.expect(case.name, ["diff", *kinds, "s", "d", "a", "b"], wanted)
     diff_case(room, case.name, kinds, wanted)
@@ -187,11 +206,12 @@ def text_case(room, case):
 
 
 def verify_case(room, case):
-    """Two sheets and a file: whether it pairs them, or which of the three is refused."""
-    answers = {"true\n": (0, b"pairs\n", b""), "false\n": (1, b"does not pair\n", b"")}
+    """Two sheets and a file: that it pairs them, why it doesn't, or which of the three is refused."""
+    carries, fails = case.wanted == "true\n", case.wanted.startswith("does not pair\n")
+    kinds, answer = kinds_of(case), b"pairs\n" if carries else case.wanted.encode("latin-1")
     room.write("p", case.inputs[2])
-    room.expect(case.name, ["verify", *kinds_of(case), "s", "d", "a", "b", "p"], answers.get(case.wanted, (2, case.wanted.encode("latin-1"), b"")))
-    room.report.holds(case.name + ": an answer that is known", case.wanted in answers or is_refused(case))
+    room.expect(case.name, ["verify", *kinds, "s", "d", "a", "b", "p"], (0 if carries else 1 if fails else 2, answer, noted(room, kinds, answer)))
+    room.report.holds(case.name + ": an answer that is known", carries or fails or is_refused(case))
 
 
 def bundle_case(room, case):
@@ -203,18 +223,18 @@ def bundle_case(room, case):
 def cuts_case(room, case):
     """Each cut of a sheet is refused where it lies: inside a line by 101 or 102 at that line, between two lines by 106, one
     line past the last. Only the last line feed may be missing."""
-    sheet, wrong = case.inputs[0].encode("latin-1"), []
+    sheet, wrong, said = case.inputs[0].encode("latin-1"), [], noted(room, [], b"")
     for length in range(len(sheet) - 1):
         ends = sheet[length : length + 1] == b"\n"
         number = sheet.count(b"\n", 0, length) + 1 + ends
         between = ends or length == 0 or sheet[length - 1 : length] == b"\n"
         room.write("v", sheet[:length])
         found = room.run(["check", "s", "d", "v"])
-        if found not in [(2, line(f"refused {rule} line {number}"), b"") for rule in ((106,) if between else (101, 102))]:
+        if found not in [(2, line(f"refused {rule} line {number}"), said) for rule in ((106,) if between else (101, 102))]:
             wrong.append((length, found))
     room.report.check(case.name, wrong, [])
     room.write("v", sheet[:-1])
-    room.expect(case.name + ": the last line feed missing", ["check", "s", "d", "v"], (0, b"accepted\n", b""))
+    room.expect(case.name + ": the last line feed missing", ["check", "s", "d", "v"], (0, b"accepted\n", said))
 
 
 def hash_case(room, case):

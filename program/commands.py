@@ -1,8 +1,11 @@
 """Commands with good and bad words, and what they write where."""
+import fcntl
 import os
 import pty
 import re
+import resource
 import shlex
+import signal
 import subprocess
 
 from cases import digest_of
@@ -57,7 +60,10 @@ def files(room, sheet, canonical):
     os.rename(room.path("kept d"), room.path("d"))
     room.expect("the first missing file is named", ["check", "s", "x", "y"], (4, b"", unread("x")))
     room.expect("all are opened before one is read", ["check", ".", "d", "y"], (4, b"", unread("y")))
-    room.expect("a folder can't be read", ["check", "s", "d", "."], (4, b"", unread(".", "is a folder")))
+    for command, inputs, out in (("check", "sdv", []), ("explain", "sdv", []), ("canon", "sdv", ["o"]), ("draw", "sdv", ["o"]), ("compare", "sdvv", []), ("diff", "sdvv", [])):
+        for at, name in enumerate(inputs):
+            paths = [*inputs[:at], ".", *inputs[at + 1:], *out]
+            room.expect(f"{command} with a folder for {name} at {at}", [command, *paths], (4, b"", unread(".", "is a folder")))
     room.expect("a file where a folder is named", ["check", "s", "s/x", "v"], (4, b"", unread("s/x", "no such folder")))
     room.expect("a file in a folder that is missing", ["check", "s", "none/x", "v"], (4, b"", unread("none/x")))
     report.check("no OUT of missing files", room.read("o"), None)
@@ -92,11 +98,51 @@ def files(room, sheet, canonical):
     report.check("a link stays, and its file is replaced", (os.path.islink(room.path("near")), room.read("far")), (True, canonical))
     os.symlink("nowhere", room.path("broken"))
     room.expect("OUT is a link to nothing", ["canon", "s", "d", "v", "broken"], (4, b"", unwritten("broken", "no such file")))
-    room.write(".edicad-0.tmp", "left behind")
-    room.expect("what a stopped run left is no hindrance", ["canon", "s", "d", "v", "o2"], (0, b"accepted\n", b""))
-    report.check("OUT beside what a stopped run left", (room.read("o2"), room.read(".edicad-0.tmp")), (canonical, b"left behind"))
-    os.remove(room.path(".edicad-0.tmp"))
     report.check("no draft stays", drafts(room.folder), [])
+    drafts_of_others(room, canonical)
+    too_long(room)
+
+
+def too_long(room):
+    """A file of more bytes than a run reads is refused by its length, and not read."""
+    with open(room.path("long"), "wb") as file:
+        file.truncate(5_000_000_000)
+    words = [room.program, "check", "s", "d", "long"]
+    with subprocess.Popen(words, cwd=room.folder, stdin=subprocess.DEVNULL, stdout=subprocess.PIPE, stderr=subprocess.PIPE) as run:
+        said = run.stdout.read(), run.stderr.read()
+        _, status, usage = os.wait4(run.pid, 0)
+        run.returncode = os.waitstatus_to_exitcode(status)
+    room.report.check("a file that is too long", (run.returncode, *said), (4, b"", line("too long long")))
+    room.report.holds("a file that is too long isn't read", usage.ru_maxrss < 1_000_000)
+    os.remove(room.path("long"))
+
+
+def drafts_of_others(room, canonical):
+    """What stopped runs left is removed, and what a run that goes on is writing is not."""
+    report = room.report
+    for number in (0, 1, 3):
+        room.write(f".edicad-{number}.tmp", "left")
+    room.expect("canon where stopped runs left drafts", ["canon", "s", "d", "v", "o2"], (0, b"accepted\n", b""))
+    report.check("OUT where stopped runs left drafts", room.read("o2"), canonical)
+    report.check("drafts are removed up to the first name that is free", drafts(room.folder), [".edicad-3.tmp"])
+    room.write(".edicad-0.tmp", "being written")
+    room.write(".edicad-1.tmp", "left")
+    os.symlink("o2", room.path(".edicad-2.tmp"))
+    with open(room.path(".edicad-0.tmp"), "rb") as held:
+        fcntl.flock(held, fcntl.LOCK_EX)
+        room.expect("canon beside a draft that is being written", ["canon", "s", "d", "v", "o3"], (0, b"accepted\n", b""))
+    report.check("OUT beside a draft that is being written", room.read("o3"), canonical)
+    report.check("a draft that is being written stays", room.read(".edicad-0.tmp"), b"being written")
+    report.check("a link of a draft's name stays, and what it leads to", (sorted(drafts(room.folder)), room.read("o2")),
+                 ([".edicad-0.tmp", ".edicad-2.tmp"], canonical))
+    for name in drafts(room.folder):
+        os.remove(room.path(name))
+
+
+def fifty_bytes():
+    """No file gets longer than that."""
+    signal.signal(signal.SIGXFSZ, signal.SIG_IGN)
+    resource.setrlimit(resource.RLIMIT_FSIZE, (50, 50))
 
 
 def standard_streams(room, sheet, canonical):
@@ -129,6 +175,11 @@ def standard_streams(room, sheet, canonical):
         room.expect("accepted, with OUT, to a full output", ["canon", "s", "d", "v", "o"], unsaid, stdout=full)
         room.expect("refused beside a full output", ["canon", "s", "d", "s", "-"], (2, None, b"refused 201 record 1\n"), stdout=full)
         report.check("errors to a full stream", room.run(["check", "s", "d", "x"], stderr=full)[0], 4)
+    with open(room.path("short"), "wb") as short:
+        room.expect("the canonical file to an output that takes a part", ["canon", "s", "d", "v", "-"],
+                    (4, None, b"cannot write standard output\n" + line("edicad: standard output: the first 50 bytes were written")),
+                    stdout=short, preexec_fn=fifty_bytes)
+    report.check("the part that it took", room.read("short"), canonical[:50])
     room.expect("a closed output", ["check", "s", "d", "v"], (4, b"", unsaid[2]), preexec_fn=lambda: os.close(1))
     report.check("a closed stream of errors", room.run(["check", "s", "d", "x"], preexec_fn=lambda: os.close(2))[0], 4)
     room.expect("a closed input", ["check", "s", "d", "-"], (4, b"", b"cannot read standard input\n"), preexec_fn=lambda: os.close(0))
@@ -209,6 +260,14 @@ def hashes(room, sheet, canonical):
     room.expect("a refused schema", ["hash", "bad", "d", "x"], (2, b"", b"bad: refused scd 106 line 1\n"))
     room.expect("a refused dictionary", ["hash", "s", "bad", "x"], (2, b"", b"bad: refused dic 106 line 1\n"))
     room.expect("refused kinds", ["hash", "--kinds", "XA,XB,XC,IND", "s", "d", "x"], (2, b"", b"s: refused kinds 604\n"))
+    none = b": no class for initial node, final node, left face, right face: see --kinds\n"
+    room.expect("codes that no class has", ["hash", "--kinds", "W,X,Y,Z", "s", "d", "v", "bad"], (2, one + b"  v\n", b"edicad: s" + none + b"bad: refused 106 line 1\n"))
+    room.write("a\nb", room.read("s"))
+    room.expect("the same in a schema whose name has escapes", ["hash", "--kinds=W,X,Y,Z", "a\nb", "d", "v"], (0, one + b"  v\n", b"edicad: a\\nb" + none))
+    room.expect("the same in one on standard input", ["hash", "--kinds=W,X,Y,Z", "-", "d", "v"], (0, one + b"  v\n", b"edicad: -" + none), room.read("s"))
+    room.write("faceless", room.read("s").replace(b"LPO", b"XPO").replace(b"RPO", b"YPO"))
+    room.expect("no class for faces", ["hash", "faceless", "d", "v"], (0, one + b"  v\n", b"edicad: faceless: no class for left face, right face: see --kinds\n"))
+    os.remove(room.path("a\nb"))
     room.write("b\\d", b"")
     room.expect("the name of a refused schema has its escapes", ["hash", "b\\d", "d", "x"], (2, b"", b"\\b\\\\d: refused scd 106 line 1\n"))
     room.expect("the greatest status", ["hash", "s", "d", "x", "bad", "v"], (4, one + b"  v\n", b"x: cannot read\nedicad: x: no such file\nbad: refused 106 line 1\n"))
@@ -238,6 +297,7 @@ def pairings(room, sheet):
     room.write("bad", "")
     pairing = b"edicad pairing 1\nPNO;a;d\nPNO;b;c\n"
     wrong = lambda at, why: (2, line(f"refused pairing line {at}: {why}"), b"")
+    fails = lambda why: (1, b"does not pair\n" + line(why), b"")
     sheets = ["s", "d", "a", "b"]
     same = (0, b"same\n", b"")
     room.expect("a pairing is written", ["compare", "--pairing", "p", *sheets], same)
@@ -248,9 +308,9 @@ def pairings(room, sheet):
     report.check("FILE that is replaced", (room.read("p"), os.stat(room.path("p")).st_mode & 0o777), (pairing, 0o640))
     for name, text, wanted in (
         ("the pairing", pairing, (0, b"pairs\n", b"")),
-        ("one that exchanges the nodes", b"edicad pairing 1\nPNO;a;c\nPNO;b;d\n", (1, b"does not pair\n", b"")),
-        ("one with both nodes to one", b"edicad pairing 1\nPNO;a;d\nPNO;b;d\n", (1, b"does not pair\n", b"")),
-        ("one that reverses a node", b"edicad pairing 1\nPNO;a;d;reversed\nPNO;b;c\n", (1, b"does not pair\n", b"")),
+        ("one that exchanges the nodes", b"edicad pairing 1\nPNO;a;c\nPNO;b;d\n", fails("FILE:2: PNO a: is not PNO c of B: other points")),
+        ("one with both nodes to one", b"edicad pairing 1\nPNO;a;d\nPNO;b;d\n", fails("FILE:3: PNO b: goes to PNO d of B, as PNO a does in line 2")),
+        ("one that reverses a node", b"edicad pairing 1\nPNO;a;d;reversed\nPNO;b;c\n", fails("FILE:2: PNO a: is not PNO d of B: it is reversed, and no arc")),
         ("an empty file", b"", wrong(1, "the file ends before this line")),
         ("another version", b"edicad pairing 2\nPNO;a;d\nPNO;b;c\n", wrong(1, "it is not edicad pairing 1")),
         ("a carriage return", b"edicad pairing 1\r\nPNO;a;d\nPNO;b;c\n", wrong(1, "it ends in a carriage return")),
@@ -268,9 +328,17 @@ def pairings(room, sheet):
         ("a sheet", room.read("a"), wrong(1, "it is not edicad pairing 1")),
     ):
         room.write("q", text)
-        room.expect(f"verify of {name}", ["verify", *sheets, "q"], wanted)
-        room.expect(f"verify of {name} on standard input", ["verify", *sheets, "-"], wanted, text)
-    room.expect("verify of other sheets", ["verify", "s", "d", "a", "c", "p"], (1, b"does not pair\n", b""))
+        status, said, err = wanted
+        room.expect(f"verify of {name}", ["verify", *sheets, "q"], (status, said.replace(b"FILE", b"q"), err))
+        room.expect(f"verify of {name} on standard input", ["verify", *sheets, "-"], (status, said.replace(b"FILE", b"standard input"), err), text)
+    room.expect("verify of other sheets", ["verify", "s", "d", "a", "c", "p"], fails("p:2: PNO a: is not PNO d of B: other points"))
+    room.write("more", of(("c", 8), ("d", 7), ("e", 9), ("f", 6)))
+    room.expect("verify where B has more records", ["verify", "s", "d", "a", "more", "p"], fails("PNO e of B: no record of A goes to it"))
+    room.write("set", of(("c", 8), ("d", 7)).replace("\n", "\nCSET 03:IRV\n", 1))
+    room.expect("verify of other character sets", ["verify", "s", "d", "a", "set", "p"], fails("A and B have different character sets"))
+    room.write("bell", of(("c", 8), ("\a", 9)))
+    room.write("q\a\\", "edicad pairing 1\nPNO;a;\a\nPNO;b;c\n")
+    room.expect("verify of what a terminal could act on", ["verify", "s", "d", "a", "bell", "q\a\\"], fails("q\\x07\\\\:2: PNO a: is not PNO \\x07 of B: other points"))
     room.expect("verify with A and B exchanged", ["verify", "s", "d", "b", "a", "p"], wrong(2, "it is the line of a record of B, and not of A: the sheets may be exchanged"))
     for at, name in enumerate(("s", "d", "a", "b", "p")):
         words = [*sheets, "p"]
@@ -287,8 +355,9 @@ def pairings(room, sheet):
                 (["--kinds", "XA,XB,XC,IND", "s", "d", "a", "b"], b"refused kinds 604\n"))
     room.write("kept", "kept")
     for words, said in refusals:
-        room.expect(f"verify of {words}", ["verify", *words, "bad"], (2, said, b""))
-        room.expect(f"a pairing of {words}", ["compare", "--pairing", "kept", *words], (2, said, b""))
+        note = b"edicad: s: no class for initial node, final node, left face: see --kinds\n" if "--kinds" in words else b""
+        room.expect(f"verify of {words}", ["verify", *words, "bad"], (2, said, note))
+        room.expect(f"a pairing of {words}", ["compare", "--pairing", "kept", *words], (2, said, note))
     room.expect("a pairing of different sheets", ["compare", "--pairing", "kept", "s", "d", "a", "c"], (1, b"different at line 5\n", b""))
     room.expect("a pairing of a missing sheet", ["compare", "--pairing", "kept", "s", "d", "a", "x"], (4, b"", unread("x")))
     room.expect("a pairing to -", ["compare", "--pairing", "-", *sheets], (3, b"", b"--pairing takes a file, and not -\n"))
@@ -316,6 +385,40 @@ def pairings(room, sheet):
     room.write("v", sheet)
     room.expect("a pairing of a sheet with itself", ["compare", "--pairing", "p", "s", "d", "v", "v"], same)
     report.check("the pairing of a sheet with itself", room.read("p"), b"edicad pairing 1\nPNO;Noeud_1;Noeud_1\n")
+
+
+def kinds_noted(room, sheet, canonical):
+    """The note on the kinds of links that no class has: behind each answer, by the name of the file of classes, on standard error."""
+    room.write("v", sheet)
+    room.write("w", canonical)
+    room.write("bad", "")
+    none = b": no class for initial node, final node, left face, right face: see --kinds\n"
+    note = b"edicad: s" + none
+    other = ["--kinds", "W,X,Y,Z"]
+    room.expect("a pairing to be verified", ["compare", "--pairing", "p", "s", "d", "v", "w"], (0, b"same\n", b""))
+    answers = ((["check"], ["v"], b"accepted\n"), (["canon"], ["v", "o"], b"accepted\n"), (["canon"], ["v", "-"], canonical),
+               (["draw"], ["v", "o"], b"accepted\n"), (["compare"], ["v", "w"], b"same\n"), (["compare", "--pairing", "q"], ["v", "w"], b"same\n"),
+               (["verify"], ["v", "w", "p"], b"pairs\n"), (["diff"], ["v", "w"], b"0 only in A, 0 only in B, 0 changed\n"),
+               (["diff", "--brief", "--picture", "q"], ["v", "w"], b"0 only in A, 0 only in B, 0 changed\n"))
+    for command, names, answer in answers:
+        room.expect(f"codes that no class has, {command}", [*command, *other, "s", "d", *names], (0, answer, note))
+        room.expect(f"codes that a class has each, {command}", [*command, "s", "d", *names], (0, answer, b""))
+    room.expect("beside a refused sheet", ["check", *other, "s", "d", "bad"], (2, b"refused 106 line 1\n", note))
+    room.expect("beside a refused sheet to -", ["canon", *other, "s", "d", "bad", "-"], (2, b"", b"refused 106 line 1\n" + note))
+    room.expect("beside a refused dictionary", ["check", *other, "s", "bad", "v"], (2, b"refused dic 106 line 1\n", note))
+    room.expect("not on a file of classes that breaks a rule of lines", ["check", *other, "bad", "d", "v"], (2, b"refused scd 106 line 1\n", b""))
+    room.expect("not where a file is missing", ["compare", *other, "s", "d", "v", "x"], (4, b"", unread("x")))
+    room.expect("not where OUT is an input", ["canon", *other, "s", "d", "v", "v"], (4, b"", unwritten("v", "is one of the inputs")))
+    room.expect("behind an OUT that can't be written", ["canon", *other, "s", "d", "v", "none/o"], (4, b"", unwritten("none/o", "no such folder") + note))
+    room.expect("on a file of classes on standard input", ["check", *other, "-", "d", "v"], (0, b"accepted\n", b"edicad: standard input" + none), room.read("s"))
+    room.write("a\nb", room.read("s"))
+    room.expect("by a name as a line shows it", ["check", *other, "a\nb", "d", "v"], (0, b"accepted\n", b"edicad: a\\x0ab" + none))
+    os.remove(room.path("a\nb"))
+    room.write("faceless", room.read("s").replace(b"LPO", b"XPO").replace(b"RPO", b"YPO"))
+    room.expect("no class for faces", ["check", "faceless", "d", "v"], (0, b"accepted\n", b"edicad: faceless: no class for left face, right face: see --kinds\n"))
+    with open("/dev/full", "wb") as full:
+        room.expect("beside a full output", ["check", *other, "s", "d", "v"], (4, None, b"cannot write standard output\n" + note), stdout=full)
+        room.report.check("to a full stream", room.run(["check", *other, "s", "d", "v"], stderr=full)[:2], (0, b"accepted\n"))
 
 
 def as_compare(room, words, status, **how):

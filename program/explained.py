@@ -2,9 +2,11 @@
 import os
 import re
 
+from classes import described, refused
 from room import unread
 
 DOCS = os.path.join(os.path.dirname(os.path.abspath(__file__)), "..", "docs")
+CODES = [b"IND", b"FND", b"LPO", b"RPO"]
 RULES = (*range(101, 111), *range(201, 209), *range(301, 308), *range(401, 407), 501, 601, 602, 603, 604)
 
 
@@ -12,11 +14,12 @@ def explains(room, sheet):
     """Explanations with their whole text, of rules too; words, files and streams that are bad."""
     report = room.report
     room.write("v", sheet)
-    held = b"accepted\nnodes: 1\narcs: 0\nfaces: 0\nobjects: 0\nlinks: 0\nx: 10.5 to 10.5\ny: 20 to 20\ncharacter set: IRV\nquality zones left out: 0\nremarks left out: 0\n"
+    classes, left_out = described(b"s", room.read("s"), CODES), b"quality zones left out: 0\nremarks left out: 0\n"
+    held = b"accepted\nnodes: 1\narcs: 0\nfaces: 0\nobjects: 0\nlinks: 0\nx: 10.5 to 10.5\ny: 20 to 20\ncharacter set: IRV\n" + classes + left_out
     room.expect("what an accepted sheet holds", ["explain", "s", "d", "v"], (0, held, b""))
     room.expect("the sheet on standard input, explained", ["explain", "s", "d", "-"], (0, held, b""), room.read("v"))
     room.write("empty", "BOMT 01:X\nEOMT 00:\n")
-    none = b"accepted\nnodes: 0\narcs: 0\nfaces: 0\nobjects: 0\nlinks: 0\ncharacter set: none\nquality zones left out: 0\nremarks left out: 0\n"
+    none = b"accepted\nnodes: 0\narcs: 0\nfaces: 0\nobjects: 0\nlinks: 0\ncharacter set: none\n" + classes + left_out
     room.expect("what a sheet without records holds", ["explain", "s", "d", "empty"], (0, none, b""))
     node = "RTYSA03:PNO\nRIDSA0{0}:{1}\nSCPCP22:EDAB01;SeSD;PGE;NOD_id\nCORCC0{2}:{3};0;\n"
     spread = "BOMT 01:X\n" + node.format(1, "a", 8, "-0.50") + node.format(1, "b", 4, "7") + "EOMT 00:\n"
@@ -39,9 +42,6 @@ def explains(room, sheet):
     room.write("twice", room.read("s").replace(b"RIDSA06:FAC_id", b"RIDSA06:NOD_id"))
     twice = b"refused scd 602 record 3\ntwice:7: PGE NOD_id: type and identifier of an earlier record of the file [602]\ntwice:3: PGE NOD_id: the earlier record [602]\n"
     room.expect("a refused schema", ["explain", "twice", "d", "v"], (2, twice, b""))
-    lone = ["explain", "--kinds", "XA,XB,XC,IND", "s", "d", "v"]
-    status, out, err = room.run(lone)
-    report.check("a refusal of the kinds", (status, out.split(b"\n")[0], out.split(b"\n")[1][:3], err), (2, b"refused kinds 604", b"s: ", b""))
     for name, command in (("s", ["x", "d", "v"]), ("d", ["s", "x", "v"]), ("v", ["s", "d", "x"])):
         room.expect(f"explain without {name}", ["explain", *command], (4, b"", unread("x")))
     room.expect("two inputs by -", ["explain", "-", "d", "-"], (3, b"", b"only one input can be -\n"))
@@ -59,6 +59,46 @@ def explains(room, sheet):
     with open("/dev/full", "wb") as full:
         for command in (["s", "d", "v"], ["s", "d", "two"], ["403"]):
             room.expect(f"{command} explained to a full output", ["explain", *command], (4, None, b"cannot write standard output\n"), stdout=full)
+
+
+def explains_kinds(room, sheet):
+    """The classes that break 604, and the classes of the four kinds of an accepted schema."""
+    room.write("v", sheet)
+    front, end = "BOMT 01:X\n", "EOMT 00:\n"
+    one = lambda rid, knd=None, rty="REL": f"RTYSA{len(rty):02}:{rty}\nRIDSA{len(rid):02}:{rid}\n" + (f"KNDSA{len(knd):02}:{knd}\n" if knd else "")
+    nodes, faces = one("a", "IND") + one("b", "FND"), one("c", "LPO") + one("e", "RPO")
+
+    def kinds_refused(name, classes, lines, kinds=None, file="t"):
+        room.write("t", front + classes + end)
+        words = ["explain", *(["--kinds", kinds] if kinds else []), file, "d", "v"]
+        told = "".join(f"{'standard input' if file == '-' else file}:{it} [604]\n" for it in lines)
+        room.expect(name, words, (2, b"refused kinds 604\n" + told.encode(), b""), room.read("t") if file == "-" else b"")
+
+    kinds_refused("a class of one kind alone", one("a", "IND"), ["2: REL a: a class for initial node, and there is none for final node"])
+    kinds_refused("the same on standard input", one("a", "FND"), ["2: REL a: a class for final node, and there is none for initial node"], file="-")
+    kinds_refused("the first alone of two kinds", one("c", "RPO") + one("a", "FND"), ["5: REL a: a class for final node, and there is none for initial node"])
+    kinds_refused("two classes of a kind", nodes + one("c", "FND"), ["8: REL c: a second class for final node", "5: REL b: the earlier class"])
+    kinds_refused("three classes of a kind", nodes + one("c", "IND") + one("e", "IND"), ["8: REL c: a second class for initial node", "2: REL a: the earlier class"])
+    kinds_refused("two of a kind before one alone", one("a", "IND") + one("c", "RPO") + one("e", "RPO"), ["8: REL e: a second class for right face", "5: REL c: the earlier class"])
+    kinds_refused("a type with a semicolon", faces + one("a", "IND") + one("b", "FND", "R;L"), ["11: R;L b: a class for final node that no pointer can name, since its type holds ;"])
+    kinds_refused("a class alone before a semicolon", one("c", "LPO") + one("a", "IND", "R;L") + one("b", "FND"), ["2: REL c: a class for left face, and there is none for right face"])
+    kinds_refused("a class by its identifier", one("FND"), ["2: REL FND: a class for final node, and there is none for initial node"])
+    kinds_refused("KND before the identifier", one("FND", "IND"), ["2: REL FND: a class for initial node, and there is none for final node"])
+    kinds_refused("given codes", one("a", "W") + one("b", "IND"), ["2: REL a: a class for left face, and there is none for right face"], "X,Y,W,Z")
+    room.expect("a code of another producer", ["explain", "--kinds", "XA,XB,XC,IND", "s", "d", "v"],
+                (2, b"refused kinds 604\n" + refused(b"s", room.read("s"), [b"XA", b"XB", b"XC", b"IND"]), b""))
+
+    def kinds_described(name, classes, lines, kinds=()):
+        room.write("t", front + one("NOD_id", None, "PGE") + classes + end)
+        status, out, err = room.run(["explain", *kinds, "t", "d", "v"])
+        told = [it for it in out.decode().split("\n") if it.startswith(("initial node: ", "final node: ", "left face: ", "right face: "))]
+        room.report.check(name, (status, told, err), (0, lines, b""))
+
+    no_nodes, no_faces = ["initial node: no class", "final node: no class"], ["left face: no class", "right face: no class"]
+    kinds_described("four classes", faces + nodes, ["initial node: t:10: REL a", "final node: t:13: REL b", "left face: t:4: REL c", "right face: t:7: REL e"])
+    kinds_described("no faces", nodes, ["initial node: t:4: REL a", "final node: t:7: REL b", *no_faces])
+    kinds_described("no nodes", faces, [*no_nodes, "left face: t:4: REL c", "right face: t:7: REL e"])
+    kinds_described("codes that no class has", faces + nodes, no_nodes + no_faces, ["--kinds", "W,X,Y,Z"])
 
 
 def explains_partners(room):

@@ -34,7 +34,7 @@ def draw_case(room, name, words, wanted):
     if wanted[0] != 0:
         report.check(name + ": OUT of draw", room.read("o"), b"kept")
         os.remove(room.path("o"))
-        room.expect(name + ": drawn to -", ["draw", *words, "-"], (wanted[0], b"", wanted[1]))
+        room.expect(name + ": drawn to -", ["draw", *words, "-"], (wanted[0], b"", wanted[1] + wanted[2]))
         return
     picture = room.read("o")
     found = drawn(picture)
@@ -42,7 +42,7 @@ def draw_case(room, name, words, wanted):
     report.holds(name + ": no more faces than there are", sum(it[0] == "PFE" for it in found) <= count_of(room, words[-1], "PFE"))
     report.check(name + ": titles of other types", [it for it in found if not it[2].startswith(it[0] + " ")], [])
     report.check(name + ": colours of one sheet", {it[1] for it in found} - {"#777777"}, set())
-    room.expect(name + ": drawn to -", ["draw", *words, "-"], (0, picture, b""))
+    room.expect(name + ": drawn to -", ["draw", *words, "-"], (0, picture, wanted[2]))
     os.remove(room.path("o"))
 
 

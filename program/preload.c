@@ -3,11 +3,13 @@
 
    The environment: NOTES is the descriptor that gets a line for each file that is stored, `stored INODE`, and for each that is
    renamed, `renamed INODE`; where the descriptor of a file that is stored is that of a standard stream, `standard` stands in the
-   place of `stored`. FAILS is `stored` or `renamed` where each such call is to fail with EIO, after its line. */
+   place of `stored`. FAILS is `stored` or `renamed` where each such call is to fail with EIO, after its line; ENDS is one of
+   the two where the run is to be ended there, as by `kill`. */
 #define _GNU_SOURCE
 #include <dlfcn.h>
 #include <errno.h>
 #include <fcntl.h>
+#include <signal.h>
 #include <stdio.h>
 #include <stdlib.h>
 #include <string.h>
@@ -16,10 +18,13 @@
 
 /* Notes what is done with a file, and says whether that is to fail. */
 static int noted(const char *done, int found, const struct stat *file) {
-    const char *notes = getenv("NOTES"), *fails = getenv("FAILS");
+    const char *notes = getenv("NOTES"), *fails = getenv("FAILS"), *ends = getenv("ENDS");
     char line[100];
     int length = snprintf(line, sizeof line, "%s %lu\n", done, found == 0 ? (unsigned long)file->st_ino : 0);
     (void)!write(notes ? atoi(notes) : 2, line, length);
+    if (ends && strcmp(ends, done) == 0) {
+        raise(SIGTERM);
+    }
     if (!fails || strcmp(fails, done) != 0) {
         return 0;
     }

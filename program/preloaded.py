@@ -1,9 +1,10 @@
 """Runs with a small library before the C library: the order in which files are stored and renamed, a file that can't be stored or
 renamed, and growths of memory that are refused."""
 import os
+import signal
 import subprocess
 
-from room import line
+from room import drafts, line
 
 HERE = os.path.dirname(os.path.abspath(__file__))
 GROWTH = os.path.join(HERE, "..", "growth")
@@ -79,6 +80,13 @@ def made_file(room, library, name, words, said, out, before):
         check(f"{name}: can't be {failing}", answer, (4, b"", line("cannot write " + words_out(words))))
         check(f"{name}: can't be {failing}, steps", [it.split()[0] for it in notes], steps)
         check(f"{name}: can't be {failing}, files", (room.read(out), sorted(os.listdir(room.path("made")))), (before, names))
+    for ending in ("stored", "renamed"):
+        names = begun()
+        answer, _ = noted(room, library, words, ENDS=ending)
+        left = sorted(set(os.listdir(room.path("made"))) - set(names))
+        check(f"{name}: ended before it is {ending}", (answer[0], room.read(out), left), (-signal.SIGTERM, before, [".edicad-0.tmp"]))
+        room.expect(f"{name}: after a run that was ended", words, (0, said, b""))
+        check(f"{name}: after a run that was ended, files", drafts(room.path("made")), [])
 
 
 def beside_closed(room, library, closed):
