@@ -6,9 +6,9 @@
 
 A rule's sentence is that of the tables of docs/FORMAT.md. Its definition is the one in a crate's specs/
 (specs/inner/ aside) that a comment `-- RULE: ..` stands above or in, or that has a test of
-that number (202 is the test of an identifier, which schemas share). Its code is the sources that name its number (edi_explain aside, which
-explains the rules). Its cases are those in
-crates/conform/data and program/cases that want its refusal.
+that number (202 is the test of an identifier, which schemas share). Its code is the sources that name its number (edi_explain and edi_outcome
+aside, which say what others found). Its cases are those in
+crates/conform/data and program/cases that want its refusal, but for those of outcomes, which are given one.
 """
 import glob
 import os
@@ -16,6 +16,9 @@ import re
 import sys
 
 ROOT = os.path.dirname(os.path.dirname(os.path.abspath(__file__)))
+
+# crates that say what others found
+SAYERS = ("crates/edi_explain/", "crates/edi_outcome/")
 
 
 def read(path):
@@ -63,7 +66,7 @@ def code():
     """For each rule the sources that name its number outside comments, contracts and tests."""
     found = {}
     for path in paths("crates/edi_*/src/*.rt"):
-        if re.search(r"tests?\.rt$|_cases\.rt$|known\.rt$", path) or path.startswith("crates/edi_explain/"):
+        if re.search(r"tests?\.rt$|_cases\.rt$|known\.rt$", path) or path.startswith(SAYERS):
             continue
         for line in read(path).split("\n"):
             text = re.sub(r"//.*", "", line)
@@ -81,7 +84,10 @@ def cases():
     """For each rule the files and titles of the cases that want its refusal."""
     found = {}
     for path in paths("crates/conform/data/*.cases") + paths("program/cases/*.cases"):
-        for block in read(path).split("--\n")[1:]:
+        head, *blocks = read(path).split("--\n")
+        if head.startswith("outcomes\n"):
+            continue
+        for block in blocks:
             title = block.split("\n", 1)[0]
             wanted = block.split("->\n", 1)[1]
             rule = re.search(r"^refused (?:\w+ )?(\d\d\d)\b", wanted, re.M)
