@@ -3,6 +3,7 @@
 
     python3 edits/tests.py      its last line is `N passed, M failed`
 """
+import math
 import os
 import shutil
 import subprocess
@@ -150,7 +151,8 @@ def groups(report, good):
 
 
 def verdicts(report, crate, good):
-    found = trying.try_crate(crate, good, lambda text: None)
+    found, seconds = trying.try_crate(crate, good, lambda text: None)
+    report.check("what it took", seconds > 1, True)
     for name, (_, wanted) in EDITS.items():
         report.check(name, found[name].how, wanted)
     report.check("the goal of a wrong one", (found["wrong"].function(), found["wrong"].goal), ("next", "returns"))
@@ -159,11 +161,15 @@ def verdicts(report, crate, good):
 
 
 def limits(report, crate, good):
-    """A check that takes too long shows nothing."""
+    """A check that takes too long shows nothing, and none begins when the time for them is over."""
     usual, trying.FROM_NOTHING = trying.FROM_NOTHING, 0.1
-    slow = trying.try_crate(crate, [it for it in good if it.name == "wrong"], lambda text: None)
+    slow, _ = trying.try_crate(crate, [it for it in good if it.name == "wrong"], lambda text: None)
     trying.FROM_NOTHING = usual
     report.check("a check without end", slow["wrong"].how, judge.TIME)
+    kit.HOURS.most = 0
+    left, _ = trying.try_crate(crate, good, lambda text: None)
+    kit.HOURS.most = math.inf
+    report.check("edits for which no time is left", {it.how for it in left.values()}, {judge.LEFT})
 
 
 def pages(report, folder, found):
@@ -197,12 +203,30 @@ def beside(report, top):
 
 
 def thirds(report):
-    """Three landings try every crate; a commit that isn't known has all of them tried."""
-    names = [f"crate_{it}" for it in range(20)]
-    tried = [choice.third_of(names, number) for number in (7, 8, 9)]
-    report.check("three landings", sorted(it for each in tried for it in each), sorted(names))
-    unknown = choice.chosen(HERE, names, choice.Landing(1, "0000000"))
-    report.check("a commit that isn't known", (unknown.whole, unknown.single), (set(names), {}))
+    """Three landings in which nothing changed try every crate, and what has changed comes first."""
+    edits = {f"crate_{it}": ["one", "two"] for it in range(20)}
+    every = [(crate, it) for crate in edits for it in edits[crate]]
+    tried = [it for number in (7, 8, 9) for it in choice.due(edits, set(), choice.Landing(number, ""))]
+    report.check("three landings", sorted(tried), sorted(every))
+    changed = {"edits/crate_3/two.edit", "crates/crate_4/src/lib.rt", "crates/crate_4/stdout", "docs/FORMAT.md"}
+    found = choice.due(edits, changed, choice.Landing(7, ""))
+    report.check("an edit that has changed", found[:1], [("crate_3", "two")])
+    report.check("a crate that has changed", sorted(found[1:3]), [("crate_4", "one"), ("crate_4", "two")])
+    report.check("each edit once", len(found), len(set(found)))
+
+
+def turns(report):
+    """What is too much for one landing is left for the next ones, which try all of it; a commit that isn't known leaves nothing out."""
+    edits = {f"crate_{it}": [f"edit_{at}" for at in range(45)] for it in range(10)}
+    every = [(crate, it) for crate in edits for it in edits[crate]]
+    tried = set()
+    for number in (5, 6, 7):
+        what = choice.chosen(HERE, edits, choice.Landing(number, "0000000"))
+        found = [(crate, it) for crate in what.tried for it in what.tried[crate]]
+        report.check("no more than one landing tries", len(found), choice.MOST)
+        report.check("what isn't tried is left", sum(map(len, what.left.values())), len(every) - choice.MOST)
+        tried |= set(found)
+    report.check("three landings by turns", sorted(tried), sorted(every))
 
 
 def main():
@@ -218,6 +242,7 @@ def main():
         pages(report, f"{top}/edits/trial", found)
         beside(report, top)
     thirds(report)
+    turns(report)
     print(f"{report.passed} passed, {report.failed} failed")
     return 1 if report.failed else 0
 

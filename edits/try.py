@@ -5,9 +5,9 @@
     python3 edits/try.py CRATE/NAME ..  these edits alone, and writes their rows
     python3 edits/try.py --all          those of all crates
     python3 edits/try.py --beside WORD ..
-                                        as the gate does: runs the command, which is `rt ci`, and tries the edits of what has changed since
-                                        the last landing and of a third of the other crates, those of each crate as soon as the command says
-                                        that the crates below it are proved; it writes nothing
+                                        as the gate does: runs the command, which is `rt ci`, and tries the edits of this landing, those of
+                                        each crate as soon as the command says that the crates below it are proved; it writes nothing
+    python3 edits/try.py --due          which edits this landing tries and which it leaves
     python3 edits/try.py --lists        looks whether the lists name the edits that are here
     python3 edits/try.py --next         writes LANDING anew: a session begins with it
 """
@@ -31,6 +31,8 @@ from driver import choice, edit, kit, lists, trying  # noqa: E402
 PROVED = re.compile(r"rt: (\w+) (?:proved$|is kept: )")
 
 printing = threading.Lock()
+# how long after its beginning the gate begins no further check of edits, in seconds, so that a slow machine doesn't lose a landing
+MOST_SECONDS = 6600
 # what has been said of edits that show nothing; it is said again at the end, where it is found
 nothing = []
 
@@ -55,13 +57,13 @@ def try_one(crate, only, is_landing):
     good, bad = edit.edits_in(folder, crate.folder)
     good = [it for it in good if only is None or it.name in only]
     begun = time.monotonic()
-    verdicts = trying.try_crate(crate, good, say, is_landing)
+    verdicts, seconds = trying.try_crate(crate, good, say, is_landing)
     rows = lists.read_list(folder)
     for name in sorted(verdicts):
         tell(crate.name, name, verdicts[name], rows.get(name))
     for name, why in bad:
         tell_nothing(f"{crate.name}/{name}: SHOWS NOTHING: {why}")
-    say(f"{crate.name}: {len(good)} edits in {time.monotonic() - begun:.0f} s")
+    say(f"{crate.name}: {len(good)} edits in {time.monotonic() - begun:.0f} s, {seconds:.0f} s of a processor")
     if not is_landing:
         there = {edit.name_of(it) for it in lists.paths_in(folder)}
         kept = {it: rows[it] for it in rows if only is not None and it in there and it not in verdicts}
@@ -72,7 +74,9 @@ def try_one(crate, only, is_landing):
 def tell(crate, name, verdict, row):
     """Prints what becomes of an edit, on one line."""
     what = f"`{verdict.goal}` of {verdict.function()}" if verdict.goal else ""
-    if verdict.is_refused():
+    if verdict.is_left():
+        say(f"{crate}/{name}: not tried, since the gate's time for planted bugs was over")
+    elif verdict.is_refused():
         is_other = row and (row.function, row.goal, row.how) != (verdict.function(), verdict.goal, verdict.how)
         other = "; its list has another goal" if is_other else ""
         say(f"{crate}/{name}: refused, {verdict.how}: {what}{other}")
@@ -97,23 +101,33 @@ def try_all(names, single):
 def counted(found):
     """How many edits were tried, and how many show nothing."""
     found = list(found)
-    lost = sum(len(bad) + sum(not it.is_refused() for it in verdicts.values()) for verdicts, bad in found)
-    return sum(len(verdicts) + len(bad) for verdicts, bad in found), lost
+    tried = [it for verdicts, _ in found for it in verdicts.values() if not it.is_left()]
+    bad = sum(len(it) for _, it in found)
+    return len(tried) + bad, sum(not it.is_refused() for it in tried) + bad
 
 
 def landing():
-    """What the gate tries: for each crate the names of its edits, or None where all of them are tried."""
+    """What the gate tries and what it leaves."""
     now = choice.landing_of(HERE)
-    names = [it for it in kit.crates_of(TOP) if it in listed()]
-    what = choice.chosen(TOP, names, now)
-    say(f"landing {now.number}: {' '.join(sorted(what.whole)) or 'no crate'}; single edits of {' '.join(sorted(what.single)) or 'none'}")
-    return {**dict.fromkeys(what.whole), **what.single}
+    there = listed()
+    edits = {it: [edit.name_of(path) for path in lists.paths_in(f"{HERE}/{it}")] for it in kit.crates_of(TOP) if it in there}
+    what = choice.chosen(TOP, edits, now)
+    say(f"landing {now.number} tries {numbers(what.tried)}")
+    if what.left:
+        say(f"landing {now.number} leaves for later ones {numbers(what.left)}")
+    return what
+
+
+def numbers(edits):
+    """How many of each crate's edits there are, and in all."""
+    each = ", ".join(f"{len(edits[it])} of {it}" for it in edits)
+    return f"{sum(map(len, edits.values()))}: {each or 'none'}"
 
 
 def beside(words):
     """Runs a command that proves the crates, and tries a crate's edits once it says that the crates below are proved. Its status, how many
     edits were tried, and how many show nothing."""
-    crates, left, proved, tried = kit.crates_of(TOP), landing(), set(), []
+    crates, left, proved, tried = kit.crates_of(TOP), landing().tried, set(), []
     wanted = set(left)
 
     def begin():
@@ -141,6 +155,10 @@ def main(words):
     if words == ["--next"]:
         choice.next_landing(TOP, HERE)
         return 0
+    if words == ["--due"]:
+        for crate, names in landing().left.items():
+            say(f"left: {' '.join(f'{crate}/{it}' for it in sorted(names))}")
+        return 0
     if words == ["--lists"]:
         found = [why for it in listed() for why in lists.complaints(f"{HERE}/{it}")]
         for why in found:
@@ -151,6 +169,7 @@ def main(words):
         return 1 if found else 0
     status = 0
     if words[:1] == ["--beside"] and len(words) > 1:
+        kit.HOURS.most = MOST_SECONDS
         status, tried, lost = beside(words[1:])
     else:
         names = folders() if words == ["--all"] else [it for it in words if "/" not in it]

@@ -1,10 +1,12 @@
-"""Which edits the gate tries: those of what has changed since the last landing, and of the other crates a third."""
+"""Which edits the gate tries: those that have changed, those of crates that have changed, and of the others a third; at most so many."""
 import os
 import re
 import subprocess
 
 FILE = "LANDING"
 PARTS = 3
+# how many edits one landing tries at most: they take about as long as the proofs
+MOST = 200
 
 
 class Landing:
@@ -34,35 +36,52 @@ def changed_since(top, commit):
     return {row[-1] for row in rows if row[0] != "R100" and row[0] != "D"}
 
 
-class Choice:
-    """What a landing tries: crates whole, and single edits of others."""
-
-    def __init__(self, whole, single):
-        self.whole = whole
-        self.single = single
-
-
 def third_of(names, number):
     """The names that the landing of this number tries whatever has changed."""
     return {it for at, it in enumerate(names) if at % PARTS == number % PARTS}
 
 
-def chosen(top, names, landing):
-    """What this landing tries of the crates of these names, which are in the order of crates.txt."""
+def by_turns(edits, number):
+    """These edits from another one on with each landing, so that the first MOST of them are others each time."""
+    at = number * MOST % max(len(edits), 1)
+    return edits[at:] + edits[:at]
+
+
+def due(edits, changed, landing):
+    """The edits that this landing should try, those that matter most first. `edits` has the names of each crate's, in the order of crates.txt;
+    `changed` the paths that have changed, or None where that isn't known."""
+    if changed is None:
+        return by_turns([(crate, it) for crate in edits for it in edits[crate]], landing.number)
+    crates = {found[1] for found in (re.match(r"crates/(\w+)/(?:src|specs|proofs)/", it) for it in changed) if found}
+    every = [(crate, it) for crate in edits for it in edits[crate]]
+    new = [(crate, it) for crate, it in every if f"edits/{crate}/{it}.edit" in changed]
+    of_changed = [it for it in every if it[0] in crates and it not in new]
+    thirds = third_of(list(edits), landing.number)
+    others = [it for it in every if it[0] in thirds - crates and it not in new]
+    return by_turns(new, landing.number) + by_turns(of_changed, landing.number) + others
+
+
+class Choice:
+    """What a landing tries and what it leaves for later ones: the names of edits by their crates."""
+
+    def __init__(self, edits):
+        self.tried = by_crate(edits[:MOST])
+        self.left = by_crate(edits[MOST:])
+
+
+def by_crate(edits):
+    found = {}
+    for crate, name in edits:
+        found.setdefault(crate, set()).add(name)
+    return found
+
+
+def chosen(top, edits, landing):
+    """What this landing tries of these edits."""
     changed = changed_since(top, landing.before)
     if changed is None:
-        print(f"edits: git has no commit {landing.before}, so every edit is tried")
-        return Choice(set(names), {})
-    whole = third_of(names, landing.number)
-    for path in changed:
-        found = re.match(r"crates/(\w+)/(src|specs|proofs)/", path)
-        whole |= {found[1]} & set(names) if found else set()
-    single = {}
-    for path in changed:
-        found = re.fullmatch(r"edits/(\w+)/([\w.-]+)\.edit", path)
-        if found and found[1] in names and found[1] not in whole:
-            single.setdefault(found[1], set()).add(found[2])
-    return Choice(whole, single)
+        print(f"edits: git has no commit {landing.before}, so nothing is known of what has changed")
+    return Choice(due(edits, changed, landing))
 
 
 def next_landing(top, folder):

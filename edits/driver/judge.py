@@ -15,6 +15,8 @@ CALLEE = "a callee without a proof"
 CALL = "a condition of a call that the edit adds"
 SAFETY = "only a sum, a cast or the like that isn't safe any more"
 TIME = "no end in time"
+# what wasn't tried at all
+LEFT = "left for a later landing"
 UNREAD = "the prover can't read it"
 ELSEWHERE = "no error of its own"
 # what a check of other edits at the same time can hide
@@ -44,6 +46,9 @@ class Verdict:
 
     def is_refused(self):
         return self.how in REFUSED
+
+    def is_left(self):
+        return self.how == LEFT
 
     def function(self):
         return "::".join(self.path)

@@ -44,11 +44,12 @@ TRIES = 3
 
 
 class Checked:
-    """What a check said, whether it ended in time, and whether it came to a verdict on the crate."""
+    """What a check said, whether it ended in time, how many seconds of a processor it took, and whether it came to a verdict on the crate."""
 
-    def __init__(self, text, ended):
+    def __init__(self, text, ended, seconds):
         self.text = text
         self.ended = ended
+        self.seconds = seconds
         self.is_stale = bool(RT.rtlib.STALE.search(text))
         self.is_whole = ended and text.rstrip("\n").split("\n")[-1].startswith("logic=")
 
@@ -71,10 +72,37 @@ def check(crate, texts, without, kept, seconds):
         words = [RT.rtlib.RATTLE, "check", *crate.words(["--jobs", "1"], keeps=False), "--incremental", kept]
         for _ in range(TRIES):
             with ROOM.taken():
+                if HOURS.are_over():
+                    raise Late()
                 said = ended_within([*RT.rtlib.guarded(), *words], room, seconds)
             if said:
                 return said
-        return Checked("", False)
+        return Checked("", False, 0)
+
+
+class Late(Exception):
+    """A check that wasn't begun, since the gate's time for checks was over."""
+
+
+class Hours:
+    """The time in which checks begin: all the time, or so many seconds from the driver's beginning on. A check that goes on for SPARE seconds more is
+    ended."""
+
+    SPARE = 1800
+
+    def __init__(self):
+        self.begun = time.monotonic()
+        self.most = math.inf
+
+    def are_over(self):
+        return time.monotonic() > self.begun + self.most
+
+    def end_of_check(self, seconds):
+        """When a check that may take so many seconds by the clock has to end."""
+        return min(time.monotonic() + seconds, self.begun + self.most + Hours.SPARE)
+
+
+HOURS = Hours()
 
 
 class Room:
@@ -122,14 +150,22 @@ def ended_within(words, folder, seconds):
     with tempfile.TemporaryFile("w+", errors="replace") as said:
         how = {"cwd": folder, "stdin": subprocess.DEVNULL, "stdout": said, "stderr": subprocess.STDOUT}
         run = subprocess.Popen(words, **how)
-        try:
-            run.wait(timeout=4 * seconds)
-            if run.returncode == -signal.SIGKILL:
-                return None
-            ended = run.returncode >= 0
-        except subprocess.TimeoutExpired:
-            os.kill(run.pid, signal.SIGKILL)
-            run.wait()
-            ended = False
+        status, taken = ended_by(run.pid, HOURS.end_of_check(4 * seconds))
+        if status == -signal.SIGKILL:
+            return None
         said.seek(0)
-        return Checked(said.read(), ended)
+        return Checked(said.read(), status is not None and status >= 0, taken)
+
+
+def ended_by(process, deadline):
+    """The status of a process, negative for a signal and None where it hasn't ended by the deadline and is killed, and the seconds of a
+    processor that it took."""
+    is_late = False
+    while True:
+        ended, status, used = os.wait4(process, os.WNOHANG)
+        if ended:
+            return None if is_late else os.waitstatus_to_exitcode(status), used.ru_utime + used.ru_stime
+        if not is_late and time.monotonic() > deadline:
+            is_late = True
+            os.kill(process, signal.SIGKILL)
+        time.sleep(0.2)

@@ -2,12 +2,13 @@
 import os
 import shutil
 import tempfile
+import threading
 from concurrent.futures import ThreadPoolExecutor
 
 from . import judge
 from .copies import planted_in_copies, texts_with
 from .edit import functions_of, groups_of, planted, text_of
-from .kit import RT, check
+from .kit import RT, Late, check
 
 # how long one check may take, in seconds: from nothing, and over kept work
 FROM_NOTHING = 1800
@@ -17,11 +18,18 @@ MOST_COPIES = 24
 
 
 class Unfinished(Exception):
-    """A check that gave no verdict on the crate: it took too long, or the front end refused the text, for these faults."""
+    """A check that gave no verdict on the crate: it took too long or wasn't begun, or the front end refused the text, for these faults."""
 
-    def __init__(self, faults=None):
+    def __init__(self, faults=None, is_left=False):
         super().__init__()
         self.faults = faults
+        self.is_left = is_left
+
+    def verdict(self):
+        """What it says of an edit that was planted alone."""
+        if self.is_left:
+            return judge.Verdict(judge.LEFT)
+        return judge.Verdict(judge.TIME if self.faults is None else judge.UNREAD)
 
 
 def linked(source, to):
@@ -46,6 +54,13 @@ class Trial:
         self.room = room
         self.kept = kept
         self.say = say
+        self.adding = threading.Lock()
+        # what its checks took, in seconds of a processor
+        self.seconds = 0
+
+    def add(self, seconds):
+        with self.adding:
+            self.seconds += seconds
 
     def check(self, texts, without=()):
         """Checks the crate with these texts in the place of its own, and without the answers of these functions."""
@@ -54,7 +69,11 @@ class Trial:
         if self.kept:
             shutil.copytree(self.kept, work, dirs_exist_ok=True, copy_function=linked)
             seconds = OVER_KEPT
-        said = check(self.crate, texts, without, work, seconds)
+        try:
+            said = check(self.crate, texts, without, work, seconds)
+        except Late:
+            raise Unfinished(is_left=True) from None
+        self.add(said.seconds)
         if said.is_stale:
             raise SystemExit(f"edits: the kept work of {self.crate.name} or of a library can't be used: remove its out/")
         if self.kept or not said.is_whole:
@@ -127,8 +146,8 @@ class Trial:
         texts = texts_with([it.copy for it in copies.values()], self.crate.folder)
         try:
             faults, states = self.judged_texts(texts, [it.copy.path() for it in copies.values()])
-        except Unfinished:
-            return {}
+        except Unfinished as why:
+            return {it: why.verdict() for it in copies} if why.is_left else {}
         return {it: judge.without_answer(verdicts[it], faults, states, self.crate.name) for it in copies}
 
     def try_group(self, edits):
@@ -138,11 +157,11 @@ class Trial:
             faults, states = self.judged(edits)
             return {it.name: judge.verdict_of(it, faults, states, self.crate.name) for it in edits}
         except Unfinished as why:
-            faults = why.faults
+            faults, verdict = why.faults, why.verdict()
         found = {it.name: judge.of_front_end(it, faults) for it in edits if faults}
         found = {name: it for name, it in found.items() if it}
         if len(edits) == 1:
-            return found or {edits[0].name: judge.Verdict(judge.TIME if faults is None else judge.UNREAD)}
+            return found or {edits[0].name: verdict}
         rest = [it for it in edits if it.name not in found]
         parts = [rest] if found else [rest[: len(rest) // 2], rest[len(rest) // 2 :]]
         for part in parts:
@@ -154,14 +173,14 @@ class Trial:
         try:
             return judge.verdict_alone(edit, *self.judged([edit]))
         except Unfinished as why:
-            return judge.Verdict(judge.TIME if why.faults is None else judge.UNREAD)
+            return why.verdict()
 
     def try_without_answers(self, edits, verdicts):
         """The verdicts on edits by which an answer no longer fits, from a check without the answers of those functions."""
         try:
             faults, states = self.judged(edits, [verdicts[it.name].path for it in edits])
-        except Unfinished:
-            return {it.name: verdicts[it.name] for it in edits}
+        except Unfinished as why:
+            return {it.name: why.verdict() if why.is_left else verdicts[it.name] for it in edits}
         return {it.name: judge.without_answer(verdicts[it.name], faults, states, self.crate.name) for it in edits}
 
     def verdicts_of(self, group):
@@ -204,10 +223,11 @@ def kept_of(crate):
 
 
 def try_crate(crate, edits, say, from_nothing=False):
-    """The verdict on each of these edits of a crate, by their names."""
+    """The verdict on each of these edits of a crate, by their names, and how many seconds of a processor the checks took."""
     with tempfile.TemporaryDirectory(prefix="edits-") as room:
         kept = None if from_nothing else kept_of(crate)
         linked_kept = f"{room}/kept"
         if kept:
             shutil.copytree(kept, linked_kept, copy_function=linked)
-        return Trial(crate, room, linked_kept if kept else None, say).all_verdicts(edits)
+        trial = Trial(crate, room, linked_kept if kept else None, say)
+        return trial.all_verdicts(edits), trial.seconds
