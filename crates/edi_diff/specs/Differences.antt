@@ -22,8 +22,8 @@ pub record IsDifferenceText (s : Classes) (first second : LocatedSheet) (unchang
   pub are_parts : ArePartsOfEach s first.accepted second.accepted unchanged became parts
   pub is_text : text ≡ text_of_report brief (record { first = first; second = second; unchanged = unchanged.to; became = became.to; parts = parts })
 
--- What differs between two files: the text, by a matching that holds between their plans, that leaves nothing out exactly if
--- these and their character sets are the same, and leaves out no node and no arc that has a partner, no face together with that on the
+-- What differs between two files: the text, by a matching that holds between their plans, that leaves nothing out, of one character set, exactly
+-- if these are the same, and leaves out no node and no arc that has a partner, no face together with that on the
 -- same side of a matched arc, and no link, each together with one that it is carried onto; and whether the plans are the same.
 pub record IsDifference (s : Classes) (a b : List ℕ) (brief : Bool) (difference : Difference) : Type 0 where
   pub first : LocatedSheet
