@@ -1,4 +1,5 @@
 pub mod NameLemmas
+pub mod NamesTaken
 pub mod PlaceLemmas
 pub mod LineLemmas
 pub mod TextLemmas

@@ -1,4 +1,5 @@
 pub mod Names
+pub mod NamedSheets
 pub mod PairingText
 pub mod WrongLines
 pub mod Verified

@@ -10,6 +10,8 @@ use Rattle.edi_compare.specs.Uncarried.{IsUncarriedBy}
 use Rattle.edi_compare.specs.Verdicts.{IsVerdict}
 use Rattle.edi_compare.specs.declared.pairing.Pairing.{Pairing}
 use Rattle.edi_compare.specs.declared.pairing.Verdict.TheVariants.{Different, Same}
+use Rattle.edi_compare.specs.declared.fault.CompareFault.{CompareFault}
+use Rattle.edi_compare.specs.declared.fault.CompareFault.TheVariants as sheets
 use Rattle.edi_compare.specs.declared.uncarried.Uncarried.TheVariants as uncarried
 use Rattle.edi_compare.specs.declared.uncarried.WrongPartner.TheVariants as wrong
 use Rattle.edi_pairing.specs.Names.{AreNamesOf, name_at}
@@ -36,10 +38,6 @@ pub record StatesOf (a b file : List ℕ) (pairing : Pairing) : Type 0 where
   pub are_names : AreNamesOf a names
   pub are_others : AreNamesOf b others
   pub stated : StatesPairing names others pairing file
-
--- both sheets are accepted, and comparing them found the pairing
-abbrev pub IsFoundPairing : Classes → List ℕ → List ℕ → Pairing → Type 0
-IsFoundPairing s a b pairing = IsAccepted s a × IsAccepted s b × IsVerdict s a b (Same pairing)
 
 -- a file that states a pairing which carries the one plan onto the other; or the line at which the canonical files differ
 abbrev pub IsComparedTo : Classes → List ℕ → List ℕ → Compared → Type 0
@@ -95,3 +93,9 @@ IsVerifyRefusal s a b file (OfPairing at why) = IsAccepted s a × IsAccepted s b
 abbrev pub of_pairing : PairingFault → VerifyFault
 of_pairing (pairing_.Memory e) = Memory e
 of_pairing (pairing_.Line at why) = OfPairing at why
+
+-- the fault of two sheets as one of a check
+abbrev pub of_sheets : CompareFault → VerifyFault
+of_sheets (sheets.Memory e) = Memory e
+of_sheets (sheets.First f) = First f
+of_sheets (sheets.Second f) = Second f

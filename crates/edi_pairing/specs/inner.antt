@@ -2,6 +2,6 @@
 pub mod Named
 pub mod Places
 pub mod Reading
-pub mod Verified
+pub mod Taken
 pub mod VerifyRuns
 pub mod Wrong

@@ -4,10 +4,10 @@ ghost use Rattle.std.specs.Prelude.{◌≡◌, alloc_error};
 ghost use Rattle.edi_pairing.specs.declared.fault.PairingFault.TheVariants.{Memory};
 ghost use Rattle.edi_pairing.specs.declared.fault.VerifyFault.TheVariants as verified;
 ghost use Rattle.edi_pairing.specs.declared.fault.VerifyRunFault.TheVariants.{Run};
-ghost use Rattle.edi_pairing.specs.Verified.{of_pairing};
+ghost use Rattle.edi_pairing.specs.Verified.{of_pairing, of_sheets};
 ghost use Rattle.edi_pairing.specs.WrongLines.{reason_words};
 
-use edi_compare::{Fault, RunFault};
+use edi_compare::{CompareFault, Fault, RunFault};
 use std::alloc::{AllocError, AllocFailed};
 use thiserror::Error;
 
@@ -110,6 +110,18 @@ impl From<AllocError> for VerifyFault {
 
     fn from(fault: AllocError) -> VerifyFault {
         VerifyFault::Memory(fault)
+    }
+}
+
+impl From<CompareFault> for VerifyFault {
+    ghost from_gives = { λ f e. e ≡ of_sheets f };
+
+    fn from(fault: CompareFault) -> VerifyFault {
+        match fault {
+            CompareFault::Memory(error) => VerifyFault::Memory(error),
+            CompareFault::First(fault) => VerifyFault::First(fault),
+            CompareFault::Second(fault) => VerifyFault::Second(fault),
+        }
     }
 }
 

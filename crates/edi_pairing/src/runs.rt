@@ -1,5 +1,6 @@
 //! The runs that write a pairing's file and check one.
 ghost use Rattle.std.specs.Prelude.{◌≡◌, IfOk, IfErr, OnOk};
+ghost use Rattle.edi_line.specs.FileBytes.{file_bytes};
 ghost use Rattle.edi_compare.specs.Runs.{AfterReading, AreFourRead, ComparingFault, IfFourKnown, seen};
 ghost use Rattle.edi_compare.specs.inner.Runs.{PairFault};
 ghost use Rattle.edi_pairing.specs.CompareRuns.{IsComparedUnder};
@@ -10,8 +11,8 @@ use crate::fault::{VerifyFault, VerifyRunFault};
 use crate::verified::Verified;
 use crate::verifying::verify;
 use crate::writing::{Compared, compare_to_file};
-use edi_compare::{RunFault, load_or_fault, read_input};
-use edi_line::ByteIn;
+use edi_compare::{RunFault, load_or_fault, read_input, read_input_pieces};
+use edi_line::{ByteIn, FileBytes};
 use edi_schema::Kinds;
 use std::alloc::Global;
 
@@ -36,9 +37,16 @@ pub fn run_compare_to_file<S: ByteIn, D: ByteIn, A: ByteIn, B: ByteIn>(
 {
     let scd = read_input(alloc, scd, 1)?;
     let dic = read_input(alloc, dic, 2)?;
-    let first = read_input(alloc, first, 3)?;
-    let second = read_input(alloc, second, 4)?;
-    compare_or_fault(alloc, kinds, &scd, &dic, &first, &second)
+    let first = read_input_pieces(alloc, first, 3)?;
+    let second = read_input_pieces(alloc, second, 4)?;
+    compare_or_fault(
+        alloc,
+        kinds,
+        &scd,
+        &dic,
+        FileBytes::InPieces(first),
+        FileBytes::InPieces(second),
+    )
 }
 
 /// Reads five files, and answers whether the fifth states a pairing that carries the plan of the third onto that of the
@@ -79,10 +87,18 @@ pub fn run_verify<S: ByteIn, D: ByteIn, A: ByteIn, B: ByteIn, F: ByteIn>(
 {
     let scd = read_input(alloc, scd, 1)?;
     let dic = read_input(alloc, dic, 2)?;
-    let first = read_input(alloc, first, 3)?;
-    let second = read_input(alloc, second, 4)?;
+    let first = read_input_pieces(alloc, first, 3)?;
+    let second = read_input_pieces(alloc, second, 4)?;
     let file = read_input(alloc, file, 5)?;
-    verify_or_fault(alloc, kinds, &scd, &dic, &first, &second, &file)
+    verify_or_fault(
+        alloc,
+        kinds,
+        &scd,
+        &dic,
+        FileBytes::InPieces(first),
+        FileBytes::InPieces(second),
+        &file,
+    )
 }
 
 // What comparing two sheets under the schema of the two files answers.
@@ -91,11 +107,11 @@ fn compare_or_fault(
     kinds: &Kinds<'_>,
     scd: &[u8],
     dic: &[u8],
-    first: &[u8],
-    second: &[u8],
+    first: FileBytes<'_>,
+    second: FileBytes<'_>,
 ) -> Result<Compared, RunFault>
-    ensures ok { IfOk result (IsComparedUnder kinds.now scd.now dic.now first.now second.now) }
-    ensures err { IfErr result (PairFault kinds.now scd.now dic.now first.now second.now) }
+    ensures ok { IfOk result (IsComparedUnder kinds.now scd.now dic.now (file_bytes first.entry) (file_bytes second.entry)) }
+    ensures err { IfErr result (PairFault kinds.now scd.now dic.now (file_bytes first.entry) (file_bytes second.entry)) }
 {
     let schema = load_or_fault(alloc, kinds, scd, dic)?;
     let compared = compare_to_file(alloc, &schema, first, second)?;
@@ -108,12 +124,12 @@ fn verify_or_fault(
     kinds: &Kinds<'_>,
     scd: &[u8],
     dic: &[u8],
-    first: &[u8],
-    second: &[u8],
+    first: FileBytes<'_>,
+    second: FileBytes<'_>,
     file: &[u8],
 ) -> Result<Verified, VerifyRunFault>
-    ensures ok { IfOk result (IsVerifiedUnder kinds.now scd.now dic.now first.now second.now file.now) }
-    ensures err { IfErr result (FilesFault kinds.now scd.now dic.now first.now second.now file.now) }
+    ensures ok { IfOk result (IsVerifiedUnder kinds.now scd.now dic.now (file_bytes first.entry) (file_bytes second.entry) file.now) }
+    ensures err { IfErr result (FilesFault kinds.now scd.now dic.now (file_bytes first.entry) (file_bytes second.entry) file.now) }
 {
     let schema = load_or_fault(alloc, kinds, scd, dic)?;
     match verify(alloc, &schema, first, second, file) {

@@ -1,19 +1,16 @@
 //! Accepted sheets, with the names of their records.
 
-ghost use Rattle.std.specs.Prelude.{◌≡◌, ◌<◌, ◌^◌, length, OnOk, IfOk, IfErr};
-ghost use Rattle.edi_plan.specs.Agreeing.{HasClasses};
-ghost use Rattle.edi_compare.specs.PlanOfFile.{IsPlanOfFile};
-ghost use Rattle.edi_compare.specs.Refused.{IsRefusal};
-ghost use Rattle.edi_compare.specs.Rules.{IsAccepted, RecordsHold};
-ghost use Rattle.edi_pairing.specs.Names.{AreNames, AreNamesOf, names_of};
-ghost use Rattle.edi_schema.specs.Classes.{Classes};
+ghost use Rattle.std.specs.Prelude.{◌≡◌, IfErr, IfOk};
+ghost use Rattle.edi_line.specs.FileBytes.{file_bytes};
+ghost use Rattle.edi_compare.specs.Refused.{IsPairRefusal, IsRefusal};
+ghost use Rattle.edi_pairing.specs.NamedSheets.{IsNamedSheet};
 
-use crate::names::{RecordName, RecordNames};
-use edi_compare::{Accepted, Fault, accept};
-use edi_line::Text;
-use edi_record::{SheetRecords, read_sheet};
+use crate::names::RecordNames;
+use crate::taken::TakenNames;
+use edi_compare::{Accepted, CompareFault, Fault, accept_beside, first_refused, second_refused};
+use edi_line::FileBytes;
 use edi_schema::Schema;
-use std::alloc::{AllocError, Global};
+use std::alloc::Global;
 
 /// An accepted sheet, with the names of its records.
 pub struct NamedSheet {
@@ -30,66 +27,36 @@ impl Drop for NamedSheet {
     }
 }
 
-/// The names of records.
-fn names_of(alloc: Global, records: &SheetRecords) -> Result<Vec<RecordName>, AllocError>
-    ensures { IfOk result (λ names. names.items ≡ names_of records.now) }
-{
-    let mut names = Vec::with_capacity(alloc, records.len())?;
-    for place in 0..records.len() {
-        names.push(RecordName {
-            kind: records.kind(place),
-            rid: Text::from_slice(alloc, records.rid(place))?,
-        })?;
-    }
-    Ok(names)
-}
-
-// A slice has fewer than 2^64 bytes.
-fn hold_bytes(bytes: &[u8])
-    ensures { length bytes.now < 2 ^ 64 }
-{
-    let _len = bytes.len();
-}
-
-/// The names of the records of a file, if no rule of lines or records is broken.
-fn names_in(alloc: Global, bytes: &[u8]) -> Result<Vec<RecordName>, Fault>
-    ensures names { IfOk result (λ names. AreNamesOf bytes.now names.items) }
-    ensures sound { IfOk result (λ names. (s : Classes) → IsAccepted s bytes.now → AreNames names.items) }
-    ensures refusal { IfErr result (λ fault. (s : Classes) → IsRefusal s bytes.now fault) }
-{
-    hold_bytes(bytes);
-    let sheet = read_sheet(alloc, bytes)?;
-    let names = names_of(alloc, &sheet.list)?;
-    Ok(names)
-}
-
-/// The names of the records of a sheet that is accepted under some schema.
-pub(crate) fn names_of_accepted(alloc: Global, bytes: &[u8]) -> Result<RecordNames, AllocError>
-    requires { (s : Classes) × IsAccepted s bytes.now }
-    ensures { IfOk result (AreNamesOf bytes.now) }
-{
-    match names_in(alloc, bytes) {
-        Ok(names) => Ok(RecordNames::of(names)),
-        Err(Fault::Memory(error)) => Err(error),
-        Err(Fault::Line { .. }) => unreachable!(),
-        Err(Fault::Entry { .. }) => unreachable!(),
-    }
-}
-
 /// The plan of a sheet under a schema, and the names of its records, if no rule is broken; or the refusal that
-/// `edi_compare::accept` gives. The file is read twice, for the names and for the plan, so that its values are not
-/// in memory beside the plan.
-pub fn name_sheet(alloc: Global, schema: &Schema, bytes: &[u8]) -> Result<NamedSheet, Fault>
-    ensures accepted { OnOk result (IsAccepted schema.now bytes.now) }
-    ensures plan { IfOk result (λ sheet. IsPlanOfFile schema.now bytes.now sheet.accepted) }
-    ensures classes { IfOk result (λ sheet. HasClasses schema.now sheet.accepted) }
-    ensures names { IfOk result (λ sheet. AreNamesOf bytes.now sheet.names) }
-    ensures refusal { IfErr result (IsRefusal schema.now bytes.now) }
+/// `edi_compare::accept` gives. The names are taken while the file is read, which is let go, where it is owned, as soon as its records are.
+pub fn name_sheet(alloc: Global, schema: &Schema, bytes: FileBytes<'_>) -> Result<NamedSheet, Fault>
+    ensures sheet { IfOk result (IsNamedSheet schema.now (file_bytes bytes.entry)) }
+    ensures refusal { IfErr result (IsRefusal schema.now (file_bytes bytes.entry)) }
 {
-    let names = names_in(alloc, bytes)?;
-    let accepted = accept(alloc, schema, bytes)?;
-    Ok(NamedSheet {
-        accepted,
-        names: RecordNames::of(names),
-    })
+    bytes.keeps();
+    let (accepted, taken) = accept_beside(alloc, schema, bytes, TakenNames::new(alloc))?;
+    let names = RecordNames::of(taken.into_vec());
+    Ok(NamedSheet { accepted, names })
+}
+
+/// What `name_sheet` gives of two files, one after the other; or the refusal that `edi_compare::compare` gives of them.
+#[tactic(auto, using(edi_compare::proofs::Refusals::first_fault, edi_compare::proofs::Refusals::second_fault))]
+pub fn name_both(
+    alloc: Global,
+    schema: &Schema,
+    a: FileBytes<'_>,
+    b: FileBytes<'_>,
+) -> Result<(NamedSheet, NamedSheet), CompareFault>
+    ensures first { IfOk result (λ both. IsNamedSheet schema.now (file_bytes a.entry) both.0) }
+    ensures second { IfOk result (λ both. IsNamedSheet schema.now (file_bytes b.entry) both.1) }
+    ensures refusal { IfErr result (IsPairRefusal schema.now (file_bytes a.entry) (file_bytes b.entry)) }
+{
+    let first = match name_sheet(alloc, schema, a) {
+        Ok(sheet) => sheet,
+        Err(fault) => return Err(first_refused(fault)),
+    };
+    match name_sheet(alloc, schema, b) {
+        Ok(second) => Ok((first, second)),
+        Err(fault) => Err(second_refused(fault)),
+    }
 }

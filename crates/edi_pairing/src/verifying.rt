@@ -1,17 +1,18 @@
 //! Checking pairing files.
 
 ghost use Rattle.std.specs.Prelude.{◌≡◌, OnOk, IfOk, IfErr, length};
+ghost use Rattle.edi_line.specs.FileBytes.{file_bytes};
 ghost use Rattle.edi_plan.specs.Agreeing.{HasClasses};
 ghost use Rattle.edi_compare.specs.Rules.{IsAccepted};
 ghost use Rattle.edi_pairing.specs.PairingText.{IsPairing};
 ghost use Rattle.edi_pairing.specs.Verified.{IsVerifyAnswer, IsVerified, IsVerifyRefusal};
-ghost use Rattle.edi_pairing.specs.inner.Verified.{of_first, of_second};
 
 use crate::fault::VerifyFault;
 use crate::reading::read_pairing;
-use crate::sheets::{NamedSheet, name_sheet};
+use crate::sheets::{NamedSheet, name_both};
 use crate::verified::{Verified, unpaired_by};
-use edi_compare::{Fault, Pairing, first_uncarried};
+use edi_compare::{Pairing, first_uncarried};
+use edi_line::FileBytes;
 use edi_schema::Schema;
 use std::alloc::{AllocError, Global};
 
@@ -25,23 +26,16 @@ use std::alloc::{AllocError, Global};
 pub fn verify(
     alloc: Global,
     schema: &Schema,
-    a: &[u8],
-    b: &[u8],
+    a: FileBytes<'_>,
+    b: FileBytes<'_>,
     file: &[u8],
 ) -> Result<Verified, VerifyFault>
-    ensures first { OnOk result (IsAccepted schema.now a.now) }
-    ensures second { OnOk result (IsAccepted schema.now b.now) }
-    ensures answer { IfOk result (IsVerified schema.now a.now b.now file.now) }
-    ensures refusal { IfErr result (IsVerifyRefusal schema.now a.now b.now file.now) }
+    ensures first { OnOk result (IsAccepted schema.now (file_bytes a.entry)) }
+    ensures second { OnOk result (IsAccepted schema.now (file_bytes b.entry)) }
+    ensures answer { IfOk result (IsVerified schema.now (file_bytes a.entry) (file_bytes b.entry) file.now) }
+    ensures refusal { IfErr result (IsVerifyRefusal schema.now (file_bytes a.entry) (file_bytes b.entry) file.now) }
 {
-    let first = match name_sheet(alloc, schema, a) {
-        Ok(sheet) => sheet,
-        Err(fault) => return Err(first_refused(fault)),
-    };
-    let second = match name_sheet(alloc, schema, b) {
-        Ok(sheet) => sheet,
-        Err(fault) => return Err(second_refused(fault)),
-    };
+    let (first, second) = name_both(alloc, schema, a, b)?;
     let pairing = read_pairing(alloc, &first.names, &second.names, file)?;
     let answer = judged(alloc, schema, &first, &second, &pairing)?;
     Ok(answer)
@@ -67,23 +61,5 @@ fn judged(
             Ok(Verified::Fails(why))
         }
         None => Ok(Verified::Carries),
-    }
-}
-
-fn first_refused(fault: Fault) -> VerifyFault
-    ensures { result ≡ of_first fault }
-{
-    match fault {
-        Fault::Memory(error) => VerifyFault::Memory(error),
-        Fault::Line { .. } | Fault::Entry { .. } => VerifyFault::First(fault),
-    }
-}
-
-fn second_refused(fault: Fault) -> VerifyFault
-    ensures { result ≡ of_second fault }
-{
-    match fault {
-        Fault::Memory(error) => VerifyFault::Memory(error),
-        Fault::Line { .. } | Fault::Entry { .. } => VerifyFault::Second(fault),
     }
 }

@@ -1,15 +1,17 @@
 //! Writing pairings.
 
-ghost use Rattle.std.specs.Prelude.{◌≡◌, ◌++◌, IfErr, IfOk, OnOk};
-ghost use Rattle.edi_pairing.specs.PairingText.{IsPairing, line_end, line_of, text_of};
-ghost use Rattle.edi_pairing.specs.Verified.{IsComparedTo, IsFoundPairing, StatesOf};
+ghost use Rattle.std.specs.Prelude.{◌≡◌, ◌++◌, ℕ, List, IfErr, IfOk, OnOk};
+ghost use Rattle.edi_line.specs.FileBytes.{file_bytes};
 ghost use Rattle.edi_compare.specs.Refused.{IsPairRefusal};
 ghost use Rattle.edi_compare.specs.Rules.{IsAccepted};
-ghost use Rattle.edi_schema.specs.Classes.{Classes};
+ghost use Rattle.edi_pairing.specs.NamedSheets.{IsNamedSheet};
+ghost use Rattle.edi_pairing.specs.PairingText.{IsPairing, line_end, line_of, text_of};
+ghost use Rattle.edi_pairing.specs.Verified.{IsComparedTo};
 
 use crate::names::{RecordName, RecordNames};
-use crate::sheets::names_of_accepted;
-use edi_compare::{CompareFault, Pairing, Verdict, compare};
+use crate::sheets::{NamedSheet, name_both};
+use edi_compare::{CompareFault, Pairing, Verdict, compare_accepted};
+use edi_line::FileBytes;
 use edi_schema::Schema;
 use std::alloc::{AllocError, Global};
 
@@ -68,38 +70,37 @@ pub fn pairing_text(
     Ok(text)
 }
 
-/// The text of a pairing that `edi_compare::compare` found of two sheets. Both are read again for the names of their
-/// records; the only error is want of memory.
-pub fn pairing_file(
-    alloc: Global,
-    a: &[u8],
-    b: &[u8],
-    pairing: &Pairing,
-) -> Result<Vec<u8>, AllocError>
-    requires { (s : Classes) × IsFoundPairing s a.now b.now pairing.now }
-    ensures { IfOk result (λ file. StatesOf a.now b.now file.items pairing.now) }
-{
-    let first = names_of_accepted(alloc, a)?;
-    let second = names_of_accepted(alloc, b)?;
-    let text = pairing_text(alloc, &first, &second, pairing)?;
-    Ok(text)
-}
-
 /// What `edi_compare::compare` answers, with the pairing as a file.
 pub fn compare_to_file(
     alloc: Global,
     schema: &Schema,
-    a: &[u8],
-    b: &[u8],
+    a: FileBytes<'_>,
+    b: FileBytes<'_>,
 ) -> Result<Compared, CompareFault>
-    ensures first { OnOk result (IsAccepted schema.now a.now) }
-    ensures second { OnOk result (IsAccepted schema.now b.now) }
-    ensures compared { IfOk result (IsComparedTo schema.now a.now b.now) }
-    ensures refusal { IfErr result (IsPairRefusal schema.now a.now b.now) }
+    ensures first { OnOk result (IsAccepted schema.now (file_bytes a.entry)) }
+    ensures second { OnOk result (IsAccepted schema.now (file_bytes b.entry)) }
+    ensures compared { IfOk result (IsComparedTo schema.now (file_bytes a.entry) (file_bytes b.entry)) }
+    ensures refusal { IfErr result (IsPairRefusal schema.now (file_bytes a.entry) (file_bytes b.entry)) }
 {
-    match compare(alloc, schema, a, b)? {
+    let (first, second) = name_both(alloc, schema, a, b)?;
+    let compared = compare_named(alloc, schema, &first, &second)?;
+    Ok(compared)
+}
+
+/// What `edi_compare::compare_accepted` answers, with the pairing as a file.
+fn compare_named(
+    alloc: Global,
+    schema: &Schema,
+    first: &NamedSheet,
+    second: &NamedSheet,
+) -> Result<Compared, AllocError>
+    requires { (a b : List ℕ) × IsNamedSheet schema.now a first.now × IsNamedSheet schema.now b second.now }
+    ensures { IfOk result (λ compared. (a b : List ℕ) → IsNamedSheet schema.now a first.now → IsNamedSheet schema.now b second.now
+        → IsComparedTo schema.now a b compared) }
+{
+    match compare_accepted(alloc, schema, &first.accepted, &second.accepted)? {
         Verdict::Same(pairing) => {
-            let file = pairing_file(alloc, a, b, &pairing)?;
+            let file = pairing_text(alloc, &first.names, &second.names, &pairing)?;
             Ok(Compared::Same { file })
         }
         Verdict::Different { line } => Ok(Compared::Different { line }),

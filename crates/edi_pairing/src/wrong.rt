@@ -121,7 +121,7 @@ fn last_at(text: &[u8]) -> Option<&[u8]>
 }
 
 /// The type that a code names.
-fn kind_named(code: &[u8]) -> Option<Kind>
+pub(crate) fn kind_named(code: &[u8]) -> Option<Kind>
     ensures { result ≡ kind_by code.now }
 {
     match code {

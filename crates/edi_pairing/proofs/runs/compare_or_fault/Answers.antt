@@ -1,4 +1,5 @@
 use Rattle.std.proofs.Common.{ℕ, List}
+use Rattle.edi_line.specs.FileBytes.{file_bytes}
 use Rattle.edi_schema.specs.Classes.{Classes}
 use Rattle.edi_schema.specs.Roles.{KindCodes}
 use Rattle.edi_schema.specs.SchemaRefusal.{IsGoodSchema}
@@ -22,12 +23,12 @@ under kinds scd dic a b s (Different line) good first second h = (s, good, first
 pub returns-in_err-compared-clause-err : goal.returns-in_err-compared-clause-err
 returns-in_err-compared-clause-err c =
     let f = c.in_err-compared.field-0.0 in
-    let a = c.args.first.now in
-    let b = c.args.second.now in
+    let a = file_bytes c.args.first in
+    let b = file_bytes c.args.second in
     err_kept _ (of_pair f) (PairFault c.args.kinds.now c.args.scd.now c.args.dic.now a b) c.from_residual-in_err-compared.ensures.1
     (pair_fault c.args.kinds.now c.args.scd.now c.args.dic.now a b c.in_ok-schema.schema f c.in_ok-schema.ensures.ok c.in_err-compared.ensures.refusal)
 
 pub returns-clause-ok : goal.returns-clause-ok
 returns-clause-ok c =
-    under c.args.kinds.now c.args.scd.now c.args.dic.now c.args.first.now c.args.second.now c.in_ok-schema.schema c.in_ok-compared.compared c.in_ok-schema.ensures.ok
+    under c.args.kinds.now c.args.scd.now c.args.dic.now (file_bytes c.args.first) (file_bytes c.args.second) c.in_ok-schema.schema c.in_ok-compared.compared c.in_ok-schema.ensures.ok
     c.in_ok-compared.ensures.first c.in_ok-compared.ensures.second c.in_ok-compared.ensures.compared
