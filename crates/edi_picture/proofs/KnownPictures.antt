@@ -1,9 +1,10 @@
 -- Known sheets have their pictures.
-use Rattle.std.proofs.Common.{ℕ, List, [], ◌∷◌, ◌++◌, ℤ, pos, Some, None, Contains, refl, sym, subst, lit<, lit≤, rules}
+use Rattle.std.proofs.Common.{◌≡◌, ℕ, List, [], ◌∷◌, ◌++◌, Bool, true, T, ℤ, pos, Some, None, Contains, refl, sym, subst, lit<, lit≤}
 use Rattle.std.specs.Fmt.{digits}
-use Rattle.std.specs.Int.Signed.{◌≤ℤ◌}
-use Rattle.std.specs.List.{AllByRecursion}
-use Rattle.std.proofs.lemmas.List.Elements.{All-contains, All-from_recursion}
+use Rattle.std.specs.Int.Signed.{◌≤ℤ◌, le_z, le_z_yes}
+use Rattle.std.specs.List.{list_all}
+use Rattle.std.proofs.lemmas.List.Elements.{All-contains}
+use Rattle.std.proofs.lemmas.List.Sums.{AllPass-from_list_all}
 use Rattle.edi_line.specs.Number.{fraction_digits, size_text}
 use Rattle.edi_schema.specs.Classes.{Classes}
 use Rattle.edi_plan.specs.Extents.{IsExtent, IsSpan, all_x, all_y}
@@ -21,15 +22,22 @@ pub only_picture : (s : Classes) (sheets : List Sheet) (picture : List ℕ) → 
 only_picture s sheets picture known text =
     (λ drawn. one_picture s sheets text picture drawn known, λ same. subst (IsPicture s sheets) (sym same) known)
 
--- a span by its two ends, and each number above the one and below the other
+-- a number that passes the test of an order is in that order
+in_order : (a b : ℤ) → le_z a b ≡ true → a ≤ℤ b
+in_order a b passed = le_z_yes (subst T (sym passed) tt)
+
+-- the span of some numbers, by where its ends stand among them and the tests of all of them
 spans : (numbers : List ℤ) (s : Span) → Contains numbers s.least → Contains numbers s.greatest
-    → AllByRecursion (λ n. s.least ≤ℤ n) numbers → AllByRecursion (λ n. n ≤ℤ s.greatest) numbers → IsSpan numbers s
+    → list_all (le_z s.least) numbers ≡ true → list_all (λ n. le_z n s.greatest) numbers ≡ true → IsSpan numbers s
 spans numbers s least greatest above below = record {
   least = least;
   greatest = greatest;
-  above = λ n there. All-contains (λ m. s.least ≤ℤ m) numbers n (All-from_recursion (λ m. s.least ≤ℤ m) numbers above) there;
-  below = λ n there. All-contains (λ m. m ≤ℤ s.greatest) numbers n (All-from_recursion (λ m. m ≤ℤ s.greatest) numbers below) there;
+  above = λ n there. in_order s.least n (passes (le_z s.least) above n there);
+  below = λ n there. in_order n s.greatest (passes (λ m. le_z m s.greatest) below n there);
 }
+  where
+    passes : (test : ℤ → Bool) → list_all test numbers ≡ true → (n : ℤ) → Contains numbers n → test n ≡ true
+    passes test all n there = All-contains (λ m. test m ≡ true) numbers n (AllPass-from_list_all test numbers all) there
 
 abbrev triangle_frame : Extent
 triangle_frame = record {
@@ -39,8 +47,8 @@ triangle_frame = record {
 
 frames_triangle : IsExtent (all_points (triangle_sheet ∷ [])) triangle_frame
 frames_triangle = record {
-  x = spans (all_x (all_points (triangle_sheet ∷ []))) triangle_frame.x (0, lit< tt, refl) (2, lit< tt, refl) (search rules) (search rules);
-  y = spans (all_y (all_points (triangle_sheet ∷ []))) triangle_frame.y (0, lit< tt, refl) (3, lit< tt, refl) (search rules) (search rules);
+  x = spans (all_x (all_points (triangle_sheet ∷ []))) triangle_frame.x (0, lit< tt, refl) (2, lit< tt, refl) refl refl;
+  y = spans (all_y (all_points (triangle_sheet ∷ []))) triangle_frame.y (0, lit< tt, refl) (3, lit< tt, refl) refl refl;
 }
 
 bar_of_one : IsBar 3000000 1000000
@@ -64,8 +72,8 @@ frame_of_nodes = record {
 
 frames_nodes : IsExtent (all_points (nodes_of_a ∷ nodes_of_b ∷ [])) frame_of_nodes
 frames_nodes = record {
-  x = spans (all_x (all_points (nodes_of_a ∷ nodes_of_b ∷ []))) frame_of_nodes.x (0, lit< tt, refl) (2, lit< tt, refl) (search rules) (search rules);
-  y = spans (all_y (all_points (nodes_of_a ∷ nodes_of_b ∷ []))) frame_of_nodes.y (0, lit< tt, refl) (3, lit< tt, refl) (search rules) (search rules);
+  x = spans (all_x (all_points (nodes_of_a ∷ nodes_of_b ∷ []))) frame_of_nodes.x (0, lit< tt, refl) (2, lit< tt, refl) refl refl;
+  y = spans (all_y (all_points (nodes_of_a ∷ nodes_of_b ∷ []))) frame_of_nodes.y (0, lit< tt, refl) (3, lit< tt, refl) refl refl;
 }
 
 bar_of_ten : IsBar 20000000 10000000
