@@ -75,8 +75,8 @@ abbrev pub face_element : Classes → Extent → Sheet → ℕ → Point → Lis
 face_element s f sheet k base arcs = codes "<path fill='" ++ colour (mark_at sheet k) ++ codes "' d='"
     ++ flat_map (fan_text f sheet base) arcs ++ codes "'>" ++ title_text s sheet k ++ codes "</path>\n"
 
--- that face by the ends of the arcs, the first of which is the base: nothing where there is no arc, or where they don't
--- close
+-- that face by the ends of the arcs, the first of which is the base: nothing where there is no arc, or where
+-- they don't close
 abbrev pub closed_face : Classes → Extent → Sheet → ℕ → List ℕ → List Point → List ℕ
 closed_face s f sheet k arcs [] = []
 closed_face s f sheet k arcs (base ∷ ends) = if form_rings (base ∷ ends) then face_element s f sheet k base arcs else []
