@@ -14,8 +14,9 @@ pub record IsPictureOfFile (s : Classes) (b : List ℕ) (picture : List ℕ) : T
   pub is_sheet : IsLocated s b sheet
   pub is_picture : IsPicture s (plain_sheet sheet ∷ []) picture
 
--- What differs between two files, and the picture of their sheets, marked by the very matching and changes that the text of what
--- differs is made from.
+-- What differs between two files, and the picture of their sheets, marked by the very matching and changes that the
+-- text of what differs is made from.
 pub record IsDrawnDifference (s : Classes) (a b : List ℕ) (brief : Bool) (drawn : DrawnDifference) : Type 0 where
   pub differs : IsDifference s a b brief drawn.difference
-  pub is_picture : IsPicture s (marked_sheets differs.first differs.second differs.unchanged differs.is_text.became) drawn.picture.items
+  pub is_picture : IsPicture s (marked_sheets differs.first differs.second differs.unchanged differs.is_text.became)
+      drawn.picture.items

@@ -12,7 +12,13 @@ use Rattle.edi_drawing.specs.Marked.{first_mark, second_mark}
 
 -- what a text of two sheets reports
 abbrev pub report_of : LocatedSheet → LocatedSheet → Matching → Matching → List Parts → Report
-report_of first second unchanged became parts = record { first = first; second = second; unchanged = unchanged.to; became = became.to; parts = parts }
+report_of first second unchanged became parts = record {
+  first = first;
+  second = second;
+  unchanged = unchanged.to;
+  became = became.to;
+  parts = parts;
+}
 
 -- a record of the first sheet is grey exactly if the text has no line for it
 abbrev pub FirstGreyIfUnlisted : Type 0
@@ -21,10 +27,14 @@ FirstGreyIfUnlisted = (first second : LocatedSheet) (unchanged became : Matching
 
 -- a record of the second sheet has the colour of those that only it has exactly if the text has a line for it
 abbrev pub SecondAloneIfListed : Type 0
-SecondAloneIfListed = (first second : LocatedSheet) (unchanged became : Matching) (parts : List Parts) (j : ℕ) → AreChanges first.accepted second.accepted unchanged became
-    → (second_mark unchanged became j ≡ OnlySecond) ↔ ¬ (second_line (report_of first second unchanged became parts) j ≡ [])
+SecondAloneIfListed = (first second : LocatedSheet) (unchanged became : Matching) (parts : List Parts) (j : ℕ)
+    → AreChanges first.accepted second.accepted unchanged became
+    → (second_mark unchanged became j ≡ OnlySecond)
+    ↔ ¬ (second_line (report_of first second unchanged became parts) j ≡ [])
 
--- a record of the second sheet has the colour of those that changed exactly if a record of the first that changed became it
+-- a record of the second sheet has the colour of those that changed exactly if a record of the first that changed
+-- became it
 abbrev pub SecondChangedIfBecame : Type 0
-SecondChangedIfBecame = (first second : LocatedSheet) (unchanged became : Matching) (j : ℕ) → AreChanges first.accepted second.accepted unchanged became
+SecondChangedIfBecame = (first second : LocatedSheet) (unchanged became : Matching) (j : ℕ)
+    → AreChanges first.accepted second.accepted unchanged became
     → (second_mark unchanged became j ≡ Changed) ↔ ((i : ℕ) × (¬ (IsMatched unchanged.to i)) × GoesTo became.to i j)

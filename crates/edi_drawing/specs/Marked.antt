@@ -8,7 +8,8 @@ use Rattle.edi_picture.specs.Sheets.{Sheet}
 use Rattle.edi_picture.specs.declared.mark.Mark.{Mark}
 use Rattle.edi_picture.specs.declared.mark.Mark.TheVariants.{Plain, OnlyFirst, OnlySecond, Changed, Hidden}
 
--- the plan of a sheet, with the identifiers that its records have in their file, and a mark for the record at each place
+-- the plan of a sheet, with the identifiers that its records have in their file, and a mark for the record
+-- at each place
 abbrev pub marked_sheet : LocatedSheet → (ℕ → Mark) → Sheet
 marked_sheet sheet mark = record {
   plan = sheet.accepted;
@@ -31,8 +32,10 @@ first_mark unchanged became i = mark_by (slice_index_or unchanged.to i None) (sl
 
 -- the mark of a record of the second sheet: it isn't drawn where it is one of the first, which is drawn already
 abbrev pub second_mark : Matching → Matching → ℕ → Mark
-second_mark unchanged became j = if is_reached unchanged.to j then Hidden else if is_reached became.to j then Changed else OnlySecond
+second_mark unchanged became j =
+    if is_reached unchanged.to j then Hidden else if is_reached became.to j then Changed else OnlySecond
 
 -- two sheets, by what is unchanged of the first in the second and what became of it there
 abbrev pub marked_sheets : LocatedSheet → LocatedSheet → Matching → Matching → List Sheet
-marked_sheets first second unchanged became = marked_sheet first (first_mark unchanged became) ∷ marked_sheet second (second_mark unchanged became) ∷ []
+marked_sheets first second unchanged became =
+    marked_sheet first (first_mark unchanged became) ∷ marked_sheet second (second_mark unchanged became) ∷ []

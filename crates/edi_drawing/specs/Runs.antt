@@ -9,7 +9,8 @@ use Rattle.edi_drawing.specs.declared.drawn.DrawnDifference.{DrawnDifference}
 
 -- the sheet is accepted under the schema of the two files and the codes, and this is its picture
 abbrev pub IsPictureUnder : KindCodes → List ℕ → List ℕ → List ℕ → List ℕ → Type 0
-IsPictureUnder kinds scd dic b picture = (s : Classes) × IsGoodSchema scd dic kinds s × IsAccepted s b × IsPictureOfFile s b picture
+IsPictureUnder kinds scd dic b picture =
+    (s : Classes) × IsGoodSchema scd dic kinds s × IsAccepted s b × IsPictureOfFile s b picture
 
 -- both sheets are accepted under that schema, and this is what differs between them, with their picture
 abbrev pub IsDrawnDifferenceUnder : KindCodes → List ℕ → List ℕ → List ℕ → List ℕ → Bool → DrawnDifference → Type 0

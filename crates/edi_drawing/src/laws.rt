@@ -11,7 +11,8 @@ pub fn second_is_alone_if_listed()
     ensures { SecondAloneIfListed }
 {}
 
-/// A record of the second sheet has the colour of those that changed exactly if one of the first that changed became it.
+/// A record of the second sheet has the colour of those that changed exactly if one of the first that
+/// changed became it.
 pub fn second_is_changed_if_became()
     ensures { SecondChangedIfBecame }
 {}

@@ -70,7 +70,8 @@ pub(crate) fn one_mark_each(alloc: Global, mark: Mark, count: u32) -> Result<Vec
 /// Gives this mark to the record that one went to, if there is one.
 fn stamp(marks: &mut Vec<Mark>, went: Option<u32>, mark: Mark)
     ensures length { length marks.new.items ≡ length marks.old.items }
-    ensures each { (j : ℕ) → j < length marks.old.items → slice_index_or marks.new.items j Hidden ≡ (if went_to j went then mark else slice_index_or marks.old.items j Hidden) }
+    ensures each { (j : ℕ) → j < length marks.old.items → slice_index_or marks.new.items j Hidden
+        ≡ (if went_to j went then mark else slice_index_or marks.old.items j Hidden) }
 {
     if let Some(place) = went
         && (place as usize) < marks.len()
@@ -82,7 +83,8 @@ fn stamp(marks: &mut Vec<Mark>, went: Option<u32>, mark: Mark)
 /// Gives this mark to the records that some went to.
 fn stamp_all(marks: &mut Vec<Mark>, to: &[Option<u32>], mark: Mark)
     ensures length { length marks.new.items ≡ length marks.old.items }
-    ensures each { (j : ℕ) → j < length marks.old.items → slice_index_or marks.new.items j Hidden ≡ (if is_reached to.now j then mark else slice_index_or marks.old.items j Hidden) }
+    ensures each { (j : ℕ) → j < length marks.old.items → slice_index_or marks.new.items j Hidden
+        ≡ (if is_reached to.now j then mark else slice_index_or marks.old.items j Hidden) }
 {
     for went in to {
         stamp(marks, *went, mark);

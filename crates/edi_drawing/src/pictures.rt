@@ -36,7 +36,8 @@ pub(crate) fn picture_of_both(
 ) -> Result<Vec<u8>, AllocError>
     requires first { HasClasses schema.now found.now.first.accepted }
     requires second { HasClasses schema.now found.now.second.accepted }
-    ensures { IfOk result (λ picture. IsPicture schema.now (marked_sheets found.now.first found.now.second found.now.unchanged found.now.became) picture.items) }
+    ensures { let sheets = marked_sheets found.now.first found.now.second found.now.unchanged found.now.became in
+        IfOk result (λ picture. IsPicture schema.now sheets picture.items) }
 {
     let plan = found.first.accepted.sound().plan();
     let other = found.second.accepted.sound().plan();

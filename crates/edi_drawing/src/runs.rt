@@ -21,10 +21,12 @@ pub fn run_draw<S: ByteIn, D: ByteIn, V: ByteIn>(
     dic: &mut D,
     vec: &mut V,
 ) -> Result<Vec<u8>, RunFault>
-    ensures ok { IfOk result (λ picture. IfThreeKnown (S.contents scd.old) (D.contents dic.old) (V.contents vec.old) (λ s d v. IsPictureUnder kinds.now s d v picture.items)) }
-    ensures read { OnOk result (AreRead (seen S.ByteIn scd.old scd.new) (seen D.ByteIn dic.old dic.new) (seen V.ByteIn vec.old vec.new)) }
-    ensures err { IfErr result (FilesFault kinds.now
-        (seen S.ByteIn scd.old scd.new) (seen D.ByteIn dic.old dic.new) (seen V.ByteIn vec.old vec.new) (λ _. ⊥)) }
+    ensures ok { IfOk result (λ picture. IfThreeKnown (S.contents scd.old) (D.contents dic.old) (V.contents vec.old)
+        (λ s d v. IsPictureUnder kinds.now s d v picture.items)) }
+    ensures read { OnOk result (AreRead (seen S.ByteIn scd.old scd.new) (seen D.ByteIn dic.old dic.new)
+        (seen V.ByteIn vec.old vec.new)) }
+    ensures err { IfErr result (FilesFault kinds.now (seen S.ByteIn scd.old scd.new) (seen D.ByteIn dic.old dic.new)
+        (seen V.ByteIn vec.old vec.new) (λ _. ⊥)) }
     ensures after { IfErr result (λ e. AfterReading e
         (AreRead (seen S.ByteIn scd.old scd.new) (seen D.ByteIn dic.old dic.new) (seen V.ByteIn vec.old vec.new))) }
 {
@@ -34,8 +36,8 @@ pub fn run_draw<S: ByteIn, D: ByteIn, V: ByteIn>(
     draw_or_fault(alloc, kinds, &scd, &dic, FileBytes::InPieces(vec))
 }
 
-/// Reads four files, and answers what differs between the third and the fourth, two sheets under the schema of the first
-/// two, with a picture of both. What is reported and the faults are those of `edi_diff::run_diff`.
+/// Reads four files, and answers what differs between the third and the fourth, two sheets under the schema of the
+/// first two, with a picture of both. What is reported and the faults are those of `edi_diff::run_diff`.
 pub fn run_draw_difference<S: ByteIn, D: ByteIn, A: ByteIn, B: ByteIn>(
     alloc: Global,
     kinds: &Kinds<'_>,
@@ -45,13 +47,15 @@ pub fn run_draw_difference<S: ByteIn, D: ByteIn, A: ByteIn, B: ByteIn>(
     second: &mut B,
     brief: bool,
 ) -> Result<DrawnDifference, RunFault>
-    ensures ok { IfOk result (λ drawn. IfFourKnown (S.contents scd.old) (D.contents dic.old) (A.contents first.old) (B.contents second.old)
+    ensures ok { IfOk result (λ drawn. IfFourKnown (S.contents scd.old) (D.contents dic.old)
+        (A.contents first.old) (B.contents second.old)
         (λ s d a b. IsDrawnDifferenceUnder kinds.now s d a b brief drawn)) }
     ensures read { OnOk result (AreFourRead (seen S.ByteIn scd.old scd.new) (seen D.ByteIn dic.old dic.new)
         (seen A.ByteIn first.old first.new) (seen B.ByteIn second.old second.new)) }
     ensures err { IfErr result (ComparingFault kinds.now (seen S.ByteIn scd.old scd.new) (seen D.ByteIn dic.old dic.new)
         (seen A.ByteIn first.old first.new) (seen B.ByteIn second.old second.new)) }
-    ensures after { IfErr result (λ e. AfterReading e (AreFourRead (seen S.ByteIn scd.old scd.new) (seen D.ByteIn dic.old dic.new)
+    ensures after { IfErr result (λ e. AfterReading e
+        (AreFourRead (seen S.ByteIn scd.old scd.new) (seen D.ByteIn dic.old dic.new)
         (seen A.ByteIn first.old first.new) (seen B.ByteIn second.old second.new))) }
 {
     let scd = read_input(alloc, scd, 1)?;
@@ -77,7 +81,8 @@ fn draw_or_fault(
     dic: &[u8],
     vec: FileBytes<'_>,
 ) -> Result<Vec<u8>, RunFault>
-    ensures ok { IfOk result (λ picture. IsPictureUnder kinds.now scd.now dic.now (file_bytes vec.entry) picture.items) }
+    ensures ok { IfOk result (λ picture.
+        IsPictureUnder kinds.now scd.now dic.now (file_bytes vec.entry) picture.items) }
     ensures err { IfErr result (SheetFault kinds.now scd.now dic.now (file_bytes vec.entry)) }
 {
     let schema = load_or_fault(alloc, kinds, scd, dic)?;
@@ -98,8 +103,10 @@ fn draw_difference_or_fault(
     second: FileBytes<'_>,
     brief: bool,
 ) -> Result<DrawnDifference, RunFault>
-    ensures ok { IfOk result (IsDrawnDifferenceUnder kinds.now scd.now dic.now (file_bytes first.entry) (file_bytes second.entry) brief) }
-    ensures err { IfErr result (PairFault kinds.now scd.now dic.now (file_bytes first.entry) (file_bytes second.entry)) }
+    ensures ok { IfOk result (IsDrawnDifferenceUnder kinds.now scd.now dic.now
+        (file_bytes first.entry) (file_bytes second.entry) brief) }
+    ensures err { IfErr result (PairFault kinds.now scd.now dic.now
+        (file_bytes first.entry) (file_bytes second.entry)) }
 {
     let schema = load_or_fault(alloc, kinds, scd, dic)?;
     let drawn = draw_difference_from(alloc, &schema, first, second, brief)?;

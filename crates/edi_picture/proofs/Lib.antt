@@ -2,3 +2,5 @@ pub mod Joined
 pub mod Beside
 pub mod Counted
 pub mod ArcsRound
+pub mod OnePicture
+pub mod KnownPictures

@@ -27,10 +27,12 @@ said_text s sheet k = codes "' stroke='" ++ colour (mark_at sheet k) ++ codes "'
 
 -- an arc as a line through its points, and a node as a line of no length, whose round ends make a dot
 abbrev pub arc_element : Classes → Extent → Sheet → ℕ → List ℕ
-arc_element s f sheet k = codes "<polyline points='" ++ spots_text f sheet k ++ said_text s sheet k ++ codes "</polyline>\n"
+arc_element s f sheet k =
+    codes "<polyline points='" ++ spots_text f sheet k ++ said_text s sheet k ++ codes "</polyline>\n"
 
 abbrev pub node_element : Classes → Extent → Sheet → ℕ → List ℕ
-node_element s f sheet k = codes "<path d='M" ++ spots_text f sheet k ++ codes "h0" ++ said_text s sheet k ++ codes "</path>\n"
+node_element s f sheet k =
+    codes "<path d='M" ++ spots_text f sheet k ++ codes "h0" ++ said_text s sheet k ++ codes "</path>\n"
 
 -- what is drawn of an arc and of a node: nothing where its mark hides it
 abbrev pub arc_text : Classes → Extent → Sheet → ℕ → List ℕ

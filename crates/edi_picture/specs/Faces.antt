@@ -64,17 +64,19 @@ form_rings ends = list_all (λ q. count_by (same_spot q) ends % 2 == 0) ends
 
 -- ---- what is drawn
 
--- An arc, with lines from its end to the base and from there to its begin. Of some arcs that close, what is inside of an odd
--- number of these is what is inside of their rings: there are two or another even number of lines from each end to the base.
+-- An arc, with lines from its end to the base and from there to its begin. Of some arcs that close, what is inside of
+-- an odd number of these is what is inside of their rings: there are two or another even number of lines from each end
+-- to the base.
 abbrev pub fan_text : Extent → Sheet → Point → ℕ → List ℕ
 fan_text f sheet base a = codes "M" ++ spots_text f sheet a ++ spot_text f base ++ codes "Z"
 
 -- the face with these arcs round it
 abbrev pub face_element : Classes → Extent → Sheet → ℕ → Point → List ℕ → List ℕ
-face_element s f sheet k base arcs = codes "<path fill='" ++ colour (mark_at sheet k) ++ codes "' d='" ++ flat_map (fan_text f sheet base) arcs ++ codes "'>"
-    ++ title_text s sheet k ++ codes "</path>\n"
+face_element s f sheet k base arcs = codes "<path fill='" ++ colour (mark_at sheet k) ++ codes "' d='"
+    ++ flat_map (fan_text f sheet base) arcs ++ codes "'>" ++ title_text s sheet k ++ codes "</path>\n"
 
--- that face by the ends of the arcs, the first of which is the base: nothing where there is no arc, or where they don't close
+-- that face by the ends of the arcs, the first of which is the base: nothing where there is no arc, or where
+-- they don't close
 abbrev pub closed_face : Classes → Extent → Sheet → ℕ → List ℕ → List Point → List ℕ
 closed_face s f sheet k arcs [] = []
 closed_face s f sheet k arcs (base ∷ ends) = if form_rings (base ∷ ends) then face_element s f sheet k base arcs else []

@@ -7,4 +7,5 @@ pub mod Faces
 pub mod Pictures
 pub mod Laws
 pub mod Known
+pub mod KnownPictures
 pub mod inner

@@ -22,8 +22,8 @@ greater_than = 62
 abbrev pub no_break_space : ℕ
 no_break_space = 160
 
--- A byte in XML: as it is if it is printable ASCII and no mark of XML; from the no-break space on the character of Latin-1 with
--- its number; any other as a question mark.
+-- A byte in XML: as it is if it is printable ASCII and no mark of XML; from the no-break space on the character of
+-- Latin-1 with its number; any other as a question mark.
 abbrev pub escaped : ℕ → List ℕ
 escaped c =
     if c == ampersand then codes "&amp;"
@@ -42,8 +42,8 @@ class_title class = escaped_text class.rty ++ codes ";" ++ escaped_text class.ri
 
 -- TYPE IDENTIFIER CLASS
 abbrev pub record_title : Classes → Sheet → ℕ → List ℕ
-record_title s sheet k = kind_code (record_at sheet.plan k).kind ++ codes " " ++ escaped_text (identifier_at sheet k) ++ codes " "
-    ++ class_title (class_name s (record_at sheet.plan k).class)
+record_title s sheet k = kind_code (record_at sheet.plan k).kind ++ codes " "
+    ++ escaped_text (identifier_at sheet k) ++ codes " " ++ class_title (class_name s (record_at sheet.plan k).class)
 
 abbrev pub title_text : Classes → Sheet → ℕ → List ℕ
 title_text s sheet k = codes "<title>" ++ record_title s sheet k ++ codes "</title>"

@@ -69,7 +69,8 @@ impl<'a> Canvas<'a> {
     fn push_arc(&self, text: &mut Vec<u8>, sheet: &Shown<'_>, place: u32) -> Result<(), AllocError>
         requires classes { HasClasses self.now.schema.now sheet.now.plan }
         requires place { IsPlace sheet.now.plan place }
-        ensures { OnOk result (text.new.items ≡ text.old.items ++ arc_text self.now.schema.now self.now.frame sheet.now place) }
+        ensures { OnOk result (text.new.items
+            ≡ text.old.items ++ arc_text self.now.schema.now self.now.frame sheet.now place) }
     {
         if sheet.mark(place).is_hidden() {
             return Ok(());
@@ -84,7 +85,8 @@ impl<'a> Canvas<'a> {
     fn push_node(&self, text: &mut Vec<u8>, sheet: &Shown<'_>, place: u32) -> Result<(), AllocError>
         requires classes { HasClasses self.now.schema.now sheet.now.plan }
         requires place { IsPlace sheet.now.plan place }
-        ensures { OnOk result (text.new.items ≡ text.old.items ++ node_text self.now.schema.now self.now.frame sheet.now place) }
+        ensures { OnOk result (text.new.items
+            ≡ text.old.items ++ node_text self.now.schema.now self.now.frame sheet.now place) }
     {
         if sheet.mark(place).is_hidden() {
             return Ok(());
@@ -99,7 +101,8 @@ impl<'a> Canvas<'a> {
     /// Appends the arcs of the sheet.
     pub(crate) fn push_arcs(&self, text: &mut Vec<u8>, sheet: &Shown<'_>) -> Result<(), AllocError>
         requires { HasClasses self.now.schema.now sheet.now.plan }
-        ensures { OnOk result (text.new.items ≡ text.old.items ++ arcs_of self.now.schema.now self.now.frame sheet.now) }
+        ensures { OnOk result (text.new.items
+            ≡ text.old.items ++ arcs_of self.now.schema.now self.now.frame sheet.now) }
     {
         for place in sheet.plan().places(Kind::Par) {
             self.push_arc(text, sheet, *place)?;
@@ -110,7 +113,8 @@ impl<'a> Canvas<'a> {
     /// Appends the nodes of the sheet.
     pub(crate) fn push_nodes(&self, text: &mut Vec<u8>, sheet: &Shown<'_>) -> Result<(), AllocError>
         requires { HasClasses self.now.schema.now sheet.now.plan }
-        ensures { OnOk result (text.new.items ≡ text.old.items ++ nodes_of self.now.schema.now self.now.frame sheet.now) }
+        ensures { OnOk result (text.new.items
+            ≡ text.old.items ++ nodes_of self.now.schema.now self.now.frame sheet.now) }
     {
         for place in sheet.plan().places(Kind::Pno) {
             self.push_node(text, sheet, *place)?;

@@ -26,7 +26,8 @@ fn push_drawn(
     sheets: &[Shown<'_>],
 ) -> Result<(), AllocError>
     requires { AllHaveClasses schema.now sheets.now }
-    ensures { OnOk result ((drawn : List ℕ) × IsDrawnIn schema.now sheets.now frame drawn × (text.new.items ≡ text.old.items ++ drawn)) }
+    ensures { OnOk result ((drawn : List ℕ) × IsDrawnIn schema.now sheets.now frame drawn
+        × (text.new.items ≡ text.old.items ++ drawn)) }
 {
     let Some(frame) = frame else {
         return Ok(());
@@ -47,9 +48,9 @@ fn push_legend_of(text: &mut Vec<u8>, sheets: &[Shown<'_>]) -> Result<(), AllocE
     }
 }
 
-/// The picture of some sheets, as the text of an SVG file (docs/FORMAT.md, "Pictures"): of one sheet, or of two of which the
-/// second shows what the first doesn't. Points are written in units of the file, as exact decimals. The only error is want
-/// of memory.
+/// The picture of some sheets, as the text of an SVG file (docs/FORMAT.md, "Pictures"): of one sheet, or of two of
+/// which the second shows what the first doesn't. Points are written in units of the file, as exact decimals. The only
+/// error is want of memory.
 pub fn picture(alloc: Global, schema: &Schema, sheets: &[Shown<'_>]) -> Result<Vec<u8>, AllocError>
     requires { AllHaveClasses schema.now sheets.now }
     ensures { IfOk result (λ text. IsPicture schema.now sheets.now text.items) }

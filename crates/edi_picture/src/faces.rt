@@ -42,7 +42,8 @@ fn push_fans(
     arcs: &[u32],
 ) -> Result<(), AllocError>
     requires { All (IsPlace sheet.now.plan) arcs.now }
-    ensures { OnOk result (text.new.items ≡ text.old.items ++ flat_map (fan_text canvas.now.frame sheet.now base.now) arcs.now) }
+    ensures { OnOk result (text.new.items
+        ≡ text.old.items ++ flat_map (fan_text canvas.now.frame sheet.now base.now) arcs.now) }
 {
     for arc in arcs {
         push_fan(canvas, text, sheet, base, *arc)?;
@@ -62,7 +63,8 @@ fn push_element(
     requires classes { HasClasses canvas.now.schema.now sheet.now.plan }
     requires place { IsPlace sheet.now.plan face }
     requires arcs { All (IsPlace sheet.now.plan) arcs.now }
-    ensures { OnOk result (text.new.items ≡ text.old.items ++ face_element canvas.now.schema.now canvas.now.frame sheet.now face base.now arcs.now) }
+    ensures { OnOk result (text.new.items
+        ≡ text.old.items ++ face_element canvas.now.schema.now canvas.now.frame sheet.now face base.now arcs.now) }
 {
     put(text, b"<path fill='")?;
     put(text, sheet.mark(face).colour())?;
@@ -86,7 +88,8 @@ fn push_closed(
     requires classes { HasClasses canvas.now.schema.now sheet.now.plan }
     requires place { IsPlace sheet.now.plan face }
     requires arcs { All (IsPlace sheet.now.plan) arcs.now }
-    ensures { OnOk result (text.new.items ≡ text.old.items ++ closed_face canvas.now.schema.now canvas.now.frame sheet.now face arcs.now ends.now) }
+    ensures { OnOk result (text.new.items
+        ≡ text.old.items ++ closed_face canvas.now.schema.now canvas.now.frame sheet.now face arcs.now ends.now) }
 {
     let [base, ..] = ends else {
         return Ok(());
@@ -110,7 +113,8 @@ fn push_face(
     requires classes { HasClasses canvas.now.schema.now sheet.now.plan }
     requires place { IsPlace sheet.now.plan face }
     requires arcs { arcs.now ≡ arcs_round sheet.now.plan face }
-    ensures { OnOk result (text.new.items ≡ text.old.items ++ face_text canvas.now.schema.now canvas.now.frame sheet.now face) }
+    ensures { OnOk result (text.new.items
+        ≡ text.old.items ++ face_text canvas.now.schema.now canvas.now.frame sheet.now face) }
 {
     if sheet.mark(face).is_hidden() {
         return Ok(());
@@ -129,7 +133,8 @@ fn push_each_face(
 ) -> Result<(), AllocError>
     requires classes { HasClasses canvas.now.schema.now sheet.now.plan }
     requires rounds { AreRounds sheet.now.plan rounds.now }
-    ensures { OnOk result (text.new.items ≡ text.old.items ++ faces_of canvas.now.schema.now canvas.now.frame sheet.now) }
+    ensures { OnOk result (text.new.items
+        ≡ text.old.items ++ faces_of canvas.now.schema.now canvas.now.frame sheet.now) }
 {
     for place in sheet.plan().places(Kind::Pfe) {
         push_face(alloc, canvas, text, sheet, *place, &rounds[*place as usize])?;
@@ -145,7 +150,8 @@ pub(crate) fn push_faces(
     sheet: &Shown<'_>,
 ) -> Result<(), AllocError>
     requires { HasClasses canvas.now.schema.now sheet.now.plan }
-    ensures { OnOk result (text.new.items ≡ text.old.items ++ faces_of canvas.now.schema.now canvas.now.frame sheet.now) }
+    ensures { OnOk result (text.new.items
+        ≡ text.old.items ++ faces_of canvas.now.schema.now canvas.now.frame sheet.now) }
 {
     let rounds = rounds_of(alloc, sheet.plan())?;
     push_each_face(alloc, canvas, text, sheet, &rounds)

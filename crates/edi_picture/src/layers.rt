@@ -22,7 +22,8 @@ fn push_all_faces(
     sheets: &[Shown<'_>],
 ) -> Result<(), AllocError>
     requires { AllHaveClasses canvas.now.schema.now sheets.now }
-    ensures { OnOk result (text.new.items ≡ text.old.items ++ flat_map (faces_of canvas.now.schema.now canvas.now.frame) sheets.now) }
+    ensures { OnOk result (text.new.items
+        ≡ text.old.items ++ flat_map (faces_of canvas.now.schema.now canvas.now.frame) sheets.now) }
 {
     for sheet in sheets {
         push_faces(alloc, canvas, text, sheet)?;
@@ -37,7 +38,8 @@ fn push_all_arcs(
     sheets: &[Shown<'_>],
 ) -> Result<(), AllocError>
     requires { AllHaveClasses canvas.now.schema.now sheets.now }
-    ensures { OnOk result (text.new.items ≡ text.old.items ++ flat_map (arcs_of canvas.now.schema.now canvas.now.frame) sheets.now) }
+    ensures { OnOk result (text.new.items
+        ≡ text.old.items ++ flat_map (arcs_of canvas.now.schema.now canvas.now.frame) sheets.now) }
 {
     for sheet in sheets {
         canvas.push_arcs(text, sheet)?;
@@ -52,7 +54,8 @@ fn push_all_nodes(
     sheets: &[Shown<'_>],
 ) -> Result<(), AllocError>
     requires { AllHaveClasses canvas.now.schema.now sheets.now }
-    ensures { OnOk result (text.new.items ≡ text.old.items ++ flat_map (nodes_of canvas.now.schema.now canvas.now.frame) sheets.now) }
+    ensures { OnOk result (text.new.items
+        ≡ text.old.items ++ flat_map (nodes_of canvas.now.schema.now canvas.now.frame) sheets.now) }
 {
     for sheet in sheets {
         canvas.push_nodes(text, sheet)?;
@@ -68,7 +71,8 @@ fn push_face_layer(
     sheets: &[Shown<'_>],
 ) -> Result<(), AllocError>
     requires { AllHaveClasses canvas.now.schema.now sheets.now }
-    ensures { OnOk result (text.new.items ≡ text.old.items ++ faces_text canvas.now.schema.now canvas.now.frame sheets.now) }
+    ensures { OnOk result (text.new.items
+        ≡ text.old.items ++ faces_text canvas.now.schema.now canvas.now.frame sheets.now) }
 {
     put(text, b"<g fill-rule='evenodd' fill-opacity='0.2'>\n")?;
     push_all_faces(alloc, canvas, text, sheets)?;
@@ -82,7 +86,8 @@ fn push_arc_layer(
     sheets: &[Shown<'_>],
 ) -> Result<(), AllocError>
     requires { AllHaveClasses canvas.now.schema.now sheets.now }
-    ensures { OnOk result (text.new.items ≡ text.old.items ++ arcs_text canvas.now.schema.now canvas.now.frame sheets.now) }
+    ensures { OnOk result (text.new.items
+        ≡ text.old.items ++ arcs_text canvas.now.schema.now canvas.now.frame sheets.now) }
 {
     put(
         text,
@@ -99,7 +104,8 @@ fn push_node_layer(
     sheets: &[Shown<'_>],
 ) -> Result<(), AllocError>
     requires { AllHaveClasses canvas.now.schema.now sheets.now }
-    ensures { OnOk result (text.new.items ≡ text.old.items ++ nodes_text canvas.now.schema.now canvas.now.frame sheets.now) }
+    ensures { OnOk result (text.new.items
+        ≡ text.old.items ++ nodes_text canvas.now.schema.now canvas.now.frame sheets.now) }
 {
     put(
         text,
@@ -117,7 +123,8 @@ pub(crate) fn push_plan(
     sheets: &[Shown<'_>],
 ) -> Result<(), AllocError>
     requires { AllHaveClasses canvas.now.schema.now sheets.now }
-    ensures { OnOk result (text.new.items ≡ text.old.items ++ plan_text canvas.now.schema.now canvas.now.frame sheets.now) }
+    ensures { OnOk result (text.new.items
+        ≡ text.old.items ++ plan_text canvas.now.schema.now canvas.now.frame sheets.now) }
 {
     push_inset(text, &canvas.frame, b"70")?;
     push_face_layer(alloc, canvas, text, sheets)?;

@@ -1,9 +1,7 @@
 //! What stands round the plan.
 
 ghost use Rattle.std.specs.Prelude.{◌≡◌, ◌++◌, OnOk, codes};
-ghost use Rattle.edi_line.specs.Number.{size_text};
-ghost use Rattle.edi_picture.specs.Frames.{side_length};
-ghost use Rattle.edi_picture.specs.Pictures.{bar_text, head_text, inset_text, legend_entries, legend_entry};
+ghost use Rattle.edi_picture.specs.Pictures.{bar_text, bar_words, head_text, inset_text, legend_entries, legend_entry, legend_words, sides_text};
 
 use crate::frame::side;
 use crate::mark::Mark;
@@ -29,7 +27,7 @@ pub(crate) fn push_head(text: &mut Vec<u8>) -> Result<(), AllocError>
 
 /// Appends words behind a line.
 fn push_words(text: &mut Vec<u8>, x: &[u8], words: &[u8]) -> Result<(), AllocError>
-    ensures { OnOk result (text.new.items ≡ text.old.items ++ (codes "<text x='" ++ x.now ++ codes "' y='25'>" ++ words.now ++ codes "</text>\n")) }
+    ensures { OnOk result (text.new.items ≡ text.old.items ++ legend_words x.now words.now) }
 {
     put(text, b"<text x='")?;
     put(text, x)?;
@@ -68,7 +66,7 @@ pub(crate) fn push_legend(text: &mut Vec<u8>) -> Result<(), AllocError>
 
 /// Appends the size of an inner picture.
 fn push_size(text: &mut Vec<u8>, frame: &Extent) -> Result<(), AllocError>
-    ensures { OnOk result (text.new.items ≡ text.old.items ++ (size_text (side_length frame.now.x) ++ codes " " ++ size_text (side_length frame.now.y) ++ codes "'>\n")) }
+    ensures { OnOk result (text.new.items ≡ text.old.items ++ (sides_text frame.now ++ codes "'>\n")) }
 {
     push_millionths(text, side(frame.x))?;
     text.push(b' ')?;
@@ -91,7 +89,7 @@ pub(crate) fn push_inset(text: &mut Vec<u8>, frame: &Extent, top: &[u8]) -> Resu
 
 /// Appends how many units a bar is long.
 fn push_bar_length(text: &mut Vec<u8>, bar: u64) -> Result<(), AllocError>
-    ensures { OnOk result (text.new.items ≡ text.old.items ++ (codes "<text x='20' y='50'>" ++ size_text bar ++ codes " unit(s)</text>\n")) }
+    ensures { OnOk result (text.new.items ≡ text.old.items ++ bar_words bar) }
 {
     put(text, b"<text x='20' y='50'>")?;
     push_millionths(text, bar)?;

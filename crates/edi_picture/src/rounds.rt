@@ -1,8 +1,8 @@
 //! The arcs round faces.
 
-ghost use Rattle.std.specs.Prelude.{◌≡◌, ◌++◌, ◌∷◌, ◌<◌, [], List, ℕ, IfOk, OnOk, length, map, slice_index_or, if◌then◌else◌};
+ghost use Rattle.std.specs.Prelude.{◌≡◌, ◌++◌, ◌∷◌, ◌<◌, [], List, ℕ, IfOk, OnOk, length, if◌then◌else◌};
 ghost use Rattle.edi_plan.specs.Plans.{IsPlace};
-ghost use Rattle.edi_picture.specs.inner.Rounds.{AreRounds, HaveArcs, is_face};
+ghost use Rattle.edi_picture.specs.inner.Rounds.{AreRounds, HaveArcs, arcs_at, is_face};
 
 use edi_plan::Plan;
 use edi_record::Kind;
@@ -12,7 +12,7 @@ use std::alloc::{AllocError, Global};
 /// So many lists with nothing in them.
 fn empty_lists(alloc: Global, count: u32) -> Result<Vec<Vec<u32>>, AllocError>
     ensures length { IfOk result (λ lists. length lists.items ≡ count) }
-    ensures each { IfOk result (λ lists. (k : ℕ) → slice_index_or (map (λ list. list.items) lists.items) k [] ≡ []) }
+    ensures each { IfOk result (λ lists. (k : ℕ) → arcs_at lists.items k ≡ []) }
 {
     let mut lists = Vec::new(alloc);
     for _ in 0..count {
@@ -24,8 +24,8 @@ fn empty_lists(alloc: Global, count: u32) -> Result<Vec<Vec<u32>>, AllocError>
 /// Appends an arc to the list of a face, if there is one.
 fn add_to(lists: &mut Vec<Vec<u32>>, face: Option<u32>, arc: u32) -> Result<(), AllocError>
     ensures length { OnOk result (length lists.new.items ≡ length lists.old.items) }
-    ensures each { OnOk result ((k : ℕ) → k < length lists.old.items → slice_index_or (map (λ list. list.items) lists.new.items) k []
-        ≡ slice_index_or (map (λ list. list.items) lists.old.items) k [] ++ (if is_face k face then arc ∷ [] else [])) }
+    ensures each { OnOk result ((k : ℕ) → k < length lists.old.items
+        → arcs_at lists.new.items k ≡ arcs_at lists.old.items k ++ (if is_face k face then arc ∷ [] else [])) }
 {
     if let Some(place) = face
         && (place as usize) < lists.len()
@@ -38,7 +38,8 @@ fn add_to(lists: &mut Vec<Vec<u32>>, face: Option<u32>, arc: u32) -> Result<(), 
 /// Appends an arc to the lists of the faces that it has on one side alone.
 fn add_arc(lists: &mut Vec<Vec<u32>>, plan: &Plan, arc: u32) -> Result<(), AllocError>
     requires { IsPlace plan.now arc }
-    ensures { OnOk result ((arcs : List ℕ) → HaveArcs plan.now arcs lists.old.items → HaveArcs plan.now (arcs ++ arc ∷ []) lists.new.items) }
+    ensures { OnOk result ((arcs : List ℕ) → HaveArcs plan.now arcs lists.old.items
+        → HaveArcs plan.now (arcs ++ arc ∷ []) lists.new.items) }
 {
     plan.keeps();
     let left = plan.side(arc, Role::Left);

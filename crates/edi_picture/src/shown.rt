@@ -29,17 +29,25 @@ impl<'a> Model for Shown<'a> {
 
     ghost Value = { Sheet };
 
-    ghost view = { λ s. record { plan = s.plan.now; identifiers = map (λ i. i.now) s.identifiers.items; marks = s.marks.items } };
+    ghost view = { λ s. record {
+      plan = s.plan.now;
+      identifiers = map (λ i. i.now) s.identifiers.items;
+      marks = s.marks.items;
+    } };
 }
 
 impl<'a> Shown<'a> {
     ghost use Rattle.edi_plan.specs.Plans.{IsPlace, record_at};
     ghost use Rattle.edi_picture.specs.Sheets.{identifier_at, mark_at};
 
-    /// A plan, the identifiers of its records as their file has them, and the marks of its records, each in file order. A
-    /// record that has no identifier here is drawn with an empty one; one that has no mark here is not drawn.
+    /// A plan, the identifiers of its records as their file has them, and the marks of its records, each in file order.
+    /// A record that has no identifier here is drawn with an empty one; one that has no mark here is not drawn.
     pub fn new(plan: &'a Plan, identifiers: Vec<&'a [u8]>, marks: Vec<Mark>) -> Shown<'a>
-        ensures { result ≡ record { plan = plan.now; identifiers = map (λ i. i.now) identifiers.entry.items; marks = marks.items } }
+        ensures { result ≡ record {
+          plan = plan.now;
+          identifiers = map (λ i. i.now) identifiers.entry.items;
+          marks = marks.items;
+        } }
     {
         Shown {
             plan,

@@ -1,26 +1,33 @@
 -- A known report.
-use Rattle.std.specs.Prelude.{ℕ, pos, true, false, List, [], ◌∷◌, Some, None, codes}
+use Rattle.std.specs.Prelude.{ℕ, pos, true, List, [], ◌∷◌, Some, None, codes}
 use Rattle.edi_record.specs.declared.record.Kind.TheVariants.{Pno}
 use Rattle.edi_schema.specs.declared.role.Role.TheVariants.{Plain}
 use Rattle.edi_plan.specs.declared.record.PlanRecord.{PlanRecord}
-use Rattle.edi_report.specs.Reports.{Report}
-use Rattle.edi_report.specs.declared.parts.Parts.{Parts}
+use Rattle.edi_report.specs.Reports.{Report, no_parts}
 use Rattle.edi_report.specs.declared.sheet.LocatedSheet.{LocatedSheet}
 use Rattle.edi_report.specs.declared.site.Site.{Site}
 
 -- a node at this x, in millionths
 abbrev pub node : ℕ → PlanRecord
-node x = record { kind = Pno; class = 0; role = Plain; points = (record { x = pos x; y = pos 0; z = None }) ∷ []; attributes = []; extras = []; ends = [] }
+node x = record {
+  kind = Pno;
+  class = 0;
+  role = Plain;
+  points = (record { x = pos x; y = pos 0; z = None }) ∷ [];
+  attributes = [];
+  extras = [];
+  ends = [];
+}
 
 -- a sheet of two nodes, at these, with these sites
 abbrev pub sheet_of_two : ℕ → ℕ → Site → Site → LocatedSheet
-sheet_of_two x x' first second = record { accepted = record { cse = None; list = node x ∷ node x' ∷ [] }; sites = first ∷ second ∷ [] }
+sheet_of_two x x' first second = record {
+  accepted = record { cse = None; list = node x ∷ node x' ∷ [] };
+  sites = first ∷ second ∷ [];
+}
 
 abbrev pub site : ℕ → List ℕ → Site
 site line rid = record { line = line; rid = rid }
-
-abbrev pub no_parts : Parts
-no_parts = record { class = false; attributes = false; extras = false; points = false; ends = false }
 
 -- The first node of A is gone, the second became the first of B at another position, and the second of B is new.
 abbrev pub known_report : Report
@@ -29,5 +36,5 @@ known_report = record {
   second = sheet_of_two 2000000 3000000 (site 4 (codes "M1")) (site 8 (codes "M2"));
   unchanged = None ∷ None ∷ [];
   became = None ∷ Some 0 ∷ [];
-  parts = no_parts ∷ record { class = false; attributes = false; extras = false; points = true; ends = false } ∷ [];
+  parts = no_parts ∷ record no_parts { points = true } ∷ [];
 }

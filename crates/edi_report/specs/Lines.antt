@@ -18,7 +18,8 @@ record_name_text sheet k = kind_code (record_at sheet.accepted k).kind ++ codes 
 
 -- a sign, TYPE IDENTIFIER (line LINE)
 abbrev pub lone_line : List ℕ → LocatedSheet → ℕ → List ℕ
-lone_line sign sheet k = sign ++ record_name_text sheet k ++ codes " (line " ++ decimal (site_at sheet k).line ++ codes ")" ++ line_feed ∷ []
+lone_line sign sheet k = sign ++ record_name_text sheet k
+    ++ codes " (line " ++ decimal (site_at sheet k).line ++ codes ")" ++ line_feed ∷ []
 
 -- a word, if it is said
 abbrev pub word_if : Bool → List ℕ → List ℕ
@@ -28,8 +29,9 @@ abbrev pub some_differ : Parts → Bool
 some_differ parts = parts.class || (parts.attributes || (parts.extras || (parts.points || parts.ends)))
 
 abbrev pub words_text : Parts → List ℕ
-words_text parts = word_if parts.class (codes " class") ++ word_if parts.attributes (codes " attributes") ++ word_if parts.extras (codes " extras")
-    ++ word_if parts.points (codes " points") ++ word_if parts.ends (codes " ends")
+words_text parts = word_if parts.class (codes " class") ++ word_if parts.attributes (codes " attributes")
+    ++ word_if parts.extras (codes " extras") ++ word_if parts.points (codes " points")
+    ++ word_if parts.ends (codes " ends")
 
 -- the parts that differ; or where none does, that this holds of records only that a link joins with it
 abbrev pub parts_text : Parts → List ℕ
@@ -40,10 +42,12 @@ both_lines line other = codes " (lines " ++ decimal line ++ codes " and " ++ dec
 
 -- ~ TYPE IDENTIFIER IDENTIFIER (lines LINE and LINE): and the parts
 abbrev pub changed_line : Report → ℕ → ℕ → List ℕ
-changed_line r i j = codes "~ " ++ record_name_text r.first i ++ (codes " " ++ shown_bytes (site_at r.second j).rid) ++ both_lines (site_at r.first i).line (site_at r.second j).line
+changed_line r i j = codes "~ " ++ record_name_text r.first i ++ (codes " " ++ shown_bytes (site_at r.second j).rid)
+    ++ both_lines (site_at r.first i).line (site_at r.second j).line
     ++ parts_text (parts_at r.parts i) ++ line_feed ∷ []
 
--- the line of a record of the first sheet, by the one that it is and the one that it became: none if it is one of the second
+-- the line of a record of the first sheet, by the one that it is and the one that it became: none if it is
+-- one of the second
 abbrev pub line_by : Report → ℕ → Option ℕ → Option ℕ → List ℕ
 line_by r i (Some k) became = []
 line_by r i None (Some j) = changed_line r i j
@@ -64,9 +68,16 @@ is_reached became j = list_any (went_to j) became
 abbrev pub second_line : Report → ℕ → List ℕ
 second_line r j = if is_reached r.became j then [] else lone_line (codes "+ ") r.second j
 
--- the lines of the records of a type: those of the first sheet, and those of the second, each in file order
+-- the lines of the records of a type of the first sheet, and of the second, in file order
+abbrev pub lines_of_first : Report → Kind → List ℕ
+lines_of_first r kind = flat_map (first_line r) (places_of kind r.first.accepted)
+
+abbrev pub lines_of_second : Report → Kind → List ℕ
+lines_of_second r kind = flat_map (second_line r) (places_of kind r.second.accepted)
+
+-- the lines of the records of a type: those of the first sheet, and those of the second
 abbrev pub lines_of : Report → Kind → List ℕ
-lines_of r kind = flat_map (first_line r) (places_of kind r.first.accepted) ++ flat_map (second_line r) (places_of kind r.second.accepted)
+lines_of r kind = lines_of_first r kind ++ lines_of_second r kind
 
 abbrev pub charset_change : List ℕ → List ℕ → List ℕ
 charset_change one other = codes "~ CSE " ++ shown_bytes one ++ codes " " ++ shown_bytes other ++ line_feed ∷ []
@@ -77,6 +88,9 @@ charset_change_line None None = []
 charset_change_line (Some a) None = charset_change a (codes "none")
 charset_change_line None (Some b) = charset_change (codes "none") b
 charset_change_line (Some a) (Some b) = if bytes_eq a b then [] else charset_change a b
+
+abbrev pub charsets_line : Report → List ℕ
+charsets_line r = charset_change_line r.first.accepted.cse r.second.accepted.cse
 
 -- ---- counts
 
@@ -101,15 +115,18 @@ abbrev pub counted : ℕ → List ℕ → List ℕ
 counted count words = decimal count ++ words
 
 abbrev pub totals_line : Report → List ℕ
-totals_line r = counted (gone_count r) (codes " only in A, ") ++ counted (added_count r) (codes " only in B, ") ++ counted (changed_count r) (codes " changed" ++ line_feed ∷ [])
+totals_line r = counted (gone_count r) (codes " only in A, ") ++ counted (added_count r) (codes " only in B, ")
+    ++ counted (changed_count r) (codes " changed" ++ line_feed ∷ [])
 
--- The text: the character sets, the objects, the faces, the arcs, the nodes and the links that differ, and how many records do.
+-- The text: the character sets, the objects, the faces, the arcs, the nodes and the links that differ, and how many
+-- records do.
 abbrev pub report_text : Report → List ℕ
-report_text r = charset_change_line r.first.accepted.cse r.second.accepted.cse ++ lines_of r Fea ++ lines_of r Pfe ++ lines_of r Par ++ lines_of r Pno ++ lines_of r Lnk ++ totals_line r
+report_text r = charsets_line r
+    ++ lines_of r Fea ++ lines_of r Pfe ++ lines_of r Par ++ lines_of r Pno ++ lines_of r Lnk ++ totals_line r
 
 -- the short text: the character sets, where they differ, and how many records do
 abbrev pub brief_text : Report → List ℕ
-brief_text r = charset_change_line r.first.accepted.cse r.second.accepted.cse ++ totals_line r
+brief_text r = charsets_line r ++ totals_line r
 
 -- the whole text, or the short one
 abbrev pub text_of_report : Bool → Report → List ℕ

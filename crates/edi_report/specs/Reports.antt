@@ -4,8 +4,8 @@ use Rattle.edi_report.specs.declared.parts.Parts.{Parts}
 use Rattle.edi_report.specs.declared.sheet.LocatedSheet.{LocatedSheet}
 use Rattle.edi_report.specs.declared.site.Site.{Site}
 
--- two sheets; for each record of the first the one of the second that it is, and the one that it is or became; and the parts in
--- which those that changed differ
+-- two sheets; for each record of the first the one of the second that it is, and the one that it is or became; and the
+-- parts in which those that changed differ
 pub record Report : Type 0 where
   pub first : LocatedSheet
   pub second : LocatedSheet
@@ -17,9 +17,13 @@ pub record Report : Type 0 where
 abbrev pub site_at : LocatedSheet → ℕ → Site
 site_at sheet k = slice_index_or sheet.sites k (record { line = 0; rid = [] })
 
+-- no part differs
+abbrev pub no_parts : Parts
+no_parts = record { class = false; attributes = false; extras = false; points = false; ends = false }
+
 -- the parts at a place
 abbrev pub parts_at : List Parts → ℕ → Parts
-parts_at parts i = slice_index_or parts i (record { class = false; attributes = false; extras = false; points = false; ends = false })
+parts_at parts i = slice_index_or parts i no_parts
 
 -- each record has a site
 abbrev pub HasSites : LocatedSheet → Type 0

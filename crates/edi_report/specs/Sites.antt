@@ -7,7 +7,8 @@ use Rattle.edi_line.specs.Zones.{groups_of}
 use Rattle.edi_record.specs.Records.{values}
 use Rattle.edi_report.specs.declared.site.Site.{Site}
 
--- the record of these zones begins in this line, and this is the value of its first RID, which is empty where there is none
+-- the record of these zones begins in this line, and this is the value of its first RID, which is empty
+-- where there is none
 pub record IsSite (group : List Entry) (site : Site) : Type 0 where
   pub head : Entry
   pub rest : List Entry

@@ -131,7 +131,8 @@ pub(crate) fn push_charset(
     first: Option<&[u8]>,
     second: Option<&[u8]>,
 ) -> Result<(), AllocError>
-    ensures { OnOk result (text.new.items ≡ text.old.items ++ charset_change_line (option_copied first.entry) (option_copied second.entry)) }
+    ensures { OnOk result (text.new.items ≡ text.old.items
+        ++ charset_change_line (option_copied first.entry) (option_copied second.entry)) }
 {
     match (first, second) {
         (None, None) => Ok(()),

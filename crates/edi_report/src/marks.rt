@@ -28,7 +28,8 @@ fn mark_all(marks: &mut [bool], became: &[Option<u32>])
 /// Marks a place, if there is one.
 fn mark(marks: &mut [bool], went: Option<u32>)
     ensures length { length marks.new ≡ length marks.old }
-    ensures each { (j : ℕ) → j < length marks.old → slice_index_or marks.new j false ≡ (slice_index_or marks.old j false || went_to j went) }
+    ensures each { (j : ℕ) → j < length marks.old
+        → slice_index_or marks.new j false ≡ (slice_index_or marks.old j false || went_to j went) }
 {
     if let Some(place) = went
         && (place as usize) < marks.len()

@@ -1,8 +1,8 @@
 //! The sites of a sheet's records, packed while the sheet is read.
 
-ghost use Rattle.std.specs.Prelude.{◌≡◌, ◌≤◌, ◌<◌, ◌++◌, ◌∷◌, [], ℕ, List, IfOk, OnOk, length, take};
+ghost use Rattle.std.specs.Prelude.{◌≡◌, ◌≤◌, ◌<◌, ◌++◌, ◌∷◌, [], List, IfOk, OnOk, length, take};
 ghost use Rattle.edi_report.specs.declared.site.Site.{Site};
-ghost use Rattle.edi_report.specs.inner.Packing.{IsPackedSite, start};
+ghost use Rattle.edi_report.specs.inner.Packing.{IsFirstSite, start};
 ghost use Rattle.edi_report.specs.inner.PackedSites.{IsPackingOf, PacksSitesOf, site_in};
 
 use crate::numbers::{first_packed_number, push_packed_number};
@@ -30,7 +30,7 @@ impl LastSite {
 
     /// Goes on to the site that the bytes begin with, and gives the bytes behind it.
     fn advance<'b>(&mut self, bytes: &'b [u8]) -> Result<&'b [u8], AllocError>
-        ensures site { IfOk result (λ behind. (site : Site) (rest : List ℕ) → IsPackedSite (site_in self.old) site bytes.now rest → (site_in self.new ≡ site) × (behind.now ≡ rest)) }
+        ensures site { IfOk result (λ behind. IsFirstSite (site_in self.old) bytes.now (site_in self.new) behind.now) }
         ensures shorter { IfOk result (λ behind. 0 < length bytes.now → length behind.now < length bytes.now) }
     {
         let (ahead, bytes) = first_packed_number(bytes);
@@ -44,9 +44,9 @@ impl LastSite {
     }
 }
 
-/// The sites of the records that have come. Each is stored as it differs from the one before: how many lines further on it
-/// stands, how many bytes of that one's identifier it keeps, how many new ones come behind these, and the new ones. So a
-/// site mostly takes four bytes to nine, where a `Site` takes 24.
+/// The sites of the records that have come. Each is stored as it differs from the one before: how many lines further on
+/// it stands, how many bytes of that one's identifier it keeps, how many new ones come behind these, and the new ones.
+/// So a site mostly takes four bytes to nine, where a `Site` takes 24.
 pub(crate) struct PackedSites {
     bytes: Vec<u8>,
     last: LastSite,
@@ -71,7 +71,8 @@ impl PackedSites {
 
     /// Packs a site behind the others.
     fn push(&mut self, line: u64, rid: &[u8]) -> Result<(), AllocError>
-        ensures { OnOk result ((sites : List Site) → IsPackingOf self.old sites → IsPackingOf self.new (sites ++ (record { line = line; rid = rid.now }) ∷ [])) }
+        ensures { OnOk result ((sites : List Site) → IsPackingOf self.old sites
+            → IsPackingOf self.new (sites ++ (record { line = line; rid = rid.now }) ∷ [])) }
     {
         let kept = shared_length(self.last.rid.as_slice(), rid);
         let new = &rid[kept..];

@@ -2,10 +2,8 @@
 
 ghost use Rattle.std.specs.Prelude.{◌≡◌, ◌++◌, ◌<◌, IfOk, OnOk, count_by, length, not};
 ghost use Rattle.edi_plan.specs.Plans.{IsPlace};
-ghost use Rattle.edi_report.specs.Lines.{added_count, brief_text, changed_count, changed_line, charset_change_line, first_line, gone_count, lines_of, report_text, second_line, text_of_report, totals_line};
+ghost use Rattle.edi_report.specs.Lines.{added_count, brief_text, changed_count, changed_line, charsets_line, first_line, gone_count, lines_of, lines_of_first, lines_of_second, report_text, second_line, text_of_report, totals_line};
 ghost use Rattle.edi_report.specs.Reports.{parts_at};
-ghost use Rattle.edi_plan.specs.Places.{places_of};
-ghost use Rattle.std.specs.List.{flat_map};
 
 use crate::lines::{
     push_both_lines, push_charset, push_counted, push_lone, push_name, push_other, push_parts,
@@ -38,9 +36,21 @@ impl<'a> Model for Reporter<'a> {
 
     ghost Value = { Report };
 
-    ghost view = { λ t. record { first = t.first.now; second = t.second.now; unchanged = t.unchanged.now; became = t.became.now; parts = t.parts.now } };
+    ghost view = { λ t. record {
+      first = t.first.now;
+      second = t.second.now;
+      unchanged = t.unchanged.now;
+      became = t.became.now;
+      parts = t.parts.now;
+    } };
 
-    ghost invariant = { λ t. IsFitting (record { first = t.first.now; second = t.second.now; unchanged = t.unchanged.now; became = t.became.now; parts = t.parts.now })
+    ghost invariant = { λ t. IsFitting (record {
+      first = t.first.now;
+      second = t.second.now;
+      unchanged = t.unchanged.now;
+      became = t.became.now;
+      parts = t.parts.now;
+    })
         × AreMarks t.became.now (length t.second.now.accepted.list) t.reached.now };
 }
 
@@ -83,7 +93,7 @@ impl<'a> Reporter<'a> {
 
     /// Appends the line of the character sets, where they differ.
     fn push_charsets(&self, text: &mut Vec<u8>) -> Result<(), AllocError>
-        ensures { OnOk result (text.new.items ≡ text.old.items ++ charset_change_line self.now.first.accepted.cse self.now.second.accepted.cse) }
+        ensures { OnOk result (text.new.items ≡ text.old.items ++ charsets_line self.now) }
     {
         let plan = self.first.accepted.sound().plan();
         let other = self.second.accepted.sound().plan();
@@ -100,7 +110,7 @@ impl<'a> Reporter<'a> {
 
     /// Appends the lines of the records of a type of the first sheet.
     fn push_firsts(&self, text: &mut Vec<u8>, kind: Kind) -> Result<(), AllocError>
-        ensures { OnOk result (text.new.items ≡ text.old.items ++ flat_map (first_line self.now) (places_of kind self.now.first.accepted)) }
+        ensures { OnOk result (text.new.items ≡ text.old.items ++ lines_of_first self.now kind) }
     {
         for place in self.first.places(kind) {
             self.push_first(text, *place)?;
@@ -110,7 +120,7 @@ impl<'a> Reporter<'a> {
 
     /// Appends the lines of the records of a type of the second sheet.
     fn push_seconds(&self, text: &mut Vec<u8>, kind: Kind) -> Result<(), AllocError>
-        ensures { OnOk result (text.new.items ≡ text.old.items ++ flat_map (second_line self.now) (places_of kind self.now.second.accepted)) }
+        ensures { OnOk result (text.new.items ≡ text.old.items ++ lines_of_second self.now kind) }
     {
         for place in self.second.places(kind) {
             self.push_second(text, *place)?;

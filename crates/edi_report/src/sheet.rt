@@ -1,7 +1,6 @@
 //! Accepted sheets, with where their records stand.
 
-ghost use Rattle.std.specs.Prelude.{◌≡◌, ℕ, List, IfErr, IfOk, OnOk};
-ghost use Rattle.edi_schema.specs.Classes.{Classes};
+ghost use Rattle.std.specs.Prelude.{◌≡◌, IfErr, IfOk, OnOk};
 ghost use Rattle.edi_line.specs.FileBytes.{file_bytes};
 ghost use Rattle.edi_plan.specs.Agreeing.{HasClasses};
 ghost use Rattle.edi_compare.specs.PlanOfFile.{IsPlanOfFile};
@@ -11,7 +10,7 @@ ghost use Rattle.edi_plan.specs.Places.{places_of};
 ghost use Rattle.edi_report.specs.Located.{IsLocatedSheet};
 ghost use Rattle.edi_report.specs.Reports.{HasSites};
 ghost use Rattle.edi_report.specs.Sites.{AreSitesOf};
-ghost use Rattle.edi_report.specs.inner.Sheets.{IsPackedSheet};
+ghost use Rattle.edi_report.specs.inner.Sheets.{IsPackedSheet, IsUnpacked};
 
 use crate::packed::PackedSites;
 use crate::site::Site;
@@ -47,8 +46,8 @@ impl LocatedSheet {
     }
 }
 
-/// The sheet of a file, with its sites, or the refusal. The file is let go, where it is owned, as soon as its sites and its
-/// records are read: its bytes are not in memory beside the plan.
+/// The sheet of a file, with its sites, or the refusal. The file is let go, where it is owned, as soon as its sites and
+/// its records are read: its bytes are not in memory beside the plan.
 pub fn locate_from(
     alloc: Global,
     schema: &Schema,
@@ -87,7 +86,7 @@ impl Drop for PackedSheet {
 impl PackedSheet {
     /// The sheet with its sites as a list.
     fn unpack(self, alloc: Global) -> Result<LocatedSheet, AllocError>
-        ensures { IfOk result (λ sheet. (s : Classes) (b : List ℕ) → IsPackedSheet s b self → IsLocatedSheet s b sheet) }
+        ensures { IfOk result (IsUnpacked self) }
     {
         let count = self.accepted.sound().plan().len();
         let sites = self.sites.unpack(alloc, count as usize)?;
@@ -108,8 +107,8 @@ fn locate_packed(alloc: Global, schema: &Schema, bytes: FileBytes<'_>) -> Result
     Ok(PackedSheet { accepted, sites })
 }
 
-/// What `locate_from` gives of two files, one after the other; or the refusal that `edi_compare::compare` gives of them. Reading
-/// takes the most memory, so the sites of both stay packed until both plans stand.
+/// What `locate_from` gives of two files, one after the other; or the refusal that `edi_compare::compare` gives of
+/// them. Reading takes the most memory, so the sites of both stay packed until both plans stand.
 pub fn locate_both(
     alloc: Global,
     schema: &Schema,
@@ -153,8 +152,8 @@ fn unpack_both(
     first: PackedSheet,
     second: PackedSheet,
 ) -> Result<(LocatedSheet, LocatedSheet), AllocError>
-    ensures first { IfOk result (λ both. (s : Classes) (b : List ℕ) → IsPackedSheet s b first → IsLocatedSheet s b both.0) }
-    ensures second { IfOk result (λ both. (s : Classes) (b : List ℕ) → IsPackedSheet s b second → IsLocatedSheet s b both.1) }
+    ensures first { IfOk result (λ both. IsUnpacked first both.0) }
+    ensures second { IfOk result (λ both. IsUnpacked second both.1) }
 {
     let first = first.unpack(alloc)?;
     let second = second.unpack(alloc)?;

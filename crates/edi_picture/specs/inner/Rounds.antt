@@ -12,10 +12,14 @@ abbrev pub is_face : ℕ → Option ℕ → Bool
 is_face k None = false
 is_face k (Some x) = x == k
 
+-- the arcs in the list of a face
+abbrev pub arcs_at : List (Vec ℕ) → ℕ → List ℕ
+arcs_at lists k = slice_index_or (map (λ list. list.items) lists) k []
+
 -- the list of each face has those of these arcs that are round it
 pub record HaveArcs (p : Drawing) (arcs : List ℕ) (lists : List (Vec ℕ)) : Type 0 where
   pub long : length lists ≡ length p.list
-  pub each : (k : ℕ) → IsPlace p k → slice_index_or (map (λ list. list.items) lists) k [] ≡ filter (bounds p k) arcs
+  pub each : (k : ℕ) → IsPlace p k → arcs_at lists k ≡ filter (bounds p k) arcs
 
 -- the list of each face has all arcs round it
 abbrev pub AreRounds : Drawing → List (Vec ℕ) → Type 0

@@ -8,15 +8,16 @@ packed_number n = replicate (n / 255) 255 ++ n % 255 ∷ []
 
 -- if the bytes begin with a number, it is this one, and these bytes come behind it
 abbrev pub IsFirstNumber : List ℕ → ℕ → List ℕ → Type 0
-IsFirstNumber bytes number behind = (n : ℕ) (rest : List ℕ) → n < 2 ^ 64 → bytes ≡ packed_number n ++ rest → (number ≡ n) × (behind ≡ rest)
+IsFirstNumber bytes number behind = (n : ℕ) (rest : List ℕ) → n < 2 ^ 64
+    → bytes ≡ packed_number n ++ rest → (number ≡ n) × (behind ≡ rest)
 
 -- what the first site is packed behind
 abbrev pub start : Site
 start = record { line = 0; rid = [] }
 
--- The bytes begin with a site as it differs from the one before, and the rest comes behind it: how many lines further on it
--- stands, how many bytes of the identifier before it keeps, how many new ones come behind these, and the new ones. Lines are
--- counted in 64 bits: one that is not further on is reached past the last.
+-- The bytes begin with a site as it differs from the one before, and the rest comes behind it: how many lines further
+-- on it stands, how many bytes of the identifier before it keeps, how many new ones come behind these, and the new
+-- ones. Lines are counted in 64 bits: one that is not further on is reached past the last.
 pub record IsPackedSite (before site : Site) (bytes rest : List ℕ) : Type 0 where
   pub ahead : ℕ
   pub kept : ℕ
@@ -28,10 +29,16 @@ pub record IsPackedSite (before site : Site) (bytes rest : List ℕ) : Type 0 wh
   pub rid : site.rid ≡ take kept before.rid ++ new
   pub bytes_are : bytes ≡ packed_number ahead ++ (packed_number kept ++ (packed_number (length new) ++ (new ++ rest)))
 
+-- if the bytes begin with a site that differs so from the one before, it is this one, and these bytes come behind it
+abbrev pub IsFirstSite : Site → List ℕ → Site → List ℕ → Type 0
+IsFirstSite before bytes site behind = (packed : Site) (rest : List ℕ) → IsPackedSite before packed bytes rest
+    → (site ≡ packed) × (behind ≡ rest)
+
 -- the bytes are these sites, packed one behind the other
 abbrev pub ArePacked : Site → List Site → List ℕ → Type 0
 ArePacked before [] bytes = bytes ≡ []
-ArePacked before (site ∷ sites) bytes = (rest : List ℕ) × IsPackedSite before site bytes rest × ArePacked site sites rest
+ArePacked before (site ∷ sites) bytes =
+    (rest : List ℕ) × IsPackedSite before site bytes rest × ArePacked site sites rest
 
 -- the last of these sites, or the one before them
 abbrev pub last_of : Site → List Site → Site
