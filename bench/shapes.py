@@ -4,7 +4,8 @@
     cd crates/edicad && rt run -- --version                 builds out/edicad
     python3 bench/shapes.py SCD DIC [SHAPE ..]              from the top; all shapes where none is named
 
-SCD and DIC are those of a bundle with the classes that are named below. Each sheet goes through `canon` with a stack of 512 KiB.
+SCD and DIC are those of a bundle with the classes that are named below. Each sheet goes through `canon` with a stack
+of 512 KiB; a pair of sheets that differ through `diff`, and a file of classes that is refused through `explain`.
 Printed for each shape: the size of its sheet, seconds of user and system time, the peak memory as a multiple of the size,
 how many times as long as a tenth of it takes, and the program's answer. Ten times the sheet should take little more than ten times.
 """
@@ -107,6 +108,37 @@ def long(count):
         yield piece(b"l%d" % k, b"PNO;n%015d" % (k % 1000), b"PNO;n%015d" % (k * 7919 % 1000), b"REL;VOISIN_id")
 
 
+def named(count, word):
+    """An object with so many attributes, and one more that is this word."""
+    values = [b"%d" % (k * 7919 % count) for k in range(count)]
+    return record(b"FEA", b"o", b"OBJ;PARCELLE_id", *map(attribute, [*values, word]))
+
+
+def beside(count, word):
+    """An object with so many attributes, of which one is this word, and so many pieces."""
+    yield node(b"m", len(word))
+    for k in range(count):
+        yield node(b"n%d" % k, k + 100)
+    yield named(count, word)
+    for k in range(count):
+        yield piece(b"l%d" % k, b"FEA;o", b"PNO;n%d" % k)
+
+
+def linked(count, word):
+    """An object with so many attributes, of which one is this word, and so many equal links to one node."""
+    yield node(b"m", len(word)) + node(b"n", 100)
+    yield named(count, word)
+    for k in range(count):
+        yield piece(b"l%d" % k, b"FEA;o", b"PNO;n")
+
+
+def renamed(count):
+    """A file of so many classes, the last with the name of another behind ten times as many other zones."""
+    for k in range(count):
+        yield zone(b"RTYSA", b"OBJ") + zone(b"RIDSA", b"C%d" % k)
+    yield zone(b"RTYSA", b"OBJ") + zone(b"CNCSA", b"1") * (10 * count) + zone(b"RIDSA", b"C%d" % (count - 1))
+
+
 SHAPES = {
     "continued": (continued, 600_000),
     "empty": (empty, 4_000_000),
@@ -118,16 +150,50 @@ SHAPES = {
     "together": (together, 1_000_000),
     "long": (long, 1_500_000),
 }
+PAIRS = {
+    "beside": (beside, 40_000),
+    "linked": (linked, 40_000),
+}
+CLASSES = {
+    "renamed": (renamed, 20_000),
+}
 
 
-def timed(scd, dic, sheet, out):
+def timed(words):
     """The answer of a run, its seconds of processor time and its peak memory in bytes."""
     limit = lambda: resource.setrlimit(resource.RLIMIT_STACK, (STACK, STACK))
-    process = subprocess.Popen([PROGRAM, "canon", scd, dic, sheet, out], stdout=subprocess.PIPE, preexec_fn=limit)
+    process = subprocess.Popen([PROGRAM, *words], stdout=subprocess.PIPE, preexec_fn=limit)
     text = process.stdout.read()
     _, status, usage = os.wait4(process.pid, 0)
-    answer = text.decode().strip() or f"status {os.waitstatus_to_exitcode(status)}"
+    answer = text.decode().partition("\n")[0] or f"status {os.waitstatus_to_exitcode(status)}"
     return answer, usage.ru_utime + usage.ru_stime, usage.ru_maxrss * 1024
+
+
+def put(path, zones):
+    """Writes a file of these zones; its size."""
+    with open(path, "wb") as file:
+        file.write(zone(b"BOMT ", b"SHAPE.VEC") + zone(b"CSET ", b"IRV"))
+        file.writelines(zones)
+        file.write(zone(b"EOMT ", b""))
+    return os.path.getsize(path)
+
+
+def tried(name, scale, scd, dic, folder):
+    """A run of a shape at this part of its full size: its answer, seconds, peak, and the size of its files."""
+    one, other = os.path.join(folder, "one"), os.path.join(folder, "other")
+    if name in PAIRS:
+        shape, count = PAIRS[name]
+        size = put(one, shape(count // scale, b"a")) + put(other, shape(count // scale, b"bb"))
+        words = ["diff", scd, dic, one, other]
+    elif name in CLASSES:
+        shape, count = CLASSES[name]
+        size = put(one, shape(count // scale))
+        words = ["explain", one, dic, os.devnull]
+    else:
+        shape, count = SHAPES[name]
+        size = put(one, shape(count // scale))
+        words = ["canon", scd, dic, one, other]
+    return *timed(words), size
 
 
 def main():
@@ -135,18 +201,9 @@ def main():
     print("| shape | size | time | memory / size | against a tenth | answer |")
     print("|---|---|---|---|---|---|")
     with tempfile.TemporaryDirectory() as folder:
-        sheet, out = os.path.join(folder, "sheet.vec"), os.path.join(folder, "out.vec")
-        for name in names or SHAPES:
-            shape, count = SHAPES[name]
-            runs = []
-            for scale in (10, 1):
-                with open(sheet, "wb") as file:
-                    file.write(zone(b"BOMT ", b"SHAPE.VEC") + zone(b"CSET ", b"IRV"))
-                    file.writelines(shape(count // scale))
-                    file.write(zone(b"EOMT ", b""))
-                runs.append(timed(scd, dic, sheet, out))
-            size = os.path.getsize(sheet)
-            (_, least, _), (answer, seconds, peak) = runs
+        for name in names or [*SHAPES, *PAIRS, *CLASSES]:
+            _, least, _, _ = tried(name, 10, scd, dic, folder)
+            answer, seconds, peak, size = tried(name, 1, scd, dic, folder)
             print(f"| {name} | {size / 1e6:.0f} MB | {seconds:.1f} s | {peak / size:.1f} | {seconds / least:.1f} | {answer} |", flush=True)
 
 

@@ -6,7 +6,9 @@ use Rattle.edi_line.specs.declared.zone.Zone.{Zone}
 use Rattle.edi_record.proofs.AttributesRead.{nothing_left}
 use Rattle.edi_line.specs.Zones.{groups_of, begins_group, before_end}
 use Rattle.edi_record.specs.Records.{group_at}
-use Rattle.edi_explain.specs.RowPartners.{ShareName, SharesRowName}
+use Rattle.edi_record.specs.declared.name.Name.{Name}
+use Rattle.edi_schema.specs.SchemaOf.{IsNamed}
+use Rattle.edi_explain.specs.RowPartners.{SharesRowName}
 use Rattle.edi_explain.proofs.Names.{same_some}
 
 pub some_group : (z : Entry) (zs g : List Entry) → Some g ≡ group_at (z ∷ zs) → groups_of (z ∷ zs) ≡ g ∷ groups_of zs
@@ -16,12 +18,15 @@ some_group z zs g e = go (begins_group z) refl e
     go true t h = let same : g ≡ z ∷ before_end zs = cc in rw (t, same) refl
     go false t h = absurd cc
 
-module _ (groups : List (List Entry)) (place m : ℕ) (q r : List Entry) (less : m < place) (there : slice_get groups m ≡ Some q) (here : slice_get groups place ≡ Some r) where
-  pub row_shared : ShareName q r → SharesRowName groups place m
-  row_shared e = (q, r, less, there, here, e)
+module _ (groups : List (List Entry)) (place m : ℕ) (q r : List Entry) (name : Name) (less : m < place) (there : slice_get groups m ≡ Some q) (here : slice_get groups place ≡ Some r) (named : IsNamed r name) where
+  pub row_shared : IsNamed q name → SharesRowName groups place m
+  row_shared e = (q, r, less, there, here, (name, e, named))
 
-  pub share_rows : SharesRowName groups place m → ShareName q r
-  share_rows h = subst (λ g. ShareName g r) (sym (same_some (sym there ∙ h.3))) (subst (λ g. ShareName h.0 g) (sym (same_some (sym here ∙ h.4))) h.5)
+  pub share_rows : SharesRowName groups place m → IsNamed q name
+  share_rows h =
+      let own = subst (λ g. IsNamed g h.5.0) (sym (same_some (sym here ∙ h.4))) h.5.2 in
+      let earlier = subst (λ g. IsNamed g h.5.0) (sym (same_some (sym there ∙ h.3))) h.5.1 in
+      record { rty = earlier.rty ∙ (sym own.rty ∙ named.rty); rid = earlier.rid ∙ (sym own.rid ∙ named.rid) }
 
 -- behind a place the groups are those of what is left
 abbrev pub IsLeftAt : List (List Entry) → ℕ → List Zone → Type 0

@@ -1,33 +1,57 @@
 //! Records of a schema's files.
 
-ghost use Rattle.std.specs.Prelude.{◌↔◌, IsTrue, option_map};
+ghost use Rattle.std.specs.Prelude.{◌≡◌, ◌↔◌, IsTrue, MatchOption, Some};
 ghost use Rattle.edi_line.specs.Entry.{entries};
 ghost use Rattle.edi_line.specs.Zones.{groups_of};
+ghost use Rattle.edi_record.specs.Records.{values, first};
+ghost use Rattle.edi_record.specs.declared.name.Name.{Name};
+ghost use Rattle.edi_schema.specs.SchemaOf.{IsNamed};
 ghost use Rattle.edi_explain.specs.Partners.{IsLeastIfAny};
-ghost use Rattle.edi_explain.specs.RowPartners.{ShareName, SharesRowName};
-ghost use Rattle.edi_explain.specs.inner.RowPartners.{AreOne};
+ghost use Rattle.edi_explain.specs.RowPartners.{SharesRowName};
+ghost use Rattle.edi_explain.specs.inner.RowPartners.{name_in};
 
 use crate::site::group_of;
 use edi_line::Zone;
 use edi_line::codes::{RID, RTY};
 use edi_record::{first_value, group_here};
 
-/// Whether two texts are there and equal.
-fn are_one(text: Option<&[u8]>, other: Option<&[u8]>) -> bool
-    ensures { IsTrue result ↔ AreOne (option_map (λ v. v.now) text.entry) (option_map (λ v. v.now) other.entry) }
-{
-    match (text, other) {
-        (Some(text), Some(other)) => text == other,
-        (None, _) | (_, None) => false,
+/// The first RTY and the first RID of a record.
+struct RowName<'a> {
+    rty: &'a [u8],
+    rid: &'a [u8],
+}
+
+impl Drop for RowName<'_> {
+    fn drop(self) {
+        let RowName { rty: _, rid: _ } = self;
     }
 }
 
-/// Whether the first RTY and the first RID of two records are there and equal.
-fn have_one_name(group: &[Zone<'_>], other: &[Zone<'_>]) -> bool
-    ensures { IsTrue result ↔ ShareName (entries group.now) (entries other.now) }
+/// The name of a record, if it has both parts of one.
+fn name_of<'b>(group: &'b [Zone<'_>]) -> Option<RowName<'b>>
+    ensures { MatchOption result ((name : Name) → ¬ (IsNamed (entries group.now) name)) (λ found. IsNamed (entries group.now) (name_in found)) }
 {
-    are_one(first_value(group, RTY), first_value(other, RTY))
-        && are_one(first_value(group, RID), first_value(other, RID))
+    Some(RowName {
+        rty: first_value(group, RTY)?,
+        rid: first_value(group, RID)?,
+    })
+}
+
+/// Whether the first value of a code is there and is this text.
+fn states(group: &[Zone<'_>], code: [u8; 3], text: &[u8]) -> bool
+    ensures { IsTrue result ↔ (first (values code (entries group.now)) ≡ Some text.now) }
+{
+    match first_value(group, code) {
+        Some(value) => value == text,
+        None => false,
+    }
+}
+
+/// Whether a record has this name.
+fn is_named(group: &[Zone<'_>], name: &RowName<'_>) -> bool
+    ensures { IsTrue result ↔ IsNamed (entries group.now) (name_in name.now) }
+{
+    states(group, RTY, name.rty) && states(group, RID, name.rid)
 }
 
 /// The first record with the type and the identifier of the one at a place, if it comes before that
@@ -35,7 +59,7 @@ fn have_one_name(group: &[Zone<'_>], other: &[Zone<'_>]) -> bool
 pub fn row_namesake(zones: &[Zone<'_>], place: u64) -> Option<u64>
     ensures { IsLeastIfAny (SharesRowName (groups_of (entries zones.now)) place) result }
 {
-    let group = group_of(zones, place)?;
+    let name = name_of(group_of(zones, place)?)?;
     let mut at = 0;
     let mut rest = zones;
     while let [_, behind @ ..] = rest {
@@ -43,7 +67,7 @@ pub fn row_namesake(zones: &[Zone<'_>], place: u64) -> Option<u64>
             if at == place {
                 return None;
             }
-            if have_one_name(earlier, group) {
+            if is_named(earlier, &name) {
                 return Some(at);
             }
             at += 1;

@@ -16,6 +16,7 @@ pub mod LoneKeys
 pub mod Listed
 pub mod PlainEnds
 pub mod RunsAdded
+pub mod ContentNumbers
 pub mod KeysAdded
 pub mod Inverted
 pub mod EndsMoved

@@ -16,7 +16,7 @@ use Rattle.edi_matching.proofs.PairsAdded.{adds_if_alike, adds_none, not_left, o
 
 -- orders
 
-less_is : (o : Ordering) → is_lt o ≡ true → o ≡ Less
+pub less_is : (o : Ordering) → is_lt o ≡ true → o ≡ Less
 less_is Less e = refl
 less_is Equal e = absurd (true≢false (sym e))
 less_is Greater e = absurd (true≢false (sym e))
@@ -32,10 +32,10 @@ reversed Equal e = refl
 reversed Greater e = refl
 
 module _ {K : Type 0} (cmp : K → K → Ordering) (total : IsTotalOrder cmp) where
-  abbrev IsUpTo : K → K → Type 0
+  abbrev pub IsUpTo : K → K → Type 0
   IsUpTo a b = is_gt (cmp a b) ≡ false
 
-  not_less : (a b : K) → is_lt (cmp a b) ≡ false → IsUpTo b a
+  pub not_less : (a b : K) → is_lt (cmp a b) ≡ false → IsUpTo b a
   not_less a b e = ap is_gt (total.antisymm b a) ∙ reversed (cmp a b) e
 
   less_then : (a b c : K) → is_lt (cmp a b) ≡ true → IsUpTo b c → is_lt (cmp a c) ≡ true
@@ -62,7 +62,7 @@ module _ {K : Type 0} (cmp : K → K → Ordering) (total : IsTotalOrder cmp) wh
       go Greater e = absurd (true≢false (sym (ap is_gt e) ∙ third))
 
 module _ {K : Type 0} (cmp : K → K → Ordering) (eq : K → K → Bool) (total : IsTotalOrder cmp) (ties : (x y : K) → eq x y ≡ is_eq (cmp x y)) where
-  rises : (entries : List (K × Member)) → AreInOrder cmp entries → (i j : ℕ) (d : K × Member) → i ≤ j → j < length entries → IsUpTo cmp total (get_or entries i d).0 (get_or entries j d).0
+  pub rises : (entries : List (K × Member)) → AreInOrder cmp entries → (i j : ℕ) (d : K × Member) → i ≤ j → j < length entries → IsUpTo cmp total (get_or entries i d).0 (get_or entries j d).0
   rises entries order i j d up within = not_less cmp total (get_or entries j d).0 (get_or entries i d).0 (sorted_far (λ x y. is_lt (cmp x.0 y.0)) (ranks_by total (λ (x : K × Member). x.0)) entries order i j d up within)
 
   -- a key that stands once is found

@@ -102,7 +102,7 @@ adds_if_free Pair i j to taken more marks pair (inr kept) = adds_kept Pair to ta
 
 pub adds_if_alike : (Pair : ℕ → ℕ → Type 0) (p q : Drawing) (i j : ℕ) (to : List (Option ℕ)) (taken : List Bool) (more : List (Option ℕ)) (marks : List Bool) → (AreAlike p q i j → Pair i j)
     → PairsIfAlike p q i j to taken more marks → AddsPairs Pair to taken more marks
-adds_if_alike Pair p q i j to taken more marks pair (inl alike) = adds_if_free Pair i j to taken more marks (pair alike.0) alike.1
+adds_if_alike Pair p q i j to taken more marks pair (inl alike) = adds_paired Pair i j to taken more marks (pair alike.0) alike.1
 adds_if_alike Pair p q i j to taken more marks pair (inr kept) = adds_kept Pair to taken more marks kept.1
 
 pub adds_if_both : (Pair : ℕ → ℕ → Type 0) (p q : Drawing) (place target : Option ℕ) (to : List (Option ℕ)) (taken : List Bool) (more : List (Option ℕ)) (marks : List Bool)
@@ -186,15 +186,11 @@ module _ (Pair : ℕ → ℕ → Type 0) (to : List (Option ℕ)) (taken : List 
 
 -- two that hold the same aren't left
 pub not_left : (p q : Drawing) (i j : ℕ) (to : List (Option ℕ)) (taken : List Bool) (more : List (Option ℕ)) (marks : List Bool) → PairsIfAlike p q i j to taken more marks → AreAlike p q i j → ¬ (AreFree more marks i j)
-not_left p q i j to taken more marks (inr kept) alike free = kept.0 alike
-not_left p q i j to taken more marks (inl pairs) alike free = go pairs.1
-  where
-    go : PairsIfFree i j to taken more marks → ⊥
-    go (inl paired) =
-        let went : get_or more i None ≡ Some j = ap (λ (ts : List (Option ℕ)). get_or ts i None) paired.goes ∙ get_or-set_same to i (Some j) None paired.free.here in
-        let wrong : None ≡ Some j = sym free.left ∙ went in cc
-    go (inr kept) =
-        kept.0 (subst (λ (ts : List (Option ℕ)). AreFree ts taken i j) kept.1.places (subst (λ (bs : List Bool). AreFree more bs i j) kept.1.marked free))
+not_left p q i j to taken more marks (inr kept) alike free =
+    kept.0 (alike, subst (λ (ts : List (Option ℕ)). AreFree ts taken i j) kept.1.places (subst (λ (bs : List Bool). AreFree more bs i j) kept.1.marked free))
+not_left p q i j to taken more marks (inl pairs) alike free =
+    let went : get_or more i None ≡ Some j = ap (λ (ts : List (Option ℕ)). get_or ts i None) pairs.1.goes ∙ get_or-set_same to i (Some j) None pairs.1.free.here in
+    let wrong : None ≡ Some j = sym free.left ∙ went in cc
 
 -- where there was memory for it
 pub on_ok : {X E : Type 0} (r : Result X E) (P Q : Type 0) → (P → Q) → OnOk r P → OnOk r Q

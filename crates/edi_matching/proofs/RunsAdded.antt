@@ -1,16 +1,13 @@
--- Runs of entries with one key, and entries that are put in order once more.
-use Rattle.std.proofs.Common.{◌≡◌, ℕ, zero, suc, ◌+◌, ◌<◌, ◌≤◌, ◌⊎◌, inl, inr, Bool, true, false, not, cond, ltb, List, [], ◌∷◌, Option, None, Some, Contains, IsPermutation, drop, take, length, get_or, refl, sym, ap, ◌∙◌, subst, arith}
+-- Runs of entries with one key.
+use Rattle.std.proofs.Common.{◌≡◌, ℕ, zero, suc, ◌+◌, ◌<◌, ◌≤◌, Bool, true, false, not, cond, ltb, List, [], ◌∷◌, Option, None, Some, Contains, drop, take, length, get_or, refl, sym, ap, ◌∙◌, arith}
 use Rattle.std.specs.Cmp.{IsEquivalence}
-use Rattle.std.specs.List.{before_first, cons_option, filter_map, position_or_len}
+use Rattle.std.specs.List.{before_first, position_or_len}
 use Rattle.std.proofs.lemmas.Bool.{ltb-false, not-false}
 use Rattle.std.proofs.lemmas.List.{get_or-drop, get_or-take, length-drop, length-take, take_all}
-use Rattle.std.proofs.lemmas.List.Sorted.{Contains-permutation, IsPermutation-sym}
 use Rattle.std.proofs.lemmas.List.Sums.{fails_before_first}
-use Rattle.edi_plan.specs.Plans.{Drawing, record_at}
-use Rattle.edi_matching.specs.declared.entries.ContentKey.{ContentKey}
+use Rattle.edi_plan.specs.Plans.{Drawing}
 use Rattle.edi_matching.specs.declared.ranked.Member.{Member}
 use Rattle.edi_matching.specs.inner.Additions.{AreAlike, HaveOneKey, IsListed}
-use Rattle.edi_matching.specs.inner.Entries.{content_at, contents_of}
 
 -- the entries from a position on, up to the first with another key
 
@@ -49,44 +46,10 @@ runs_share eq laws p q entries others from at key i j w =
       w.2,
     )
 
--- what was kept of a list came from it
-
-kept_cases : {Y : Type 0} (o : Option Y) (ys : List Y) (y : Y) (k : ℕ) → k < length (cons_option o ys) → get_or (cons_option o ys) k y ≡ y → (o ≡ Some y) ⊎ Contains ys y
-kept_cases None ys y k within is = inr (k, within, is)
-kept_cases (Some z) ys y zero within is = inl (ap Some is)
-kept_cases (Some z) ys y (suc k) within is = inr (k, omega (arith, within), is)
-
-pub kept_from : {X Y : Type 0} (h : X → Option Y) (xs : List X) (y : Y) → Contains (filter_map h xs) y → (x : X) × Contains xs x × (h x ≡ Some y)
-kept_from h [] y c = absurd (omega (arith, c.1))
-kept_from {X} {Y} h (x ∷ xs) y c = go (kept_cases (h x) (filter_map h xs) y c.0 c.1 c.2) (kept_from h xs y)
-  where
-    go : (h x ≡ Some y) ⊎ Contains (filter_map h xs) y → (Contains (filter_map h xs) y → (z : X) × Contains xs z × (h z ≡ Some y)) → (z : X) × Contains (x ∷ xs) z × (h z ≡ Some y)
-    go (inl e) rest = (x, (0, omega arith, refl), e)
-    go (inr more) rest = let w = rest more in (w.0, (suc w.1.0, (let b = w.1.1 in omega (arith, b)), w.1.2), w.2)
-
--- records by what they hold stand in the list of entries that they were made of
-
-member_same : (p : Drawing) (m : Member) (y : ContentKey × Member) → content_at p m ≡ Some y → m ≡ y.1
-member_same p m y e = go (ltb m.place (length p.list)) e
-  where
-    go : (b : Bool) → cond b (Some (contents_of (record_at p m.place), m)) None ≡ Some y → m ≡ y.1
-    go true is = let same : (contents_of (record_at p m.place), m) ≡ y = cc in ap (λ (z : ContentKey × Member). z.1) same
-    go false is = cc
-
-listed_again : {K : Type 0} (p : Drawing) (entries : List (K × Member)) (records : List (ContentKey × Member)) → IsPermutation (filter_map (λ (e : K × Member). content_at p e.1) entries) records → (x : ContentKey × Member) → Contains records x
-    → IsListed entries x.1.place
-listed_again {K} p entries records moved x c =
-    let w = kept_from (λ (e : K × Member). content_at p e.1) entries x (Contains-permutation records (filter_map (λ (e : K × Member). content_at p e.1) entries) x (IsPermutation-sym (filter_map (λ (e : K × Member). content_at p e.1) entries) records moved) c) in
-    (w.0, w.1, ap (λ (m : Member). m.place) (member_same p w.0.1 x w.2))
-
-pub again_listed : {K : Type 0} (eq : ContentKey → ContentKey → Bool) (p q : Drawing) (entries others : List (K × Member)) (records known : List (ContentKey × Member))
-    → IsPermutation (filter_map (λ (e : K × Member). content_at p e.1) entries) records → IsPermutation (filter_map (λ (e : K × Member). content_at q e.1) others) known → (i j : ℕ)
-    → HaveOneKey eq (λ (m : Member). m.place) records known i j × AreAlike p q i j → IsListed entries i × IsListed others j × AreAlike p q i j
-again_listed {K} eq p q entries others records known moved moved_there i j w = (
-  subst (λ (k : ℕ). IsListed entries k) w.0.is_here (listed_again p entries records moved w.0.here w.0.listed),
-  subst (λ (k : ℕ). IsListed others k) w.0.is_there (listed_again q others known moved_there w.0.there w.0.listed_there),
-  w.1,
-)
+-- an element of a list of one
+pub only_one : {X : Type 0} (xs : List X) (one x : X) (n : ℕ) → xs ≡ one ∷ [] → n < length xs → x ≡ get_or xs n x → x ≡ one
+only_one xs one x zero alone within is = is ∙ ap (λ ys. get_or ys 0 x) alone
+only_one xs one x (suc n) alone within is = absurd (let long = ap length alone in omega (arith, within, long))
 
 -- what stands before the first element that passes a test, by where that was found
 

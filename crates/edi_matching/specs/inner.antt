@@ -10,4 +10,5 @@ pub mod Ranked
 pub mod PlainLinks
 pub mod Entries
 pub mod Additions
+pub mod Contents
 pub mod Inverses

@@ -6,7 +6,6 @@ ghost use Rattle.edi_plan.specs.Sides.{Side};
 ghost use Rattle.edi_schema.specs.Roles.{exchanged};
 ghost use Rattle.edi_matching.specs.inner.Additions.{AddsPairs, AreAlike, AreAlikeBeside, AreFree, AreLone, HasKey, HaveLoneKey, HaveOneKey, IsFirstFrom, IsListed, IsLone, LeavesNoLone, PairsIfAlike, PairsIfBoth, PairsIfFree, StartsRun};
 
-use crate::entries::by_contents;
 use crate::links::is_free;
 use crate::partners::same_record;
 use crate::ranked::{Member, Ranked};
@@ -99,7 +98,7 @@ fn add_same(
     }
 }
 
-/// Adds one record, if the two hold the same.
+/// Adds one record, if neither is matched yet and the two hold the same. Those that are matched aren't compared.
 fn add_alike(
     alloc: Global,
     plan: &Plan,
@@ -111,6 +110,9 @@ fn add_alike(
 ) -> Result<(), AllocError>
     ensures { OnOk result (PairsIfAlike plan.now other.now place target to.old taken.old to.new taken.new) }
 {
+    if !are_free(to, taken, place, target) {
+        return Ok(());
+    }
     if !are_alike(alloc, plan, place, other, target)? {
         return Ok(());
     }
@@ -183,7 +185,7 @@ fn run_with<'a, K: Ord>(pairs: &'a [(K, Member)], from: usize, key: &K) -> &'a [
     }
 }
 
-/// Adds objects of two lists that hold the same. Mostly there is one on either side.
+/// Adds objects of two lists that hold the same, in turn.
 fn add_run<K>(
     alloc: Global,
     plan: &Plan,
@@ -196,40 +198,9 @@ fn add_run<K>(
     ensures pairs { OnOk result (AddsPairs (λ i j. IsListed objects.now i × IsListed others.now j × AreAlike plan.now other.now i j) to.old taken.old to.new taken.new) }
     ensures none_left { OnOk result ((x y : K × Member) → objects.now ≡ x ∷ [] → others.now ≡ y ∷ [] → AreAlike plan.now other.now x.1.place y.1.place → ¬ (AreFree to.new taken.new x.1.place y.1.place)) }
 {
-    match (objects, others) {
-        (_, []) => Ok(()),
-        ([one], [another]) => {
-            let place = one.1.place;
-            add_alike(alloc, plan, place, other, another.1.place, to, taken)
-        }
-        _ => {
-            let objects = by_contents(alloc, plan, objects)?;
-            let others = by_contents(alloc, other, others)?;
-            add_in_order(alloc, plan, &objects, other, &others, to, taken)
-        }
-    }
-}
-
-/// Adds the objects with one key that hold the same, one after the other, of lists in the order of their keys.
-fn add_in_order<K: Ord>(
-    alloc: Global,
-    plan: &Plan,
-    objects: &[(K, Member)],
-    other: &Plan,
-    others: &[(K, Member)],
-    to: &mut [Option<u32>],
-    taken: &mut [bool],
-) -> Result<(), AllocError>
-    ensures { OnOk result (AddsPairs (λ i j. HaveOneKey K.eq (λ m. m.place) objects.now others.now i j × AreAlike plan.now other.now i j) to.old taken.old to.new taken.new) }
-{
-    let mut at = 0;
-    for (key, member) in objects {
-        at = first_from(others, at, key);
-        if has_key(others, at, key) {
-            let target = others[at].1.place;
-            add_alike(alloc, plan, member.place, other, target, to, taken)?;
-            at += 1;
-        }
+    for at in 0..objects.len().min(others.len()) {
+        let target = others[at].1.place;
+        add_alike(alloc, plan, objects[at].1.place, other, target, to, taken)?;
     }
     Ok(())
 }
@@ -279,7 +250,7 @@ fn are_lone<K: Ord>(
 }
 
 /// Whether there is an entry at this position, and it has this key.
-fn has_key<K: Ord, T>(entries: &[(K, T)], at: usize, key: &K) -> bool
+pub(crate) fn has_key<K: Ord, T>(entries: &[(K, T)], at: usize, key: &K) -> bool
     ensures { IsTrue result ↔ HasKey K.eq entries.now at key.now }
 {
     if at >= entries.len() {

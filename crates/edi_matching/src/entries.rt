@@ -19,16 +19,22 @@ use edi_record::{Extra, Kind};
 use edi_schema::{ClassRef, Schema};
 use std::alloc::{AllocError, Global};
 
-/// What an object is found by: the class of a link that names it, and a matched record that this link names too.
+/// What an object is found by: the class of a link that names it, a matched record that this link names too, and the
+/// number of what the object holds.
 #[derive(PartialEq, Eq, PartialOrd, Ord)]
 pub(crate) struct NeighbourKey<'a> {
     class: ClassRef,
     end: NumberedEnd<'a>,
+    contents: usize,
 }
 
 impl Drop for NeighbourKey<'_> {
     fn drop(self) {
-        let NeighbourKey { class: _, end: _ } = self;
+        let NeighbourKey {
+            class: _,
+            end: _,
+            contents: _,
+        } = self;
     }
 }
 
@@ -100,20 +106,22 @@ fn link_there<'a>(
 }
 
 /// The objects that aren't done, by what they are found by: one entry for each matched record beside them, in the order
-/// of these keys. `to` says where the records of the plan go in the other plan, which is `there`.
+/// of these keys. `to` says where the records of the plan go in the other plan, which is `there`; `contents` has the
+/// numbers of what objects hold.
 pub(crate) fn objects_beside<'a>(
     alloc: Global,
     here: Ranked<'a>,
     there: Ranked<'_>,
+    contents: &[usize],
     to: &[Option<u32>],
     done: &[bool],
 ) -> Result<Vec<(NeighbourKey<'a>, Member)>, AllocError>
-    ensures objects { IfOk result (λ objects. IsPermutation (flat_map (link_entries here.entry.plan.now here.entry.labels.now there.entry.labels.now to.now done.now) (places_of Lnk here.entry.plan.now)) objects.items) }
+    ensures objects { IfOk result (λ objects. IsPermutation (flat_map (link_entries here.entry.plan.now here.entry.labels.now there.entry.labels.now contents.now to.now done.now) (places_of Lnk here.entry.plan.now)) objects.items) }
     ensures sorted { IfOk result (λ objects. IsSorted ⟦<(NeighbourKey<'static>, Member) as Ord>⟧.cmp objects.items) }
 {
     let mut objects = Vec::new(alloc);
     for place in here.plan.places(Kind::Lnk) {
-        push_object(&mut objects, here, there, to, done, *place)?;
+        push_object(&mut objects, here, there, contents, to, done, *place)?;
     }
     objects.sort_unstable();
     Ok(objects)
@@ -124,11 +132,12 @@ fn push_object<'a>(
     objects: &mut Vec<(NeighbourKey<'a>, Member)>,
     here: Ranked<'a>,
     there: Ranked<'_>,
+    contents: &[usize],
     to: &[Option<u32>],
     done: &[bool],
     link: u32,
 ) -> Result<(), AllocError>
-    ensures { OnOk result (objects.new.items ≡ objects.old.items ++ link_entries here.entry.plan.now here.entry.labels.now there.entry.labels.now to.now done.now link) }
+    ensures { OnOk result (objects.new.items ≡ objects.old.items ++ link_entries here.entry.plan.now here.entry.labels.now there.entry.labels.now contents.now to.now done.now link) }
 {
     if link >= here.plan.len() {
         return Ok(());
@@ -139,7 +148,8 @@ fn push_object<'a>(
     if is_done(done, object) {
         return Ok(());
     }
-    push_beside(objects, here, there, to, object, link)
+    let contents = number_of(contents, object);
+    push_beside(objects, here, there, contents, to, object, link)
 }
 
 /// Appends an object with each matched record that this link names, by the number of the record that this is in the other plan.
@@ -147,13 +157,14 @@ fn push_beside<'a>(
     objects: &mut Vec<(NeighbourKey<'a>, Member)>,
     here: Ranked<'a>,
     there: Ranked<'_>,
+    contents: usize,
     to: &[Option<u32>],
     object: u32,
     link: u32,
 ) -> Result<(), AllocError>
     requires { IsPlace here.plan.now link }
     ensures { OnOk result (objects.new.items ≡ objects.old.items
-        ++ filter_map (neighbour_entry here.entry.plan.now there.entry.labels.now to.now (record_at here.entry.plan.now link).class (member_at here.entry.labels.now object)) (record_at here.entry.plan.now link).ends) }
+        ++ filter_map (neighbour_entry here.entry.plan.now there.entry.labels.now to.now (record_at here.entry.plan.now link).class contents (member_at here.entry.labels.now object)) (record_at here.entry.plan.now link).ends) }
 {
     let class = here.plan.scp(link);
     let member = here.member(object);
@@ -161,7 +172,12 @@ fn push_beside<'a>(
         if let Some(NumberedEnd { kind, number, sns }) = end_there(here.plan, to, end) {
             let number = there.number(number);
             let end = NumberedEnd { kind, number, sns };
-            objects.push((NeighbourKey { class, end }, member))?;
+            let key = NeighbourKey {
+                class,
+                end,
+                contents,
+            };
+            objects.push((key, member))?;
         }
     }
     Ok(())
@@ -186,23 +202,6 @@ pub(crate) fn objects_by_contents<'a>(
     Ok(objects)
 }
 
-/// The records of these entries, in the order of what they hold.
-pub(crate) fn by_contents<'a, K>(
-    alloc: Global,
-    plan: &'a Plan,
-    entries: &[(K, Member)],
-) -> Result<Vec<(ContentKey<'a>, Member)>, AllocError>
-    ensures records { IfOk result (λ records. IsPermutation (filter_map (λ entry. content_at plan.now entry.1) entries.now) records.items) }
-    ensures sorted { IfOk result (λ records. IsSorted ⟦<(ContentKey<'static>, Member) as Ord>⟧.cmp records.items) }
-{
-    let mut records = Vec::with_capacity(alloc, entries.len())?;
-    for entry in entries {
-        push_contents(&mut records, alloc, plan, entry.1)?;
-    }
-    records.sort_unstable();
-    Ok(records)
-}
-
 /// Appends a record, if it is one of the plan, with what it holds.
 fn push_contents<'a>(
     records: &mut Vec<(ContentKey<'a>, Member)>,
@@ -220,7 +219,11 @@ fn push_contents<'a>(
 }
 
 /// What a record holds beside its points and its ends.
-fn contents_at(alloc: Global, plan: &Plan, place: u32) -> Result<ContentKey<'_>, AllocError>
+pub(crate) fn contents_at(
+    alloc: Global,
+    plan: &Plan,
+    place: u32,
+) -> Result<ContentKey<'_>, AllocError>
     requires { IsPlace plan.now place }
     ensures { IfOk result (λ key. key ≡ contents_of (record_at plan.now place)) }
 {
@@ -236,6 +239,13 @@ fn is_done(done: &[bool], place: u32) -> bool
     ensures { result ≡ slice_index_or done.now place false }
 {
     done.get(place as usize).copied().unwrap_or(false)
+}
+
+/// The number of what the object at a place holds.
+fn number_of(contents: &[usize], place: u32) -> usize
+    ensures { result ≡ slice_index_or contents.now place 0 }
+{
+    contents.get(place as usize).copied().unwrap_or(0)
 }
 
 /// An object among these ends.

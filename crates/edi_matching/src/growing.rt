@@ -13,6 +13,7 @@ ghost use Rattle.edi_matching.specs.inner.Inverses.{IsInverse, IsMore, IsMoreBac
 
 use crate::added::{add_faces, add_links, add_lone_objects, add_objects, target_of};
 use crate::checking::check_matching;
+use crate::contents::{Contents, numbered_contents};
 use crate::entries::{ContentKey, NeighbourKey, links_by_key, objects_beside, objects_by_contents};
 use crate::matching::Matching;
 use crate::plain_links::plain_links;
@@ -164,7 +165,10 @@ fn with_more(
     let itself = each_to_itself(alloc, second.plan)?;
     let unturned = vec![in alloc; false; second.plan.len() as usize]?;
     add_faces(alloc, first, second.plan, turned, &mut to, &mut taken)?;
-    add_objects_in_rounds(alloc, first, second, &itself, &mut to, &mut taken)?;
+    let contents = numbered_contents(alloc, first, second.plan)?;
+    add_objects_in_rounds(
+        alloc, first, second, &contents, &itself, &mut to, &mut taken,
+    )?;
     add_objects_by_contents(alloc, first, second, &mut to, &mut taken)?;
     let links = plain_links(alloc, schema, first.plan, &to, turned)?;
     let others = plain_links(alloc, schema, second.plan, &itself, &unturned)?;
@@ -183,6 +187,7 @@ fn add_objects_in_rounds(
     alloc: Global,
     first: Ranked<'_>,
     second: Ranked<'_>,
+    contents: &Contents,
     itself: &[Option<u32>],
     to: &mut [Option<u32>],
     taken: &mut [bool],
@@ -194,7 +199,7 @@ fn add_objects_in_rounds(
         if left == 0 {
             return Ok(());
         }
-        add_objects_beside(alloc, first, second, itself, to, taken)?;
+        add_objects_beside(alloc, first, second, contents, itself, to, taken)?;
         let still_left = count_left(first.plan, to);
         if still_left == left {
             return Ok(());
@@ -214,23 +219,24 @@ fn count_left(plan: &Plan, to: &[Option<u32>]) -> usize
         .count()
 }
 
-/// Adds objects by the matched records that their links name beside them.
+/// Adds objects by the matched records that their links name beside them, and by the numbers of what they hold.
 fn add_objects_beside(
     alloc: Global,
     first: Ranked<'_>,
     second: Ranked<'_>,
+    contents: &Contents,
     itself: &[Option<u32>],
     to: &mut [Option<u32>],
     taken: &mut [bool],
 ) -> Result<(), AllocError>
     ensures { OnOk result (PairsByKey ⟦<NeighbourKey<'static> as PartialEq>⟧.eq first.entry.plan.now second.entry.plan.now
-        (flat_map (link_entries first.entry.plan.now first.entry.labels.now second.entry.labels.now to.old (map (λ target. is_some target) to.old)) (places_of Lnk first.entry.plan.now))
-        (flat_map (link_entries second.entry.plan.now second.entry.labels.now second.entry.labels.now itself.now taken.old) (places_of Lnk second.entry.plan.now))
+        (flat_map (link_entries first.entry.plan.now first.entry.labels.now second.entry.labels.now contents.now.here.items to.old (map (λ target. is_some target) to.old)) (places_of Lnk first.entry.plan.now))
+        (flat_map (link_entries second.entry.plan.now second.entry.labels.now second.entry.labels.now contents.now.there.items itself.now taken.old) (places_of Lnk second.entry.plan.now))
         to.old taken.old to.new taken.new) }
 {
     let done = matched_places(alloc, to)?;
-    let objects = objects_beside(alloc, first, second, to, &done)?;
-    let others = objects_beside(alloc, second, second, itself, taken)?;
+    let objects = objects_beside(alloc, first, second, &contents.here, to, &done)?;
+    let others = objects_beside(alloc, second, second, &contents.there, itself, taken)?;
     add_objects(alloc, first.plan, &objects, second.plan, &others, to, taken)
 }
 

@@ -4,6 +4,7 @@
 mod added;
 pub mod checking;
 mod checksum;
+mod contents;
 pub mod differing;
 mod entries;
 mod faces;

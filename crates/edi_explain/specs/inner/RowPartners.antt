@@ -1,6 +1,7 @@
--- Texts that two records of a schema's file have, or lack.
-use Rattle.std.specs.Prelude.{◌≡◌, ℕ, List, Option, Some}
+-- Names of the records of a schema's file.
+use Rattle.edi_record.specs.declared.name.Name.{Name}
+use Rattle.edi_explain.specs.declared.rows.RowName.{RowName}
 
--- both texts are there and are one
-abbrev pub AreOne : Option (List ℕ) → Option (List ℕ) → Type 0
-AreOne first second = (text : List ℕ) × (first ≡ Some text) × (second ≡ Some text)
+-- the name that two texts are
+abbrev pub name_in : RowName → Name
+name_in found = record { rty = found.rty.now; rid = found.rid.now }

@@ -101,9 +101,10 @@ pub record IsPaired (i j : ℕ) (to : List (Option ℕ)) (taken : List Bool) (mo
 abbrev pub PairsIfFree : ℕ → ℕ → List (Option ℕ) → List Bool → List (Option ℕ) → List Bool → Type 0
 PairsIfFree i j to taken more marks = IsPaired i j to taken more marks ⊎ (¬ (AreFree to taken i j) × IsKept to taken more marks)
 
--- the two are paired, if they hold the same and were free
+-- the two are paired, if they were free and hold the same
 abbrev pub PairsIfAlike : Drawing → Drawing → ℕ → ℕ → List (Option ℕ) → List Bool → List (Option ℕ) → List Bool → Type 0
-PairsIfAlike p q i j to taken more marks = (AreAlike p q i j × PairsIfFree i j to taken more marks) ⊎ (¬ (AreAlike p q i j) × IsKept to taken more marks)
+PairsIfAlike p q i j to taken more marks =
+    (AreAlike p q i j × IsPaired i j to taken more marks) ⊎ (¬ (AreAlike p q i j × AreFree to taken i j) × IsKept to taken more marks)
 
 -- the same, if there are both
 abbrev pub PairsIfBoth : Drawing → Drawing → Option ℕ → Option ℕ → List (Option ℕ) → List Bool → List (Option ℕ) → List Bool → Type 0

@@ -61,14 +61,18 @@ content_at p m = if nat_lt m.place (length p.list) then Some (contents_of (recor
 abbrev pub content_entry : Drawing → Labelling → List Bool → ℕ → Option (ContentKey × Member)
 content_entry p l done k = if slice_index_or done k false then None else content_at p (member_at l k)
 
--- an object, by the class of a link and the number that an end of that link has where it goes, if it goes anywhere
-abbrev pub neighbour_entry : Drawing → Labelling → List (Option ℕ) → ℕ → Member → PlanEnd → Option (NeighbourKey × Member)
-neighbour_entry p there to class member e = option_map (λ x. (record { class = class; end = record x { number = number_of there x.number } }, member)) (end_there p to e)
+-- an object, by the class of a link, the number that an end of that link has where it goes, if it goes anywhere, and
+-- the number of what the object holds
+abbrev pub neighbour_entry : Drawing → Labelling → List (Option ℕ) → ℕ → ℕ → Member → PlanEnd → Option (NeighbourKey × Member)
+neighbour_entry p there to class contents member e =
+    option_map (λ x. (record { class = class; end = record x { number = number_of there x.number }; contents = contents }, member)) (end_there p to e)
 
--- the entries of an object of a link, if there is one that isn't done: one for each end of the link that goes somewhere
-abbrev pub entries_of : Drawing → Labelling → Labelling → List (Option ℕ) → List Bool → PlanRecord → Option ℕ → List (NeighbourKey × Member)
-entries_of p here there to done r None = []
-entries_of p here there to done r (Some object) = if slice_index_or done object false then [] else filter_map (neighbour_entry p there to r.class (member_at here object)) r.ends
+-- The entries of an object of a link, if there is one that isn't done: one for each end of the link that goes
+-- somewhere. The contents have the number of what each object holds.
+abbrev pub entries_of : Drawing → Labelling → Labelling → List ℕ → List (Option ℕ) → List Bool → PlanRecord → Option ℕ → List (NeighbourKey × Member)
+entries_of p here there contents to done r None = []
+entries_of p here there contents to done r (Some object) =
+    if slice_index_or done object false then [] else filter_map (neighbour_entry p there to r.class (slice_index_or contents object 0) (member_at here object)) r.ends
 
-abbrev pub link_entries : Drawing → Labelling → Labelling → List (Option ℕ) → List Bool → ℕ → List (NeighbourKey × Member)
-link_entries p here there to done k = entries_of p here there to done (record_at p k) (object_among p (record_at p k).ends)
+abbrev pub link_entries : Drawing → Labelling → Labelling → List ℕ → List (Option ℕ) → List Bool → ℕ → List (NeighbourKey × Member)
+link_entries p here there contents to done k = entries_of p here there contents to done (record_at p k) (object_among p (record_at p k).ends)

@@ -7,4 +7,4 @@ use Rattle.edi_matching.proofs.entries.objects_beside.Given as goal
 
 -- the entries of the links so far
 abbrev pub invariant-loop-place : goal.invariant-loop-place
-invariant-loop-place l = l.objects.items ≡ flat_map (link_entries l.here.plan.now l.here.labels.now l.there.labels.now l.to l.done) (take l.place-index (places_of Lnk l.here.plan.now))
+invariant-loop-place l = l.objects.items ≡ flat_map (link_entries l.here.plan.now l.here.labels.now l.there.labels.now l.contents l.to l.done) (take l.place-index (places_of Lnk l.here.plan.now))

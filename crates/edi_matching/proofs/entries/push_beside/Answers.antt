@@ -20,17 +20,17 @@ loop-end-preserved c =
     let labels = c.args.there.labels.now in
     let class = c.scp-class.result in
     let member = c.member-member.result in
-    let entry : PlanEnd → Option (NeighbourKey × Member) = neighbour_entry p labels c.args.to.now class member in
+    let entry : PlanEnd → Option (NeighbourKey × Member) = neighbour_entry p labels c.args.to.now class c.args.contents member in
     let within = known_within all c.ends-end-items.result.now c.ends-end-items.ensures n e c.loop-end-test.true in
     let at : get_or all n e ≡ e = sym (c.end-item.is ∙ ap (λ (xs : List PlanEnd). get_or xs n e) c.ends-end-items.ensures) in
-    let made : NumberedEnd → NeighbourKey × Member = λ x. (record { class = class; end = record { kind = x.kind; number = number_of labels x.number; sns = x.sns } }, member) in
+    let made : NumberedEnd → NeighbourKey × Member = λ x. (record { class = class; end = record { kind = x.kind; number = number_of labels x.number; sns = x.sns }; contents = c.args.contents }, member) in
     let found : entry (get_or all n e) ≡ option_map made c.end_there.result = ap entry at ∙ ap (option_map made) (sym c.end_there.ensures) in
     elim c.match-end_there.branch [
       | in-Some+in_ok-push w ↦
           ap (λ (v : Vec (NeighbourKey × Member) Global). v.items) w.objects-is
           ∙ kept_one entry all n e within before c.loop-end.objects.items w.push.new.self.items
-          (record { class = class; end = record { kind = w.in-Some.field-0.kind; number = w.number-number.result; sns = w.in-Some.field-0.sns } }, member) c.loop-end.invariant
-          (found ∙ (ap (option_map made) w.in-Some.is ∙ ap (λ k. Some (record { class = class; end = record { kind = w.in-Some.field-0.kind; number = k; sns = w.in-Some.field-0.sns } }, member)) (sym w.number-number.ensures)))
+          (record { class = class; end = record { kind = w.in-Some.field-0.kind; number = w.number-number.result; sns = w.in-Some.field-0.sns }; contents = c.args.contents }, member) c.loop-end.invariant
+          (found ∙ (ap (option_map made) w.in-Some.is ∙ ap (λ k. Some (record { class = class; end = record { kind = w.in-Some.field-0.kind; number = k; sns = w.in-Some.field-0.sns }; contents = c.args.contents }, member)) (sym w.number-number.ensures)))
           w.in_ok-push.ensures.items
       | in_default w ↦
           let none : c.end_there.result ≡ None = search rules in

@@ -7,4 +7,4 @@ use Rattle.edi_matching.proofs.entries.push_beside.Given as goal
 -- an entry for each of the ends so far that is matched
 abbrev pub invariant-loop-end : goal.invariant-loop-end
 invariant-loop-end l = l.objects.items ≡ l.initial.objects.items
-    ++ filter_map (neighbour_entry l.here.plan.now l.there.labels.now l.to l.class l.member) (take l.end-index (record_at l.here.plan.now l.link).ends)
+    ++ filter_map (neighbour_entry l.here.plan.now l.there.labels.now l.to l.class l.contents l.member) (take l.end-index (record_at l.here.plan.now l.link).ends)
