@@ -19,10 +19,11 @@ use Rattle.edicad.specs.Notes.{GivesNote, IsNoteOn}
 use Rattle.edicad.specs.Paths.{input_name}
 use Rattle.edi_outcome.specs.Status.{status_of_fault}
 use Rattle.edicad.specs.SheetRuns.{Gives, HasFailedAt, HoldsTooMuch}
+use Rattle.edicad.proofs.Noted.{names_some_kinds}
 
 -- ---- what holds of the bytes that were kept holds of the contents of the file
 
-one_known : (a : Option (List ℕ)) (x : List ℕ) (P : List ℕ → Type 0) → IfSome a (λ t. x ≡ t) → P x → IfSome a P
+pub one_known : (a : Option (List ℕ)) (x : List ℕ) (P : List ℕ → Type 0) → IfSome a (λ t. x ≡ t) → P x → IfSome a P
 one_known None x P f h = tt
 one_known (Some m) x P f h = subst P f h
 
@@ -173,7 +174,12 @@ unread R T (Write w) h = absurd h
 -- the note on the bytes that were read is that on the file
 pub note_given : (inputs : Inputs) (kinds : KindCodes) (path : List ℕ) (a : Option (List ℕ)) (x note : List ℕ) → Gives inputs path a → IfSome a (λ t. x ≡ t)
     → IsNoteOn kinds x (shown_bytes (input_name path)) note → GivesNote inputs kinds path note
-note_given inputs kinds path a x note gives all h = (a, gives, one_known a x (λ scd. IsNoteOn kinds scd (shown_bytes (input_name path)) note) all h)
+note_given inputs kinds path a x note gives all h = (
+  a,
+  gives,
+  names_some_kinds kinds x (shown_bytes (input_name path)) note h,
+  one_known a x (λ scd. IsNoteOn kinds scd (shown_bytes (input_name path)) note) all h,
+)
 
 -- ---- what holds anyway
 
