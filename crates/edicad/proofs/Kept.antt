@@ -59,7 +59,7 @@ module _ (k kinds : KindCodes) (is : k ≡ kinds) (o a : Option (List ℕ)) (x :
 
 -- ---- why a run over what was kept has no answer is why one over the file has none
 
-never : (b : Bool) → b ≡ false → IsTrue b → ⊥
+pub never : (b : Bool) → b ≡ false → IsTrue b → ⊥
 never b is_false is_true = subst (λ (t : Bool). MatchBool t ⊥ ⊤) (sym is_false ∙ is_true) tt
 
 not_too_long : (a : Option (List ℕ)) (x : List ℕ) → IfSome a (λ t. x ≡ t) → IfSome a (λ t. length t ≤ most_bytes) → most_bytes < length x → IsTooLong a
