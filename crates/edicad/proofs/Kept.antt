@@ -19,10 +19,11 @@ use Rattle.edicad.specs.Notes.{GivesNote, IsNoteOn}
 use Rattle.edicad.specs.Paths.{input_name}
 use Rattle.edi_outcome.specs.Status.{status_of_fault}
 use Rattle.edicad.specs.SheetRuns.{Gives, HasFailedAt, HoldsTooMuch}
+use Rattle.edicad.proofs.Noted.{names_some_kinds}
 
 -- ---- what holds of the bytes that were kept holds of the contents of the file
 
-one_known : (a : Option (List ℕ)) (x : List ℕ) (P : List ℕ → Type 0) → IfSome a (λ t. x ≡ t) → P x → IfSome a P
+pub one_known : (a : Option (List ℕ)) (x : List ℕ) (P : List ℕ → Type 0) → IfSome a (λ t. x ≡ t) → P x → IfSome a P
 one_known None x P f h = tt
 one_known (Some m) x P f h = subst P f h
 
@@ -58,7 +59,7 @@ module _ (k kinds : KindCodes) (is : k ≡ kinds) (o a : Option (List ℕ)) (x :
 
 -- ---- why a run over what was kept has no answer is why one over the file has none
 
-never : (b : Bool) → b ≡ false → IsTrue b → ⊥
+pub never : (b : Bool) → b ≡ false → IsTrue b → ⊥
 never b is_false is_true = subst (λ (t : Bool). MatchBool t ⊥ ⊤) (sym is_false ∙ is_true) tt
 
 not_too_long : (a : Option (List ℕ)) (x : List ℕ) → IfSome a (λ t. x ≡ t) → IfSome a (λ t. length t ≤ most_bytes) → most_bytes < length x → IsTooLong a
@@ -173,7 +174,12 @@ unread R T (Write w) h = absurd h
 -- the note on the bytes that were read is that on the file
 pub note_given : (inputs : Inputs) (kinds : KindCodes) (path : List ℕ) (a : Option (List ℕ)) (x note : List ℕ) → Gives inputs path a → IfSome a (λ t. x ≡ t)
     → IsNoteOn kinds x (shown_bytes (input_name path)) note → GivesNote inputs kinds path note
-note_given inputs kinds path a x note gives all h = (a, gives, one_known a x (λ scd. IsNoteOn kinds scd (shown_bytes (input_name path)) note) all h)
+note_given inputs kinds path a x note gives all h = (
+  a,
+  gives,
+  names_some_kinds kinds x (shown_bytes (input_name path)) note h,
+  one_known a x (λ scd. IsNoteOn kinds scd (shown_bytes (input_name path)) note) all h,
+)
 
 -- ---- what holds anyway
 

@@ -1,5 +1,5 @@
 -- The note that a command hands on, with its status.
-use Rattle.std.proofs.Common.{◌≡◌, ◌⊎◌, ◌<◌, ℕ, List, [], Option, Some, None, Result, Ok, Err, IfErr, inl, inr, ◌∙◌, subst, arith}
+use Rattle.std.proofs.Common.{◌≡◌, ◌⊎◌, ◌<◌, ℕ, false, List, [], Option, Some, None, Result, Ok, Err, IfErr, inl, inr, ◌∙◌, ap, subst, arith}
 use Rattle.std.specs.Prelude.{IfOk}
 use Rattle.edi_line.specs.LineRules.{BreaksLineRule}
 use Rattle.edi_line.specs.Refusal.{IsUnbroken}
@@ -16,7 +16,7 @@ use Rattle.edi_pairing.specs.declared.fault.VerifyRunFault.TheVariants.{Run, Pai
 use Rattle.edi_words.specs.declared.words.Request.{Request}
 use Rattle.edi_words.specs.declared.words.Request.TheVariants.{Bundle, Check, Canon, Compare, Hash, Explain, Rule, Verify, Diff, Draw, Misused, Answered}
 use Rattle.edicad.specs.Effects.{Inputs, Stream}
-use Rattle.edicad.specs.Notes.{GivesNote, IsNote, IsNoteOf, IsNoteOn, IsNotedAs}
+use Rattle.edicad.specs.Notes.{GivesNote, IsNote, IsNoteOf, IsNoteOn, IsNotedAs, NamesSomeKinds, note_line}
 use Rattle.edi_outcome.specs.Status.{status_for, status_of_fault}
 use Rattle.edicad.specs.Statuses.{IsAnsweredAs, IsWarned}
 use Rattle.edicad.specs.inner.Notes.{HasNoteOf, LeavesNoteOf}
@@ -26,6 +26,15 @@ use Rattle.edicad.specs.inner.Outcome.{outcome_for, paired_outcome, verified_out
 pub note_of_sound : (kinds : KindCodes) (scd name note : List ℕ) → IsUnbroken (BreaksLineRule scd) → IsNoteOn kinds scd name note → IsNote kinds scd name note
 note_of_sound kinds scd name note sound (inl h) = h.1
 note_of_sound kinds scd name note sound (inr h) = absurd (h.0 sound)
+
+-- it names the kinds that have no class in the file
+pub note_names_kinds : (kinds : KindCodes) (scd name note : List ℕ) → IsNote kinds scd name note → NamesSomeKinds name note
+note_names_kinds kinds scd name note h = (h.1.1, h.2 ∙ ap (λ (words : List ℕ). note_line name words) h.1.4)
+
+-- and where a rule of lines is broken, none
+pub names_some_kinds : (kinds : KindCodes) (scd name note : List ℕ) → IsNoteOn kinds scd name note → NamesSomeKinds name note
+names_some_kinds kinds scd name note (inl h) = note_names_kinds kinds scd name note h.1
+names_some_kinds kinds scd name note (inr h) = (record { initial = false; final_node = false; left = false; right = false }, h.1)
 
 module _ (inputs : Inputs) (kinds : KindCodes) (path old new : List ℕ) where
   -- where the status was answered, or said on the stream of errors

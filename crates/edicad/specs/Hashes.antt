@@ -25,7 +25,7 @@ use Rattle.edi_outcome.specs.Status.{status_of_fault}
 use Rattle.edi_outcome.specs.Words.{sheet_fault_text}
 use Rattle.edicad.specs.Reasons.{IsReasonOf}
 use Rattle.edicad.specs.Effects.{Effects, Inputs, Stream}
-use Rattle.edicad.specs.Notes.{InTurn, IsNote, Notes}
+use Rattle.edicad.specs.Notes.{InTurn, IsNote, NamesSomeKinds, Notes}
 use Rattle.edicad.specs.SheetRuns.{Gives, HasFailedAt, HoldsTooMuch, IsMissing, IsThere}
 use Rattle.edicad.specs.Statuses.{LacksMemory, Prints, Warns}
 use Rattle.edi_words.specs.declared.words.ManyFiles.{ManyFiles}
@@ -135,10 +135,12 @@ IsCutOff inputs why s out err paths status =
 abbrev pub AnswersAll : Inputs → Why → Classes → Stream → Stream → List (List ℕ) → ℕ → Type 0
 AnswersAll inputs why s out err paths status = AreAnswered inputs why s out err paths status ⊎ IsCutOff inputs why s out err paths status
 
--- the schema of the two files, and the note on its kinds, where their contents are known
+-- The schema of the two files, where their contents are known; and the note on its kinds: that on the file of classes,
+-- where its contents are known, and where they are not, one that names some of the four kinds, or none.
 abbrev pub GivesSchema : Inputs → KindCodes → ManyFiles → Classes → List ℕ → Type 0
-GivesSchema inputs kinds files s note = (scd dic : Option (List ℕ)) × Gives inputs files.scd.now scd × Gives inputs files.dic.now dic
-    × IfBothKnown scd dic (λ a b. IsGoodSchema a b kinds s × IsNote kinds a (escaped_name files.scd.now) note)
+GivesSchema inputs kinds files s note = (scd dic : Option (List ℕ)) × Gives inputs files.scd.now scd
+    × Gives inputs files.dic.now dic × IfBothKnown scd dic (λ a b. IsGoodSchema a b kinds s)
+    × NamesSomeKinds (escaped_name files.scd.now) note × IfSome scd (λ a. IsNote kinds a (escaped_name files.scd.now) note)
 
 -- the path of an input of two
 abbrev pub schema_path_at : ManyFiles → ℕ → List ℕ

@@ -3,7 +3,8 @@ use Rattle.std.specs.Prelude.{◌≡◌, ◌⊎◌, ◌<◌, ◌++◌, ℕ, Bool
 use Rattle.edi_line.specs.LineRules.{BreaksLineRule}
 use Rattle.edi_line.specs.Refusal.{IsUnbroken}
 use Rattle.edi_schema.specs.Roles.{KindCodes}
-use Rattle.edi_explain.specs.KindLines.{NameLacking}
+use Rattle.edi_schema.specs.declared.by_role.ByRole.{ByRole}
+use Rattle.edi_explain.specs.KindLines.{NameLacking, lacking_words}
 use Rattle.edi_files.specs.Reasons.{ended}
 use Rattle.edi_shown.specs.Shown.{shown_bytes}
 use Rattle.edi_words.specs.declared.words.Request.{Request}
@@ -30,9 +31,15 @@ IsNote kinds scd name note = (words : List ℕ) × NameLacking kinds scd words �
 abbrev pub IsNoteOn : KindCodes → List ℕ → List ℕ → List ℕ → Type 0
 IsNoteOn kinds scd name note = (IsUnbroken (BreaksLineRule scd) × IsNote kinds scd name note) ⊎ (¬ (IsUnbroken (BreaksLineRule scd)) × (note ≡ []))
 
--- the note on the file of classes of a path, by its name, where the contents are known
+-- a note on a file of classes by this name, whatever it holds: the line on some of the four kinds, or nothing
+abbrev pub NamesSomeKinds : List ℕ → List ℕ → Type 0
+NamesSomeKinds name note = (some : ByRole Bool) × (note ≡ note_line name (lacking_words some))
+
+-- The note on the file of classes of a path, by its name: that on its contents, where they are known; and where they are
+-- not, one that names some of the four kinds, or none.
 abbrev pub GivesNote : Inputs → KindCodes → List ℕ → List ℕ → Type 0
 GivesNote inputs kinds path note = (contents : Option (List ℕ)) × Gives inputs path contents
+    × NamesSomeKinds (shown_bytes (input_name path)) note
     × IfSome contents (λ scd. IsNoteOn kinds scd (shown_bytes (input_name path)) note)
 
 -- that note, or none where the status says that something could not be read or written, or that memory ran out

@@ -2,3 +2,4 @@
 pub mod Hashes
 pub mod Notes
 pub mod Outcome
+pub mod PairInputs

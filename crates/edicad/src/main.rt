@@ -7,6 +7,7 @@ mod explains;
 mod hashes;
 mod known;
 mod notes;
+mod pair_inputs;
 mod paths;
 mod reason;
 mod report;

@@ -20,6 +20,7 @@ ghost use Rattle.edicad.specs.SheetRuns.{IsPairPut, IsPairReplaced, IsPictureOfP
 ghost use Rattle.edicad.specs.SheetRuns.{PairFileFault, PutFault, PutPairFault, ShowsDifference, StandardFault, VerifyFileFault};
 
 use crate::classes::{Kept, read_classes};
+use crate::pair_inputs::{PairInputs, open_pair};
 use edi_compare::{RunFault, Verdict, canon_of, run_bundle, run_check, run_compare};
 use edi_diff::{Difference, run_diff};
 use edi_drawing::{DrawnDifference, run_draw, run_draw_difference};
@@ -143,11 +144,13 @@ pub fn compare<F: Folder>(
     ensures unnoted { IfErr result (λ e. HasNoteOf (inputs F.Folder F.Reader.ByteIn folder.now) kinds.now files.now.scd.now (status_of_fault e)
         note.old.items note.new.items) }
 {
-    let mut scd = opened(folder, files.scd, 1)?;
-    let mut dic = opened(folder, files.dic, 2)?;
-    let mut first = opened(folder, files.first, 3)?;
-    let mut second = opened(folder, files.second, 4)?;
-    let classes = read_classes(alloc, kinds, files.scd, &mut scd, note)?;
+    let pair = open_pair(alloc, folder, kinds, files, note)?;
+    let PairInputs {
+        classes,
+        mut dic,
+        mut first,
+        mut second,
+    } = pair;
     let mut kept = Kept::new(&classes);
     run_compare(
         alloc,
@@ -177,11 +180,13 @@ pub fn diff<F: Folder>(
     ensures unnoted { IfErr result (λ e. HasNoteOf (inputs F.Folder F.Reader.ByteIn folder.now) kinds.now files.now.scd.now (status_of_fault e)
         note.old.items note.new.items) }
 {
-    let mut scd = opened(folder, files.scd, 1)?;
-    let mut dic = opened(folder, files.dic, 2)?;
-    let mut first = opened(folder, files.first, 3)?;
-    let mut second = opened(folder, files.second, 4)?;
-    let classes = read_classes(alloc, kinds, files.scd, &mut scd, note)?;
+    let pair = open_pair(alloc, folder, kinds, files, note)?;
+    let PairInputs {
+        classes,
+        mut dic,
+        mut first,
+        mut second,
+    } = pair;
     let mut kept = Kept::new(&classes);
     run_diff(
         alloc,
@@ -325,11 +330,13 @@ fn compare_to_file<F: Folder>(
     ensures unnoted { IfErr result (λ e. HasNoteOf (inputs F.Folder F.Reader.ByteIn folder.now) kinds.now files.now.scd.now (status_of_fault e)
         note.old.items note.new.items) }
 {
-    let mut scd = opened(folder, files.scd, 1)?;
-    let mut dic = opened(folder, files.dic, 2)?;
-    let mut first = opened(folder, files.first, 3)?;
-    let mut second = opened(folder, files.second, 4)?;
-    let classes = read_classes(alloc, kinds, files.scd, &mut scd, note)?;
+    let pair = open_pair(alloc, folder, kinds, files, note)?;
+    let PairInputs {
+        classes,
+        mut dic,
+        mut first,
+        mut second,
+    } = pair;
     let mut kept = Kept::new(&classes);
     run_compare_to_file(
         alloc,
@@ -358,11 +365,13 @@ fn drawn_difference<F: Folder>(
     ensures unnoted { IfErr result (λ e. HasNoteOf (inputs F.Folder F.Reader.ByteIn folder.now) kinds.now files.now.scd.now (status_of_fault e)
         note.old.items note.new.items) }
 {
-    let mut scd = opened(folder, files.scd, 1)?;
-    let mut dic = opened(folder, files.dic, 2)?;
-    let mut first = opened(folder, files.first, 3)?;
-    let mut second = opened(folder, files.second, 4)?;
-    let classes = read_classes(alloc, kinds, files.scd, &mut scd, note)?;
+    let pair = open_pair(alloc, folder, kinds, files, note)?;
+    let PairInputs {
+        classes,
+        mut dic,
+        mut first,
+        mut second,
+    } = pair;
     let mut kept = Kept::new(&classes);
     run_draw_difference(
         alloc,

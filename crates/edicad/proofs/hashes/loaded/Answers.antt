@@ -6,7 +6,9 @@ use Rattle.edicad.specs.Effects.{inputs}
 use Rattle.edicad.specs.Hashes.{LoadFault, escaped_name}
 use Rattle.edicad.specs.Notes.{IsNote}
 use Rattle.edicad.proofs.Faults.{failed_at, schema_input_fault}
+use Rattle.edicad.proofs.Kept.{one_known}
 use Rattle.edicad.proofs.Loading.{both_known, schema_fault}
+use Rattle.edicad.proofs.Noted.{note_names_kinds}
 use Rattle.edicad.proofs.hashes.loaded.Goals as goal
 
 pub returns-in-Ok-clause-ok : goal.returns-in-Ok-clause-ok
@@ -20,10 +22,13 @@ returns-in-Ok-clause-ok g c =
       contents c.in_ok-dic.dic,
       c.in_ok-scd.ensures.ok,
       c.in_ok-dic.ensures.ok,
-      both_known (contents c.in_ok-scd.scd) (contents c.in_ok-dic.dic) c.in_ok-scd-2.scd.items c.in_ok-dic-2.dic.items (λ x y. IsGoodSchema x y kinds s × IsNote kinds x name note)
+      both_known (contents c.in_ok-scd.scd) (contents c.in_ok-dic.dic) c.in_ok-scd-2.scd.items c.in_ok-dic-2.dic.items (λ x y. IsGoodSchema x y kinds s)
           c.in_ok-scd-2.ensures.all c.in_ok-dic-2.ensures.all
-          (subst (λ (d : List ℕ). IsGoodSchema c.in_ok-scd-2.scd.items d kinds s × IsNote kinds c.in_ok-scd-2.scd.items name note) c.deref-2.ensures.value
-          (subst (λ (x : List ℕ). IsGoodSchema x c.deref-2.result.now kinds s × IsNote kinds x name note) c.deref.ensures.value c.in-Ok.ensures.ok)),
+          (subst (λ (d : List ℕ). IsGoodSchema c.in_ok-scd-2.scd.items d kinds s) c.deref-2.ensures.value
+          (subst (λ (x : List ℕ). IsGoodSchema x c.deref-2.result.now kinds s) c.deref.ensures.value c.in-Ok.ensures.ok.0)),
+      note_names_kinds kinds c.deref.result.now name note c.in-Ok.ensures.ok.1,
+      one_known (contents c.in_ok-scd.scd) c.in_ok-scd-2.scd.items (λ x. IsNote kinds x name note) c.in_ok-scd-2.ensures.all
+          (subst (λ (x : List ℕ). IsNote kinds x name note) c.deref.ensures.value c.in-Ok.ensures.ok.1),
     )
 
 pub returns-clause-err : goal.returns-clause-err

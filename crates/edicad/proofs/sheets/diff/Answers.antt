@@ -1,97 +1,27 @@
-use Rattle.std.proofs.Common.{◌∙◌, Some, ap, arith, inl, inr, refl}
+use Rattle.std.proofs.Common.{◌∙◌, Some, ap, inl, refl}
 use Rattle.std.proofs.lemmas.Result.{IfOk-weaker}
-use Rattle.edi_compare.specs.Runs.{seen}
-use Rattle.edi_compare.proofs.Refusals.{err_kept}
 use Rattle.edi_diff.specs.Runs.{IsDifferenceUnder}
-use Rattle.edicad.specs.Effects.{inputs}
-use Rattle.edi_outcome.specs.Status.{status_of_fault}
-use Rattle.edicad.specs.SheetRuns.{AreFourThere, PairFileFault, pair_path_at}
-use Rattle.edicad.specs.inner.Notes.{HasNoteOf}
-use Rattle.edicad.proofs.Faults.{failed_at, if_err_map, pair_fault}
-use Rattle.edicad.proofs.Kept.{classes_fault, err_anyway, four_kept, note_given, ok_whatever, pair_kept, unread}
+use Rattle.edicad.proofs.Kept.{err_anyway, ok_whatever}
+use Rattle.edicad.proofs.PairRuns.{fact_of_pair, fault_of_pair}
 use Rattle.edicad.proofs.sheets.diff.Goals as goal
 
 pub returns-clause-ok : goal.returns-clause-ok
 returns-clause-ok g c =
-    let contents = g.F.Reader.ByteIn.contents in
+    let pair = c.in_ok-pair.pair in
     IfOk-weaker c.run_diff.result _ _
-    (λ v h. (
-      contents c.in_ok-scd.scd,
-      contents c.in_ok-dic.dic,
-      contents c.in_ok-first.first,
-      contents c.in_ok-second.second,
-      c.in_ok-scd.ensures.ok,
-      c.in_ok-dic.ensures.ok,
-      c.in_ok-first.ensures.ok,
-      c.in_ok-second.ensures.ok,
-      four_kept c.kinds.result.now c.args.kinds.now c.kinds.ensures _ (contents c.in_ok-scd.scd) c.in_ok-classes.classes.items (c.new-kept.ensures ∙ ap Some c.deref.ensures.value) c.in_ok-classes.ensures.all
-          (contents c.in_ok-dic.dic) (contents c.in_ok-first.first) (contents c.in_ok-second.second) (λ l s d a b. IsDifferenceUnder l s d a b c.args.brief v) h,
-    ))
+    (fact_of_pair g.F.Folder g.F.Reader.ByteIn c.args.folder.now c.args.files.now c.kinds.result.now c.args.kinds.now c.kinds.ensures pair.classes.items pair.dic pair.first pair.second
+    c.in_ok-pair.ensures.opened _ (c.new-kept.ensures ∙ ap Some c.deref.ensures.value) (λ v l s d a b. IsDifferenceUnder l s d a b c.args.brief v))
     c.run_diff.ensures.ok
 
 pub returns-clause-err : goal.returns-clause-err
 returns-clause-err g c =
-    let reader = g.F.Reader.ByteIn in
-    let folder = c.args.folder.now in
-    let inputs = inputs g.F.Folder reader folder in
-    let kinds = c.args.kinds.now in
-    let files = c.args.files.now in
-    let real = seen reader c.in_ok-scd.scd c.read_classes.new.reader in
-    pair_fault inputs kinds files real (seen reader c.in_ok-dic.dic c.run_diff.new.dic) (seen reader c.in_ok-first.first c.run_diff.new.first) (seen reader c.in_ok-second.second c.run_diff.new.second)
-    c.in_ok-scd.ensures.ok c.in_ok-dic.ensures.ok c.in_ok-first.ensures.ok c.in_ok-second.ensures.ok
-    (failed_at g.F.Folder g.F.Reader.ByteIn folder files.scd.now c.in_ok-scd.scd c.read_classes.new.reader c.in_ok-scd.ensures.device)
-    (failed_at g.F.Folder g.F.Reader.ByteIn folder files.dic.now c.in_ok-dic.dic c.run_diff.new.dic c.in_ok-dic.ensures.device)
-    (failed_at g.F.Folder g.F.Reader.ByteIn folder files.first.now c.in_ok-first.first c.run_diff.new.first c.in_ok-first.ensures.device)
-    (failed_at g.F.Folder g.F.Reader.ByteIn folder files.second.now c.in_ok-second.second c.run_diff.new.second c.in_ok-second.ensures.device)
-    c.run_diff.result (if_err_map c.run_diff.result _ _ (pair_kept c.kinds.result.now kinds c.kinds.ensures real _ c.in_ok-classes.classes.items (c.new-kept.ensures ∙ ap Some c.deref.ensures.value) refl c.in_ok-classes.ensures.read c.in_ok-classes.ensures.all
-    (seen reader c.in_ok-dic.dic c.run_diff.new.dic) (seen reader c.in_ok-first.first c.run_diff.new.first) (seen reader c.in_ok-second.second c.run_diff.new.second)) c.run_diff.ensures.err)
-
-pub returns-in_err-classes-clause-err : goal.returns-in_err-classes-clause-err
-returns-in_err-classes-clause-err g c =
-    let reader = g.F.Reader.ByteIn in
-    let folder = c.args.folder.now in
-    let inputs = inputs g.F.Folder reader folder in
-    let kinds = c.args.kinds.now in
-    let files = c.args.files.now in
-    let real = seen reader c.in_ok-scd.scd c.read_classes.new.reader in
-    let there : AreFourThere inputs files =
-    ((reader.contents c.in_ok-scd.scd, c.in_ok-scd.ensures.ok), (reader.contents c.in_ok-dic.dic, c.in_ok-dic.ensures.ok), (reader.contents c.in_ok-first.first, c.in_ok-first.ensures.ok), (reader.contents c.in_ok-second.second, c.in_ok-second.ensures.ok)) in
-    err_kept _ c.in_err-classes.field-0.0 (PairFileFault inputs kinds files (λ _. ⊥)) c.from_residual-in_err-classes.ensures.1
-    (inr (
-      there,
-      classes_fault inputs (pair_path_at files) 4 (omega arith) real c.in_ok-scd.ensures.ok
-          (failed_at g.F.Folder g.F.Reader.ByteIn folder files.scd.now c.in_ok-scd.scd c.read_classes.new.reader c.in_ok-scd.ensures.device) _ _ _ _ c.in_err-classes.field-0.0 c.in_err-classes.ensures.err,
-    ))
+    let pair = c.in_ok-pair.pair in
+    let new = c.run_diff.new in
+    fault_of_pair g.F.Folder g.F.Reader.ByteIn c.args.folder.now c.args.files.now c.kinds.result.now c.args.kinds.now c.kinds.ensures pair.classes.items pair.dic pair.first pair.second
+    c.in_ok-pair.ensures.opened _ (c.new-kept.ensures ∙ ap Some c.deref.ensures.value) refl new.dic new.first new.second c.run_diff.result c.run_diff.ensures.err
 
 pub returns-clause-noted : goal.returns-clause-noted
-returns-clause-noted g c =
-    let reader = g.F.Reader.ByteIn in
-    let folder = c.args.folder.now in
-    let inputs = inputs g.F.Folder reader folder in
-    let kinds = c.args.kinds.now in
-    let files = c.args.files.now in
-    ok_whatever c.run_diff.result _
-    (note_given inputs kinds files.scd.now (reader.contents c.in_ok-scd.scd) c.in_ok-classes.classes.items c.read_classes.new.note.items c.in_ok-scd.ensures.ok
-    c.in_ok-classes.ensures.all c.in_ok-classes.ensures.note)
+returns-clause-noted g c = ok_whatever c.run_diff.result _ c.in_ok-pair.ensures.noted
 
 pub returns-clause-unnoted : goal.returns-clause-unnoted
-returns-clause-unnoted g c =
-    let reader = g.F.Reader.ByteIn in
-    let folder = c.args.folder.now in
-    let inputs = inputs g.F.Folder reader folder in
-    let kinds = c.args.kinds.now in
-    let files = c.args.files.now in
-    err_anyway c.run_diff.result _
-    (λ e. inl (note_given inputs kinds files.scd.now (reader.contents c.in_ok-scd.scd) c.in_ok-classes.classes.items c.read_classes.new.note.items c.in_ok-scd.ensures.ok
-    c.in_ok-classes.ensures.all c.in_ok-classes.ensures.note))
-
-pub returns-in_err-classes-clause-unnoted : goal.returns-in_err-classes-clause-unnoted
-returns-in_err-classes-clause-unnoted g c =
-    let reader = g.F.Reader.ByteIn in
-    let folder = c.args.folder.now in
-    let inputs = inputs g.F.Folder reader folder in
-    let kinds = c.args.kinds.now in
-    let files = c.args.files.now in
-    err_kept _ c.in_err-classes.field-0.0 (λ e. HasNoteOf inputs kinds files.scd.now (status_of_fault e) c.args.note.now.items c.read_classes.new.note.items)
-    c.from_residual-in_err-classes.ensures.1
-    (inr (unread _ _ c.in_err-classes.field-0.0 c.in_err-classes.ensures.err, c.in_err-classes.ensures.unnoted))
+returns-clause-unnoted g c = err_anyway c.run_diff.result _ (λ e. inl c.in_ok-pair.ensures.noted)
