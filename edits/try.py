@@ -8,7 +8,7 @@
                                         as the gate does: runs the command, which is `rt ci`, and tries the edits of this landing, those of
                                         each crate as soon as the command says that the crates below it are proved; it writes nothing
     python3 edits/try.py --due          which edits this landing tries and which it leaves
-    python3 edits/try.py --lists        looks whether the lists name the edits that are here
+    python3 edits/try.py --lists        looks whether the lists name the edits that are here, and README.md counts them rightly
     python3 edits/try.py --next         writes LANDING anew: a session begins with it
 """
 import os
@@ -160,7 +160,7 @@ def main(words):
             say(f"left: {' '.join(f'{crate}/{it}' for it in sorted(names))}")
         return 0
     if words == ["--lists"]:
-        found = [why for it in listed() for why in lists.complaints(f"{HERE}/{it}")]
+        found = [why for it in listed() for why in lists.complaints(f"{HERE}/{it}")] + lists.miscounts(HERE, listed())
         for why in found:
             say(why)
         lacking = [it for it in folders() if it not in listed()]

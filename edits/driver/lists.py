@@ -66,3 +66,11 @@ def complaints(folder):
     found += [f"{crate}/{it}: it has changed since it was tried" for it in paths if it in rows and rows[it].mark != mark_of(paths[it])]
     found += [f"{crate}/{it}: it is on the list and not there" for it in rows if it not in paths]
     return found + [f"{crate}/{it}: the list has no way of being refused for it" for it in rows if rows[it].how not in REFUSED]
+
+
+def miscounts(top, names):
+    """What is wrong with the sentence of README.md that counts the rows of these lists."""
+    rows = [row for it in names for row in read_list(f"{top}/{it}").values()]
+    false, open_, answer = (sum(it.how == how for it in rows) for how in REFUSED)
+    wanted = f"Of {len(rows)} bugs on the lists {false} are refused by a goal that is false, {open_} by one that is open, and {answer} as an answer."
+    return [] if wanted in " ".join(text_of(f"{top}/README.md").split()) else [f"README.md doesn't say: {wanted}"]
