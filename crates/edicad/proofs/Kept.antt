@@ -1,5 +1,5 @@
 -- A file of classes that was read, and is read once more from what was kept of it.
-use Rattle.std.proofs.Common.{◌≡◌, ◌≤◌, ◌<◌, ◌⊎◌, ◌∙◌, ℕ, Bool, true, false, List, length, Option, Some, None, IfSome, IsTrue, Result, Ok, Err, IfErr, OnOk, inl, inr, sym, ap, subst, arith}
+use Rattle.std.proofs.Common.{◌≡◌, ◌≤◌, ◌<◌, ◌⊎◌, ◌∙◌, ℕ, Bool, false, List, length, Option, Some, None, IfSome, IsTrue, Result, Ok, Err, IfErr, OnOk, inl, sym, ap, subst, arith}
 use Rattle.std.specs.Prelude.{IfOk, ⊤}
 use Rattle.std.specs.Bool.{MatchBool}
 use Rattle.edi_schema.specs.Roles.{KindCodes}

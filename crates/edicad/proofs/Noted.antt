@@ -1,5 +1,5 @@
 -- The note that a command hands on, with its status.
-use Rattle.std.proofs.Common.{◌≡◌, ◌⊎◌, ◌<◌, ℕ, false, List, [], Option, Some, None, Result, Ok, Err, IfErr, inl, inr, ◌∙◌, ap, subst, arith}
+use Rattle.std.proofs.Common.{◌≡◌, ℕ, false, List, [], Option, Some, None, Result, Ok, Err, IfErr, inl, inr, ◌∙◌, ap, arith}
 use Rattle.std.specs.Prelude.{IfOk}
 use Rattle.edi_line.specs.LineRules.{BreaksLineRule}
 use Rattle.edi_line.specs.Refusal.{IsUnbroken}

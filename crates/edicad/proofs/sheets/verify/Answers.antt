@@ -1,4 +1,4 @@
-use Rattle.std.proofs.Common.{◌∙◌, Some, ap, arith, inl, inr, refl}
+use Rattle.std.proofs.Common.{◌∙◌, Some, ap, arith, inr, refl}
 use Rattle.std.proofs.lemmas.Result.{IfOk-weaker}
 use Rattle.edi_compare.specs.Runs.{seen}
 use Rattle.edi_pairing.specs.VerifyRuns.{IsVerifiedUnder}
