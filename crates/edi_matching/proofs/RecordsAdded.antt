@@ -77,7 +77,7 @@ last_or k n h = go (cases_lt k n)
     go (inl less) = inl less
     go (inr more) = inr (omega arith)
 
-same_default : {X : Type 0} (xs : List X) (i : ℕ) (d e : X) → i < length xs → get_or xs i d ≡ get_or xs i e
+pub same_default : {X : Type 0} (xs : List X) (i : ℕ) (d e : X) → i < length xs → get_or xs i d ≡ get_or xs i e
 same_default [] i d e h = absurd (omega arith)
 same_default (x ∷ xs) zero d e h = refl
 same_default (x ∷ xs) (suc i) d e h = same_default xs i d e (omega arith)

@@ -1,5 +1,5 @@
 -- Runs of entries with one key.
-use Rattle.std.proofs.Common.{◌≡◌, ℕ, zero, suc, ◌+◌, ◌<◌, ◌≤◌, Bool, true, false, not, cond, ltb, List, [], ◌∷◌, Option, None, Some, Contains, drop, take, length, get_or, refl, sym, ap, ◌∙◌, arith}
+use Rattle.std.proofs.Common.{◌≡◌, inl, inr, ℕ, zero, suc, ◌+◌, ◌-◌, ◌<◌, ◌≤◌, Bool, true, false, not, cond, ltb, List, [], ◌∷◌, Option, None, Some, Contains, drop, take, length, get_or, refl, sym, ap, ◌∙◌, arith}
 use Rattle.std.specs.Cmp.{IsEquivalence}
 use Rattle.std.specs.List.{before_first, position_or_len}
 use Rattle.std.proofs.lemmas.Bool.{ltb-false, not-false}
@@ -7,7 +7,8 @@ use Rattle.std.proofs.lemmas.List.{get_or-drop, get_or-take, length-drop, length
 use Rattle.std.proofs.lemmas.List.Sums.{fails_before_first}
 use Rattle.edi_plan.specs.Plans.{Drawing}
 use Rattle.edi_matching.specs.declared.ranked.Member.{Member}
-use Rattle.edi_matching.specs.inner.Additions.{AreAlike, HaveOneKey, IsListed}
+use Rattle.edi_matching.specs.inner.Additions.{AreAlike, HasKey, HaveOneKey, IsListed, StartsRun}
+use Rattle.edi_matching.proofs.RecordsAdded.{same_default}
 
 -- the entries from a position on, up to the first with another key
 
@@ -50,6 +51,45 @@ runs_share eq laws p q entries others from at key i j w =
 pub only_one : {X : Type 0} (xs : List X) (one x : X) (n : ℕ) → xs ≡ one ∷ [] → n < length xs → x ≡ get_or xs n x → x ≡ one
 only_one xs one x zero alone within is = is ∙ ap (λ ys. get_or ys 0 x) alone
 only_one xs one x (suc n) alone within is = absurd (let long = ap length alone in omega (arith, within, long))
+
+-- ---- where runs start
+
+refuted : (b : Bool) → ¬ (b ≡ true) → b ≡ false
+refuted true h = absurd (h refl)
+refuted false h = refl
+
+not_both : (b : Bool) → not b ≡ true → b ≡ true → ⊥
+not_both true h k = cc
+not_both false h k = cc
+
+not_one : (b : Bool) → ¬ (b ≡ true) → not b ≡ true
+not_one true h = absurd (h refl)
+not_one false h = refl
+
+module _ {K : Type 0} (eq : K → K → Bool) (entries : List (K × Member)) (at : ℕ) (x : K × Member) (less : at < length entries) (behind : ¬ (at ≡ 0)) (is : x ≡ get_or entries at x) where
+  before : at - 1 < length entries
+  before = omega (arith, less)
+
+  has_key : (d : K × Member) → eq (get_or entries (at - 1) d).0 (get_or entries at d).0 ≡ true → HasKey eq entries (at - 1) x.0
+  has_key d h = record {
+    within = before;
+    same = λ e. ap (λ (y : K × Member). eq y.0 x.0) (same_default entries (at - 1) e d before)
+        ∙ (ap (λ (y : K × Member). eq (get_or entries (at - 1) d).0 y.0) (is ∙ same_default entries at x d less) ∙ h);
+  }
+
+  -- an entry behind the first starts a run exactly if the one before it has another key
+  pub starts_by : (b : Bool) → (b ≡ true → HasKey eq entries (at - 1) x.0) × (HasKey eq entries (at - 1) x.0 → b ≡ true)
+      → (not b ≡ true → StartsRun eq entries at) × (StartsRun eq entries at → not b ≡ true)
+  starts_by b has = (
+    λ other. inr (λ d. refuted (eq (get_or entries (at - 1) d).0 (get_or entries at d).0) (λ h. not_both b other (has.1 (has_key d h)))),
+    λ starts. not_one b (λ h. apart (has.0 h) starts),
+  )
+    where
+      apart : HasKey eq entries (at - 1) x.0 → StartsRun eq entries at → ⊥
+      apart h (inl first) = behind first
+      apart h (inr other) =
+          let same = ap (λ (y : K × Member). eq (get_or entries (at - 1) x).0 y.0) is ∙ other x in
+          let found = h.same x in cc
 
 -- what stands before the first element that passes a test, by where that was found
 
