@@ -4,6 +4,7 @@ use Rattle.std.proofs.lemmas.Bool.{cases_eq, cases_lt}
 use Rattle.std.proofs.lemmas.List.{get_or-set_other, get_or-set_same, get_or_past, length-set, take_at}
 use Rattle.edi_plan.specs.Plans.{Drawing}
 use Rattle.edi_matching.specs.Matchings.{GoesTo}
+use Rattle.edi_matching.specs.inner.Inverses.{Grows}
 use Rattle.edi_matching.specs.inner.Additions.{AddsPairs, AreAlike, AreFree, IsAdded, IsKept, IsPaired, PairsIfAlike, PairsIfBoth, PairsIfFree}
 
 -- a place that isn't taken is one of those that there are
@@ -201,19 +202,16 @@ pub on_both : {X E : Type 0} (r : Result X E) (P Q R : Type 0) → (P → Q → 
 on_both (Ok x) P Q R f h k = f h k
 on_both (Err e) P Q R f h k = tt
 
--- as many records go somewhere, and each where it did
-
-abbrev pub Grows : List (Option ℕ) → List (Option ℕ) → Type 0
-Grows to more = (length more ≡ length to) × ((i j : ℕ) → GoesTo to i j → GoesTo more i j)
+-- where a matching grew
 
 pub grows_same : (to more : List (Option ℕ)) → more ≡ to → Grows to more
-grows_same to more is = (ap length is, λ i j goes. ap (λ (xs : List (Option ℕ)). get_or xs i None) is ∙ goes)
+grows_same to more is = record { long = ap length is; keeps = λ i j goes. ap (λ (xs : List (Option ℕ)). get_or xs i None) is ∙ goes }
 
 pub grows_by : (Pair : ℕ → ℕ → Type 0) (to : List (Option ℕ)) (taken : List Bool) (more : List (Option ℕ)) (marks : List Bool) → AddsPairs Pair to taken more marks → Grows to more
-grows_by Pair to taken more marks adds = (adds.long, adds.keeps)
+grows_by Pair to taken more marks adds = record { long = adds.long; keeps = adds.keeps }
 
 pub grows_then : (to more most : List (Option ℕ)) → Grows to more → Grows more most → Grows to most
-grows_then to more most one two = (two.0 ∙ one.0, λ i j goes. two.1 i j (one.1 i j goes))
+grows_then to more most one two = record { long = two.long ∙ one.long; keeps = λ i j goes. two.keeps i j (one.keeps i j goes) }
 
 pub if_ok : {X E : Type 0} (r : Result X E) (P Q : X → Type 0) → ((x : X) → P x → Q x) → IfOk r P → IfOk r Q
 if_ok (Ok x) P Q f h = f x h

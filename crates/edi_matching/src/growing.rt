@@ -9,7 +9,7 @@ ghost use Rattle.edi_compare.specs.Laws.{IsAcceptedPlan};
 ghost use Rattle.edi_matching.specs.Matchings.{GoesTo, IsMatched, MatchingHolds};
 ghost use Rattle.edi_matching.specs.inner.Additions.{AddsPairs, AreAlike, PairsByKey};
 ghost use Rattle.edi_matching.specs.inner.Entries.{content_entry, link_entries};
-ghost use Rattle.edi_matching.specs.inner.Inverses.{IsInverse, IsMore, IsMoreBackwards};
+ghost use Rattle.edi_matching.specs.inner.Inverses.{Grows, IsInverse, IsMore, IsMoreBackwards};
 
 use crate::added::{add_faces, add_links, add_lone_objects, add_objects, target_of};
 use crate::checking::check_matching;
@@ -161,25 +161,83 @@ fn with_more(
 {
     let turned = matching.turned.as_slice();
     let mut to = copied(alloc, matching.to.as_slice())?;
-    let mut taken = vec![in alloc; false; second.plan.len() as usize]?;
-    let itself = each_to_itself(alloc, second.plan)?;
-    let unturned = vec![in alloc; false; second.plan.len() as usize]?;
-    add_faces(alloc, first, second.plan, turned, &mut to, &mut taken)?;
-    let contents = numbered_contents(alloc, first, second.plan)?;
-    add_objects_in_rounds(
-        alloc, first, second, &contents, &itself, &mut to, &mut taken,
-    )?;
-    add_objects_by_contents(alloc, first, second, &mut to, &mut taken)?;
-    let links = plain_links(alloc, schema, first.plan, &to, turned)?;
-    let others = plain_links(alloc, schema, second.plan, &itself, &unturned)?;
-    add_links(links, others, &mut to, &mut taken);
-    let links = links_by_key(alloc, schema, first.plan, &to, turned)?;
-    let others = links_by_key(alloc, schema, second.plan, &itself, &unturned)?;
-    add_links(links, others, &mut to, &mut taken);
+    add_more(alloc, schema, first, second, turned, &mut to)?;
     Ok(Matching {
         to: Sequence::from_vec(to),
         turned: Sequence::from_vec(copied(alloc, turned)?),
     })
+}
+
+/// Adds faces, then objects, then links.
+fn add_more(
+    alloc: Global,
+    schema: &Schema,
+    first: Ranked<'_>,
+    second: Ranked<'_>,
+    turned: &[bool],
+    to: &mut [Option<u32>],
+) -> Result<(), AllocError>
+    requires first { HasClasses schema.now first.plan.now }
+    requires second { HasClasses schema.now second.plan.now }
+    requires long { length turned.now ≡ length first.plan.now.list }
+    ensures { OnOk result (Grows to.old to.new) }
+{
+    let mut taken = vec![in alloc; false; second.plan.len() as usize]?;
+    let itself = each_to_itself(alloc, second.plan)?;
+    add_faces(alloc, first, second.plan, turned, to, &mut taken)?;
+    add_all_objects(alloc, first, second, &itself, to, &mut taken)?;
+    add_all_links(
+        alloc,
+        schema,
+        first.plan,
+        second.plan,
+        &itself,
+        turned,
+        to,
+        &mut taken,
+    )
+}
+
+/// Adds objects by what their links name beside them, and then those that are alone in what they hold.
+fn add_all_objects(
+    alloc: Global,
+    first: Ranked<'_>,
+    second: Ranked<'_>,
+    itself: &[Option<u32>],
+    to: &mut [Option<u32>],
+    taken: &mut [bool],
+) -> Result<(), AllocError>
+    ensures { OnOk result (Grows to.old to.new) }
+{
+    let contents = numbered_contents(alloc, first, second.plan)?;
+    add_objects_in_rounds(alloc, first, second, &contents, itself, to, taken)?;
+    add_objects_by_contents(alloc, first, second, to, taken)
+}
+
+/// Adds links by all that they hold, the plain ones first.
+fn add_all_links(
+    alloc: Global,
+    schema: &Schema,
+    first: &Plan,
+    second: &Plan,
+    itself: &[Option<u32>],
+    turned: &[bool],
+    to: &mut [Option<u32>],
+    taken: &mut [bool],
+) -> Result<(), AllocError>
+    requires first { HasClasses schema.now first.now }
+    requires second { HasClasses schema.now second.now }
+    requires long { length turned.now ≡ length first.now.list }
+    ensures { OnOk result (Grows to.old to.new) }
+{
+    let unturned = vec![in alloc; false; second.len() as usize]?;
+    let links = plain_links(alloc, schema, first, to, turned)?;
+    let others = plain_links(alloc, schema, second, itself, &unturned)?;
+    add_links(links, others, to, taken);
+    let links = links_by_key(alloc, schema, first, to, turned)?;
+    let others = links_by_key(alloc, schema, second, itself, &unturned)?;
+    add_links(links, others, to, taken);
+    Ok(())
 }
 
 /// Adds objects by the matched records that their links name beside them, until none is left or a round finds none.

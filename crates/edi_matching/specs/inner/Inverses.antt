@@ -1,5 +1,5 @@
 -- A matching the other way round.
-use Rattle.std.specs.Prelude.{◌≡◌, ℕ, ◌<◌, ◌-◌, ◌^◌, false, None, length, slice_index_or}
+use Rattle.std.specs.Prelude.{◌≡◌, ℕ, List, Option, ◌<◌, ◌-◌, ◌^◌, false, None, length, slice_index_or}
 use Rattle.edi_rank.specs.Labelling.{turned_at}
 use Rattle.edi_matching.specs.Matchings.{GoesTo, IsMatched}
 use Rattle.edi_matching.specs.declared.matching.Matching.{Matching}
@@ -12,6 +12,11 @@ pub record IsInverse (m : Matching) (count places : ℕ) (back : Matching) : Typ
   pub every : (i j : ℕ) → i < places → GoesTo m.to i j → j < count → IsMatched back.to j
   pub turned : (i j : ℕ) → GoesTo back.to j i → turned_at back.turned j ≡ turned_at m.turned i
   pub unturned : (j : ℕ) → slice_index_or back.to j None ≡ None → turned_at back.turned j ≡ false
+
+-- as many records go somewhere, or nowhere, and each that went somewhere goes there still
+pub record Grows (to more : List (Option ℕ)) : Type 0 where
+  pub long : length more ≡ length to
+  pub keeps : (i j : ℕ) → GoesTo to i j → GoesTo more i j
 
 -- what is matched stays matched as it was, and the same arcs are reversed
 pub record IsMore (m more : Matching) : Type 0 where
