@@ -9,14 +9,16 @@ use Rattle.edi_drawing.specs.Runs.{IsDrawnDifferenceUnder}
 use Rattle.edi_drawing.specs.declared.drawn.DrawnDifference.{DrawnDifference}
 use Rattle.edi_words.specs.declared.words.PairFiles.{PairFiles}
 use Rattle.edi_outcome.specs.Status.{status_of_fault}
-use Rattle.edicad.specs.Paths.{names_of_paths}
-use Rattle.edicad.specs.Effects.{Effects, Inputs, Stream}
-use Rattle.edicad.specs.SheetRuns.{IsPairPut, IsPairReplaced, IsPictureOfPair, OfPair, PairFileFault, PutPairFault, ShowsDifference}
-use Rattle.edicad.specs.Statuses.{Answers, IsDiffStatus, IsPictureStatus, IsSaid, IsUnsaid, pair_paths_of}
+use Rattle.edi_answers.specs.Paths.{names_of_paths}
+use Rattle.edi_answers.specs.Effects.{Effects, Inputs, Stream}
+use Rattle.edi_answers.specs.SheetRuns.{IsPairPut, IsPairReplaced, OfPair, PairFileFault, PutPairFault}
+use Rattle.edicad.specs.Made.{IsPictureOfPair, ShowsDifference}
+use Rattle.edi_answers.specs.Statuses.{Answers, IsSaid, IsUnsaid, pair_paths_of}
+use Rattle.edicad.specs.Statuses.{IsDiffStatus, IsPictureStatus}
 use Rattle.edi_outcome.specs.declared.outcome.Outcome.TheVariants as outcome
-use Rattle.edicad.proofs.Refusals.{fault_status, means_fault, not_one, pair_refused, pair_tried, known_fault}
-use Rattle.edicad.proofs.Made.{pair_map, were_four}
-use Rattle.edicad.proofs.Pairings.{put_pair_refused, put_pair_tried}
+use Rattle.edi_answers.proofs.Refusals.{fault_status, means_fault, not_one, pair_refused, pair_tried, known_fault}
+use Rattle.edi_answers.proofs.Made.{pair_map, were_four}
+use Rattle.edi_answers.proofs.Pairings.{put_pair_refused, put_pair_tried}
 
 -- the status of a difference whose text is put
 abbrev pub IsPutAs : Bool → ℕ → Type 0

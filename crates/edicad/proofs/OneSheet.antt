@@ -1,41 +1,22 @@
--- The status of a run over one sheet.
-use Rattle.std.proofs.Common.{◌≡◌, ◌≢◌, ◌⊎◌, ◌<◌, ℕ, Bool, true, false, List, [], IsTrue, codes, refl, sym, subst, inl, inr, arith}
-use Rattle.std.specs.Bool.{MatchBool}
-use Rattle.edi_line.specs.declared.device.ByteOut as byte_out
+-- The status of a run that makes something of one sheet.
+use Rattle.std.proofs.Common.{◌≡◌, ℕ, List, [], IsTrue, codes, refl, inl, inr, arith}
 use Rattle.edi_schema.specs.Roles.{KindCodes}
-use Rattle.edi_compare.specs.Runs.{BeforeWriting, IsSheetUnder}
+use Rattle.edi_compare.specs.Runs.{BeforeWriting}
 use Rattle.edi_compare.specs.declared.fault.RunFault.{RunFault}
-use Rattle.edi_compare.specs.declared.fault.RunFault.TheVariants.{Memory, Read, TooLong, Schema, First, Second, Write}
 use Rattle.edi_files.specs.declared.product.Product.{Product}
 use Rattle.edi_words.specs.declared.words.SheetFiles.{SheetFiles}
-use Rattle.edicad.specs.Effects.{Effects, Stream, written}
-use Rattle.edicad.specs.Explains.{IsExplainStatus, TellsAccepted, TellsRefusal}
-use Rattle.edi_outcome.specs.Status.{status_of_fault}
-use Rattle.edicad.specs.Paths.{names_of_paths}
-use Rattle.edicad.specs.SheetRuns.{FileFault, IsPut, IsReplaced, OfFiles, OfMade, PutFault}
-use Rattle.edicad.specs.Statuses.{Answers, Complains, IsFileStatus, IsPutStatus, IsSaid, IsSendStatus, IsUnsaid, IsWarned, Prints, PrintsFirst, paths_of}
+use Rattle.edi_answers.specs.Effects.{Effects, Stream}
+use Rattle.edi_answers.specs.Paths.{names_of_paths}
+use Rattle.edi_answers.specs.SheetRuns.{FileFault}
+use Rattle.edicad.specs.Made.{IsPut, IsReplaced, OfMade, PutFault}
+use Rattle.edi_answers.specs.Statuses.{Answers, Complains, IsSaid, IsWarned, Prints, PrintsFirst, paths_of}
+use Rattle.edicad.specs.Statuses.{IsPutStatus, IsSendStatus}
 use Rattle.edi_outcome.specs.declared.outcome.Outcome.TheVariants as outcome
-use Rattle.edicad.proofs.Answering.{appends_nothing}
-use Rattle.edicad.proofs.Made.{files_map, were_there}
-use Rattle.edicad.proofs.Refusals.{file_refused, file_tried, means_answer, means_fault, means_warned, put_refused, put_tried, refusal_line, unwritten}
+use Rattle.edi_answers.proofs.Made.{files_map, were_there}
+use Rattle.edi_answers.proofs.Refusals.{file_refused, file_tried, means_answer, means_fault, means_warned, refusal_line, unwritten}
+use Rattle.edicad.proofs.Refusals.{put_refused, put_tried}
 
 module _ (run : Effects) (out err : Stream) (kinds : KindCodes) (files : SheetFiles) (s : ℕ) where
-  -- a sheet is accepted, or not
-  pub accepted_status : OfFiles run.inputs files (IsSheetUnder kinds) → IsSaid run.why out err outcome.Accepted (paths_of files (codes "-")) s
-      → IsFileStatus run out err kinds files s
-  accepted_status h said = record {
-    tried = inl (were_there run.inputs files _ h);
-    means = means_answer _ _ _ run.why (paths_of files (codes "-")) out err s outcome.Accepted (omega arith) (λ zero. (h, said.answer (omega (arith, zero)))) said;
-  }
-
-  pub file_status : (e : RunFault) → FileFault run.inputs kinds files (λ _. ⊥) e → IsSaid run.why out err (outcome.Fault e) (paths_of files (codes "-")) s
-      → IsFileStatus run out err kinds files s
-  file_status e h said = record {
-    tried = file_tried run.inputs kinds files _ e h;
-    means = means_fault _ _ _ run.why (paths_of files (codes "-")) out err s e (λ silent. (h, silent))
-        (λ is line. file_refused (Answers out err) kinds (names_of_paths (paths_of files (codes "-"))) refl run.inputs files _ e h is line) said;
-  }
-
   module _ (product : Product) (path : List ℕ) (replaced : IsReplaced run product kinds files path) where
     -- what is made of it is put at a path, or not
     pub put_status : IsPut run product kinds files path → IsSaid run.why out err outcome.Accepted (paths_of files path) s → IsPutStatus run out err product kinds files path s
@@ -77,65 +58,3 @@ module _ (run : Effects) (out err : Stream) (kinds : KindCodes) (files : SheetFi
           (λ is told. file_refused (Complains out err) kinds (names_of_paths (paths_of files (codes "-"))) refl run.inputs files _ e h is
           (unwritten e _ silent is, refusal_line run.why err e (paths_of files (codes "-")) is told)) warned;
     }
-
-pub unmoved : {S : Type 0} → (g : byte_out.Ghosts S) (before after : S) → after ≡ before → Prints (written g before after) []
-unmoved g before after is = subst (λ s. Prints (written g before s) []) (sym is) (appends_nothing (g.contents before))
-
--- what keeps a stream as it was before writing wrote nothing to it
-pub silent_before : {S : Type 0} → (g : byte_out.Ghosts S) (e : RunFault) (before after : S) → BeforeWriting e (after ≡ before) → BeforeWriting e (Prints (written g before after) [])
-silent_before g (Memory e) before after is = unmoved g before after is
-silent_before g (Read n) before after is = unmoved g before after is
-silent_before g (TooLong n) before after is = unmoved g before after is
-silent_before g (Schema f) before after is = unmoved g before after is
-silent_before g (First f) before after is = unmoved g before after is
-silent_before g (Second f) before after is = unmoved g before after is
-silent_before g (Write w) before after is = tt
-
-zero_or_four : (s : ℕ) → (s ≡ 4) ⊎ (s ≡ 0) → s ≢ 2
-zero_or_four s (inl four) two = absurd (omega (arith, four, two))
-zero_or_four s (inr zero) two = absurd (omega (arith, zero, two))
-
-zero_or_four_only : (s : ℕ) → (s ≡ 4) ⊎ (s ≡ 0) → s ≢ 5
-zero_or_four_only s (inl four) five = absurd (omega (arith, four, five))
-zero_or_four_only s (inr zero) five = absurd (omega (arith, zero, five))
-
-two_or_four : (s : ℕ) → (s ≡ 4) ⊎ (s ≡ 2) → s ≢ 0
-two_or_four s (inl four) zero = absurd (omega (arith, four, zero))
-two_or_four s (inr two) zero = absurd (omega (arith, two, zero))
-
-two_or_four_only : (s : ℕ) → (s ≡ 4) ⊎ (s ≡ 2) → s ≢ 5
-two_or_four_only s (inl four) five = absurd (omega (arith, four, five))
-two_or_four_only s (inr two) five = absurd (omega (arith, two, five))
-
--- a sheet is explained, or not
-module _ (run : Effects) (out err : Stream) (kinds : KindCodes) (files : SheetFiles) (s : ℕ) where
-  abbrev pub Explains : Bool → List ℕ → Type 0
-  Explains is_accepted text = OfFiles run.inputs files (λ scd dic b. MatchBool is_accepted (TellsAccepted kinds files scd dic b text) (TellsRefusal kinds files scd dic b text))
-
-  pub explained_status : (is_accepted : Bool) (text : List ℕ) → Explains is_accepted text → (s ≡ 4) ⊎ MatchBool is_accepted (s ≡ 0) (s ≡ 2)
-      → (s < 3 → Answers out err text) → (s ≡ 4 → IsUnsaid out err) → IsExplainStatus run out err kinds files s
-  explained_status true text h is written unsaid = record {
-    tried = inl (were_there run.inputs files _ h);
-    means = record {
-      done = λ zero. files_map run.inputs files _ _ (λ a b c told. (text, told, written (omega (arith, zero)))) h;
-      refused = λ two. absurd (zero_or_four s is two);
-      failed = λ four. inl (unsaid four);
-      memory = λ five. absurd (zero_or_four_only s is five);
-    };
-  }
-  explained_status false text h is written unsaid = record {
-    tried = inl (were_there run.inputs files _ h);
-    means = record {
-      done = λ zero. absurd (two_or_four s is zero);
-      refused = λ two. files_map run.inputs files _ _ (λ a b c told. (text, told, written (omega (arith, two)))) h;
-      failed = λ four. inl (unsaid four);
-      memory = λ five. absurd (two_or_four_only s is five);
-    };
-  }
-
-  pub unexplained_status : (e : RunFault) → FileFault run.inputs kinds files (λ _. ⊥) e → 2 < status_of_fault e
-      → IsSaid run.why out err (outcome.Fault e) (paths_of files (codes "-")) s → IsExplainStatus run out err kinds files s
-  unexplained_status e h big said = record {
-    tried = file_tried run.inputs kinds files _ e h;
-    means = means_fault _ _ _ run.why (paths_of files (codes "-")) out err s e (λ silent. (h, silent)) (λ is line. absurd (omega (arith, is, big))) said;
-  }

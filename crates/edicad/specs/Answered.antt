@@ -1,17 +1,17 @@
 -- What each request is answered by.
-use Rattle.std.specs.Prelude.{◌≡◌, ◌⊎◌, ◌++◌, ℕ, List, [], IsTrue, MatchOption, codes}
+use Rattle.std.specs.Prelude.{◌≡◌, ◌⊎◌, ℕ, List, [], IsTrue, MatchOption}
 use Rattle.std.specs.Bool.{MatchBool}
-use Rattle.edicad.specs.Explains.{IsExplainStatus, IsRuleStatus}
-use Rattle.edicad.specs.Hashes.{IsHashStatus}
-use Rattle.edi_files.specs.Reasons.{ended}
+use Rattle.edi_answers.specs.Explains.{IsExplainStatus, IsRuleStatus}
+use Rattle.edi_answers.specs.Hashes.{IsHashStatus}
 use Rattle.edi_files.specs.declared.product.Product.{Product}
 use Rattle.edi_files.specs.declared.product.Product.TheVariants.{Canonical, Picture}
 use Rattle.edi_words.specs.Requests.{IsAsked, is_standard_path}
 use Rattle.edi_words.specs.declared.words.Misuse.{Misuse}
-use Rattle.edicad.specs.Effects.{Effects, Stream}
-use Rattle.edicad.specs.Misuses.{misuse_lines, shows_words}
-use Rattle.edicad.specs.Notes.{InTurn, IsNoteOf, Notes}
-use Rattle.edicad.specs.Statuses.{IsBundleStatus, IsCompareStatus, IsDiffStatus, IsFileStatus, IsPairingStatus, IsPictureStatus, IsPutStatus, IsSendStatus, IsVerifyStatus, Complains, LacksMemory, Prints, Warns}
+use Rattle.edi_answers.specs.Effects.{Effects, Stream}
+use Rattle.edi_answers.specs.Misuses.{misuse_lines, not_text_lines, shows_words}
+use Rattle.edi_answers.specs.Notes.{InTurn, IsNoteOf, Notes}
+use Rattle.edi_answers.specs.Statuses.{IsBundleStatus, IsCompareStatus, IsFileStatus, IsPairingStatus, IsVerifyStatus, Complains, LacksMemory, Prints, Warns}
+use Rattle.edicad.specs.Statuses.{IsDiffStatus, IsPictureStatus, IsPutStatus, IsSendStatus}
 use Rattle.edi_schema.specs.Roles.{KindCodes}
 use Rattle.edi_words.specs.declared.words.SheetFiles.{SheetFiles}
 use Rattle.edi_words.specs.declared.words.Request.{Request}
@@ -50,10 +50,6 @@ IsReplied run out err (Answered status) s = run.untouched × (s ≡ status) × P
 abbrev pub IsAnswered : Effects → Stream → Stream → Request → ℕ → Type 0
 IsAnswered run out err request s = (note : List ℕ) × IsNoteOf run.inputs request s note
     × InTurn err (λ e. IsReplied run out e request s) (λ e. Notes e note)
-
--- what is said of words that are not all UTF-8
-abbrev pub not_text_lines : List ℕ
-not_text_lines = ended (codes "error: the words are not all UTF-8") ++ ended (codes "edicad: name such a file by a link whose name is, or read it by - from standard input")
 
 -- the words could not be had: not all are UTF-8, or memory ran out
 abbrev pub IsUnread : Effects → Stream → Stream → ℕ → Type 0

@@ -1,5 +1,2 @@
 -- What the public contracts do not reach: what private contracts and proofs need.
-pub mod Hashes
 pub mod Notes
-pub mod Outcome
-pub mod PairInputs

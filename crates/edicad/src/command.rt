@@ -2,23 +2,22 @@
 ghost use Rattle.std.specs.Prelude.{◌≡◌, ◌⊎◌, ◌<◌, ℕ, List, MatchOption, map, string_bytes};
 ghost use Rattle.std.specs.Bool.{MatchBool};
 ghost use Rattle.edicad.specs.Answered.{AnswersWords, IsAnswered, IsMadeStatus, IsReplied, IsUnread};
-ghost use Rattle.edicad.specs.Effects.{effects, inputs, written};
-ghost use Rattle.edicad.specs.inner.Notes.{HasNoteOf, LeavesNoteOf};
-ghost use Rattle.edicad.specs.inner.Outcome.{outcome_for, paired_outcome, verified_outcome};
-ghost use Rattle.edicad.specs.Statuses.{Answers, HasStatus, IsBundleStatus, IsCompareStatus, IsDiffStatus, IsFileStatus, IsPairStatus};
-ghost use Rattle.edicad.specs.Statuses.{IsPairingStatus, IsPictureStatus, IsPutStatus, IsSendStatus, IsSheetStatus, IsStatus, IsStatusOf};
-ghost use Rattle.edicad.specs.Statuses.{IsUnsaid, IsVerifyStatus};
+ghost use Rattle.edi_answers.specs.Effects.{effects, inputs, written};
+ghost use Rattle.edi_answers.specs.Notes.{HasNoteOf};
+ghost use Rattle.edicad.specs.inner.Notes.{LeavesNoteOf};
+ghost use Rattle.edi_answers.specs.Statuses.{Answers, IsPairStatus, IsSheetStatus, IsUnsaid};
+ghost use Rattle.edicad.specs.Statuses.{HasStatus, IsDiffStatus, IsPictureStatus, IsPutStatus, IsSendStatus, IsStatus, IsStatusOf};
 
-use crate::explains::{explain, explain_rule};
-use crate::hashes::hash;
-use crate::{notes, report, sheets};
-use edi_compare::{RunFault, Verdict};
+use crate::sheets;
+use edi_answers::commands::{bundle, check, compare_or_pair, verify};
+use edi_answers::explains::{explain, explain_rule};
+use edi_answers::hashes::hash;
+use edi_answers::{notes, report};
 use edi_diff::Difference;
 use edi_files::Product::{self, Canonical, Picture};
 use edi_files::{CommandLine, Disk, Errors, Folder, Words};
 use edi_line::{ByteOut, ToWrite};
 use edi_outcome::Outcome;
-use edi_pairing::{Verified, VerifyRunFault};
 use edi_words::{GivenKinds, PairFiles, Request, SheetFiles, asked, is_standard};
 use edi_write::put_all;
 use std::alloc::Global;
@@ -161,45 +160,6 @@ fn replied<F: Folder, O: ByteOut, E: ByteOut>(
     }
 }
 
-// The bundle on standard input, of which only a fault has a line.
-fn bundle<F: Folder, O: ByteOut, E: ByteOut>(
-    alloc: Global,
-    folder: &F,
-    out: &mut O,
-    err: &mut E,
-) -> u8
-    ensures status { IsSheetStatus result }
-    ensures answer { IsBundleStatus (effects F.Folder F.Reader.ByteIn F.Sink.ByteOut F.NewFile.ByteOut folder.now folder.now)
-        (written O.ByteOut out.old out.new) (written E.ByteOut err.old err.new) result }
-{
-    match sheets::bundle(alloc, folder, out) {
-        Ok(()) => 0,
-        Err(fault) => report::answer(alloc, folder, out, err, &Outcome::Fault(fault), &["-", "-"]),
-    }
-}
-
-// Whether a sheet is accepted.
-fn check<F: Folder, O: ByteOut, E: ByteOut>(
-    alloc: Global,
-    folder: &F,
-    kinds: &GivenKinds<'_>,
-    files: &SheetFiles<'_>,
-    out: &mut O,
-    err: &mut E,
-    note: &mut Vec<u8>,
-) -> u8
-    ensures status { IsSheetStatus result }
-    ensures answer { IsFileStatus (effects F.Folder F.Reader.ByteIn F.Sink.ByteOut F.NewFile.ByteOut folder.now folder.now)
-        (written O.ByteOut out.old out.new) (written E.ByteOut err.old err.new) kinds.now files.now result }
-    ensures note { HasNoteOf (inputs F.Folder F.Reader.ByteIn folder.now) kinds.now files.now.scd.now result note.old.items note.new.items }
-{
-    let paths = [files.scd, files.dic, files.vec, "-"];
-    match sheets::check(alloc, folder, kinds, files, note) {
-        Ok(()) => report::answer(alloc, folder, out, err, &Outcome::Accepted, &paths),
-        Err(fault) => report::answer(alloc, folder, out, err, &Outcome::Fault(fault), &paths),
-    }
-}
-
 // What is made of a sheet, to a path or to the output.
 fn make<F: Folder, O: ByteOut, E: ByteOut>(
     alloc: Global,
@@ -269,100 +229,6 @@ fn send<F: Folder, O: ByteOut, E: ByteOut>(
         Ok(()) => 0,
         Err(fault) => report::warned(alloc, folder, err, &fault, &paths),
     }
-}
-
-// Whether two sheets state the same plan, and a pairing of them to a path, where one is named.
-fn compare_or_pair<F: Folder, O: ByteOut, E: ByteOut>(
-    alloc: Global,
-    folder: &mut F,
-    kinds: &GivenKinds<'_>,
-    files: &PairFiles<'_>,
-    pairing: Option<&str>,
-    out: &mut O,
-    err: &mut E,
-    note: &mut Vec<u8>,
-) -> u8
-    ensures status { IsPairStatus result }
-    ensures answer { MatchOption pairing.entry ((folder.new ≡ folder.old)
-        × IsCompareStatus (effects F.Folder F.Reader.ByteIn F.Sink.ByteOut F.NewFile.ByteOut folder.old folder.new)
-        (written O.ByteOut out.old out.new) (written E.ByteOut err.old err.new) kinds.now files.now result)
-        (λ path. IsPairingStatus (effects F.Folder F.Reader.ByteIn F.Sink.ByteOut F.NewFile.ByteOut folder.old folder.new)
-        (written O.ByteOut out.old out.new) (written E.ByteOut err.old err.new) kinds.now files.now path.now result) }
-    ensures note { HasNoteOf (inputs F.Folder F.Reader.ByteIn folder.old) kinds.now files.now.scd.now result note.old.items note.new.items }
-{
-    match pairing {
-        Some(path) => pair(alloc, folder, kinds, files, path, out, err, note),
-        None => compare(alloc, folder, kinds, files, out, err, note),
-    }
-}
-
-// Whether two sheets state the same plan.
-fn compare<F: Folder, O: ByteOut, E: ByteOut>(
-    alloc: Global,
-    folder: &F,
-    kinds: &GivenKinds<'_>,
-    files: &PairFiles<'_>,
-    out: &mut O,
-    err: &mut E,
-    note: &mut Vec<u8>,
-) -> u8
-    ensures status { IsPairStatus result }
-    ensures answer { IsCompareStatus (effects F.Folder F.Reader.ByteIn F.Sink.ByteOut F.NewFile.ByteOut folder.now folder.now)
-        (written O.ByteOut out.old out.new) (written E.ByteOut err.old err.new) kinds.now files.now result }
-    ensures note { HasNoteOf (inputs F.Folder F.Reader.ByteIn folder.now) kinds.now files.now.scd.now result note.old.items note.new.items }
-{
-    let paths = [files.scd, files.dic, files.first, files.second, "-"];
-    let outcome = outcome_of(sheets::compare(alloc, folder, kinds, files, note));
-    report::answer(alloc, folder, out, err, &outcome, &paths)
-}
-
-// Whether two sheets state the same plan, and a pairing of them to a path.
-fn pair<F: Folder, O: ByteOut, E: ByteOut>(
-    alloc: Global,
-    folder: &mut F,
-    kinds: &GivenKinds<'_>,
-    files: &PairFiles<'_>,
-    path: &str,
-    out: &mut O,
-    err: &mut E,
-    note: &mut Vec<u8>,
-) -> u8
-    ensures status { IsPairStatus result }
-    ensures answer { IsPairingStatus (effects F.Folder F.Reader.ByteIn F.Sink.ByteOut F.NewFile.ByteOut folder.old folder.new)
-        (written O.ByteOut out.old out.new) (written E.ByteOut err.old err.new) kinds.now files.now path.now result }
-    ensures note { HasNoteOf (inputs F.Folder F.Reader.ByteIn folder.old) kinds.now files.now.scd.now result note.old.items note.new.items }
-{
-    let paths = [files.scd, files.dic, files.first, files.second, path];
-    let outcome = outcome_of_paired(sheets::pair(alloc, folder, kinds, files, path, note));
-    report::answer(alloc, folder, out, err, &outcome, &paths)
-}
-
-// Whether a file states a pairing that carries the one plan onto the other, and why it doesn't.
-fn verify<F: Folder, O: ByteOut, E: ByteOut>(
-    alloc: Global,
-    folder: &F,
-    kinds: &GivenKinds<'_>,
-    files: &PairFiles<'_>,
-    pairing: &str,
-    out: &mut O,
-    err: &mut E,
-    note: &mut Vec<u8>,
-) -> u8
-    ensures status { IsPairStatus result }
-    ensures answer { IsVerifyStatus (effects F.Folder F.Reader.ByteIn F.Sink.ByteOut F.NewFile.ByteOut folder.now folder.now)
-        (written O.ByteOut out.old out.new) (written E.ByteOut err.old err.new) kinds.now files.now pairing.now result }
-    ensures note { HasNoteOf (inputs F.Folder F.Reader.ByteIn folder.now) kinds.now files.now.scd.now result note.old.items note.new.items }
-{
-    let paths = [
-        files.scd,
-        files.dic,
-        files.first,
-        files.second,
-        pairing,
-        "-",
-    ];
-    let outcome = outcome_of_verified(sheets::verify(alloc, folder, kinds, files, pairing, note));
-    report::answer(alloc, folder, out, err, &outcome, &paths)
 }
 
 // What differs between two sheets, or that without the lines of records, and a picture of it to a path, where one is named.
@@ -448,38 +314,4 @@ fn put_difference<O: ByteOut, E: ByteOut>(difference: &Difference, out: &mut O, 
         return report::unwritten(err);
     }
     if difference.same { 0 } else { DIFFERENT_STATUS }
-}
-
-// What a comparison to a pairing's file came to.
-fn outcome_of_paired(paired: Result<Option<u64>, RunFault>) -> Outcome
-    ensures { result ≡ paired_outcome paired }
-{
-    match paired {
-        Ok(None) => Outcome::Same,
-        Ok(Some(line)) => Outcome::Different(line),
-        Err(fault) => Outcome::Fault(fault),
-    }
-}
-
-// What the check of a pairing's file came to.
-fn outcome_of_verified(verified: Result<Verified, VerifyRunFault>) -> Outcome
-    ensures { result ≡ verified_outcome verified }
-{
-    match verified {
-        Ok(Verified::Carries) => Outcome::Pairs,
-        Ok(Verified::Fails(why)) => Outcome::Unpaired(why),
-        Err(VerifyRunFault::Run(fault)) => Outcome::Fault(fault),
-        Err(VerifyRunFault::Pairing { at, why }) => Outcome::WrongPairing(at, why),
-    }
-}
-
-// What a comparison came to.
-fn outcome_of(compared: Result<Verdict, RunFault>) -> Outcome
-    ensures { result ≡ outcome_for compared }
-{
-    match compared {
-        Ok(Verdict::Same(_)) => Outcome::Same,
-        Ok(Verdict::Different { line }) => Outcome::Different(line),
-        Err(fault) => Outcome::Fault(fault),
-    }
 }

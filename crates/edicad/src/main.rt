@@ -1,16 +1,7 @@
 //! The command: canonical files of cadastral sheets.
 #![tactic(auto)]
 
-mod classes;
 mod command;
-mod explains;
-mod hashes;
-mod known;
-mod notes;
-mod pair_inputs;
-mod paths;
-mod reason;
-mod report;
 mod sheets;
 
 use std::env;

@@ -1,74 +1,29 @@
-//! The sheets that a command names.
-ghost use Rattle.std.specs.Prelude.{◌≡◌, ◌≤◌, ℕ, List, MatchOption, Option, length, take, OnOk, IfOk, IfErr, IfSome, IsTrue, ⊤};
+//! What is made of the sheets that a command names: canonical files, differences and pictures.
+ghost use Rattle.std.specs.Prelude.{◌≡◌, ◌≤◌, length, take, OnOk, IfOk, IfErr, IsTrue};
 ghost use Rattle.std.specs.Bool.{MatchBool};
 ghost use Rattle.std.specs.Io.KnownBytes.{Appends};
-ghost use Rattle.edi_compare.specs.Bundle.{OfParts};
-ghost use Rattle.edi_compare.specs.Runs.{BeforeWriting, FilesFault, IsSheetUnder, IsVerdictOf, MatchFault, IfThreeKnown, WritesAll, WritesFirst, seen};
-ghost use Rattle.edi_compare.specs.declared.pairing.Verdict.TheVariants.{Different};
+ghost use Rattle.edi_compare.specs.Runs.{BeforeWriting, FilesFault, MatchFault, IfThreeKnown, seen};
 ghost use Rattle.edi_diff.specs.Runs.{IsDifferenceUnder};
 ghost use Rattle.edi_drawing.specs.Runs.{IsDrawnDifferenceUnder};
-ghost use Rattle.edi_pairing.specs.CompareRuns.{IsComparedUnder, IsPairingFileOf};
-ghost use Rattle.edi_pairing.specs.VerifyRuns.{IsVerifiedUnder, MatchRun, RefusesFile};
-ghost use Rattle.edicad.specs.Notes.{GivesNote};
+ghost use Rattle.edi_answers.specs.Notes.{GivesNote, HasNoteOf};
 ghost use Rattle.edi_outcome.specs.Words.{FaultHasNames};
 ghost use Rattle.edi_outcome.specs.Status.{status_of_fault};
-ghost use Rattle.edicad.specs.inner.Notes.{HasNoteOf};
-ghost use Rattle.edi_words.specs.Requests.{usual_kinds};
-ghost use Rattle.edicad.specs.Effects.{effects, inputs};
-ghost use Rattle.edicad.specs.SheetRuns.{FileFault, Gives, IsApart, IsDeviceOf, IsInput, IsMadeOf, IsMissing, IsNoInput, IsNoPairInput, IsPairInput};
-ghost use Rattle.edicad.specs.SheetRuns.{IsPairPut, IsPairReplaced, IsPictureOfPair, IsPut, IsReplaced, Meets, OfFiles, OfFive, OfMade, OfPair};
-ghost use Rattle.edicad.specs.SheetRuns.{PairFileFault, PutFault, PutPairFault, ShowsDifference, StandardFault, VerifyFileFault};
+ghost use Rattle.edi_answers.specs.Effects.{effects, inputs};
+ghost use Rattle.edi_answers.specs.SheetRuns.{FileFault, IsPairPut, IsPairReplaced, OfFiles, OfPair, PairFileFault, PutPairFault};
+ghost use Rattle.edicad.specs.Made.{IsInput, IsMadeOf, IsNoInput, IsPictureOfPair, IsPut, IsReplaced, OfMade, PutFault, ShowsDifference};
 
-use crate::classes::{Kept, read_classes};
-use crate::pair_inputs::{PairInputs, open_pair};
-use edi_compare::{RunFault, Verdict, canon_of, run_bundle, run_check, run_compare};
+use edi_answers::classes::{Kept, read_classes};
+use edi_answers::pair_inputs::{PairInputs, open_pair};
+use edi_answers::sheets::{is_pair_input, meets, opened};
+use edi_compare::{RunFault, canon_of};
 use edi_diff::{Difference, run_diff};
 use edi_drawing::{DrawnDifference, run_draw, run_draw_difference};
 use edi_files::{Folder, Product, output};
 use edi_line::{ByteIn, ByteOut};
-use edi_pairing::{Compared, Verified, VerifyRunFault, run_compare_to_file, run_verify};
 use edi_schema::Kinds;
-use edi_words::{GivenKinds, PairFiles, SheetFiles, is_standard};
+use edi_words::{GivenKinds, PairFiles, SheetFiles};
 use edi_write::{Written, put_all};
 use std::alloc::Global;
-
-/// The bundle on standard input, to its canonical file.
-pub fn bundle<F: Folder, O: ByteOut>(alloc: Global, folder: &F, out: &mut O) -> Result<(), RunFault>
-    ensures ok { OnOk result ((contents : Option (List ℕ)) × F.standard folder.now contents
-        × IfSome contents (λ b. OfParts b (λ s d v. WritesAll usual_kinds s d v (O.contents out.old) (O.contents out.new)))) }
-    ensures err { IfErr result (λ e. (contents : Option (List ℕ)) × F.standard folder.now contents
-        × StandardFault (inputs F.Folder F.Reader.ByteIn folder.now) contents
-        (λ count. IsTrue (O.has_failed out.new) × IfSome contents (λ b. OfParts b (λ s d v.
-        WritesFirst usual_kinds s d v count (O.contents out.old) (O.contents out.new)))) e) }
-    ensures unwritten { IfErr result (λ e. BeforeWriting e (out.new ≡ out.old)) }
-    ensures names { IfErr result (λ e. FaultHasNames e 2) }
-{
-    let mut input = folder.input();
-    run_bundle(alloc, &Kinds::usual(), &mut input, out)
-}
-
-/// Whether the sheet of three files is accepted. All are opened before the first is read.
-pub fn check<F: Folder>(
-    alloc: Global,
-    folder: &F,
-    kinds: &GivenKinds<'_>,
-    files: &SheetFiles<'_>,
-    note: &mut Vec<u8>,
-) -> Result<(), RunFault>
-    ensures ok { OnOk result (OfFiles (inputs F.Folder F.Reader.ByteIn folder.now) files.now (IsSheetUnder kinds.now)) }
-    ensures err { IfErr result (FileFault (inputs F.Folder F.Reader.ByteIn folder.now) kinds.now files.now (λ _. ⊥)) }
-    ensures names { IfErr result (λ e. FaultHasNames e 4) }
-    ensures noted { OnOk result (GivesNote (inputs F.Folder F.Reader.ByteIn folder.now) kinds.now files.now.scd.now note.new.items) }
-    ensures unnoted { IfErr result (λ e. HasNoteOf (inputs F.Folder F.Reader.ByteIn folder.now) kinds.now files.now.scd.now (status_of_fault e)
-        note.old.items note.new.items) }
-{
-    let mut scd = opened(folder, files.scd, 1)?;
-    let mut dic = opened(folder, files.dic, 2)?;
-    let mut vec = opened(folder, files.vec, 3)?;
-    let classes = read_classes(alloc, kinds, files.scd, &mut scd, note)?;
-    let mut kept = Kept::new(&classes);
-    run_check(alloc, kinds.kinds(), &mut kept, &mut dic, &mut vec)
-}
 
 /// What is made of the sheet of three files, to a path that is none of them. It is written once the sheet is accepted,
 /// and replaces a file whole or not at all.
@@ -128,40 +83,6 @@ pub fn send<F: Folder, O: ByteOut>(
     }
 }
 
-/// Whether the two sheets of four files state the same plan. All are opened before the first is read.
-pub fn compare<F: Folder>(
-    alloc: Global,
-    folder: &F,
-    kinds: &GivenKinds<'_>,
-    files: &PairFiles<'_>,
-    note: &mut Vec<u8>,
-) -> Result<Verdict, RunFault>
-    ensures ok { IfOk result (λ verdict. OfPair (inputs F.Folder F.Reader.ByteIn folder.now) files.now
-        (λ s d a b. IsVerdictOf kinds.now s d a b verdict)) }
-    ensures err { IfErr result (PairFileFault (inputs F.Folder F.Reader.ByteIn folder.now) kinds.now files.now (λ _. ⊥)) }
-    ensures names { IfErr result (λ e. FaultHasNames e 5) }
-    ensures noted { IfOk result (λ _. GivesNote (inputs F.Folder F.Reader.ByteIn folder.now) kinds.now files.now.scd.now note.new.items) }
-    ensures unnoted { IfErr result (λ e. HasNoteOf (inputs F.Folder F.Reader.ByteIn folder.now) kinds.now files.now.scd.now (status_of_fault e)
-        note.old.items note.new.items) }
-{
-    let pair = open_pair(alloc, folder, kinds, files, note)?;
-    let PairInputs {
-        classes,
-        mut dic,
-        mut first,
-        mut second,
-    } = pair;
-    let mut kept = Kept::new(&classes);
-    run_compare(
-        alloc,
-        kinds.kinds(),
-        &mut kept,
-        &mut dic,
-        &mut first,
-        &mut second,
-    )
-}
-
 /// What differs between the two sheets of four files, or that without the lines of records. All are opened before the first is
 /// read.
 pub fn diff<F: Folder>(
@@ -197,44 +118,6 @@ pub fn diff<F: Folder>(
         &mut second,
         brief,
     )
-}
-
-/// Whether the two sheets of four files state the same plan, with the line at which their canonical files first differ,
-/// counted from 1, if they don't. If they do, a pairing that carries the first plan onto the second goes to a path that is none
-/// of the four; a file is replaced whole or not at all.
-pub fn pair<F: Folder>(
-    alloc: Global,
-    folder: &mut F,
-    kinds: &GivenKinds<'_>,
-    files: &PairFiles<'_>,
-    out: &str,
-    note: &mut Vec<u8>,
-) -> Result<Option<u64>, RunFault>
-    ensures ok { IfOk result (λ line. MatchOption line (IsPairPut
-        (effects F.Folder F.Reader.ByteIn F.Sink.ByteOut F.NewFile.ByteOut folder.old folder.new)
-        (IsPairingFileOf kinds.now) files.now out.now)
-        (λ at. OfPair (inputs F.Folder F.Reader.ByteIn folder.old) files.now (λ s d a b. IsVerdictOf kinds.now s d a b (Different at))
-        × IsNoPairInput (F.is_one folder.old) files.now out.now × (folder.new ≡ folder.old))) }
-    ensures err { IfErr result (PutPairFault (effects F.Folder F.Reader.ByteIn F.Sink.ByteOut F.NewFile.ByteOut folder.old folder.new)
-        (IsPairingFileOf kinds.now) kinds.now files.now out.now) }
-    ensures replaced { IsPairReplaced (effects F.Folder F.Reader.ByteIn F.Sink.ByteOut F.NewFile.ByteOut folder.old folder.new)
-        (IsPairingFileOf kinds.now) files.now out.now }
-    ensures names { IfErr result (λ e. FaultHasNames e 5) }
-    ensures noted { IfOk result (λ _. GivesNote (inputs F.Folder F.Reader.ByteIn folder.old) kinds.now files.now.scd.now note.new.items) }
-    ensures unnoted { IfErr result (λ e. HasNoteOf (inputs F.Folder F.Reader.ByteIn folder.old) kinds.now files.now.scd.now (status_of_fault e)
-        note.old.items note.new.items) }
-{
-    if is_pair_input(folder, files, out) {
-        return Err(RunFault::Write(Written { count: 0 }));
-    }
-    match compare_to_file(alloc, folder, kinds, files, note) {
-        Ok(Compared::Same { file }) => match output::put(folder, out, &file) {
-            Ok(()) => Ok(None),
-            Err(fault) => Err(fault),
-        },
-        Ok(Compared::Different { line }) => Ok(Some(line)),
-        Err(fault) => Err(fault),
-    }
 }
 
 /// What differs between the two sheets of four files, or that without the lines of records. A picture of both that shows it goes to a
@@ -274,78 +157,6 @@ pub fn draw_difference<F: Folder>(
         },
         Err(fault) => Err(fault),
     }
-}
-
-/// Whether a file states a pairing that carries the plan of the first sheet onto that of the second, and why it doesn't. All five files
-/// are opened before the first is read.
-pub fn verify<F: Folder>(
-    alloc: Global,
-    folder: &F,
-    kinds: &GivenKinds<'_>,
-    files: &PairFiles<'_>,
-    pairing: &str,
-    note: &mut Vec<u8>,
-) -> Result<Verified, VerifyRunFault>
-    ensures ok { IfOk result (λ answer. OfFive (inputs F.Folder F.Reader.ByteIn folder.now) files.now pairing.now
-        (λ s d a b f. IsVerifiedUnder kinds.now s d a b f answer)) }
-    ensures err { IfErr result (λ e. MatchRun e (VerifyFileFault (inputs F.Folder F.Reader.ByteIn folder.now) kinds.now
-        files.now pairing.now) (λ at why. OfFive (inputs F.Folder F.Reader.ByteIn folder.now) files.now pairing.now
-        (λ s d a b f. RefusesFile kinds.now s d a b f at why))) }
-    ensures names { IfErr result (λ e. MatchRun e (λ f. FaultHasNames f 6) (λ _ _. ⊤)) }
-    ensures noted { IfOk result (λ _. GivesNote (inputs F.Folder F.Reader.ByteIn folder.now) kinds.now files.now.scd.now note.new.items) }
-    ensures unnoted { IfErr result (λ e. MatchRun e (λ f. HasNoteOf (inputs F.Folder F.Reader.ByteIn folder.now) kinds.now files.now.scd.now (status_of_fault f)
-        note.old.items note.new.items) (λ _ _. GivesNote (inputs F.Folder F.Reader.ByteIn folder.now) kinds.now files.now.scd.now note.new.items)) }
-{
-    let mut scd = opened(folder, files.scd, 1)?;
-    let mut dic = opened(folder, files.dic, 2)?;
-    let mut first = opened(folder, files.first, 3)?;
-    let mut second = opened(folder, files.second, 4)?;
-    let mut file = opened(folder, pairing, 5)?;
-    let classes = read_classes(alloc, kinds, files.scd, &mut scd, note)?;
-    let mut kept = Kept::new(&classes);
-    run_verify(
-        alloc,
-        kinds.kinds(),
-        &mut kept,
-        &mut dic,
-        &mut first,
-        &mut second,
-        &mut file,
-    )
-}
-
-// What comparing the two sheets of four files answers, with a pairing's file.
-fn compare_to_file<F: Folder>(
-    alloc: Global,
-    folder: &F,
-    kinds: &GivenKinds<'_>,
-    files: &PairFiles<'_>,
-    note: &mut Vec<u8>,
-) -> Result<Compared, RunFault>
-    ensures ok { IfOk result (λ compared. OfPair (inputs F.Folder F.Reader.ByteIn folder.now) files.now
-        (λ s d a b. IsComparedUnder kinds.now s d a b compared)) }
-    ensures err { IfErr result (PairFileFault (inputs F.Folder F.Reader.ByteIn folder.now) kinds.now files.now (λ _. ⊥)) }
-    ensures names { IfErr result (λ e. FaultHasNames e 5) }
-    ensures noted { IfOk result (λ _. GivesNote (inputs F.Folder F.Reader.ByteIn folder.now) kinds.now files.now.scd.now note.new.items) }
-    ensures unnoted { IfErr result (λ e. HasNoteOf (inputs F.Folder F.Reader.ByteIn folder.now) kinds.now files.now.scd.now (status_of_fault e)
-        note.old.items note.new.items) }
-{
-    let pair = open_pair(alloc, folder, kinds, files, note)?;
-    let PairInputs {
-        classes,
-        mut dic,
-        mut first,
-        mut second,
-    } = pair;
-    let mut kept = Kept::new(&classes);
-    run_compare_to_file(
-        alloc,
-        kinds.kinds(),
-        &mut kept,
-        &mut dic,
-        &mut first,
-        &mut second,
-    )
 }
 
 // What differs between the two sheets of four files, with a picture of both.
@@ -444,44 +255,9 @@ fn made_of<S: ByteIn, D: ByteIn, V: ByteIn>(
     }
 }
 
-/// An input that is there to read.
-pub fn opened<F: Folder>(folder: &F, path: &str, input: u8) -> Result<F::Reader, RunFault>
-    ensures ok { IfOk result (λ file. Gives (inputs F.Folder F.Reader.ByteIn folder.now) path.now (F.Reader.contents file)) }
-    ensures device { IfOk result (λ file. IsDeviceOf (inputs F.Folder F.Reader.ByteIn folder.now) path.now (F.Reader.device file)) }
-    ensures err { IfErr result (λ e. IsMissing (inputs F.Folder F.Reader.ByteIn folder.now) path.now × (e ≡ RunFault.Read input)) }
-{
-    if is_standard(path) {
-        return Ok(folder.input());
-    }
-    match folder.open(path) {
-        Some(file) => Ok(file),
-        None => Err(RunFault::Read { input }),
-    }
-}
-
 // Whether a path is that of an input, or leads to its file.
 fn is_input<F: Folder>(folder: &F, files: &SheetFiles<'_>, out: &str) -> bool
     ensures { MatchBool result (IsInput (F.is_one folder.now) files.now out.now) (IsNoInput (F.is_one folder.now) files.now out.now) }
 {
     meets(folder, files.scd, out) || meets(folder, files.dic, out) || meets(folder, files.vec, out)
-}
-
-// Whether a path is that of an input of a comparison, or leads to its file.
-fn is_pair_input<F: Folder>(folder: &F, files: &PairFiles<'_>, out: &str) -> bool
-    ensures { MatchBool result (IsPairInput (F.is_one folder.now) files.now out.now) (IsNoPairInput (F.is_one folder.now) files.now out.now) }
-{
-    meets(folder, files.scd, out)
-        || meets(folder, files.dic, out)
-        || meets(folder, files.first, out)
-        || meets(folder, files.second, out)
-}
-
-// Whether the path of an input is this one, or leads to its file.
-fn meets<F: Folder>(folder: &F, path: &str, out: &str) -> bool
-    ensures { MatchBool result (Meets (F.is_one folder.now) out.now path.now) (IsApart (F.is_one folder.now) out.now path.now) }
-{
-    if is_standard(path) {
-        return false;
-    }
-    folder.is_one_file(path, out) || path == out
 }

@@ -1,16 +1,12 @@
 -- The note on the kinds of links that no class has, while a command runs.
-use Rattle.std.specs.Prelude.{◌≡◌, ◌⊎◌, ◌<◌, ℕ, List}
-use Rattle.edi_schema.specs.Roles.{KindCodes}
+use Rattle.std.specs.Prelude.{◌≡◌, ℕ, List}
 use Rattle.edi_words.specs.declared.words.Request.{Request}
 use Rattle.edi_words.specs.declared.words.Request.TheVariants.{Bundle, Check, Canon, Compare, Hash, Explain, Rule, Verify, Diff, Draw, Misused, Answered}
-use Rattle.edicad.specs.Effects.{Inputs}
-use Rattle.edicad.specs.Notes.{GivesNote}
+use Rattle.edi_answers.specs.Effects.{Inputs}
+use Rattle.edi_answers.specs.Notes.{HasNoteOf}
 
--- a place for the note has that of the file of classes of a path, or what it had where the status says that there is no answer
-abbrev pub HasNoteOf : Inputs → KindCodes → List ℕ → ℕ → List ℕ → List ℕ → Type 0
-HasNoteOf inputs kinds path status old new = GivesNote inputs kinds path new ⊎ ((2 < status) × (new ≡ old))
-
--- the same of a request, by its file of classes; a request that has no note leaves the place as it was
+-- a place for the note has that of the request, by its file of classes, or what it had where the status says that there is no answer; a
+-- request that has no note leaves the place as it was
 abbrev pub LeavesNoteOf : Inputs → Request → ℕ → List ℕ → List ℕ → Type 0
 LeavesNoteOf inputs Bundle status old new = new ≡ old
 LeavesNoteOf inputs (Check kinds files) status old new = HasNoteOf inputs kinds files.scd.now status old new

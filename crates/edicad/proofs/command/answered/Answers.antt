@@ -1,6 +1,6 @@
 use Rattle.std.proofs.Common.{List, ℕ, subst}
-use Rattle.edicad.specs.Effects.{inputs, written}
-use Rattle.edicad.specs.Notes.{Notes}
+use Rattle.edi_answers.specs.Effects.{inputs, written}
+use Rattle.edi_answers.specs.Notes.{Notes}
 use Rattle.edicad.proofs.Noted.{note_left}
 use Rattle.edicad.proofs.command.answered.Goals as goal
 

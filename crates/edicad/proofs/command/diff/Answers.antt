@@ -1,8 +1,8 @@
 use Rattle.std.proofs.Common.{inl}
-use Rattle.edicad.specs.Effects.{effects, inputs, written}
+use Rattle.edi_answers.specs.Effects.{effects, inputs, written}
 use Rattle.edi_outcome.specs.Status.{status_of_fault}
 use Rattle.edicad.proofs.Differing.{put_status, unanswered_status}
-use Rattle.edicad.proofs.Noted.{note_answered}
+use Rattle.edi_answers.proofs.Noted.{note_answered}
 use Rattle.edicad.proofs.command.diff.Goals as goal
 
 pub returns-in-Ok-clause-answer : goal.returns-in-Ok-clause-answer

@@ -1,10 +1,10 @@
 use Rattle.std.proofs.Common.{◌≡◌, ◌⊎◌, ℕ, [], IsTrue, inl, inr, refl}
 use Rattle.edi_words.specs.declared.words.Misuse.{Misuse}
 use Rattle.edicad.specs.Answered.{IsMisusedStatus}
-use Rattle.edicad.specs.Effects.{Stream, written}
-use Rattle.edicad.specs.Misuses.{misuse_lines, shows_words}
-use Rattle.edicad.specs.Statuses.{LacksMemory, Prints, Warns}
-use Rattle.edicad.proofs.Answering.{appends_nothing}
+use Rattle.edi_answers.specs.Effects.{Stream, written}
+use Rattle.edi_answers.specs.Misuses.{misuse_lines, shows_words}
+use Rattle.edi_answers.specs.Statuses.{LacksMemory, Prints, Warns}
+use Rattle.edi_answers.proofs.Answering.{appends_nothing}
 use Rattle.edicad.proofs.command.replied.Goals as goal
 
 pub returns-in-Answered-clause-answer : goal.returns-in-Answered-clause-answer

@@ -1,9 +1,10 @@
 use Rattle.std.proofs.Common.{codes, inl, refl}
-use Rattle.edicad.specs.Effects.{effects, inputs, written}
-use Rattle.edicad.specs.Statuses.{paths_of}
-use Rattle.edicad.proofs.Answering.{appends_nothing}
-use Rattle.edicad.proofs.OneSheet.{send_status, silent_before, unsent_status}
-use Rattle.edicad.proofs.Noted.{note_warned}
+use Rattle.edi_answers.specs.Effects.{effects, inputs, written}
+use Rattle.edi_answers.specs.Statuses.{paths_of}
+use Rattle.edi_answers.proofs.Answering.{appends_nothing}
+use Rattle.edicad.proofs.OneSheet.{send_status, unsent_status}
+use Rattle.edi_answers.proofs.OneSheet.{silent_before}
+use Rattle.edi_answers.proofs.Noted.{note_warned}
 use Rattle.edicad.proofs.command.send.Goals as goal
 
 pub returns-in-Ok-clause-answer : goal.returns-in-Ok-clause-answer

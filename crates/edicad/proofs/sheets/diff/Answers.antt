@@ -1,8 +1,8 @@
 use Rattle.std.proofs.Common.{◌∙◌, Some, ap, inl, refl}
 use Rattle.std.proofs.lemmas.Result.{IfOk-weaker}
 use Rattle.edi_diff.specs.Runs.{IsDifferenceUnder}
-use Rattle.edicad.proofs.Kept.{err_anyway, ok_whatever}
-use Rattle.edicad.proofs.PairRuns.{fact_of_pair, fault_of_pair}
+use Rattle.edi_answers.proofs.Kept.{err_anyway, ok_whatever}
+use Rattle.edi_answers.proofs.PairRuns.{fact_of_pair, fault_of_pair}
 use Rattle.edicad.proofs.sheets.diff.Goals as goal
 
 pub returns-clause-ok : goal.returns-clause-ok

@@ -1,11 +1,12 @@
 use Rattle.std.proofs.Common.{inr, refl}
 use Rattle.edi_files.specs.Folders.{IsSpare}
 use Rattle.edi_files.proofs.Steps.{goes_map}
-use Rattle.edicad.specs.Effects.{effects, inputs}
-use Rattle.edicad.specs.SheetRuns.{IsPictureOfPair, OfMadePair, ShowsDifference}
-use Rattle.edicad.proofs.Made.{before_writing, of_made_pair, pair_put_fault, whole_pair}
+use Rattle.edi_answers.specs.Effects.{effects, inputs}
+use Rattle.edicad.specs.Made.{IsPictureOfPair, ShowsDifference}
+use Rattle.edi_answers.specs.SheetRuns.{OfMadePair}
+use Rattle.edi_answers.proofs.Made.{before_writing, of_made_pair, pair_put_fault, whole_pair}
 use Rattle.edicad.proofs.Differing.{shown, shown_of_some}
-use Rattle.edicad.proofs.Pairings.{pair_unwritten}
+use Rattle.edi_answers.proofs.Pairings.{pair_unwritten}
 use Rattle.edicad.proofs.sheets.draw_difference.Goals as goal
 
 pub returns-in-Ok-put-clause-ok : goal.returns-in-Ok-put-clause-ok

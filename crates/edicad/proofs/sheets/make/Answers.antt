@@ -2,13 +2,13 @@ use Rattle.std.proofs.Common.{◌∙◌, Some, ap, arith, inl, inr, refl}
 use Rattle.std.proofs.lemmas.Result.{IfOk-weaker}
 use Rattle.edi_compare.specs.Runs.{seen}
 use Rattle.edi_compare.proofs.Refusals.{err_kept}
-use Rattle.edicad.specs.SheetRuns.{IsMadeOf}
-use Rattle.edicad.specs.Effects.{inputs}
+use Rattle.edicad.specs.Made.{IsMadeOf}
+use Rattle.edi_answers.specs.Effects.{inputs}
 use Rattle.edi_outcome.specs.Status.{status_of_fault}
-use Rattle.edicad.specs.SheetRuns.{AreThere, FileFault}
-use Rattle.edicad.specs.inner.Notes.{HasNoteOf}
-use Rattle.edicad.proofs.Faults.{failed_at, file_fault, if_err_map, input_fault}
-use Rattle.edicad.proofs.Kept.{err_anyway, files_kept, note_given, ok_whatever, three_kept, unread}
+use Rattle.edi_answers.specs.SheetRuns.{AreThere, FileFault}
+use Rattle.edi_answers.specs.Notes.{HasNoteOf}
+use Rattle.edi_answers.proofs.Faults.{failed_at, file_fault, if_err_map, input_fault}
+use Rattle.edi_answers.proofs.Kept.{err_anyway, files_kept, note_given, ok_whatever, three_kept, unread}
 use Rattle.edicad.proofs.sheets.make.Goals as goal
 
 pub returns-clause-ok : goal.returns-clause-ok

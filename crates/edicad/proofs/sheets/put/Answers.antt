@@ -1,10 +1,11 @@
 use Rattle.std.proofs.Common.{inr, refl}
 use Rattle.edi_files.specs.Folders.{IsSpare}
 use Rattle.edi_files.proofs.Steps.{goes_map}
-use Rattle.edicad.specs.Effects.{effects, inputs}
-use Rattle.edicad.specs.SheetRuns.{IsPut, OfMade}
-use Rattle.edicad.proofs.Made.{before_writing, of_made, on_ok_map, put_fault, whole}
-use Rattle.edicad.proofs.Faults.{fault_unwritten, if_err_both}
+use Rattle.edi_answers.specs.Effects.{effects, inputs}
+use Rattle.edicad.specs.Made.{IsPut, OfMade}
+use Rattle.edi_answers.proofs.Made.{before_writing, on_ok_map}
+use Rattle.edicad.proofs.Made.{of_made, put_fault, whole}
+use Rattle.edi_answers.proofs.Faults.{fault_unwritten, if_err_both}
 use Rattle.edicad.proofs.sheets.put.Goals as goal
 
 pub returns-in-Err-clause-err : goal.returns-in-Err-clause-err

@@ -1,9 +1,10 @@
 use Rattle.std.proofs.Common.{◌≤◌, ℕ, List, length, take, IsTrue}
 use Rattle.std.specs.Io.KnownBytes.{Appends}
-use Rattle.edicad.specs.Effects.{inputs}
-use Rattle.edicad.specs.SheetRuns.{OfMade}
-use Rattle.edicad.proofs.Made.{of_made, on_ok_map, put_fault}
-use Rattle.edicad.proofs.Faults.{fault_unwritten, if_err_map}
+use Rattle.edi_answers.specs.Effects.{inputs}
+use Rattle.edicad.specs.Made.{OfMade}
+use Rattle.edicad.proofs.Made.{of_made, put_fault}
+use Rattle.edi_answers.proofs.Made.{on_ok_map}
+use Rattle.edi_answers.proofs.Faults.{fault_unwritten, if_err_map}
 use Rattle.edicad.proofs.sheets.send.Goals as goal
 
 pub returns-in-Err-clause-err : goal.returns-in-Err-clause-err

@@ -1,0 +1,13 @@
+pub mod Answering
+pub mod Bundles
+pub mod Explaining
+pub mod Faults
+pub mod Kept
+pub mod Loading
+pub mod Made
+pub mod Names
+pub mod Noted
+pub mod OneSheet
+pub mod PairRuns
+pub mod Pairings
+pub mod Refusals

@@ -1,0 +1,231 @@
+-- The status of a run that puts a pairing, and of one that checks it.
+use Rattle.std.proofs.Common.{◌≡◌, ◌⊎◌, ◌<◌, ℕ, zero, suc, List, Option, Some, None, inl, inr, refl, ap, arith, Result, Ok, Err, IfOk, IfErr}
+use Rattle.std.specs.Prelude.{MatchOption, ⊤}
+use Rattle.edi_schema.specs.Roles.{KindCodes}
+use Rattle.edi_compare.specs.declared.fault.RunFault.{RunFault}
+use Rattle.edi_compare.specs.declared.fault.RunFault.TheVariants.{Memory, Read, TooLong, Schema, First, Second, Write}
+use Rattle.edi_compare.specs.declared.pairing.Verdict.TheVariants.{Different}
+use Rattle.edi_compare.specs.Runs.{HasFailed, IsTooLong, IsVerdictOf}
+use Rattle.edi_pairing.specs.CompareRuns.{IsPairingFileOf}
+use Rattle.edi_pairing.specs.VerifyRuns.{VerifyInputs as Five, IsVerifiedUnder, MatchRun, OfVerifyInput, RefusesFile, VerifyingFault}
+use Rattle.edi_pairing.specs.declared.verified.Verified.{Verified}
+use Rattle.edi_pairing.specs.declared.verified.Verified.TheVariants.{Carries, Fails}
+use Rattle.edi_pairing.specs.declared.fault.VerifyRunFault.{VerifyRunFault}
+use Rattle.edi_pairing.specs.declared.fault.VerifyRunFault.TheVariants.{Run, Pairing as OfPairingFile}
+use Rattle.edi_words.specs.declared.words.PairFiles.{PairFiles}
+use Rattle.edi_files.specs.Reasons.{ended}
+use Rattle.edi_outcome.specs.Status.{status_of_fault}
+use Rattle.edi_outcome.specs.Words.{FaultHasNames, HasNames, words_of_fault}
+use Rattle.edi_answers.specs.Paths.{names_of_paths}
+use Rattle.edi_answers.specs.inner.Outcome.{paired_outcome, verified_outcome}
+use Rattle.edi_answers.specs.Effects.{Effects, Inputs, Stream}
+use Rattle.edi_answers.specs.SheetRuns.{AreFiveThere, FirstOfFiveMissing, Gives, HasFailedAt, HoldsTooMuch, IsNoPairInput, IsPairInput, IsPairPut, IsPairReplaced, OfFive, OfPair, PairFileFault, PutPairFault, VerifyFileFault, verify_path_at}
+use Rattle.edi_answers.specs.Statuses.{Answers, AreFourTried, IsAnsweredAs, IsPairingStatus, IsSaid, IsVerifyStatus, SaysPairRefusal, SaysVerifyRefusal, pair_paths_of, verify_paths_of}
+use Rattle.edi_answers.proofs.Made.{were_four}
+use Rattle.edi_answers.proofs.Faults.{if_err_map, both_of_four, three_of_four}
+use Rattle.edi_outcome.specs.declared.outcome.Outcome.TheVariants as outcome
+use Rattle.edi_answers.proofs.Refusals.{fault_status, known_fault, match_refused, means_answer, means_fault, not_one, not_one_of_zero, not_zero_of_one, pair_refused, pair_tried, unwritten}
+
+-- ---- a pairing, put at a path
+
+-- the same with another fact of writing, where none was written
+pub pair_unwritten : (inputs : Inputs) (kinds : KindCodes) (files : PairFiles) (W : ℕ → Type 0) (e : RunFault) → PairFileFault inputs kinds files (λ _. ⊥) e
+    → PairFileFault inputs kinds files W e
+pair_unwritten inputs kinds files W e (inl missing) = inl missing
+pair_unwritten inputs kinds files W (Memory e) (inr h) = inr h
+pair_unwritten inputs kinds files W (Read n) (inr h) = inr h
+pair_unwritten inputs kinds files W (TooLong n) (inr h) = inr h
+pair_unwritten inputs kinds files W (Schema f) (inr h) = inr h
+pair_unwritten inputs kinds files W (First f) (inr h) = inr h
+pair_unwritten inputs kinds files W (Second f) (inr h) = inr h
+pair_unwritten inputs kinds files W (Write w) (inr h) = absurd h.1
+
+pub paired_names : (r : Result (Option ℕ) RunFault) → IfErr r (λ e. FaultHasNames e 5) → HasNames (paired_outcome r) 5
+paired_names (Ok None) h = tt
+paired_names (Ok (Some line)) h = tt
+paired_names (Err e) h = h
+
+pub put_pair_tried : (run : Effects) (IsMade : List ℕ → List ℕ → List ℕ → List ℕ → List ℕ → Type 0) (kinds : KindCodes) (files : PairFiles) (path : List ℕ) (e : RunFault)
+    → PutPairFault run IsMade kinds files path e → IsPairInput run.is_one files path ⊎ AreFourTried run.inputs files
+put_pair_tried run IsMade kinds files path e (inl input) = inl input.0
+put_pair_tried run IsMade kinds files path e (inr h) = inr (pair_tried run.inputs kinds files _ e h.1)
+
+pub put_pair_refused : (run : Effects) (IsMade : List ℕ → List ℕ → List ℕ → List ℕ → List ℕ → Type 0) (kinds : KindCodes) (files : PairFiles) (path : List ℕ)
+    (Says : List ℕ → Type 0) (e : RunFault) → PutPairFault run IsMade kinds files path e → status_of_fault e ≡ 2 → Says (ended (words_of_fault e (names_of_paths (pair_paths_of files path))))
+    → OfPair run.inputs files (SaysPairRefusal Says kinds) × run.untouched
+put_pair_refused run IsMade kinds files path Says e (inl input) two line = absurd (omega (arith, ap status_of_fault input.1, two))
+put_pair_refused run IsMade kinds files path Says e (inr h) two line =
+    (pair_refused Says kinds (names_of_paths (pair_paths_of files path)) refl run.inputs files _ e h.1 two line, unwritten e _ h.2 two)
+
+-- the status of a comparison to a pairing's file
+module _ (run : Effects) (out err : Stream) (kinds : KindCodes) (files : PairFiles) (path : List ℕ) (s : ℕ) where
+  pub pairing_status : (r : Result (Option ℕ) RunFault)
+      → IfOk r (λ line. MatchOption line (IsPairPut run (IsPairingFileOf kinds) files path)
+      (λ at. OfPair run.inputs files (λ scd dic a b. IsVerdictOf kinds scd dic a b (Different at)) × IsNoPairInput run.is_one files path × run.untouched))
+      → IfErr r (PutPairFault run (IsPairingFileOf kinds) kinds files path) → IsPairReplaced run (IsPairingFileOf kinds) files path
+      → IsSaid run.why out err (paired_outcome r) (pair_paths_of files path) s → IsPairingStatus run out err kinds files path s
+  pairing_status (Ok None) h fault replaced said = record {
+    tried = inr (inl (were_four run.inputs files _ h.1));
+    different = λ one. absurd (not_one_of_zero s one said.status);
+    means = means_answer _ _ _ run.why (pair_paths_of files path) out err s outcome.Same (omega arith) (λ zero. (h, said.answer (omega (arith, zero)))) said;
+    leaves = inr (inl h);
+    replaced = replaced;
+  }
+  pairing_status (Ok (Some at)) h fault replaced said = record {
+    tried = inr (inl (were_four run.inputs files _ h.0));
+    different = λ one. ((at, h.0, said.answer (omega (arith, one))), h.2);
+    means = means_answer _ _ _ run.why (pair_paths_of files path) out err s (outcome.Different at) (omega arith) (λ zero. absurd (not_zero_of_one s zero said.status)) said;
+    leaves = inl h.2;
+    replaced = replaced;
+  }
+  pairing_status (Err e) ok h replaced said = record {
+    tried = put_pair_tried run _ kinds files path e h;
+    different = λ one. absurd (not_one s (known_fault (status_of_fault e) s (fault_status e) said.status) one);
+    means = means_fault _ _ _ run.why (pair_paths_of files path) out err s e (λ silent. (h, silent))
+        (λ is line. put_pair_refused run _ kinds files path (Answers out err) e h is line) said;
+    leaves = inr (inr (e, h));
+    replaced = replaced;
+  }
+
+-- ---- a pairing's file, checked
+
+module _ (inputs : Inputs) (kinds : KindCodes) (files : PairFiles) (pairing : List ℕ) (i : Five) (gives_scd : Gives inputs files.scd.now i.scd.before)
+    (gives_dic : Gives inputs files.dic.now i.dic.before) (gives_first : Gives inputs files.first.now i.first.before) (gives_second : Gives inputs files.second.now i.second.before)
+    (gives_file : Gives inputs pairing i.file.before)
+    (scd_failed : HasFailed i.scd → HasFailedAt inputs files.scd.now) (dic_failed : HasFailed i.dic → HasFailedAt inputs files.dic.now)
+    (first_failed : HasFailed i.first → HasFailedAt inputs files.first.now) (second_failed : HasFailed i.second → HasFailedAt inputs files.second.now)
+    (file_failed : HasFailed i.file → HasFailedAt inputs pairing) where
+  five_there : AreFiveThere inputs files pairing
+  five_there = (((i.scd.before, gives_scd), (i.dic.before, gives_dic), (i.first.before, gives_first), (i.second.before, gives_second)), (i.file.before, gives_file))
+
+  failed_of_five : (n : ℕ) → OfVerifyInput i HasFailed n → HasFailedAt inputs (verify_path_at files pairing n)
+  failed_of_five zero h = absurd (omega (arith, h.0))
+  failed_of_five (suc zero) h = scd_failed (h.2 refl).0
+  failed_of_five (suc (suc zero)) h = dic_failed (h.3 refl).1
+  failed_of_five (suc (suc (suc zero))) h = first_failed (h.4 refl).2
+  failed_of_five (suc (suc (suc (suc zero)))) h = second_failed (h.5 refl).3
+  failed_of_five (suc (suc (suc (suc (suc zero))))) h = file_failed (h.6 refl).4
+  failed_of_five (suc (suc (suc (suc (suc (suc n)))))) h = absurd (omega (arith, h.1))
+
+  five_too_long : (n : ℕ) → OfVerifyInput i (λ input. IsTooLong input.before) n → HoldsTooMuch inputs (verify_path_at files pairing n)
+  five_too_long zero h = absurd (omega (arith, h.0))
+  five_too_long (suc zero) h = (i.scd.before, gives_scd, (h.2 refl).0)
+  five_too_long (suc (suc zero)) h = (i.dic.before, gives_dic, (h.3 refl).1)
+  five_too_long (suc (suc (suc zero))) h = (i.first.before, gives_first, (h.4 refl).2)
+  five_too_long (suc (suc (suc (suc zero)))) h = (i.second.before, gives_second, (h.5 refl).3)
+  five_too_long (suc (suc (suc (suc (suc zero))))) h = (i.file.before, gives_file, (h.6 refl).4)
+  five_too_long (suc (suc (suc (suc (suc (suc n)))))) h = absurd (omega (arith, h.1))
+
+  verify_matched : (e : VerifyRunFault) → VerifyingFault kinds i e
+      → MatchRun e (VerifyFileFault inputs kinds files pairing) (λ at why. OfFive inputs files pairing (λ s d a b f. RefusesFile kinds s d a b f at why))
+  verify_matched (Run (Memory e)) h = inr (five_there, tt)
+  verify_matched (Run (Read n)) h = inr (five_there, (h.0, h.1, failed_of_five n h))
+  verify_matched (Run (TooLong n)) h = inr (five_there, (h.0, h.1, five_too_long n h))
+  verify_matched (Run (Schema f)) h =
+      inr (
+        five_there,
+        (
+          i.scd.before,
+          i.dic.before,
+          i.first.before,
+          i.second.before,
+          gives_scd,
+          gives_dic,
+          gives_first,
+          gives_second,
+          both_of_four i.scd.before i.dic.before i.first.before i.second.before _ h,
+        ),
+      )
+  verify_matched (Run (First f)) h =
+      inr (
+        five_there,
+        (
+          i.scd.before,
+          i.dic.before,
+          i.first.before,
+          i.second.before,
+          gives_scd,
+          gives_dic,
+          gives_first,
+          gives_second,
+          three_of_four i.scd.before i.dic.before i.first.before i.second.before _ h,
+        ),
+      )
+  verify_matched (Run (Second f)) h =
+      inr (five_there, (i.scd.before, i.dic.before, i.first.before, i.second.before, gives_scd, gives_dic, gives_first, gives_second, h))
+  verify_matched (Run (Write w)) h = absurd h
+  verify_matched (OfPairingFile at why) h = (
+    i.scd.before,
+    i.dic.before,
+    i.first.before,
+    i.second.before,
+    i.file.before,
+    gives_scd,
+    gives_dic,
+    gives_first,
+    gives_second,
+    gives_file,
+    h,
+  )
+
+  -- of a run over five readers
+  pub verify_fault : {T : Type 0} (r : Result T VerifyRunFault) → IfErr r (VerifyingFault kinds i)
+      → IfErr r (λ e. MatchRun e (VerifyFileFault inputs kinds files pairing) (λ at why. OfFive inputs files pairing (λ s d a b f. RefusesFile kinds s d a b f at why)))
+  verify_fault r h = if_err_map r (VerifyingFault kinds i) _ verify_matched h
+
+pub verified_names : (r : Result Verified VerifyRunFault) → IfErr r (λ e. MatchRun e (λ f. FaultHasNames f 6) (λ _ _. ⊤)) → HasNames (verified_outcome r) 6
+verified_names (Ok Carries) h = tt
+verified_names (Ok (Fails why)) h = omega arith
+verified_names (Err (Run e)) h = h
+verified_names (Err (OfPairingFile at why)) h = tt
+
+verify_tried : (inputs : Inputs) (kinds : KindCodes) (files : PairFiles) (pairing : List ℕ) (e : RunFault) → VerifyFileFault inputs kinds files pairing e
+    → AreFiveThere inputs files pairing ⊎ ((n : ℕ) × FirstOfFiveMissing inputs files pairing n)
+verify_tried inputs kinds files pairing e (inl missing) = inr (missing.0, missing.1)
+verify_tried inputs kinds files pairing e (inr h) = inl h.0
+
+verify_refused : (inputs : Inputs) (kinds : KindCodes) (files : PairFiles) (pairing : List ℕ) (out err : Stream) (e : RunFault) → VerifyFileFault inputs kinds files pairing e
+    → status_of_fault e ≡ 2 → Answers out err (ended (words_of_fault e (names_of_paths (verify_paths_of files pairing)))) → SaysVerifyRefusal inputs out err kinds files pairing
+verify_refused inputs kinds files pairing out err e (inl missing) two line = absurd (omega (arith, ap status_of_fault missing.2, two))
+verify_refused inputs kinds files pairing out err e (inr h) two line =
+    inl (match_refused (Answers out err) kinds (names_of_paths (verify_paths_of files pairing)) refl inputs files _ _ (λ _. ⊥) e h.1 two line)
+
+-- the status of a pairing's check
+module _ (run : Effects) (out err : Stream) (kinds : KindCodes) (files : PairFiles) (pairing : List ℕ) (s : ℕ) where
+  were_five : (P : List ℕ → List ℕ → List ℕ → List ℕ → List ℕ → Type 0) → OfFive run.inputs files pairing P → AreFiveThere run.inputs files pairing
+  were_five P h = (((h.0, h.5), (h.1, h.6), (h.2, h.7), (h.3, h.8)), (h.4, h.9))
+
+  not_small_of_two : s < 2 → IsAnsweredAs 2 s → ⊥
+  not_small_of_two small (inl e) = absurd (omega (arith, e, small))
+  not_small_of_two small (inr (inl e)) = absurd (omega (arith, e, small))
+  not_small_of_two small (inr (inr e)) = absurd (omega (arith, e.1, small))
+
+  pub verify_status : (r : Result Verified VerifyRunFault) → IfOk r (λ answer. OfFive run.inputs files pairing (λ scd dic a b f. IsVerifiedUnder kinds scd dic a b f answer))
+      → IfErr r (λ e. MatchRun e (VerifyFileFault run.inputs kinds files pairing) (λ at why. OfFive run.inputs files pairing (λ s d a b f. RefusesFile kinds s d a b f at why)))
+      → IsSaid run.why out err (verified_outcome r) (verify_paths_of files pairing) s → IsVerifyStatus run out err kinds files pairing s
+  verify_status (Ok Carries) h fault said = record {
+    tried = inl (were_five _ h);
+    unpaired = λ one. absurd (not_one_of_zero s one said.status);
+    means = means_answer _ _ _ run.why (verify_paths_of files pairing) out err s outcome.Pairs (omega arith) (λ zero. (h, said.answer (omega (arith, zero)))) said;
+  }
+  verify_status (Ok (Fails why)) h fault said = record {
+    tried = inl (were_five _ h);
+    unpaired = λ one. (why, h, said.answer (omega (arith, one)));
+    means = means_answer _ _ _ run.why (verify_paths_of files pairing) out err s (outcome.Unpaired why) (omega arith) (λ zero. absurd (not_zero_of_one s zero said.status)) said;
+  }
+  verify_status (Err (Run e)) ok h said = record {
+    tried = verify_tried run.inputs kinds files pairing e h;
+    unpaired = λ one. absurd (not_one s (known_fault (status_of_fault e) s (fault_status e) said.status) one);
+    means = means_fault _ _ _ run.why (verify_paths_of files pairing) out err s e (λ silent. (h, silent))
+        (λ is line. verify_refused run.inputs kinds files pairing out err e h is line) said;
+  }
+  verify_status (Err (OfPairingFile at why)) ok h said = record {
+    tried = inl (were_five _ h);
+    unpaired = λ one. absurd (not_small_of_two (omega (arith, one)) said.status);
+    means = record {
+      done = λ zero. absurd (not_small_of_two (omega (arith, zero)) said.status);
+      refused = λ two. inr (at, why, h, said.answer (omega (arith, two)));
+      failed = λ four. inl (said.unsaid (omega arith) four);
+      memory = λ five. let m = said.memory five in (m.1, inl m.0);
+    };
+  }

@@ -1,0 +1,29 @@
+use Rattle.std.proofs.Common.{codes, subst}
+use Rattle.edi_answers.specs.Effects.{effects, inputs, written}
+use Rattle.edi_outcome.specs.Status.{status_for}
+use Rattle.edi_answers.specs.inner.Outcome.{outcome_for}
+use Rattle.edi_answers.specs.Statuses.{IsAnsweredAs, IsSaid, pair_paths_of}
+use Rattle.edi_answers.proofs.Refusals.{compare_names, compare_status}
+use Rattle.edi_answers.proofs.Noted.{note_answered, note_compared}
+use Rattle.edi_answers.proofs.commands.compare.Goals as goal
+
+pub answer-requires : goal.answer-requires
+answer-requires g c = rw c.outcome_of-outcome.ensures (compare_names c.compare.result c.compare.ensures.names)
+
+pub returns-clause-answer : goal.returns-clause-answer
+returns-clause-answer g c =
+    let run = effects g.F.Folder g.F.Reader.ByteIn g.F.Sink.ByteOut g.F.NewFile.ByteOut c.args.folder.now c.args.folder.now in
+    let out = written g.O.ByteOut c.args.out.now c.answer.new.out in
+    let err = written g.E.ByteOut c.args.err.now c.answer.new.err in
+    compare_status run out err c.args.kinds.now c.args.files.now c.answer.result c.compare.result c.compare.ensures.ok c.compare.ensures.err
+    (subst (λ o. IsSaid run.why out err o (pair_paths_of c.args.files.now (codes "-")) c.answer.result) c.outcome_of-outcome.ensures c.answer.ensures.said)
+
+pub returns-clause-note : goal.returns-clause-note
+returns-clause-note g c =
+    let inputs = inputs g.F.Folder g.F.Reader.ByteIn c.args.folder.now in
+    let kinds = c.args.kinds.now in
+    let path = c.args.files.now.scd.now in
+    let new = c.compare.new.note.items in
+    note_answered inputs kinds path c.args.note.now.items new (status_for (outcome_for c.compare.result)) c.answer.result
+    (subst (λ o. IsAnsweredAs (status_for o) c.answer.result) c.outcome_of-outcome.ensures c.answer.ensures.said.status)
+    (note_compared inputs kinds path c.args.note.now.items new c.compare.result c.compare.ensures.noted c.compare.ensures.unnoted)

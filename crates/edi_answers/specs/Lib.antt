@@ -1,0 +1,11 @@
+pub mod Effects
+pub mod Explains
+pub mod Hashes
+pub mod Misuses
+pub mod Notes
+pub mod PairInputs
+pub mod Paths
+pub mod Reasons
+pub mod SheetRuns
+pub mod Statuses
+pub mod inner

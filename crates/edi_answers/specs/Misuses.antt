@@ -1,0 +1,40 @@
+-- What is said of words that can't be meant.
+use Rattle.std.specs.Prelude.{ℕ, Bool, true, false, List, ◌++◌, codes}
+use Rattle.edi_files.specs.Reasons.{ended}
+use Rattle.edi_shown.specs.Shown.{shown_bytes}
+use Rattle.edi_words.specs.Requests.{misuse_text}
+use Rattle.edi_words.specs.declared.words.BadKinds.{BadKinds as BadCodes}
+use Rattle.edi_words.specs.declared.words.KindsFault.{KindsFault}
+use Rattle.edi_words.specs.declared.words.KindsFault.TheVariants.{Count, Empty, Twice}
+use Rattle.edi_words.specs.declared.words.Misuse.{Misuse}
+use Rattle.edi_words.specs.declared.words.Misuse.TheVariants.{BadKinds, TwoStandard, NoSheet, StandardPairing, StandardPicture}
+
+-- what is wrong with codes, in words
+abbrev pub kinds_fault_words : KindsFault → List ℕ
+kinds_fault_words Count = codes "takes four codes parted by commas"
+kinds_fault_words Empty = codes "a code is empty"
+kinds_fault_words (Twice code) = shown_bytes code.now ++ codes " is there twice"
+
+-- the line for codes that are bad, and then that of what was given
+abbrev pub bad_kinds_lines : BadCodes → List ℕ
+bad_kinds_lines bad = ended (misuse_text (BadKinds bad)) ++ ended (codes "edicad: --kinds " ++ shown_bytes bad.given.now ++ codes ": " ++ kinds_fault_words bad.fault)
+
+-- what is said of words that can't be meant
+abbrev pub misuse_lines : Misuse → List ℕ
+misuse_lines (BadKinds bad) = bad_kinds_lines bad
+misuse_lines TwoStandard = ended (misuse_text TwoStandard)
+misuse_lines NoSheet = ended (misuse_text NoSheet)
+misuse_lines StandardPairing = ended (misuse_text StandardPairing)
+misuse_lines StandardPicture = ended (misuse_text StandardPicture)
+
+-- whether that shows what was given, which takes memory
+abbrev pub shows_words : Misuse → Bool
+shows_words (BadKinds bad) = true
+shows_words TwoStandard = false
+shows_words NoSheet = false
+shows_words StandardPairing = false
+shows_words StandardPicture = false
+
+-- what is said of words that are not all UTF-8
+abbrev pub not_text_lines : List ℕ
+not_text_lines = ended (codes "error: the words are not all UTF-8") ++ ended (codes "edicad: name such a file by a link whose name is, or read it by - from standard input")

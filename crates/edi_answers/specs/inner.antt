@@ -1,0 +1,3 @@
+-- What the public contracts do not reach: what private contracts and proofs need.
+pub mod Hashes
+pub mod Outcome

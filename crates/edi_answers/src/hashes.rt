@@ -1,0 +1,316 @@
+//! The digests of the canonical files of many sheets.
+ghost use Rattle.std.specs.Prelude.{◌≡◌, ◌++◌, IfErr, IfOk, IsTrue, Option, map};
+ghost use Rattle.std.specs.List.{list_any};
+ghost use Rattle.edi_answers.specs.Effects.{effects, inputs, written};
+ghost use Rattle.edi_answers.specs.Hashes.{AnswersAll, GivesSchema, IsAnswerOf, IsHashStatus, LoadFault, TellsFault, digest_line, escaped_name, fault_line, is_escaped, mark_of, refused_path, schema_fault_path};
+ghost use Rattle.edi_schema.specs.SchemaRefusal.{IsGoodSchema};
+ghost use Rattle.edi_compare.specs.Runs.{MatchFault, RefusesSchema};
+ghost use Rattle.edi_answers.specs.Notes.{IsNote, IsNoteOn};
+ghost use Rattle.edi_answers.specs.inner.Hashes.{StepsOn, StopsAt};
+ghost use Rattle.edi_files.specs.Reasons.{reason_line};
+ghost use Rattle.edi_files.specs.declared.reason.Reason.{Reason};
+ghost use Rattle.edi_answers.specs.Reasons.{IsReasonOf};
+ghost use Rattle.edi_answers.specs.Statuses.{IsSheetStatus};
+
+use crate::notes::note_of;
+use crate::reason::add_reason;
+use crate::sheets::opened;
+use crate::{notes, report};
+use edi_compare::{RunFault, canon_under, load_or_fault, read_input};
+use edi_files::Folder;
+use edi_line::ByteOut;
+use edi_outcome::{line_of_sheet, status_of_fault};
+use edi_schema::{Schema, SchemaFault, Source};
+use edi_words::{GivenKinds, ManyFiles};
+use edi_write::{Written, put_all};
+use sha2::{Digest, Sha256};
+use std::alloc::{AllocError, Global};
+
+/// Writes a line for each sheet, in order: the digest of its canonical file and its name to `out`, or its name and why
+/// it has none to `err`. Gives the greatest of their statuses, or 4 as soon as `out` fails. The schema is loaded once, before
+/// any sheet is opened; where there is none, `err` says why by the name of its file, and where a kind of link has no class, `err`
+/// says so first.
+pub fn hash<F: Folder, O: ByteOut, E: ByteOut>(
+    alloc: Global,
+    folder: &F,
+    kinds: &GivenKinds<'_>,
+    files: &ManyFiles<'_>,
+    out: &mut O,
+    err: &mut E,
+) -> u8
+    ensures status { IsSheetStatus result }
+    ensures answer { IsHashStatus (effects F.Folder F.Reader.ByteIn F.Sink.ByteOut F.NewFile.ByteOut folder.now folder.now)
+        (written O.ByteOut out.old out.new) (written E.ByteOut err.old err.new) kinds.now files.now result }
+{
+    match loaded(alloc, folder, kinds, files) {
+        Ok(loaded) => {
+            notes::say(err, &loaded.note);
+            answer_all(alloc, folder, &loaded.schema, &files.sheets, out, err)
+        }
+        Err(fault) => tell_fault(alloc, folder, &fault, path_of_schema(files, &fault), err),
+    }
+}
+
+// A schema, and the note on its kinds.
+struct NotedSchema {
+    schema: Schema,
+    note: Vec<u8>,
+}
+
+impl Drop for NotedSchema {
+    fn drop(self) {
+        let NotedSchema { schema: _, note: _ } = self;
+    }
+}
+
+// The schema of two files, with the note on its kinds. Both are opened before the first is read.
+fn loaded<F: Folder>(
+    alloc: Global,
+    folder: &F,
+    kinds: &GivenKinds<'_>,
+    files: &ManyFiles<'_>,
+) -> Result<NotedSchema, RunFault>
+    ensures ok { IfOk result (λ loaded. GivesSchema (inputs F.Folder F.Reader.ByteIn folder.now) kinds.now files.now loaded.schema loaded.note.items) }
+    ensures err { IfErr result (LoadFault (inputs F.Folder F.Reader.ByteIn folder.now) kinds.now files.now) }
+{
+    let mut scd = opened(folder, files.scd, 1)?;
+    let mut dic = opened(folder, files.dic, 2)?;
+    let scd = read_input(alloc, &mut scd, 1)?;
+    let dic = read_input(alloc, &mut dic, 2)?;
+    match noted_schema(alloc, kinds, files, &scd, &dic) {
+        Ok(noted) => Ok(noted),
+        Err(fault) => Err(fault),
+    }
+}
+
+// The schema of two files that were read, with the note on its kinds.
+fn noted_schema(
+    alloc: Global,
+    kinds: &GivenKinds<'_>,
+    files: &ManyFiles<'_>,
+    scd: &[u8],
+    dic: &[u8],
+) -> Result<NotedSchema, RunFault>
+    ensures ok { IfOk result (λ noted. IsGoodSchema scd.now dic.now kinds.now noted.schema
+        × IsNote kinds.now scd.now (escaped_name files.now.scd.now) noted.note.items) }
+    ensures err { IfErr result (λ e. MatchFault e (λ _. ⊥) (λ _. ⊥) (RefusesSchema kinds.now scd.now dic.now) (λ _. ⊥) (λ _. ⊥) (λ _. ⊥)) }
+{
+    match load_or_fault(alloc, kinds.kinds(), scd, dic) {
+        Ok(schema) => match note_on(alloc, kinds, files, scd) {
+            Ok(note) => Ok(NotedSchema { schema, note }),
+            Err(error) => Err(RunFault::Memory(error)),
+        },
+        Err(fault) => Err(fault),
+    }
+}
+
+// The note on the file of classes, by its name.
+fn note_on(
+    alloc: Global,
+    kinds: &GivenKinds<'_>,
+    files: &ManyFiles<'_>,
+    scd: &[u8],
+) -> Result<Vec<u8>, AllocError>
+    ensures { IfOk result (λ note. IsNoteOn kinds.now scd.now (escaped_name files.now.scd.now) note.items) }
+{
+    let name = escaped(alloc, files.scd.as_bytes())?;
+    note_of(alloc, kinds.codes(), scd, &name)
+}
+
+// Answers each sheet in order, and gives the greatest status.
+fn answer_all<F: Folder, O: ByteOut, E: ByteOut>(
+    alloc: Global,
+    folder: &F,
+    schema: &Schema,
+    sheets: &[&str],
+    out: &mut O,
+    err: &mut E,
+) -> u8
+    ensures status { IsSheetStatus result }
+    ensures answer { AnswersAll (inputs F.Folder F.Reader.ByteIn folder.now) (F.why folder.now) schema.now
+        (written O.ByteOut out.old out.new) (written E.ByteOut err.old err.new) (map (λ p. p.now) sheets.now) result }
+    ensures stays { IsTrue (E.has_failed err.old) → IsTrue (E.has_failed err.new) }
+{
+    let mut worst = 0;
+    for path in sheets {
+        match answer(alloc, folder, schema, path, out, err) {
+            Ok(status) => worst = worst.max(status),
+            Err(_) => return report::unwritten(err),
+        }
+    }
+    worst
+}
+
+// Answers a sheet, and gives its status, unless its line can't be written.
+fn answer<F: Folder, O: ByteOut, E: ByteOut>(
+    alloc: Global,
+    folder: &F,
+    schema: &Schema,
+    path: &str,
+    out: &mut O,
+    err: &mut E,
+) -> Result<u8, Written>
+    ensures status { IfOk result IsSheetStatus }
+    ensures ok { IfOk result (StepsOn (inputs F.Folder F.Reader.ByteIn folder.now) (F.why folder.now) schema.now path.now
+        (written O.ByteOut out.old out.new) (written E.ByteOut err.old err.new)) }
+    ensures err { IfErr result (λ w. StopsAt (inputs F.Folder F.Reader.ByteIn folder.now) schema.now path.now
+        (written O.ByteOut out.old out.new) × (err.new ≡ err.old)) }
+    ensures stays { IsTrue (E.has_failed err.old) → IsTrue (E.has_failed err.new) }
+{
+    match digest_of(alloc, folder, schema, path) {
+        Ok(digest) => match line_of_digest(alloc, &digest, path.as_bytes()) {
+            Ok(line) => match put_all(out, &line) {
+                Ok(()) => Ok(0),
+                Err(written) => Err(written),
+            },
+            Err(_) => Ok(report::out_of_memory(err)),
+        },
+        Err(fault) => Ok(tell_fault(alloc, folder, &fault, path, err)),
+    }
+}
+
+// Says what is wrong with the file of a path, and gives the status.
+fn tell_fault<F: Folder, E: ByteOut>(
+    alloc: Global,
+    folder: &F,
+    fault: &RunFault,
+    path: &str,
+    err: &mut E,
+) -> u8
+    ensures contents { TellsFault (F.why folder.now) (written E.ByteOut err.old err.new) fault.now path.now result }
+    ensures stays { IsTrue (E.has_failed err.old) → IsTrue (E.has_failed err.new) }
+{
+    match lines_of_fault(alloc, folder, fault, path) {
+        Ok(lines) => {
+            report::warn(err, &lines);
+            status_of_fault(fault)
+        }
+        Err(_) => report::out_of_memory(err),
+    }
+}
+
+// The file that keeps a schema from being loaded.
+fn path_of_schema<'a>(files: &ManyFiles<'a>, fault: &RunFault) -> &'a str
+    ensures { result.now ≡ schema_fault_path files.now fault.now }
+{
+    match fault {
+        RunFault::Read { input: 1 } | RunFault::TooLong { input: 1 } | RunFault::Memory(_) => {
+            files.scd
+        }
+        RunFault::Read { .. } | RunFault::TooLong { .. } => files.dic,
+        RunFault::Schema(fault) => refused_path(files, fault),
+        RunFault::First(_) | RunFault::Second(_) | RunFault::Write(_) => "",
+    }
+}
+
+// The file of a refused schema.
+fn refused_path<'a>(files: &ManyFiles<'a>, fault: &SchemaFault) -> &'a str
+    ensures { result.now ≡ refused_path files.now fault.now }
+{
+    match fault {
+        SchemaFault::Line { file, .. } | SchemaFault::Entry { file, .. } => match file {
+            Source::Scd => files.scd,
+            Source::Dic => files.dic,
+        },
+        SchemaFault::Kinds | SchemaFault::Memory(_) => files.scd,
+    }
+}
+
+// The line of a fault, and then that of its reason, if the folder gives one.
+fn lines_of_fault<F: Folder>(
+    alloc: Global,
+    folder: &F,
+    fault: &RunFault,
+    path: &str,
+) -> Result<Vec<u8>, AllocError>
+    ensures { IfOk result (λ lines. (reason : Option Reason) × IsReasonOf (F.why folder.now) fault.now path.now reason
+        × (lines.items ≡ fault_line fault.now path.now ++ reason_line (escaped_name path.now) reason)) }
+{
+    let mut lines = line_of_fault(alloc, fault, path.as_bytes())?;
+    let name = escaped(alloc, path.as_bytes())?;
+    add_reason(&mut lines, folder, fault, path, &name)?;
+    Ok(lines)
+}
+
+// The digest of the canonical file of the sheet of a path.
+fn digest_of<F: Folder>(
+    alloc: Global,
+    folder: &F,
+    schema: &Schema,
+    path: &str,
+) -> Result<[u8; 32], RunFault>
+    ensures { IsAnswerOf (inputs F.Folder F.Reader.ByteIn folder.now) schema.now path.now result }
+{
+    let mut sheet = opened(folder, path, 3)?;
+    let canonical = canon_under(alloc, schema, &mut sheet)?;
+    Ok(Sha256::digest(&canonical))
+}
+
+// The line of a digest: a backslash where the name has an escape, the digits, two spaces and the name.
+fn line_of_digest(alloc: Global, digest: &[u8], name: &[u8]) -> Result<Vec<u8>, AllocError>
+    ensures { IfOk result (λ line. line.items ≡ digest_line digest.now name.now) }
+{
+    let mut line = marked(alloc, name)?;
+    line.extend_from_slice(hex::encode(alloc, digest)?.as_bytes())?;
+    line.extend_from_slice(b"  ")?;
+    line.extend_from_slice(&escaped(alloc, name)?)?;
+    line.push(b'\n')?;
+    Ok(line)
+}
+
+// The line of a fault: a backslash where the name has an escape, the name, and what is wrong with its sheet.
+fn line_of_fault(alloc: Global, fault: &RunFault, name: &[u8]) -> Result<Vec<u8>, AllocError>
+    ensures { IfOk result (λ line. line.items ≡ fault_line fault.now name.now) }
+{
+    let mut line = marked(alloc, name)?;
+    line.extend_from_slice(&escaped(alloc, name)?)?;
+    line.extend_from_slice(b": ")?;
+    line.extend_from_slice(&line_of_sheet(alloc, fault)?)?;
+    Ok(line)
+}
+
+// A backslash where the name has an escape, and else nothing.
+fn marked(alloc: Global, name: &[u8]) -> Result<Vec<u8>, AllocError>
+    ensures { IfOk result (λ mark. mark.items ≡ mark_of name.now) }
+{
+    if has_escape(name) {
+        Vec::from_slice(alloc, b"\\")
+    } else {
+        Ok(Vec::new(alloc))
+    }
+}
+
+// Whether a line shows a byte of the name by an escape.
+fn has_escape(name: &[u8]) -> bool
+    ensures { result ≡ list_any is_escaped name.now }
+{
+    for byte in name {
+        if is_escaped(*byte) {
+            return true;
+        }
+    }
+    false
+}
+
+// Whether a line shows a byte by an escape.
+fn is_escaped(byte: u8) -> bool
+    ensures { result ≡ is_escaped byte }
+{
+    matches!(byte, b'\\' | b'\n' | b'\r')
+}
+
+// A name with its escapes.
+fn escaped(alloc: Global, name: &[u8]) -> Result<Vec<u8>, AllocError>
+    ensures { IfOk result (λ text. text.items ≡ escaped_name name.now) }
+{
+    let mut text = Vec::with_capacity(alloc, name.len())?;
+    for byte in name {
+        match *byte {
+            b'\\' => text.extend_from_slice(b"\\\\")?,
+            b'\n' => text.extend_from_slice(b"\\n")?,
+            b'\r' => text.extend_from_slice(b"\\r")?,
+            other => text.push(other)?,
+        }
+    }
+    Ok(text)
+}

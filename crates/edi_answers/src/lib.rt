@@ -1,0 +1,14 @@
+//! What each command answers over a folder and two streams, but for those that write, draw or tell apart what sheets hold.
+#![tactic(auto)]
+
+pub mod classes;
+pub mod commands;
+pub mod explains;
+pub mod hashes;
+pub mod known;
+pub mod notes;
+pub mod pair_inputs;
+mod paths;
+mod reason;
+pub mod report;
+pub mod sheets;

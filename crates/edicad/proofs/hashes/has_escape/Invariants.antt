@@ -1,7 +1,0 @@
-use Rattle.std.proofs.Common.{◌≡◌, drop}
-use Rattle.std.specs.List.{list_any}
-use Rattle.edicad.specs.Hashes.{is_escaped}
-use Rattle.edicad.proofs.hashes.has_escape.Given as goal
-
-abbrev pub invariant-loop-byte : goal.invariant-loop-byte
-invariant-loop-byte l = list_any is_escaped (drop l.byte-index l.name) ≡ list_any is_escaped l.name
