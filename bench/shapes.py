@@ -132,6 +132,20 @@ def linked(count, word):
         yield piece(b"l%d" % k, b"FEA;o", b"PNO;n")
 
 
+def faced(count, word):
+    """A face with so many attributes, of which one is this word, on the left of so many arcs."""
+    for k in range(count + 1):
+        yield node(b"n%d" % k, k)
+    values = [b"%d" % (k * 7919 % count) for k in range(count)]
+    yield record(b"PFE", b"f", b"PGE;FAC_id", *map(attribute, [*values, word]))
+    for k in range(count):
+        yield record(b"PAR", b"a%d" % k, b"PGE;ARC_id", zone(b"TYPSN", b"1"), zone(b"PTCSN", b"2"),
+                     zone(b"CORCC", b"+%d.00;+0.00;" % k), zone(b"CORCC", b"+%d.00;+0.00;" % (k + 1)))
+        yield piece(b"i%d" % k, b"PAR;a%d" % k, b"PNO;n%d" % k, b"REL;INI_id")
+        yield piece(b"e%d" % k, b"PAR;a%d" % k, b"PNO;n%d" % (k + 1), b"REL;FIN_id")
+        yield piece(b"l%d" % k, b"PAR;a%d" % k, b"PFE;f", b"REL;GCH_id")
+
+
 def renamed(count):
     """A file of so many classes, the last with the name of another behind ten times as many other zones."""
     for k in range(count):
@@ -153,6 +167,7 @@ SHAPES = {
 PAIRS = {
     "beside": (beside, 40_000),
     "linked": (linked, 40_000),
+    "faced": (faced, 40_000),
 }
 CLASSES = {
     "renamed": (renamed, 20_000),

@@ -1,4 +1,4 @@
--- Numbers of what objects hold: the first position whose key isn't less, and numbers that are made one after another.
+-- Numbers of what records hold: the first position whose key isn't less, and numbers that are made one after another.
 use Rattle.std.proofs.Common.{◌≡◌, ℕ, ◌+◌, ◌<◌, ◌⊎◌, inl, inr, Bool, true, false, true≢false, List, [], ◌∷◌, ◌++◌, get_or, length, refl, sym, subst, ap, ◌∙◌, arith, Ordering, is_lt}
 use Rattle.std.proofs.Math.Seq.{get_or-append_seam}
 use Rattle.std.proofs.lemmas.Bool.{cases_eq}
@@ -7,7 +7,6 @@ use Rattle.std.specs.Cmp.{IsTotalOrder}
 use Rattle.std.specs.List.Sorted.{IsPartitionPoint, IsPartitionedBy}
 use Rattle.std.specs.Ordering.{is_eq, is_gt, ordering_reverse}
 use Rattle.std.proofs.lemmas.Cmp.{upto}
-use Rattle.edi_matching.specs.declared.ranked.Member.{Member}
 use Rattle.edi_matching.specs.inner.Additions.{AreInOrder, IsFirstFrom}
 use Rattle.edi_matching.proofs.LoneKeys.{IsUpTo, less_is, not_less, rises}
 
@@ -22,11 +21,11 @@ module _ {K : Type 0} (cmp : K → K → Ordering) (eq : K → K → Bool) (tota
           let back : IsUpTo cmp total c b = upto total c a b (not_less cmp total a c e) up in
           absurd (true≢false (sym (ap is_gt (total.antisymm c b ∙ ap ordering_reverse (less_is (cmp b c) less))) ∙ back))
 
-  pub parted : (entries : List (K × Member)) (key : K) → AreInOrder cmp entries → IsPartitionedBy (λ (z : K × Member). is_lt (cmp z.0 key)) entries
+  pub parted : {X : Type 0} (entries : List (K × X)) (key : K) → AreInOrder cmp entries → IsPartitionedBy (λ (z : K × X). is_lt (cmp z.0 key)) entries
   parted entries key order i j d up within less = up_then_less (get_or entries i d).0 (get_or entries j d).0 key (rises cmp eq total ties entries order i j d up within) less
 
-pub first_there : {K : Type 0} (cmp : K → K → Ordering) (entries : List (K × Member)) (key : K) (at : ℕ)
-    → IsPartitionPoint (λ (z : K × Member). is_lt (cmp z.0 key) ≡ true) (λ (z : K × Member). is_lt (cmp z.0 key) ≡ false) entries at → IsFirstFrom cmp entries 0 key at
+pub first_there : {K X : Type 0} (cmp : K → K → Ordering) (entries : List (K × X)) (key : K) (at : ℕ)
+    → IsPartitionPoint (λ (z : K × X). is_lt (cmp z.0 key) ≡ true) (λ (z : K × X). is_lt (cmp z.0 key) ≡ false) entries at → IsFirstFrom cmp entries 0 key at
 first_there cmp entries key at parts = record {
   onward = omega arith;
   less = λ k d low high. parts.0 k d low high;

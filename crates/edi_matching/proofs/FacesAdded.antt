@@ -28,7 +28,7 @@ use Rattle.edi_matching.specs.inner.Proposals.{Proposal}
 use Rattle.edi_matching.proofs.RecordsAdded.{AreAdded, carried_alike, last_or, matched_after, none_added, one_added, unmarked, went_here}
 
 -- a face has no ends, so it is carried by all renamings or by none
-no_ends : (p : Drawing) → IsWholePlan p → (f : ℕ) → IsPlace p f → (record_at p f).kind ≡ Pfe → (record_at p f).ends ≡ []
+pub no_ends : (p : Drawing) → IsWholePlan p → (f : ℕ) → IsPlace p f → (record_at p f).kind ≡ Pfe → (record_at p f).ends ≡ []
 no_ends p whole f here is = go (record_at p f).ends (subst (λ (k : Kind). may_have_ends k (length (record_at p f).ends) ≡ true) is (whole.ends f here))
   where
     go : (ends : List PlanEnd) → may_have_ends Pfe (length ends) ≡ true → ends ≡ []

@@ -17,6 +17,7 @@ pub mod Listed
 pub mod PlainEnds
 pub mod RunsAdded
 pub mod ContentNumbers
+pub mod OneNumber
 pub mod KeysAdded
 pub mod Inverted
 pub mod EndsMoved

@@ -62,8 +62,8 @@ module _ {K : Type 0} (cmp : K → K → Ordering) (total : IsTotalOrder cmp) wh
       go Greater e = absurd (true≢false (sym (ap is_gt e) ∙ third))
 
 module _ {K : Type 0} (cmp : K → K → Ordering) (eq : K → K → Bool) (total : IsTotalOrder cmp) (ties : (x y : K) → eq x y ≡ is_eq (cmp x y)) where
-  pub rises : (entries : List (K × Member)) → AreInOrder cmp entries → (i j : ℕ) (d : K × Member) → i ≤ j → j < length entries → IsUpTo cmp total (get_or entries i d).0 (get_or entries j d).0
-  rises entries order i j d up within = not_less cmp total (get_or entries j d).0 (get_or entries i d).0 (sorted_far (λ x y. is_lt (cmp x.0 y.0)) (ranks_by total (λ (x : K × Member). x.0)) entries order i j d up within)
+  pub rises : {X : Type 0} (entries : List (K × X)) → AreInOrder cmp entries → (i j : ℕ) (d : K × X) → i ≤ j → j < length entries → IsUpTo cmp total (get_or entries i d).0 (get_or entries j d).0
+  rises {X} entries order i j d up within = not_less cmp total (get_or entries j d).0 (get_or entries i d).0 (sorted_far (λ x y. is_lt (cmp x.0 y.0)) (ranks_by total (λ (x : K × X). x.0)) entries order i j d up within)
 
   -- a key that stands once is found
   lone_found : (others : List (K × Member)) (order : AreInOrder cmp others) (from at lone : ℕ) (key : K) (d : K × Member) → ((k : ℕ) → k < from → is_lt (cmp (get_or others k d).0 key) ≡ true)
@@ -236,7 +236,7 @@ first_not_less Less b e = e
 first_not_less Equal b e = refl
 first_not_less Greater b e = refl
 
-pub keys_in_order : {K : Type 0} (cmp : K → K → Ordering) (other : Member → Member → Ordering) (entries : List (K × Member)) → IsSorted (λ x y. ordering_then (cmp x.0 y.0) (other x.1 y.1)) entries → AreInOrder cmp entries
+pub keys_in_order : {K X : Type 0} (cmp : K → K → Ordering) (other : X → X → Ordering) (entries : List (K × X)) → IsSorted (λ x y. ordering_then (cmp x.0 y.0) (other x.1 y.1)) entries → AreInOrder cmp entries
 keys_in_order cmp other entries sorted k d low high =
     first_not_less (cmp (get_or entries (k + 1) d).0 (get_or entries k d).0) (other (get_or entries (k + 1) d).1 (get_or entries k d).1) (sorted k d low high)
 

@@ -39,7 +39,7 @@ kind_too : (a b : Kind) → b ≡ a → (a ≡ Pno) ⊎ (a ≡ Par) → (b ≡ P
 kind_too a b e (inl is) = inl (e ∙ is)
 kind_too a b e (inr is) = inr (e ∙ is)
 
-same_class : (s : Classes) (turned : ℕ → Bool) (a : PlanRecord) → a.ends ≡ [] → class_after (partner_of s) turned a ≡ a.class
+pub same_class : (s : Classes) (turned : ℕ → Bool) (a : PlanRecord) → a.ends ≡ [] → class_after (partner_of s) turned a ≡ a.class
 same_class s turned a none = ap (λ (ends : List PlanEnd). after s a.role (list_any (λ e. turned e.target) ends) a.class) none ∙ after_none s a.role a.class
 
 none_carried : (s : Classes) (to : ℕ → ℕ) (turned : ℕ → Bool) (i : ℕ) (a b : PlanRecord) → a.ends ≡ [] → b.ends ≡ [] → HoldsSame a b (turned i) → CarriesRecord s to turned i a b

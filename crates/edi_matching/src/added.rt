@@ -3,9 +3,13 @@
 ghost use Rattle.std.specs.Prelude.{◌≡◌, ◌↔◌, ◌<◌, ◌∷◌, [], IfOk, IsTrue, None, OnOk, drop, if◌then◌else◌, length, not, slice_index_or};
 ghost use Rattle.std.specs.List.{before_first};
 ghost use Rattle.edi_plan.specs.Sides.{Side};
+ghost use Rattle.edi_record.specs.declared.record.Kind.TheVariants.{Pfe};
 ghost use Rattle.edi_schema.specs.Roles.{exchanged};
+ghost use Rattle.edi_matching.specs.inner.Contents.{AreContents};
 ghost use Rattle.edi_matching.specs.inner.Additions.{AddsPairs, AreAlike, AreAlikeBeside, AreFree, AreLone, HasKey, HaveLoneKey, HaveOneKey, IsFirstFrom, IsListed, IsLone, LeavesNoLone, PairsIfAlike, PairsIfBoth, PairsIfFree, StartsRun};
 
+use crate::contents::Contents;
+use crate::entries::{ContentKey, number_of};
 use crate::links::is_free;
 use crate::partners::same_record;
 use crate::ranked::{Member, Ranked};
@@ -17,18 +21,22 @@ use std::alloc::{AllocError, Global};
 /// Adds the faces that matched arcs have on one side and hold the same. Arcs go by their points.
 pub(crate) fn add_faces(
     alloc: Global,
+    contents: &Contents,
     first: Ranked<'_>,
     other: &Plan,
     turned: &[bool],
     to: &mut [Option<u32>],
     taken: &mut [bool],
 ) -> Result<(), AllocError>
+    requires { AreContents ⟦<ContentKey<'static> as Ord>⟧.cmp ⟦<ContentKey<'static> as PartialEq>⟧.eq Pfe first.plan.now other.now contents.now }
     ensures { OnOk result (AddsPairs (AreAlikeBeside first.entry.plan.now other.now (record { to = to.new; turned = turned.now })) to.old taken.old to.new taken.new) }
 {
     for arc in first.labels.order(Kind::Par) {
         if let Some(target) = target_of(to, *arc) {
             let is_turned = turned.get(*arc as usize).copied().unwrap_or(false);
-            add_sides(alloc, first, *arc, other, target, is_turned, to, taken)?;
+            add_sides(
+                alloc, contents, first, *arc, other, target, is_turned, to, taken,
+            )?;
         }
     }
     Ok(())
@@ -37,6 +45,7 @@ pub(crate) fn add_faces(
 /// Adds the faces on the sides of an arc, of which the other plan has this one, if they hold the same.
 fn add_sides(
     alloc: Global,
+    contents: &Contents,
     first: Ranked<'_>,
     arc: u32,
     other: &Plan,
@@ -45,6 +54,7 @@ fn add_sides(
     to: &mut [Option<u32>],
     taken: &mut [bool],
 ) -> Result<(), AllocError>
+    requires { AreContents ⟦<ContentKey<'static> as Ord>⟧.cmp ⟦<ContentKey<'static> as PartialEq>⟧.eq Pfe first.plan.now other.now contents.now }
     ensures { OnOk result (AddsPairs (λ i j. (role : Role) × Side first.entry.plan.now arc role i × Side other.now target (if is_turned then exchanged role else role) j × AreAlike first.entry.plan.now other.now i j) to.old taken.old to.new taken.new) }
 {
     if arc >= first.plan.len() || target >= other.len() {
@@ -53,15 +63,8 @@ fn add_sides(
     for role in first.sides(arc) {
         let there = role_if_turned(role, is_turned);
         let place = first.plan.side(arc, role);
-        add_same(
-            alloc,
-            first.plan,
-            place,
-            other,
-            other.side(target, there),
-            to,
-            taken,
-        )?;
+        let beside = other.side(target, there);
+        add_same(alloc, contents, first.plan, place, other, beside, to, taken)?;
     }
     Ok(())
 }
@@ -80,9 +83,10 @@ pub(crate) fn target_of(to: &[Option<u32>], place: u32) -> Option<u32>
     to.get(place as usize).copied().flatten()
 }
 
-/// Adds one record, if there are both and they hold the same.
+/// Adds one face, if there are both and they hold the same.
 fn add_same(
     alloc: Global,
+    contents: &Contents,
     plan: &Plan,
     place: Option<u32>,
     other: &Plan,
@@ -90,12 +94,36 @@ fn add_same(
     to: &mut [Option<u32>],
     taken: &mut [bool],
 ) -> Result<(), AllocError>
+    requires { AreContents ⟦<ContentKey<'static> as Ord>⟧.cmp ⟦<ContentKey<'static> as PartialEq>⟧.eq Pfe plan.now other.now contents.now }
     ensures { OnOk result (PairsIfBoth plan.now other.now place target to.old taken.old to.new taken.new) }
 {
     match (place, target) {
-        (Some(place), Some(target)) => add_alike(alloc, plan, place, other, target, to, taken),
+        (Some(place), Some(target)) => add_face(
+            alloc, contents, plan, place, other, target, to, taken,
+        ),
         _ => Ok(()),
     }
+}
+
+/// Adds one face, if neither is matched yet and the two hold the same. A face with many arcs is named by each; those whose numbers
+/// differ aren't compared.
+fn add_face(
+    alloc: Global,
+    contents: &Contents,
+    plan: &Plan,
+    place: u32,
+    other: &Plan,
+    target: u32,
+    to: &mut [Option<u32>],
+    taken: &mut [bool],
+) -> Result<(), AllocError>
+    requires { AreContents ⟦<ContentKey<'static> as Ord>⟧.cmp ⟦<ContentKey<'static> as PartialEq>⟧.eq Pfe plan.now other.now contents.now }
+    ensures { OnOk result (PairsIfAlike plan.now other.now place target to.old taken.old to.new taken.new) }
+{
+    if number_of(&contents.here, place) != number_of(&contents.there, target) {
+        return Ok(());
+    }
+    add_alike(alloc, plan, place, other, target, to, taken)
 }
 
 /// Adds one record, if neither is matched yet and the two hold the same. Those that are matched aren't compared.

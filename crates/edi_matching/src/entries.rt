@@ -241,8 +241,8 @@ fn is_done(done: &[bool], place: u32) -> bool
     done.get(place as usize).copied().unwrap_or(false)
 }
 
-/// The number of what the object at a place holds.
-fn number_of(contents: &[usize], place: u32) -> usize
+/// The number of what the record at a place holds.
+pub(crate) fn number_of(contents: &[usize], place: u32) -> usize
     ensures { result ≡ slice_index_or contents.now place 0 }
 {
     contents.get(place as usize).copied().unwrap_or(0)

@@ -10,9 +10,12 @@ ghost use Rattle.edi_plan.specs.Plans.{IsPlace, record_at};
 ghost use Rattle.edi_plan.specs.Whole.{IsWholePlan};
 ghost use Rattle.edi_matching.specs.Differences.{MatchesBeside, MatchesFaces, role_there};
 ghost use Rattle.edi_matching.specs.Matchings.{IsMatched, MatchingHolds, targets_of};
+ghost use Rattle.edi_matching.specs.inner.Contents.{AreContents};
 ghost use Rattle.edi_matching.specs.inner.Faces.{AreBesideIfAny, IsForcedIfAny, IsLeftFor};
 ghost use Rattle.edi_matching.specs.inner.Links.{AddsOnly, matching_so};
 
+use crate::contents::{Contents, numbered_contents};
+use crate::entries::{ContentKey, number_of};
 use crate::links::{is_free, reached_places};
 use crate::matching::Matching;
 use crate::places::targets_of;
@@ -38,15 +41,26 @@ pub(crate) fn with_all_faces(
     ensures keeps { IfOk result (λ m. (i : ℕ) → IsMatched matching.to i → IsMatched m.to i) }
     ensures faces { IfOk result (MatchesFaces schema.now first.now second.now) }
 {
-    first.sound().plan().keeps();
-    let more = with_faces(alloc, schema, first, second, matching, Role::Left)?;
-    with_faces(alloc, schema, first, second, more, Role::Right)
+    let plan = first.sound().plan();
+    plan.keeps();
+    let contents = numbered_contents(alloc, Kind::Pfe, plan, second.sound().plan())?;
+    let more = with_faces(
+        alloc,
+        schema,
+        &contents,
+        first,
+        second,
+        matching,
+        Role::Left,
+    )?;
+    with_faces(alloc, schema, &contents, first, second, more, Role::Right)
 }
 
 /// The same of the faces on this side of arcs.
 fn with_faces(
     alloc: Global,
     schema: &Schema,
+    contents: &Contents,
     first: &Accepted,
     second: &Accepted,
     matching: Matching,
@@ -54,6 +68,7 @@ fn with_faces(
 ) -> Result<Matching, AllocError>
     requires classes { HasClasses schema.now first.now }
     requires side { beside role ≡ Pfe }
+    requires contents { AreContents ⟦<ContentKey<'static> as Ord>⟧.cmp ⟦<ContentKey<'static> as PartialEq>⟧.eq Pfe first.now second.now contents.now }
     requires holds { MatchingHolds schema.now first.now second.now matching }
     ensures holds { IfOk result (MatchingHolds schema.now first.now second.now) }
     ensures adds { IfOk result (AddsOnly Pfe first.now matching) }
@@ -73,7 +88,7 @@ fn with_faces(
         targets: &targets,
         turned: matching.turned.as_slice(),
     };
-    let to = proposed.with_faces(alloc, role)?;
+    let to = proposed.with_faces(alloc, contents, role)?;
     Ok(Matching {
         to: Sequence::from_vec(to),
         turned: matching.into_turned(),
@@ -82,8 +97,14 @@ fn with_faces(
 
 impl<'a> Proposed<'a> {
     /// Where the records go, with the faces on this side of arcs that are left out and carried onto others that are.
-    fn with_faces(&self, alloc: Global, role: Role) -> Result<Vec<Option<u32>>, AllocError>
+    fn with_faces(
+        &self,
+        alloc: Global,
+        contents: &Contents,
+        role: Role,
+    ) -> Result<Vec<Option<u32>>, AllocError>
         requires side { beside role ≡ Pfe }
+        requires contents { AreContents ⟦<ContentKey<'static> as Ord>⟧.cmp ⟦<ContentKey<'static> as PartialEq>⟧.eq Pfe self.now.plan self.now.other contents.now }
         requires whole { IsWholePlan self.now.plan }
         requires other_whole { IsWholePlan self.now.other }
         requires joined { IsJoined self.now.plan }
@@ -97,7 +118,7 @@ impl<'a> Proposed<'a> {
         let mut to = Vec::from_slice(alloc, self.to)?;
         let mut reached = reached_places(alloc, self.to, self.other.len())?;
         for arc in self.plan.places(Kind::Par) {
-            match self.face_for(alloc, role, &reached, &to, *arc)? {
+            match self.face_for(alloc, contents, role, &reached, &to, *arc)? {
                 Some((face, target)) => {
                     to[face as usize] = Some(target);
                     reached[target as usize] = true;
@@ -113,12 +134,14 @@ impl<'a> Proposed<'a> {
     fn face_for(
         &self,
         alloc: Global,
+        contents: &Contents,
         role: Role,
         reached: &[bool],
         to: &[Option<u32>],
         arc: u32,
     ) -> Result<Option<(u32, u32)>, AllocError>
         requires side { beside role ≡ Pfe }
+        requires contents { AreContents ⟦<ContentKey<'static> as Ord>⟧.cmp ⟦<ContentKey<'static> as PartialEq>⟧.eq Pfe self.now.plan self.now.other contents.now }
         requires arc { IsPlace self.now.plan arc }
         requires whole { IsWholePlan self.now.plan }
         requires other_whole { IsWholePlan self.now.other }
@@ -129,7 +152,7 @@ impl<'a> Proposed<'a> {
     {
         match self.faces_beside(role, arc) {
             Some((face, target)) => {
-                if self.is_left_for(alloc, reached, to, face, target)? {
+                if self.is_left_for(alloc, contents, reached, to, face, target)? {
                     Ok(Some((face, target)))
                 } else {
                     Ok(None)
@@ -139,15 +162,17 @@ impl<'a> Proposed<'a> {
         }
     }
 
-    /// Whether a face goes nowhere yet and is carried onto one that isn't reached.
+    /// Whether a face goes nowhere yet and is carried onto one that isn't reached. Those whose numbers differ aren't compared.
     fn is_left_for(
         &self,
         alloc: Global,
+        contents: &Contents,
         reached: &[bool],
         to: &[Option<u32>],
         face: u32,
         target: u32,
     ) -> Result<bool, AllocError>
+        requires contents { AreContents ⟦<ContentKey<'static> as Ord>⟧.cmp ⟦<ContentKey<'static> as PartialEq>⟧.eq Pfe self.now.plan self.now.other contents.now }
         requires face { IsPlace self.now.plan face }
         requires target { IsPlace self.now.other target }
         requires kind { (record_at self.now.plan face).kind ≡ Pfe }
@@ -156,6 +181,9 @@ impl<'a> Proposed<'a> {
         ensures { IfOk result (λ answer. IsTrue answer ↔ IsLeftFor self.now reached.now to.now face target) }
     {
         if to[face as usize].is_some() || !is_free(reached, target) {
+            return Ok(false);
+        }
+        if number_of(&contents.here, face) != number_of(&contents.there, target) {
             return Ok(false);
         }
         self.is_carried(alloc, face, target)

@@ -184,7 +184,8 @@ fn add_more(
 {
     let mut taken = vec![in alloc; false; second.plan.len() as usize]?;
     let itself = each_to_itself(alloc, second.plan)?;
-    add_faces(alloc, first, second.plan, turned, to, &mut taken)?;
+    let faces = numbered_contents(alloc, Kind::Pfe, first.plan, second.plan)?;
+    add_faces(alloc, &faces, first, second.plan, turned, to, &mut taken)?;
     add_all_objects(alloc, first, second, &itself, to, &mut taken)?;
     add_all_links(
         alloc,
@@ -209,7 +210,7 @@ fn add_all_objects(
 ) -> Result<(), AllocError>
     ensures { OnOk result (Grows to.old to.new) }
 {
-    let contents = numbered_contents(alloc, first, second.plan)?;
+    let contents = numbered_contents(alloc, Kind::Fea, first.plan, second.plan)?;
     add_objects_in_rounds(alloc, first, second, &contents, itself, to, taken)?;
     add_objects_by_contents(alloc, first, second, to, taken)
 }

@@ -6,5 +6,5 @@ loop-role-preserved c =
     let p = c.args.first.plan.now in
     let q = c.args.other.now in
     then_both (AreOnSides p q c.args.arc c.args.target c.args.is_turned) c.args.to.now c.args.taken.now c.loop-role.to c.loop-role.taken c.add_same.new.to c.add_same.new.taken c.loop-role.invariant p q
-    c.side-place.result c.side.result
-    (on_sides p q c.args.arc c.args.target c.args.is_turned _ c.role_if_turned-there.result c.side-place.result c.side.result c.role_if_turned-there.ensures c.side-place.ensures c.side.ensures) c.in_ok-add_same.ensures
+    c.side-place.result c.side-beside.result
+    (on_sides p q c.args.arc c.args.target c.args.is_turned _ c.role_if_turned-there.result c.side-place.result c.side-beside.result c.role_if_turned-there.ensures c.side-place.ensures c.side-beside.ensures) c.in_ok-add_same.ensures

@@ -7,4 +7,4 @@ use Rattle.edi_matching.proofs.contents.numbers_of.Given as goal
 
 -- the numbers of the records so far
 abbrev pub invariant-loop-place : goal.invariant-loop-place
-invariant-loop-place l = (length l.numbers.items ≡ l.place) × ((k : ℕ) → k < l.place → IsContentNumber keys.cmp keys_eq.eq l.order (record_at l.plan k) (get_or l.numbers.items k 0))
+invariant-loop-place l = (length l.numbers.items ≡ l.place) × ((k : ℕ) → k < l.place → IsContentNumber keys.cmp keys_eq.eq l.kind l.order (record_at l.plan k) (get_or l.numbers.items k 0))
