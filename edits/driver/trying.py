@@ -13,8 +13,10 @@ from .kit import RT, Late, check
 # how long one check may take, in seconds: from nothing, and over kept work
 FROM_NOTHING = 1800
 OVER_KEPT = 900
-# how many copies of functions one check gets: with each it takes more memory
-MOST_COPIES = 24
+# how many bugs one check gets in copies of their functions: with each it takes more memory, and more time before the next can begin
+MOST_COPIES = 12
+# how many the first gets, which checks the whole crate too, and for which the others wait
+FIRST_COPIES = 6
 
 
 class Unfinished(Exception):
@@ -109,8 +111,9 @@ class Trial:
     def try_copies(self, edits):
         """The verdicts on those edits that are refused in copies of their functions. The first check leaves the work over which the others go,
         side by side."""
-        parts = [edits[at : at + MOST_COPIES] for at in range(0, len(edits), MOST_COPIES)]
-        found = [self.refused_in_copies(it) for it in parts[:1]] + side_by_side(self.refused_in_copies, parts[1:])
+        first, rest = edits[:FIRST_COPIES], edits[FIRST_COPIES:]
+        parts = [rest[at : at + MOST_COPIES] for at in range(0, len(rest), MOST_COPIES)]
+        found = [self.refused_in_copies(first)] + side_by_side(self.refused_in_copies, parts)
         return {name: verdict for it in found for name, verdict in it.items()}
 
     def refused_in_copies(self, edits):
