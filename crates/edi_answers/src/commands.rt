@@ -1,4 +1,4 @@
-//! What the commands answer that look at sheets and make nothing of them but a pairing.
+//! The answers of the commands that only read sheets, and of the one that writes a pairing.
 ghost use Rattle.std.specs.Prelude.{◌≡◌, ◌<◌, MatchOption};
 ghost use Rattle.edi_answers.specs.Effects.{effects, inputs, written};
 ghost use Rattle.edi_answers.specs.Notes.{HasNoteOf};

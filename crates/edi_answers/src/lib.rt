@@ -1,4 +1,4 @@
-//! What each command answers over a folder and two streams, but for those that write, draw or tell apart what sheets hold.
+//! What the commands answer over a folder and two streams, but for canonical files, differences and pictures.
 #![tactic(auto)]
 
 pub mod classes;
