@@ -2,7 +2,7 @@
 #![tactic(auto)]
 
 pub mod known;
-mod lines;
+pub mod lines;
 pub mod marks;
 mod numbers;
 mod packed;

@@ -66,7 +66,7 @@ fn some_differ(parts: &Parts) -> bool
 }
 
 /// Appends the words for the parts that differ.
-fn push_words(text: &mut Vec<u8>, parts: &Parts) -> Result<(), AllocError>
+pub fn push_words(text: &mut Vec<u8>, parts: &Parts) -> Result<(), AllocError>
     ensures { OnOk result (text.new.items ≡ text.old.items ++ words_text parts.now) }
 {
     push_word(text, parts.class, b" class")?;
@@ -88,7 +88,7 @@ pub(crate) fn push_parts(text: &mut Vec<u8>, parts: &Parts) -> Result<(), AllocE
 }
 
 /// Appends the lines of two records.
-pub(crate) fn push_both_lines(text: &mut Vec<u8>, line: u64, other: u64) -> Result<(), AllocError>
+pub fn push_both_lines(text: &mut Vec<u8>, line: u64, other: u64) -> Result<(), AllocError>
     ensures { OnOk result (text.new.items ≡ text.old.items ++ both_lines line other) }
 {
     text.extend_from_slice(b" (lines ")?;

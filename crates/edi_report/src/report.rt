@@ -92,7 +92,7 @@ impl<'a> Reporter<'a> {
     }
 
     /// Appends the line of the character sets, where they differ.
-    fn push_charsets(&self, text: &mut Vec<u8>) -> Result<(), AllocError>
+    pub fn push_charsets(&self, text: &mut Vec<u8>) -> Result<(), AllocError>
         ensures { OnOk result (text.new.items ≡ text.old.items ++ charsets_line self.now) }
     {
         let plan = self.first.accepted.sound().plan();
@@ -181,7 +181,7 @@ impl<'a> Reporter<'a> {
     }
 
     /// Appends the line of the counts.
-    fn push_counts(&self, text: &mut Vec<u8>) -> Result<(), AllocError>
+    pub fn push_counts(&self, text: &mut Vec<u8>) -> Result<(), AllocError>
         ensures { OnOk result (text.new.items ≡ text.old.items ++ totals_line self.now) }
     {
         push_counted(text, self.gone_count(), b" only in A, ")?;

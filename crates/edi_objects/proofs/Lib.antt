@@ -1,0 +1,5 @@
+pub mod Runs
+pub mod Indexed
+pub mod AttributeLists
+pub mod Marked
+pub mod Placed

@@ -1,0 +1,67 @@
+-- The text of what differs between two sheets, object by object.
+use Rattle.std.specs.Prelude.{ℕ, ◌||◌, Bool, List, [], ◌∷◌, ◌++◌, Option, Some, None, codes, decimal, if◌then◌else◌}
+use Rattle.std.specs.List.{flat_map, list_any}
+use Rattle.edi_line.specs.Bytes.{line_feed}
+use Rattle.edi_record.specs.declared.record.Kind.TheVariants.{Pno, Par, Pfe, Fea, Lnk}
+use Rattle.edi_plan.specs.Places.{places_of}
+use Rattle.edi_plan.specs.Plans.{Drawing, is_object, record_at}
+use Rattle.edi_plan.specs.Sides.{targets}
+use Rattle.edi_report.specs.Lines.{both_lines, charsets_line, is_reached, totals_line, words_text}
+use Rattle.edi_report.specs.Reports.{Report, parts_at, site_at}
+use Rattle.edi_report.specs.declared.sheet.LocatedSheet.{LocatedSheet}
+use Rattle.edi_objects.specs.Differing.{arrives, became_of, differs}
+use Rattle.edi_objects.specs.Elements.{elements_of, name_at, others_text}
+use Rattle.edi_objects.specs.Names.{Naming}
+use Rattle.edi_objects.specs.Objects.{first_object, second_object}
+
+-- how objects are named, two sheets, and what became of the records of the first in the second
+pub record Told : Type 0 where
+  pub naming : Naming
+  pub report : Report
+
+-- A link is told where a record stands that it names: an object, or one of which the test holds.
+abbrev pub is_told_beside : (ℕ → Bool) → Drawing → ℕ → Bool
+is_told_beside test p link = list_any (λ k. is_object (record_at p k).kind || test k) (targets (record_at p link))
+
+-- NAME: and what the link names
+abbrev pub bare_link : Naming → LocatedSheet → ℕ → List ℕ
+bare_link n sheet link = name_at n sheet link ++ codes ":" ++ others_text n sheet None (record_at sheet.accepted link)
+
+abbrev pub at_line : LocatedSheet → ℕ → List ℕ
+at_line sheet k = codes " (line " ++ decimal (site_at sheet k).line ++ codes ")" ++ line_feed ∷ []
+
+-- (lines LINE and LINE): and the parts that differ
+abbrev pub changed_parts : Report → ℕ → ℕ → List ℕ
+changed_parts r i j = both_lines (site_at r.first i).line (site_at r.second j).line ++ words_text (parts_at r.parts i) ++ line_feed ∷ []
+
+-- ~ NAME: and what the link names, and how it differs
+abbrev pub changed_link : Naming → Report → ℕ → ℕ → List ℕ
+changed_link n r i j = codes "~ " ++ bare_link n r.first i ++ changed_parts r i j
+
+abbrev pub bare_link_by : Naming → Report → ℕ → Option ℕ → List ℕ
+bare_link_by n r i None = codes "- " ++ bare_link n r.first i ++ at_line r.first i
+bare_link_by n r i (Some j) = changed_link n r i j
+
+-- a link of the first sheet that differs, and one of the second that is new, if they aren't told elsewhere
+abbrev pub first_bare_link : Naming → Report → ℕ → List ℕ
+first_bare_link n r i = if differs r i then (if is_told_beside (differs r) r.first.accepted i then [] else bare_link_by n r i (became_of r i)) else []
+
+abbrev pub second_bare_link : Naming → Report → ℕ → List ℕ
+second_bare_link n r j =
+    if is_reached r.became j || is_told_beside (arrives r) r.second.accepted j then []
+    else codes "+ " ++ bare_link n r.second j ++ at_line r.second j
+
+abbrev pub bare_links : Naming → Report → List ℕ
+bare_links n r = flat_map (first_bare_link n r) (places_of Lnk r.first.accepted) ++ flat_map (second_bare_link n r) (places_of Lnk r.second.accepted)
+
+abbrev pub objects_of : Naming → Report → List ℕ
+objects_of n r = flat_map (first_object n r) (places_of Fea r.first.accepted) ++ flat_map (second_object n r) (places_of Fea r.second.accepted)
+
+-- the faces, the arcs and the nodes that differ
+abbrev pub shapes_of : Naming → Report → List ℕ
+shapes_of n r = elements_of n r Pfe ++ elements_of n r Par ++ elements_of n r Pno
+
+-- The text: the character sets, the objects, each with what differs of it and of what it is linked with; then the faces, the arcs and the
+-- nodes that differ, and the links that are told nowhere else; and how many records differ.
+abbrev pub account_text : Naming → Report → List ℕ
+account_text n r = charsets_line r ++ objects_of n r ++ shapes_of n r ++ bare_links n r ++ totals_line r

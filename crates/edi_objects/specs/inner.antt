@@ -1,0 +1,5 @@
+-- What the public contracts do not reach.
+pub mod Attributes
+pub mod Indices
+pub mod Marks
+pub mod Sheets

@@ -1,0 +1,15 @@
+//! What differs between two sheets, told object by object.
+#![tactic(auto)]
+
+mod account;
+mod attributes;
+mod bare_links;
+mod elements;
+mod index;
+mod marks;
+mod names;
+mod objects;
+mod outlines;
+
+pub use account::{Account, account_text};
+pub use names::Namer;
