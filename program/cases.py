@@ -125,7 +125,7 @@ def pair_case(room, name, kinds, wanted):
 def diff_case(room, name, kinds, wanted):
     """What diff says of a pair: nothing exactly if compare says that both are the same, else lines and how many; or compare's fault."""
     check = room.report.check
-    status, out, err = whole = room.run(["diff", *kinds, "s", "d", "a", "b"])
+    status, out, err = whole = room.run(["diff", "--records", *kinds, "s", "d", "a", "b"])
     brief = room.run(["diff", "--brief", *kinds, "s", "d", "a", "b"])
     if wanted[0] > 1:
         check(name + ": diff", (whole, brief), (wanted, wanted))
@@ -200,7 +200,7 @@ def text_case(room, case):
     answer = text.encode("latin-1")
     wanted = ({"same": 0, "different": 1, "": 2}[word], answer, noted(room, kinds, answer))
     room.report.check(case.name + ": compare, status", room.run(["compare", *kinds, "s", "d", "a", "b"])[0], wanted[0])
-    room.expect(case.name, ["diff", *kinds, "s", "d", "a", "b"], wanted)
+    room.expect(case.name, ["diff", "--records", *kinds, "s", "d", "a", "b"], wanted)
     diff_case(room, case.name, kinds, wanted)
     picture_case(room, case.name, kinds, wanted)
 

@@ -224,12 +224,12 @@ def shown(room):
     room.write("b", of(("c\\d\r\te", 8)))
     room.write("c", of(("a\x1b[2J\x7f", 7), ("c\\d\r\te", 7)))
     first, second = b"a\\x1b[2J\\x7f", b"c\\\\d\\x0d\\x09e"
-    room.expect("diff of identifiers with control bytes", ["diff", "s", "d", "a", "b"],
+    room.expect("diff of identifiers with control bytes", ["diff", "--records", "s", "d", "a", "b"],
                 (1, b"~ PNO " + first + b" " + second + b" (lines 2 and 2): points\n0 only in A, 0 only in B, 1 changed\n", b""))
     room.write("e", of(("caf\xe9_1", 7)))
     for name, identifier, shown_as in (("in UTF-8", "caf\xc3\xa9_", b"caf\xc3\xa9_"), ("with a second control character", "ab\xc2\x9b_1", b"ab\\xc2\\x9b_1")):
         room.write("f", of((identifier, 8)))
-        room.expect(f"diff of an identifier in Latin-1 and one {name}", ["diff", "s", "d", "e", "f"],
+        room.expect(f"diff of an identifier in Latin-1 and one {name}", ["diff", "--records", "s", "d", "e", "f"],
                     (1, b"~ PNO caf\\xe9_1 " + shown_as + b" (lines 2 and 2): points\n0 only in A, 0 only in B, 1 changed\n", b""))
     repeated = b"refused 403 record 2\nc:6: PNO " + second
     room.report.check("explain of identifiers with control bytes", room.run(["explain", "s", "d", "c"])[1][: len(repeated)], repeated)
@@ -429,6 +429,33 @@ def as_compare(room, words, status, **how):
         room.expect(f"diff of {[*flag, *words]}", ["diff", *flag, *words], wanted, **how)
 
 
+def by_objects(room):
+    """What differs, object by object: the parcel of the example with another attribute, with a node moved, gone, and with a label."""
+    first = room.read("a")
+    label = (b"RTYSA03:FEA\nRIDSA05:Label\nSCPCP27:EDAB01;SeSD;OBJ;PARCELLE_id\nATCSN02:01\nATPCP22:EDAB01;SeSD;ATT;NOM_id\nATVSA01:B\n"
+             b"RTYSA03:LNK\nRIDSA06:Lien_8\nSCPCP22:EDAB01;SeSD;REL;CMP_id\nFTCSN02:02\nFTPCP19:EDAB01;SeT1;FEA;Label\nFTPCP22:EDAB01;SeT1;PFE;Face_1\nATCSN02:00\n")
+    at, end = first.index(b"RTYSA03:FEA\n"), first.index(b"EOMT")
+    gone = first[:at] + first[first.index(b"RTYSA03:LNK\n"):first.index(b"RTYSA03:LNK\nRIDSA06:Lien_7\n")] + first[end:]
+    changes = {
+        "another attribute": (first.replace(b"ATVSA04:A 12", b"ATVSA04:A 13"),
+                              b"~ PARCELLE_id NOM_id A 12 (lines 39 and 39):\n    NOM_id: A 12 -> A 13\n"),
+        "an attribute more": (first.replace(b"ATCSN02:02\nATPCP22:EDAB01;SeSD;ATT;SUP_id\nATVSR05:25.00", b"ATCSN02:03\nATPCP22:EDAB01;SeSD;ATT;SUP_id\nATVSR05:25.00\nATPCP22:EDAB01;SeSD;ATT;SUP_id\nATVSR05:26.50"),
+                              b"~ PARCELLE_id NOM_id A 12 (lines 39 and 39):\n    SUP_id: 25 -> 25, 26.5\n"),
+        "a node moved": (first.replace(b"+10.00;+0.00;", b"+11.00;+0.00;"),
+                         b"~ PARCELLE_id NOM_id A 12 (lines 39 and 39):\n    outline of face (line 34)\n"
+                         b"~ arc 0;0 .. 10;0 (lines 15 and 15): points (1 of 2)\n~ arc 10;0 .. 0;0 (lines 24 and 24): points (1 of 3)\n~ node 10;0 (lines 9 and 9): points (to 11;0)\n"),
+        "the parcel gone": (gone, b"- PARCELLE_id NOM_id A 12 (line 39)\n"),
+        "a parcel on the same face": (first[:end] + label + first[end:], b"+ PARCELLE_id NOM_id B (line 108)\n"),
+    }
+    for name, (second, told) in changes.items():
+        room.write("b", second)
+        status, brief, _ = room.run(["diff", "--brief", "s", "d", "a", "b"])
+        room.report.check(f"{name}: brief", status, 1)
+        room.expect(f"{name}, by objects", ["diff", "s", "d", "a", "b"], (1, told + brief, b""))
+        room.expect(f"{name}, in brief where records are asked for too", ["diff", "--records", "--brief", "s", "d", "a", "b"], (1, brief, b""))
+    room.write("b", first.replace(b"ATVSA04:A 12", b"ATVSA04:A 13"))
+
+
 def differences(room):
     """What differs between two sheets: the lines, the statuses and what is missing or refused."""
     parcel = os.path.join(HERE, "..", "examples", "parcel")
@@ -444,16 +471,17 @@ def differences(room):
     room.expect("no difference", ["diff", "s", "d", "a", "a"], nothing)
     room.expect("no difference between two exports", ["diff", "s", "d", "a", "same"], nothing)
     room.expect("no difference, in brief", ["diff", "--brief", "s", "d", "a", "same"], nothing)
-    room.expect("another value", ["diff", *sheets], found)
+    room.expect("another value", ["diff", "--records", *sheets], found)
     room.expect("another value, in brief", ["diff", *sheets, "--brief"], (1, counts, b""))
-    room.expect("another value, with the usual kinds", ["diff", "--kinds", "IND,FND,LPO,RPO", *sheets], found)
+    room.expect("another value, with the usual kinds", ["diff", "--kinds", "IND,FND,LPO,RPO", *sheets, "--records"], found)
+    by_objects(room)
     room.write("set", room.read("a").replace(b"CSET 03:IRV\n", b""))
     room.expect("another character set", ["diff", "s", "d", "a", "set"], (1, b"~ CSE IRV none\n" + nothing[1], b""))
     room.expect("another character set, in brief", ["diff", "--brief", "s", "d", "a", "set"], (1, b"~ CSE IRV none\n" + nothing[1], b""))
     for at, name in enumerate(sheets):
         words = list(sheets)
         words[at] = "-"
-        room.expect(f"diff with {name} on standard input", ["diff", *words], found, room.read(name))
+        room.expect(f"diff with {name} on standard input", ["diff", "--records", *words], found, room.read(name))
         for other in ("x", "."):
             words[at] = other
             as_compare(room, words, 4)

@@ -60,9 +60,9 @@ def listed(rows):
 def picture_case(room, name, kinds, wanted):
     """What diff says with a picture: the same as without one, and colours exactly for the records that its lines list."""
     report = room.report
-    wanted_answer = room.run(["diff", *kinds, "s", "d", "a", "b"])
+    wanted_answer = room.run(["diff", "--records", *kinds, "s", "d", "a", "b"])
     room.write("p", "kept")
-    room.expect(name + ": with a picture", ["diff", *kinds, "--picture", "p", "s", "d", "a", "b"], wanted_answer)
+    room.expect(name + ": with a picture", ["diff", "--records", *kinds, "--picture", "p", "s", "d", "a", "b"], wanted_answer)
     if wanted[0] > 1:
         report.check(name + ": FILE of a picture", room.read("p"), b"kept")
         os.remove(room.path("p"))

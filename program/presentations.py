@@ -196,7 +196,7 @@ class Differ:
     def __call__(self, first, second, names, others):
         self.write("a", first)
         self.write("b", second)
-        status, said, _ = self.run(["diff", "s", "d", "a", "b"])
+        status, said, _ = self.run(["diff", "--records", "s", "d", "a", "b"])
         back = [{(kind, new): old for (kind, old), new in it.items()} for it in (names, others)]
         return told(said, *back) if status < 2 else None
 

@@ -5,27 +5,28 @@ use Rattle.edi_rank.specs.Same.{Same}
 use Rattle.edi_matching.specs.Differences.{IsTotalIfSame, MatchesFaces, MatchesLinks, MatchesPartners}
 use Rattle.edi_matching.specs.Matchings.{MatchingHolds}
 use Rattle.edi_matching.specs.declared.matching.Matching.{Matching}
-use Rattle.edi_report.specs.Lines.{text_of_report}
 use Rattle.edi_report.specs.Located.{IsLocated}
 use Rattle.edi_report.specs.declared.parts.Parts.{Parts}
 use Rattle.edi_report.specs.declared.sheet.LocatedSheet.{LocatedSheet}
 use Rattle.edi_diff.specs.Changes.{AreChanges, ArePartsOfEach}
 use Rattle.edi_diff.specs.declared.differing.Difference.{Difference}
 use Rattle.edi_diff.specs.declared.differing.Findings.{Findings}
+use Rattle.edi_diff.specs.declared.form.Form.{Form}
+use Rattle.edi_diff.specs.Forms.{text_in}
 
 -- The text of what differs, all of it or without the lines of records, by a matching of the records that are the same: of the other records some
 -- became others, and the text names the parts in which these differ.
-pub record IsDifferenceText (s : Classes) (first second : LocatedSheet) (unchanged : Matching) (brief : Bool) (text : List ℕ) : Type 0 where
+pub record IsDifferenceText (s : Classes) (first second : LocatedSheet) (unchanged : Matching) (form : Form) (text : List ℕ) : Type 0 where
   pub became : Matching
   pub parts : List Parts
   pub changes : AreChanges first.accepted second.accepted unchanged became
   pub are_parts : ArePartsOfEach s first.accepted second.accepted unchanged became parts
-  pub is_text : text ≡ text_of_report brief (record { first = first; second = second; unchanged = unchanged.to; became = became.to; parts = parts })
+  pub is_text : text ≡ text_in s form (record { first = first; second = second; unchanged = unchanged.to; became = became.to; parts = parts })
 
 -- What differs between two files: the text, by a matching that holds between their plans, that leaves nothing out, of one character set, exactly
 -- if these are the same, and leaves out no node and no arc that has a partner, no face together with that on the
 -- same side of a matched arc, and no link, each together with one that it is carried onto; and whether the plans are the same.
-pub record IsDifference (s : Classes) (a b : List ℕ) (brief : Bool) (difference : Difference) : Type 0 where
+pub record IsDifference (s : Classes) (a b : List ℕ) (form : Form) (difference : Difference) : Type 0 where
   pub first : LocatedSheet
   pub second : LocatedSheet
   pub is_first : IsLocated s a first
@@ -36,12 +37,12 @@ pub record IsDifference (s : Classes) (a b : List ℕ) (brief : Bool) (differenc
   pub partners : MatchesPartners first.accepted second.accepted unchanged
   pub faces : MatchesFaces s first.accepted second.accepted unchanged
   pub links : MatchesLinks s first.accepted second.accepted unchanged
-  pub is_text : IsDifferenceText s first second unchanged brief difference.text.items
+  pub is_text : IsDifferenceText s first second unchanged form difference.text.items
   pub same : IsTrue difference.same ↔ Same s first.accepted second.accepted
 
 -- what differs between two files, with the sheets, the matching and the changes that its text is made from
-pub record AreFindings (s : Classes) (a b : List ℕ) (brief : Bool) (found : Findings) : Type 0 where
-  pub differs : IsDifference s a b brief found.difference
+pub record AreFindings (s : Classes) (a b : List ℕ) (form : Form) (found : Findings) : Type 0 where
+  pub differs : IsDifference s a b form found.difference
   pub by_first : differs.first ≡ found.first
   pub by_second : differs.second ≡ found.second
   pub by_unchanged : differs.unchanged ≡ found.unchanged

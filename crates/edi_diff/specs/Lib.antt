@@ -1,4 +1,5 @@
 pub mod Changes
+pub mod Forms
 pub mod Differences
 pub mod Directions
 pub mod Runs

@@ -3,7 +3,7 @@
 ghost use Rattle.std.specs.Prelude.{◌≡◌, IfErr, IfOk, OnOk};
 ghost use Rattle.edi_line.specs.FileBytes.{file_bytes};
 ghost use Rattle.edi_schema.specs.Classes.{Classes};
-ghost use Rattle.edi_plan.specs.Agreeing.{HasClasses};
+ghost use Rattle.edi_plan.specs.Agreeing.{Agrees, HasClasses};
 ghost use Rattle.edi_compare.specs.Laws.{IsAcceptedPlan};
 ghost use Rattle.edi_compare.specs.Refused.{IsPairRefusal};
 ghost use Rattle.edi_compare.specs.Rules.{IsAccepted};
@@ -13,6 +13,7 @@ ghost use Rattle.edi_diff.specs.Differences.{AreFindings, IsDifference, IsDiffer
 ghost use Rattle.edi_diff.specs.inner.Compared.{AreCompared};
 
 use crate::changes::{Changes, changes_between};
+use crate::form::{Form, text_in};
 use crate::parting::parts_of;
 use crate::totals::is_same;
 use edi_compare::CompareFault;
@@ -66,13 +67,15 @@ fn changes_with_text(
     first: &LocatedSheet,
     second: &LocatedSheet,
     matching: &Matching,
-    brief: bool,
+    form: Form,
 ) -> Result<ChangesWithText, AllocError>
     requires classes { HasClasses schema.now first.now.accepted }
+    requires first_agrees { Agrees schema.now first.now.accepted }
+    requires second_agrees { Agrees schema.now second.now.accepted }
     requires first_sites { HasSites first.now }
     requires second_sites { HasSites second.now }
     requires holds { MatchingHolds schema.now first.now.accepted second.now.accepted matching.now }
-    ensures { IfOk result (λ reporter. (text : IsDifferenceText schema.now first.now second.now matching.now brief reporter.text.items) × (text.became ≡ reporter.became)) }
+    ensures { IfOk result (λ reporter. (text : IsDifferenceText schema.now first.now second.now matching.now form reporter.text.items) × (text.became ≡ reporter.became)) }
 {
     let plan = first.accepted.sound().plan();
     let other = second.accepted.sound().plan();
@@ -94,11 +97,11 @@ fn changes_with_text(
         parts: &parts,
         reached: &reached,
     };
-    let text = reporter.text(alloc, brief)?;
+    let text = text_in(alloc, schema, &reporter, form)?;
     Ok(ChangesWithText { became, text })
 }
 
-/// What differs between two sheets under a schema, or that without the lines of records; or the refusal that `edi_compare::compare`
+/// What differs between two sheets under a schema, told in this form; or the refusal that `edi_compare::compare`
 /// gives: `CompareFault::First` where the first sheet is refused, `CompareFault::Second` where the first is accepted and
 /// the second is refused.
 pub fn diff(
@@ -106,11 +109,11 @@ pub fn diff(
     schema: &Schema,
     a: &[u8],
     b: &[u8],
-    brief: bool,
+    form: Form,
 ) -> Result<Difference, CompareFault>
     ensures first { OnOk result (IsAccepted schema.now a.now) }
     ensures second { OnOk result (IsAccepted schema.now b.now) }
-    ensures difference { IfOk result (IsDifference schema.now a.now b.now brief) }
+    ensures difference { IfOk result (IsDifference schema.now a.now b.now form) }
     ensures refusal { IfErr result (IsPairRefusal schema.now a.now b.now) }
 {
     diff_from(
@@ -118,7 +121,7 @@ pub fn diff(
         schema,
         FileBytes::Whole(CowSlice::Borrowed(a)),
         FileBytes::Whole(CowSlice::Borrowed(b)),
-        brief,
+        form,
     )
 }
 
@@ -128,14 +131,14 @@ pub(crate) fn diff_from(
     schema: &Schema,
     a: FileBytes<'_>,
     b: FileBytes<'_>,
-    brief: bool,
+    form: Form,
 ) -> Result<Difference, CompareFault>
     ensures first { OnOk result (IsAccepted schema.now (file_bytes a.entry)) }
     ensures second { OnOk result (IsAccepted schema.now (file_bytes b.entry)) }
-    ensures difference { IfOk result (IsDifference schema.now (file_bytes a.entry) (file_bytes b.entry) brief) }
+    ensures difference { IfOk result (IsDifference schema.now (file_bytes a.entry) (file_bytes b.entry) form) }
     ensures refusal { IfErr result (IsPairRefusal schema.now (file_bytes a.entry) (file_bytes b.entry)) }
 {
-    let found = find_differences(alloc, schema, a, b, brief)?;
+    let found = find_differences(alloc, schema, a, b, form)?;
     Ok(found.difference)
 }
 
@@ -146,11 +149,11 @@ pub fn find_differences(
     schema: &Schema,
     a: FileBytes<'_>,
     b: FileBytes<'_>,
-    brief: bool,
+    form: Form,
 ) -> Result<Findings, CompareFault>
     ensures first { OnOk result (IsAccepted schema.now (file_bytes a.entry)) }
     ensures second { OnOk result (IsAccepted schema.now (file_bytes b.entry)) }
-    ensures findings { IfOk result (AreFindings schema.now (file_bytes a.entry) (file_bytes b.entry) brief) }
+    ensures findings { IfOk result (AreFindings schema.now (file_bytes a.entry) (file_bytes b.entry) form) }
     ensures first_classes { IfOk result (λ found. HasClasses schema.now found.first.accepted) }
     ensures second_classes { IfOk result (λ found. HasClasses schema.now found.second.accepted) }
     ensures refusal { IfErr result (IsPairRefusal schema.now (file_bytes a.entry) (file_bytes b.entry)) }
@@ -160,7 +163,7 @@ pub fn find_differences(
         unchanged,
         became,
         difference,
-    } = compare_sheets(alloc, schema, &first, &second, brief)?;
+    } = compare_sheets(alloc, schema, &first, &second, form)?;
     Ok(Findings {
         first,
         second,
@@ -176,19 +179,20 @@ fn compare_sheets(
     schema: &Schema,
     first: &LocatedSheet,
     second: &LocatedSheet,
-    brief: bool,
+    form: Form,
 ) -> Result<ComparedSheets, AllocError>
     requires first { IsAcceptedPlan schema.now first.now.accepted }
     requires second { IsAcceptedPlan schema.now second.now.accepted }
     requires classes { HasClasses schema.now first.now.accepted }
     requires first_sites { HasSites first.now }
     requires second_sites { HasSites second.now }
-    ensures { IfOk result (AreCompared schema.now first.now second.now brief) }
+    ensures { IfOk result (AreCompared schema.now first.now second.now form) }
 {
+    schema.keeps();
     let unchanged = differences(alloc, schema, &first.accepted, &second.accepted)?;
     let same = is_same(alloc, first, second, &unchanged)?;
     let ChangesWithText { became, text } = changes_with_text(
-        alloc, schema, first, second, &unchanged, brief,
+        alloc, schema, first, second, &unchanged, form,
     )?;
     Ok(ComparedSheets {
         unchanged,

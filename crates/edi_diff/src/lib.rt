@@ -4,10 +4,12 @@
 mod changes;
 pub mod differing;
 mod directions;
+pub mod form;
 mod parting;
 mod proposing;
 pub mod runs;
 mod totals;
 
 pub use differing::{Difference, Findings, diff, find_differences};
+pub use form::Form;
 pub use runs::run_diff;

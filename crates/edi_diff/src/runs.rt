@@ -6,13 +6,14 @@ ghost use Rattle.edi_compare.specs.inner.Runs.{PairFault};
 ghost use Rattle.edi_diff.specs.Runs.{IsDifferenceUnder};
 
 use crate::differing::{Difference, diff_from};
+use crate::form::Form;
 use edi_compare::{RunFault, load_or_fault, read_input, read_input_pieces};
 use edi_line::{ByteIn, FileBytes};
 use edi_schema::Kinds;
 use std::alloc::Global;
 
 /// Reads four files, and answers what differs between the third and the fourth, two sheets under the schema of the first
-/// two; or that without the lines of records. All are read before one is looked at, and the second sheet is looked at only if the
+/// two, told in this form. All are read before one is looked at, and the second sheet is looked at only if the
 /// first is accepted. The faults are those of `edi_compare::run_compare`.
 pub fn run_diff<S: ByteIn, D: ByteIn, A: ByteIn, B: ByteIn>(
     alloc: Global,
@@ -21,10 +22,10 @@ pub fn run_diff<S: ByteIn, D: ByteIn, A: ByteIn, B: ByteIn>(
     dic: &mut D,
     first: &mut A,
     second: &mut B,
-    brief: bool,
+    form: Form,
 ) -> Result<Difference, RunFault>
     ensures ok { IfOk result (λ difference. IfFourKnown (S.contents scd.old) (D.contents dic.old) (A.contents first.old) (B.contents second.old)
-        (λ s d a b. IsDifferenceUnder kinds.now s d a b brief difference)) }
+        (λ s d a b. IsDifferenceUnder kinds.now s d a b form difference)) }
     ensures read { OnOk result (AreFourRead (seen S.ByteIn scd.old scd.new) (seen D.ByteIn dic.old dic.new)
         (seen A.ByteIn first.old first.new) (seen B.ByteIn second.old second.new)) }
     ensures err { IfErr result (ComparingFault kinds.now (seen S.ByteIn scd.old scd.new) (seen D.ByteIn dic.old dic.new)
@@ -43,7 +44,7 @@ pub fn run_diff<S: ByteIn, D: ByteIn, A: ByteIn, B: ByteIn>(
         &dic,
         FileBytes::InPieces(first),
         FileBytes::InPieces(second),
-        brief,
+        form,
     )
 }
 
@@ -55,12 +56,12 @@ fn diff_or_fault(
     dic: &[u8],
     first: FileBytes<'_>,
     second: FileBytes<'_>,
-    brief: bool,
+    form: Form,
 ) -> Result<Difference, RunFault>
-    ensures ok { IfOk result (IsDifferenceUnder kinds.now scd.now dic.now (file_bytes first.entry) (file_bytes second.entry) brief) }
+    ensures ok { IfOk result (IsDifferenceUnder kinds.now scd.now dic.now (file_bytes first.entry) (file_bytes second.entry) form) }
     ensures err { IfErr result (PairFault kinds.now scd.now dic.now (file_bytes first.entry) (file_bytes second.entry)) }
 {
     let schema = load_or_fault(alloc, kinds, scd, dic)?;
-    let difference = diff_from(alloc, &schema, first, second, brief)?;
+    let difference = diff_from(alloc, &schema, first, second, form)?;
     Ok(difference)
 }

@@ -9,7 +9,7 @@ ghost use Rattle.edi_drawing.specs.Drawn.{IsDrawnDifference, IsPictureOfFile};
 use crate::drawn::DrawnDifference;
 use crate::pictures::{picture_of, picture_of_both};
 use edi_compare::{CompareFault, Fault};
-use edi_diff::find_differences;
+use edi_diff::{Form, find_differences};
 use edi_line::FileBytes;
 use edi_report::locate_from;
 use edi_schema::Schema;
@@ -38,14 +38,14 @@ pub(crate) fn draw_difference_from(
     schema: &Schema,
     a: FileBytes<'_>,
     b: FileBytes<'_>,
-    brief: bool,
+    form: Form,
 ) -> Result<DrawnDifference, CompareFault>
     ensures first { OnOk result (IsAccepted schema.now (file_bytes a.entry)) }
     ensures second { OnOk result (IsAccepted schema.now (file_bytes b.entry)) }
-    ensures drawn { IfOk result (IsDrawnDifference schema.now (file_bytes a.entry) (file_bytes b.entry) brief) }
+    ensures drawn { IfOk result (IsDrawnDifference schema.now (file_bytes a.entry) (file_bytes b.entry) form) }
     ensures refusal { IfErr result (IsPairRefusal schema.now (file_bytes a.entry) (file_bytes b.entry)) }
 {
-    let found = find_differences(alloc, schema, a, b, brief)?;
+    let found = find_differences(alloc, schema, a, b, form)?;
     match picture_of_both(alloc, schema, &found) {
         Ok(picture) => Ok(DrawnDifference {
             difference: found.difference,

@@ -7,6 +7,7 @@ ghost use Rattle.edi_drawing.specs.Runs.{IsDrawnDifferenceUnder, IsPictureUnder}
 
 use crate::drawing::{draw_difference_from, draw_from};
 use crate::drawn::DrawnDifference;
+use edi_diff::Form;
 use edi_compare::{Fault, RunFault, load_or_fault, read_input, read_input_pieces};
 use edi_line::{ByteIn, FileBytes};
 use edi_schema::Kinds;
@@ -45,11 +46,11 @@ pub fn run_draw_difference<S: ByteIn, D: ByteIn, A: ByteIn, B: ByteIn>(
     dic: &mut D,
     first: &mut A,
     second: &mut B,
-    brief: bool,
+    form: Form,
 ) -> Result<DrawnDifference, RunFault>
     ensures ok { IfOk result (λ drawn. IfFourKnown (S.contents scd.old) (D.contents dic.old)
         (A.contents first.old) (B.contents second.old)
-        (λ s d a b. IsDrawnDifferenceUnder kinds.now s d a b brief drawn)) }
+        (λ s d a b. IsDrawnDifferenceUnder kinds.now s d a b form drawn)) }
     ensures read { OnOk result (AreFourRead (seen S.ByteIn scd.old scd.new) (seen D.ByteIn dic.old dic.new)
         (seen A.ByteIn first.old first.new) (seen B.ByteIn second.old second.new)) }
     ensures err { IfErr result (ComparingFault kinds.now (seen S.ByteIn scd.old scd.new) (seen D.ByteIn dic.old dic.new)
@@ -69,7 +70,7 @@ pub fn run_draw_difference<S: ByteIn, D: ByteIn, A: ByteIn, B: ByteIn>(
         &dic,
         FileBytes::InPieces(first),
         FileBytes::InPieces(second),
-        brief,
+        form,
     )
 }
 
@@ -101,14 +102,14 @@ fn draw_difference_or_fault(
     dic: &[u8],
     first: FileBytes<'_>,
     second: FileBytes<'_>,
-    brief: bool,
+    form: Form,
 ) -> Result<DrawnDifference, RunFault>
     ensures ok { IfOk result (IsDrawnDifferenceUnder kinds.now scd.now dic.now
-        (file_bytes first.entry) (file_bytes second.entry) brief) }
+        (file_bytes first.entry) (file_bytes second.entry) form) }
     ensures err { IfErr result (PairFault kinds.now scd.now dic.now
         (file_bytes first.entry) (file_bytes second.entry)) }
 {
     let schema = load_or_fault(alloc, kinds, scd, dic)?;
-    let drawn = draw_difference_from(alloc, &schema, first, second, brief)?;
+    let drawn = draw_difference_from(alloc, &schema, first, second, form)?;
     Ok(drawn)
 }

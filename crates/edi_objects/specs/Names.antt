@@ -1,5 +1,5 @@
 -- What the text calls classes and objects.
-use Rattle.std.specs.Prelude.{ℕ, Bool, List, [], ◌++◌, take, codes, bytes_eq, if◌then◌else◌, unwrap_or, option_map}
+use Rattle.std.specs.Prelude.{ℕ, Bool, List, [], ◌∷◌, ◌++◌, take, codes, bytes_eq, if◌then◌else◌, unwrap_or, option_map}
 use Rattle.std.specs.List.{flat_map, list_any}
 use Rattle.edi_line.specs.Number.{plain_text}
 use Rattle.edi_record.specs.declared.record.Value.{Value}
@@ -13,6 +13,13 @@ use Rattle.edi_shown.specs.Shown.{shown_bytes}
 pub record Naming : Type 0 where
   pub classes : Classes
   pub identifiers : List (List ℕ)
+
+-- the schema with the identifiers of the attributes that name objects of the cadastral plan
+abbrev pub usual_naming : Classes → Naming
+usual_naming s = record {
+  classes = s;
+  identifiers = codes "IDU_id" ∷ codes "TEX_id" ∷ codes "TEX2_id" ∷ codes "NUM_id" ∷ codes "NOM_id" ∷ [];
+}
 
 -- the identifier of a class
 abbrev pub class_identifier : Classes → ℕ → List ℕ

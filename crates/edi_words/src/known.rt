@@ -2,7 +2,7 @@
 ghost use Rattle.std.specs.Prelude.{◌≡◌, [], ◌∷◌, None, Some, codes};
 ghost use Rattle.clap.specs.Words.{fault_of, subcommand_of};
 ghost use Rattle.clap.specs.declared.error.ErrorKind.TheVariants.{DisplayHelp, DisplayVersion, InvalidSubcommand, MissingRequiredArgument, UnknownArgument};
-ghost use Rattle.edi_words.specs.Known.{brief_of, pairing_files_of, picture_of, sheets_of, values_of, words_in};
+ghost use Rattle.edi_words.specs.Known.{brief_of, pairing_files_of, picture_of, records_of, sheets_of, values_of, words_in};
 ghost use Rattle.edi_words.specs.Requests.{edicad};
 
 /// Known words ask for what they should.
@@ -27,6 +27,8 @@ pub fn known_words_are_asked()
         ≡ Some (codes "diff", None ∷ Some (codes "s") ∷ Some (codes "d") ∷ None ∷ None ∷ Some (codes "a") ∷ Some (codes "b") ∷ []) }
     ensures whole { brief_of (codes "edicad diff s d a b") ≡ Some (Some (codes "false")) }
     ensures brief { brief_of (codes "edicad diff --brief s d a b") ≡ Some (Some (codes "true")) }
+    ensures by_objects { records_of (codes "edicad diff s d a b") ≡ Some (Some (codes "false")) }
+    ensures by_records { records_of (codes "edicad diff --records s d a b") ≡ Some (Some (codes "true")) }
     ensures drawn { values_of (codes "edicad draw s d v o")
         ≡ Some (codes "draw", None ∷ Some (codes "s") ∷ Some (codes "d") ∷ Some (codes "v") ∷ Some (codes "o") ∷ None ∷ None ∷ []) }
     ensures picture { picture_of (codes "edicad diff --brief --picture f s d a b") ≡ Some (Some (codes "f")) }
@@ -42,6 +44,7 @@ pub fn known_words_are_asked()
     ensures no_pairing_fault { fault_of edicad (words_in (codes "edicad compare --pairing f s d a b")) ≡ [] }
     ensures no_diff_fault { fault_of edicad (words_in (codes "edicad diff s d a b")) ≡ [] }
     ensures no_brief_fault { fault_of edicad (words_in (codes "edicad diff --brief s d a b")) ≡ [] }
+    ensures no_records_fault { fault_of edicad (words_in (codes "edicad diff --records s d a b")) ≡ [] }
     ensures no_draw_fault { fault_of edicad (words_in (codes "edicad draw s d v o")) ≡ [] }
     ensures no_picture_fault { fault_of edicad (words_in (codes "edicad diff --brief --picture f s d a b")) ≡ [] }
     ensures no_drawing { fault_of edicad (words_in (codes "edicad draw s d v")) ≡ MissingRequiredArgument ∷ [] }

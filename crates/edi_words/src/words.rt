@@ -86,11 +86,13 @@ pub enum Request<'a> {
         files: PairFiles<'a>,
         pairing: &'a str,
     },
-    /// What differs between two sheets, or only how many records differ, and where a picture of that goes.
+    /// What differs between two sheets, object by object or record by record, or only how many records differ, and where a picture of
+    /// that goes.
     Diff {
         kinds: GivenKinds<'a>,
         files: PairFiles<'a>,
         brief: bool,
+        records: bool,
         picture: Option<&'a str>,
     },
     /// The picture of a sheet.
@@ -241,6 +243,7 @@ fn differing<'a>(given: &ArgMatches<'a>, kinds: GivenKinds<'a>) -> Request<'a>
         kinds,
         files: pair_files(given),
         brief: flag(given, "brief"),
+        records: flag(given, "records"),
         picture: given.get_str("picture"),
     }
 }

@@ -19,6 +19,7 @@ use Rattle.edi_outcome.specs.declared.outcome.Outcome.TheVariants as outcome
 use Rattle.edi_answers.proofs.Refusals.{fault_status, means_fault, not_one, pair_refused, pair_tried, known_fault}
 use Rattle.edi_answers.proofs.Made.{pair_map, were_four}
 use Rattle.edi_answers.proofs.Pairings.{put_pair_refused, put_pair_tried}
+use Rattle.edi_diff.specs.declared.form.Form.{Form}
 
 -- the status of a difference whose text is put
 abbrev pub IsPutAs : Bool → ℕ → Type 0
@@ -44,9 +45,9 @@ never_five b s (inl four) five = absurd (omega (arith, four, five))
 never_five true s (inr h) five = absurd (omega (arith, h, five))
 never_five false s (inr h) five = absurd (omega (arith, h, five))
 
-module _ (run : Effects) (out err : Stream) (kinds : KindCodes) (files : PairFiles) (brief : Bool) (s : ℕ) where
-  pub put_status : (difference : Difference) → OfPair run.inputs files (λ scd dic a b. IsDifferenceUnder kinds scd dic a b brief difference)
-      → IsPutAs difference.same s → (s < 3 → Answers out err difference.text.items) → (s ≡ 4 → IsUnsaid out err) → IsDiffStatus run out err kinds files brief s
+module _ (run : Effects) (out err : Stream) (kinds : KindCodes) (files : PairFiles) (form : Form) (s : ℕ) where
+  pub put_status : (difference : Difference) → OfPair run.inputs files (λ scd dic a b. IsDifferenceUnder kinds scd dic a b form difference)
+      → IsPutAs difference.same s → (s < 3 → Answers out err difference.text.items) → (s ≡ 4 → IsUnsaid out err) → IsDiffStatus run out err kinds files form s
   put_status difference h status written unsaid = record {
     tried = inl (were_four run.inputs files _ h);
     different = λ one. (difference, h, other_of_one difference.same s status one, written (omega (arith, one)));
@@ -59,7 +60,7 @@ module _ (run : Effects) (out err : Stream) (kinds : KindCodes) (files : PairFil
   }
 
   pub unanswered_status : (e : RunFault) → PairFileFault run.inputs kinds files (λ _. ⊥) e
-      → IsSaid run.why out err (outcome.Fault e) (pair_paths_of files (codes "-")) s → IsDiffStatus run out err kinds files brief s
+      → IsSaid run.why out err (outcome.Fault e) (pair_paths_of files (codes "-")) s → IsDiffStatus run out err kinds files form s
   unanswered_status e h said = record {
     tried = pair_tried run.inputs kinds files (λ _. ⊥) e h;
     different = λ one. absurd (not_one s (known_fault (status_of_fault e) s (fault_status e) said.status) one);
@@ -68,20 +69,20 @@ module _ (run : Effects) (out err : Stream) (kinds : KindCodes) (files : PairFil
   }
 
 -- a picture that was drawn shows what differs
-pub shown : (inputs : Inputs) (kinds : KindCodes) (files : PairFiles) (brief : Bool) (drawn : DrawnDifference)
-    → OfPair inputs files (λ s d a b. IsDrawnDifferenceUnder kinds s d a b brief drawn)
-    → OfPair inputs files (λ s d a b. ShowsDifference kinds brief drawn.difference s d a b drawn.picture.items)
-shown inputs kinds files brief drawn h = pair_map inputs files _ _ (λ s d a b under. (drawn, under, refl, refl)) h
+pub shown : (inputs : Inputs) (kinds : KindCodes) (files : PairFiles) (form : Form) (drawn : DrawnDifference)
+    → OfPair inputs files (λ s d a b. IsDrawnDifferenceUnder kinds s d a b form drawn)
+    → OfPair inputs files (λ s d a b. ShowsDifference kinds form drawn.difference s d a b drawn.picture.items)
+shown inputs kinds files form drawn h = pair_map inputs files _ _ (λ s d a b under. (drawn, under, refl, refl)) h
 
-pub shown_of_some : (inputs : Inputs) (kinds : KindCodes) (files : PairFiles) (brief : Bool) (difference : Difference) (bytes : List ℕ)
-    → OfPair inputs files (λ s d a b. ShowsDifference kinds brief difference s d a b bytes) → OfPair inputs files (λ s d a b. IsPictureOfPair kinds brief s d a b bytes)
-shown_of_some inputs kinds files brief difference bytes h = pair_map inputs files _ _ (λ s d a b shows. (difference, shows)) h
+pub shown_of_some : (inputs : Inputs) (kinds : KindCodes) (files : PairFiles) (form : Form) (difference : Difference) (bytes : List ℕ)
+    → OfPair inputs files (λ s d a b. ShowsDifference kinds form difference s d a b bytes) → OfPair inputs files (λ s d a b. IsPictureOfPair kinds form s d a b bytes)
+shown_of_some inputs kinds files form difference bytes h = pair_map inputs files _ _ (λ s d a b shows. (difference, shows)) h
 
 -- the same with a picture that is put
-module _ (run : Effects) (out err : Stream) (kinds : KindCodes) (files : PairFiles) (brief : Bool) (path : List ℕ) (s : ℕ)
-    (replaced : IsPairReplaced run (IsPictureOfPair kinds brief) files path) where
-  pub drawn_status : (difference : Difference) → IsPairPut run (ShowsDifference kinds brief difference) files path
-      → IsPutAs difference.same s → (s < 3 → Answers out err difference.text.items) → (s ≡ 4 → IsUnsaid out err) → IsPictureStatus run out err kinds files brief path s
+module _ (run : Effects) (out err : Stream) (kinds : KindCodes) (files : PairFiles) (form : Form) (path : List ℕ) (s : ℕ)
+    (replaced : IsPairReplaced run (IsPictureOfPair kinds form) files path) where
+  pub drawn_status : (difference : Difference) → IsPairPut run (ShowsDifference kinds form difference) files path
+      → IsPutAs difference.same s → (s < 3 → Answers out err difference.text.items) → (s ≡ 4 → IsUnsaid out err) → IsPictureStatus run out err kinds files form path s
   drawn_status difference h status written unsaid = record {
     tried = inr (inl (were_four run.inputs files _ h.1));
     different = λ one. (difference, h, other_of_one difference.same s status one, written (omega (arith, one)));
@@ -95,8 +96,8 @@ module _ (run : Effects) (out err : Stream) (kinds : KindCodes) (files : PairFil
     replaced = replaced;
   }
 
-  pub undrawn_status : (e : RunFault) → PutPairFault run (IsPictureOfPair kinds brief) kinds files path e
-      → IsSaid run.why out err (outcome.Fault e) (pair_paths_of files path) s → IsPictureStatus run out err kinds files brief path s
+  pub undrawn_status : (e : RunFault) → PutPairFault run (IsPictureOfPair kinds form) kinds files path e
+      → IsSaid run.why out err (outcome.Fault e) (pair_paths_of files path) s → IsPictureStatus run out err kinds files form path s
   undrawn_status e h said = record {
     tried = put_pair_tried run _ kinds files path e h;
     different = λ one. absurd (not_one s (known_fault (status_of_fault e) s (fault_status e) said.status) one);

@@ -11,6 +11,7 @@ use Rattle.edi_answers.specs.Effects.{Effects, Stream}
 use Rattle.edi_answers.specs.Misuses.{misuse_lines, not_text_lines, shows_words}
 use Rattle.edi_answers.specs.Notes.{InTurn, IsNoteOf, Notes}
 use Rattle.edi_answers.specs.Statuses.{IsBundleStatus, IsCompareStatus, IsFileStatus, IsPairingStatus, IsVerifyStatus, Complains, LacksMemory, Prints, Warns}
+use Rattle.edicad.specs.Forms.{form_asked}
 use Rattle.edicad.specs.Statuses.{IsDiffStatus, IsPictureStatus, IsPutStatus, IsSendStatus}
 use Rattle.edi_schema.specs.Roles.{KindCodes}
 use Rattle.edi_words.specs.declared.words.SheetFiles.{SheetFiles}
@@ -39,8 +40,8 @@ IsReplied run out err (Hash kinds files) s = run.untouched × IsHashStatus run o
 IsReplied run out err (Explain kinds files) s = run.untouched × IsExplainStatus run out err kinds files s
 IsReplied run out err (Rule word) s = run.untouched × IsRuleStatus out err word.now s
 IsReplied run out err (Verify kinds files pairing) s = run.untouched × IsVerifyStatus run out err kinds files pairing.now s
-IsReplied run out err (Diff kinds files brief picture) s = MatchOption picture (run.untouched × IsDiffStatus run out err kinds files brief s)
-    (λ path. IsPictureStatus run out err kinds files brief path.now s)
+IsReplied run out err (Diff kinds files brief records picture) s = MatchOption picture (run.untouched × IsDiffStatus run out err kinds files (form_asked brief records) s)
+    (λ path. IsPictureStatus run out err kinds files (form_asked brief records) path.now s)
 IsReplied run out err (Draw kinds files path) s = IsMadeStatus run out err Picture kinds files path.now s
 IsReplied run out err (Misused misuse) s = run.untouched × IsMisusedStatus out err misuse s
 IsReplied run out err (Answered status) s = run.untouched × (s ≡ status) × Prints out [] × Prints err []

@@ -6,6 +6,7 @@ ghost use Rattle.edi_answers.specs.Effects.{effects, inputs, written};
 ghost use Rattle.edi_answers.specs.Notes.{HasNoteOf};
 ghost use Rattle.edicad.specs.inner.Notes.{LeavesNoteOf};
 ghost use Rattle.edi_answers.specs.Statuses.{Answers, IsPairStatus, IsSheetStatus, IsUnsaid};
+ghost use Rattle.edicad.specs.Forms.{form_asked};
 ghost use Rattle.edicad.specs.Statuses.{HasStatus, IsDiffStatus, IsPictureStatus, IsPutStatus, IsSendStatus, IsStatus, IsStatusOf};
 
 use crate::sheets;
@@ -13,7 +14,7 @@ use edi_answers::commands::{bundle, check, compare_or_pair, verify};
 use edi_answers::explains::{explain, explain_rule};
 use edi_answers::hashes::hash;
 use edi_answers::{notes, report};
-use edi_diff::Difference;
+use edi_diff::{Difference, Form};
 use edi_files::Product::{self, Canonical, Picture};
 use edi_files::{CommandLine, Disk, Errors, Folder, Words};
 use edi_line::{ByteOut, ToWrite};
@@ -146,10 +147,14 @@ fn replied<F: Folder, O: ByteOut, E: ByteOut>(
             kinds,
             files,
             brief,
+            records,
             picture,
-        } => diff_or_draw(
-            alloc, folder, &kinds, &files, brief, picture, out, err, note,
-        ),
+        } => {
+            let form = form_asked(brief, records);
+            diff_or_draw(
+                alloc, folder, &kinds, &files, form, picture, out, err, note,
+            )
+        }
         Request::Draw {
             kinds,
             files,
@@ -231,13 +236,24 @@ fn send<F: Folder, O: ByteOut, E: ByteOut>(
     }
 }
 
-// What differs between two sheets, or that without the lines of records, and a picture of it to a path, where one is named.
+/// In which form the words ask for what differs.
+fn form_asked(brief: bool, records: bool) -> Form
+    ensures { result ≡ form_asked brief records }
+{
+    match (brief, records) {
+        (true, _) => Form::Brief,
+        (false, true) => Form::Records,
+        (false, false) => Form::Objects,
+    }
+}
+
+// What differs between two sheets, in this form, and a picture of it to a path, where one is named.
 fn diff_or_draw<F: Folder, O: ByteOut, E: ByteOut>(
     alloc: Global,
     folder: &mut F,
     kinds: &GivenKinds<'_>,
     files: &PairFiles<'_>,
-    brief: bool,
+    form: Form,
     picture: Option<&str>,
     out: &mut O,
     err: &mut E,
@@ -246,14 +262,14 @@ fn diff_or_draw<F: Folder, O: ByteOut, E: ByteOut>(
     ensures status { IsPairStatus result }
     ensures answer { MatchOption picture.entry ((folder.new ≡ folder.old)
         × IsDiffStatus (effects F.Folder F.Reader.ByteIn F.Sink.ByteOut F.NewFile.ByteOut folder.old folder.new)
-        (written O.ByteOut out.old out.new) (written E.ByteOut err.old err.new) kinds.now files.now brief result)
+        (written O.ByteOut out.old out.new) (written E.ByteOut err.old err.new) kinds.now files.now form result)
         (λ path. IsPictureStatus (effects F.Folder F.Reader.ByteIn F.Sink.ByteOut F.NewFile.ByteOut folder.old folder.new)
-        (written O.ByteOut out.old out.new) (written E.ByteOut err.old err.new) kinds.now files.now brief path.now result) }
+        (written O.ByteOut out.old out.new) (written E.ByteOut err.old err.new) kinds.now files.now form path.now result) }
     ensures note { HasNoteOf (inputs F.Folder F.Reader.ByteIn folder.old) kinds.now files.now.scd.now result note.old.items note.new.items }
 {
     match picture {
-        Some(path) => draw_difference(alloc, folder, kinds, files, brief, path, out, err, note),
-        None => diff(alloc, folder, kinds, files, brief, out, err, note),
+        Some(path) => draw_difference(alloc, folder, kinds, files, form, path, out, err, note),
+        None => diff(alloc, folder, kinds, files, form, out, err, note),
     }
 }
 
@@ -263,30 +279,30 @@ fn diff<F: Folder, O: ByteOut, E: ByteOut>(
     folder: &F,
     kinds: &GivenKinds<'_>,
     files: &PairFiles<'_>,
-    brief: bool,
+    form: Form,
     out: &mut O,
     err: &mut E,
     note: &mut Vec<u8>,
 ) -> u8
     ensures status { IsPairStatus result }
     ensures answer { IsDiffStatus (effects F.Folder F.Reader.ByteIn F.Sink.ByteOut F.NewFile.ByteOut folder.now folder.now)
-        (written O.ByteOut out.old out.new) (written E.ByteOut err.old err.new) kinds.now files.now brief result }
+        (written O.ByteOut out.old out.new) (written E.ByteOut err.old err.new) kinds.now files.now form result }
     ensures note { HasNoteOf (inputs F.Folder F.Reader.ByteIn folder.now) kinds.now files.now.scd.now result note.old.items note.new.items }
 {
     let paths = [files.scd, files.dic, files.first, files.second, "-"];
-    match sheets::diff(alloc, folder, kinds, files, brief, note) {
+    match sheets::diff(alloc, folder, kinds, files, form, note) {
         Ok(difference) => put_difference(&difference, out, err),
         Err(fault) => report::answer(alloc, folder, out, err, &Outcome::Fault(fault), &paths),
     }
 }
 
-// What differs between two sheets, or that without the lines of records, and a picture of it to a path.
+// What differs between two sheets, in this form, and a picture of it to a path.
 fn draw_difference<F: Folder, O: ByteOut, E: ByteOut>(
     alloc: Global,
     folder: &mut F,
     kinds: &GivenKinds<'_>,
     files: &PairFiles<'_>,
-    brief: bool,
+    form: Form,
     path: &str,
     out: &mut O,
     err: &mut E,
@@ -294,11 +310,11 @@ fn draw_difference<F: Folder, O: ByteOut, E: ByteOut>(
 ) -> u8
     ensures status { IsPairStatus result }
     ensures answer { IsPictureStatus (effects F.Folder F.Reader.ByteIn F.Sink.ByteOut F.NewFile.ByteOut folder.old folder.new)
-        (written O.ByteOut out.old out.new) (written E.ByteOut err.old err.new) kinds.now files.now brief path.now result }
+        (written O.ByteOut out.old out.new) (written E.ByteOut err.old err.new) kinds.now files.now form path.now result }
     ensures note { HasNoteOf (inputs F.Folder F.Reader.ByteIn folder.old) kinds.now files.now.scd.now result note.old.items note.new.items }
 {
     let paths = [files.scd, files.dic, files.first, files.second, path];
-    match sheets::draw_difference(alloc, folder, kinds, files, brief, path, note) {
+    match sheets::draw_difference(alloc, folder, kinds, files, form, path, note) {
         Ok(difference) => put_difference(&difference, out, err),
         Err(fault) => report::answer(alloc, folder, out, err, &Outcome::Fault(fault), &paths),
     }

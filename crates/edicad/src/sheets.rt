@@ -16,7 +16,7 @@ use edi_answers::classes::{Kept, read_classes};
 use edi_answers::pair_inputs::{PairInputs, open_pair};
 use edi_answers::sheets::{is_pair_input, meets, opened};
 use edi_compare::{RunFault, canon_of};
-use edi_diff::{Difference, run_diff};
+use edi_diff::{Difference, Form, run_diff};
 use edi_drawing::{DrawnDifference, run_draw, run_draw_difference};
 use edi_files::{Folder, Product, output};
 use edi_line::{ByteIn, ByteOut};
@@ -90,11 +90,11 @@ pub fn diff<F: Folder>(
     folder: &F,
     kinds: &GivenKinds<'_>,
     files: &PairFiles<'_>,
-    brief: bool,
+    form: Form,
     note: &mut Vec<u8>,
 ) -> Result<Difference, RunFault>
     ensures ok { IfOk result (λ difference. OfPair (inputs F.Folder F.Reader.ByteIn folder.now) files.now
-        (λ s d a b. IsDifferenceUnder kinds.now s d a b brief difference)) }
+        (λ s d a b. IsDifferenceUnder kinds.now s d a b form difference)) }
     ensures err { IfErr result (PairFileFault (inputs F.Folder F.Reader.ByteIn folder.now) kinds.now files.now (λ _. ⊥)) }
     ensures names { IfErr result (λ e. FaultHasNames e 5) }
     ensures noted { IfOk result (λ _. GivesNote (inputs F.Folder F.Reader.ByteIn folder.now) kinds.now files.now.scd.now note.new.items) }
@@ -116,7 +116,7 @@ pub fn diff<F: Folder>(
         &mut dic,
         &mut first,
         &mut second,
-        brief,
+        form,
     )
 }
 
@@ -127,16 +127,16 @@ pub fn draw_difference<F: Folder>(
     folder: &mut F,
     kinds: &GivenKinds<'_>,
     files: &PairFiles<'_>,
-    brief: bool,
+    form: Form,
     out: &str,
     note: &mut Vec<u8>,
 ) -> Result<Difference, RunFault>
     ensures ok { IfOk result (λ difference. IsPairPut (effects F.Folder F.Reader.ByteIn F.Sink.ByteOut F.NewFile.ByteOut folder.old folder.new)
-        (ShowsDifference kinds.now brief difference) files.now out.now) }
+        (ShowsDifference kinds.now form difference) files.now out.now) }
     ensures err { IfErr result (PutPairFault (effects F.Folder F.Reader.ByteIn F.Sink.ByteOut F.NewFile.ByteOut folder.old folder.new)
-        (IsPictureOfPair kinds.now brief) kinds.now files.now out.now) }
+        (IsPictureOfPair kinds.now form) kinds.now files.now out.now) }
     ensures replaced { IsPairReplaced (effects F.Folder F.Reader.ByteIn F.Sink.ByteOut F.NewFile.ByteOut folder.old folder.new)
-        (IsPictureOfPair kinds.now brief) files.now out.now }
+        (IsPictureOfPair kinds.now form) files.now out.now }
     ensures names { IfErr result (λ e. FaultHasNames e 5) }
     ensures noted { IfOk result (λ _. GivesNote (inputs F.Folder F.Reader.ByteIn folder.old) kinds.now files.now.scd.now note.new.items) }
     ensures unnoted { IfErr result (λ e. HasNoteOf (inputs F.Folder F.Reader.ByteIn folder.old) kinds.now files.now.scd.now (status_of_fault e)
@@ -145,7 +145,7 @@ pub fn draw_difference<F: Folder>(
     if is_pair_input(folder, files, out) {
         return Err(RunFault::Write(Written { count: 0 }));
     }
-    match drawn_difference(alloc, folder, kinds, files, brief, note) {
+    match drawn_difference(alloc, folder, kinds, files, form, note) {
         Ok(
             DrawnDifference {
                 difference,
@@ -165,11 +165,11 @@ fn drawn_difference<F: Folder>(
     folder: &F,
     kinds: &GivenKinds<'_>,
     files: &PairFiles<'_>,
-    brief: bool,
+    form: Form,
     note: &mut Vec<u8>,
 ) -> Result<DrawnDifference, RunFault>
     ensures ok { IfOk result (λ drawn. OfPair (inputs F.Folder F.Reader.ByteIn folder.now) files.now
-        (λ s d a b. IsDrawnDifferenceUnder kinds.now s d a b brief drawn)) }
+        (λ s d a b. IsDrawnDifferenceUnder kinds.now s d a b form drawn)) }
     ensures err { IfErr result (PairFileFault (inputs F.Folder F.Reader.ByteIn folder.now) kinds.now files.now (λ _. ⊥)) }
     ensures names { IfErr result (λ e. FaultHasNames e 5) }
     ensures noted { IfOk result (λ _. GivesNote (inputs F.Folder F.Reader.ByteIn folder.now) kinds.now files.now.scd.now note.new.items) }
@@ -191,7 +191,7 @@ fn drawn_difference<F: Folder>(
         &mut dic,
         &mut first,
         &mut second,
-        brief,
+        form,
     )
 }
 

@@ -7,14 +7,15 @@ use Rattle.edi_matching.specs.Matchings.{MatchingHolds}
 use Rattle.edi_report.specs.declared.sheet.LocatedSheet.{LocatedSheet}
 use Rattle.edi_diff.specs.Differences.{IsDifferenceText}
 use Rattle.edi_diff.specs.declared.differing.ComparedSheets.{ComparedSheets}
+use Rattle.edi_diff.specs.declared.form.Form.{Form}
 
 -- the matching of two sheets, what became of the records that it leaves out, and the text and the answer by these
-pub record AreCompared (s : Classes) (first second : LocatedSheet) (brief : Bool) (compared : ComparedSheets) : Type 0 where
+pub record AreCompared (s : Classes) (first second : LocatedSheet) (form : Form) (compared : ComparedSheets) : Type 0 where
   pub holds : MatchingHolds s first.accepted second.accepted compared.unchanged
   pub total : IsTotalIfSame s first.accepted second.accepted compared.unchanged
   pub partners : MatchesPartners first.accepted second.accepted compared.unchanged
   pub faces : MatchesFaces s first.accepted second.accepted compared.unchanged
   pub links : MatchesLinks s first.accepted second.accepted compared.unchanged
-  pub is_text : IsDifferenceText s first second compared.unchanged brief compared.difference.text.items
+  pub is_text : IsDifferenceText s first second compared.unchanged form compared.difference.text.items
   pub by_became : is_text.became ≡ compared.became
   pub same : IsTrue compared.difference.same ↔ Same s first.accepted second.accepted

@@ -1,4 +1,13 @@
+use Rattle.edi_compare.proofs.Headline.{plan_under}
 use Rattle.edi_diff.proofs.differing.compare_sheets.Goals as goal
+
+pub changes_with_text-requires-clause-first_agrees : goal.changes_with_text-requires-clause-first_agrees
+changes_with_text-requires-clause-first_agrees c =
+    let h = c.requires.first in (plan_under c.args.schema.now h.0 c.args.first.now.accepted c.keeps.ensures h.1 h.2).agrees
+
+pub changes_with_text-requires-clause-second_agrees : goal.changes_with_text-requires-clause-second_agrees
+changes_with_text-requires-clause-second_agrees c =
+    let h = c.requires.second in (plan_under c.args.schema.now h.0 c.args.second.now.accepted c.keeps.ensures h.1 h.2).agrees
 
 pub returns : goal.returns
 returns c = record {

@@ -6,7 +6,7 @@ use Rattle.edi_diff.proofs.runs.run_diff.Goals as goal
 pub returns-clause-ok : goal.returns-clause-ok
 returns-clause-ok g c =
     four_ok c.diff_or_fault.result (g.S.ByteIn.contents c.args.scd.now) (g.D.ByteIn.contents c.args.dic.now) (g.A.ByteIn.contents c.args.first.now) (g.B.ByteIn.contents c.args.second.now)
-    c.deref.result.now c.deref-2.result.now c.in_ok-first.first c.in_ok-second.second (λ difference s d a b. IsDifferenceUnder c.args.kinds.now s d a b c.args.brief difference)
+    c.deref.result.now c.deref-2.result.now c.in_ok-first.first c.in_ok-second.second (λ difference s d a b. IsDifferenceUnder c.args.kinds.now s d a b c.args.form difference)
     (through _ _ _ c.deref.ensures.value c.in_ok-scd.ensures.all) (through _ _ _ c.deref-2.ensures.value c.in_ok-dic.ensures.all)
     c.in_ok-first.ensures.all c.in_ok-second.ensures.all
     c.diff_or_fault.ensures.ok

@@ -11,7 +11,7 @@ returns-in-Ok-clause-answer g c =
     let put = c.put_difference in
     let out = written g.O.ByteOut c.args.out.now put.new.out in
     let err = written g.E.ByteOut c.args.err.now put.new.err in
-    put_status run out err c.args.kinds.now c.args.files.now c.args.brief put.result c.in-Ok.difference c.in-Ok.ensures.ok
+    put_status run out err c.args.kinds.now c.args.files.now c.args.form put.result c.in-Ok.difference c.in-Ok.ensures.ok
     put.ensures.status put.ensures.answer put.ensures.unsaid
 
 pub returns-in-Err-clause-answer : goal.returns-in-Err-clause-answer
@@ -19,7 +19,7 @@ returns-in-Err-clause-answer g c =
     let run = effects g.F.Folder g.F.Reader.ByteIn g.F.Sink.ByteOut g.F.NewFile.ByteOut c.args.folder.now c.args.folder.now in
     let out = written g.O.ByteOut c.args.out.now c.answer.new.out in
     let err = written g.E.ByteOut c.args.err.now c.answer.new.err in
-    unanswered_status run out err c.args.kinds.now c.args.files.now c.args.brief c.answer.result c.in-Err.fault c.in-Err.ensures.err c.answer.ensures.said
+    unanswered_status run out err c.args.kinds.now c.args.files.now c.args.form c.answer.result c.in-Err.fault c.in-Err.ensures.err c.answer.ensures.said
 
 pub returns-in-Ok-clause-note : goal.returns-in-Ok-clause-note
 returns-in-Ok-clause-note g c = inl c.in-Ok.ensures.noted

@@ -12,9 +12,9 @@ use Rattle.edicad.proofs.sheets.draw_difference.Goals as goal
 pub returns-in-Ok-put-clause-ok : goal.returns-in-Ok-put-clause-ok
 returns-in-Ok-put-clause-ok g c =
     let run = effects g.F.Folder g.F.Reader.ByteIn g.F.Sink.ByteOut g.F.NewFile.ByteOut c.args.folder.now c.put.new.folder in
-    let made = shown run.inputs c.args.kinds.now c.args.files.now c.args.brief _ c.in-Ok.ensures.ok in (
+    let made = shown run.inputs c.args.kinds.now c.args.files.now c.args.form _ c.in-Ok.ensures.ok in (
       c.if-is_pair_input.ensures,
-      of_made_pair run.inputs c.args.kinds.now c.args.files.now (ShowsDifference c.args.kinds.now c.args.brief c.in-Ok.field-0.difference) c.in-Ok.field-0.picture.items _ c.deref.ensures.value made
+      of_made_pair run.inputs c.args.kinds.now c.args.files.now (ShowsDifference c.args.kinds.now c.args.form c.in-Ok.field-0.difference) c.in-Ok.field-0.picture.items _ c.deref.ensures.value made
           (run.Puts c.args.out.now) c.in-Ok-put.ensures.ok,
     )
 
@@ -22,19 +22,19 @@ pub returns-in-Ok-put-clause-replaced : goal.returns-in-Ok-put-clause-replaced
 returns-in-Ok-put-clause-replaced g c tells =
     let folder = c.args.folder.now in
     let inputs = inputs g.F.Folder g.F.Reader.ByteIn folder in
-    let made = shown inputs c.args.kinds.now c.args.files.now c.args.brief _ c.in-Ok.ensures.ok in
+    let made = shown inputs c.args.kinds.now c.args.files.now c.args.form _ c.in-Ok.ensures.ok in
     goes_map _ _ _ _ _ _
-    (whole_pair inputs c.args.kinds.now c.args.files.now (IsPictureOfPair c.args.kinds.now c.args.brief) c.in-Ok.field-0.picture.items _ c.deref.ensures.value
-    (shown_of_some inputs c.args.kinds.now c.args.files.now c.args.brief c.in-Ok.field-0.difference c.in-Ok.field-0.picture.items made) c.args.out.now (IsSpare (g.F.Folder.is_stray folder) (g.F.Folder.moment folder) (g.F.Folder.left_since folder)))
+    (whole_pair inputs c.args.kinds.now c.args.files.now (IsPictureOfPair c.args.kinds.now c.args.form) c.in-Ok.field-0.picture.items _ c.deref.ensures.value
+    (shown_of_some inputs c.args.kinds.now c.args.files.now c.args.form c.in-Ok.field-0.difference c.in-Ok.field-0.picture.items made) c.args.out.now (IsSpare (g.F.Folder.is_stray folder) (g.F.Folder.moment folder) (g.F.Folder.left_since folder)))
     (c.in-Ok-put.ensures.replaced tells)
 
 pub returns-in-Err-put-clause-err : goal.returns-in-Err-put-clause-err
 returns-in-Err-put-clause-err g c =
     let run = effects g.F.Folder g.F.Reader.ByteIn g.F.Sink.ByteOut g.F.NewFile.ByteOut c.args.folder.now c.put.new.folder in
     let stops = run.Stops c.args.out.now in
-    let made = shown run.inputs c.args.kinds.now c.args.files.now c.args.brief _ c.in-Ok.ensures.ok in
-    let some = shown_of_some run.inputs c.args.kinds.now c.args.files.now c.args.brief c.in-Ok.field-0.difference c.in-Ok.field-0.picture.items made in
-    let IsMade = IsPictureOfPair c.args.kinds.now c.args.brief in
+    let made = shown run.inputs c.args.kinds.now c.args.files.now c.args.form _ c.in-Ok.ensures.ok in
+    let some = shown_of_some run.inputs c.args.kinds.now c.args.files.now c.args.form c.in-Ok.field-0.difference c.in-Ok.field-0.picture.items made in
+    let IsMade = IsPictureOfPair c.args.kinds.now c.args.form in
     inr (
       c.if-is_pair_input.ensures,
       pair_put_fault run.inputs c.args.kinds.now c.args.files.now IsMade c.in-Ok.field-0.picture.items _ c.deref.ensures.value some
@@ -48,10 +48,10 @@ pub returns-in-Err-put-clause-replaced : goal.returns-in-Err-put-clause-replaced
 returns-in-Err-put-clause-replaced g c tells =
     let folder = c.args.folder.now in
     let inputs = inputs g.F.Folder g.F.Reader.ByteIn folder in
-    let made = shown inputs c.args.kinds.now c.args.files.now c.args.brief _ c.in-Ok.ensures.ok in
+    let made = shown inputs c.args.kinds.now c.args.files.now c.args.form _ c.in-Ok.ensures.ok in
     goes_map _ _ _ _ _ _
-    (whole_pair inputs c.args.kinds.now c.args.files.now (IsPictureOfPair c.args.kinds.now c.args.brief) c.in-Ok.field-0.picture.items _ c.deref.ensures.value
-    (shown_of_some inputs c.args.kinds.now c.args.files.now c.args.brief c.in-Ok.field-0.difference c.in-Ok.field-0.picture.items made) c.args.out.now (IsSpare (g.F.Folder.is_stray folder) (g.F.Folder.moment folder) (g.F.Folder.left_since folder)))
+    (whole_pair inputs c.args.kinds.now c.args.files.now (IsPictureOfPair c.args.kinds.now c.args.form) c.in-Ok.field-0.picture.items _ c.deref.ensures.value
+    (shown_of_some inputs c.args.kinds.now c.args.files.now c.args.form c.in-Ok.field-0.difference c.in-Ok.field-0.picture.items made) c.args.out.now (IsSpare (g.F.Folder.is_stray folder) (g.F.Folder.moment folder) (g.F.Folder.left_since folder)))
     (c.in-Err-put.ensures.replaced tells)
 
 pub returns-in-Err-clause-err : goal.returns-in-Err-clause-err
@@ -60,7 +60,7 @@ returns-in-Err-clause-err g c =
     let e = c.in-Err.fault in
     inr (
       c.if-is_pair_input.ensures,
-      pair_unwritten run.inputs c.args.kinds.now c.args.files.now (λ n. OfMadePair run.inputs (IsPictureOfPair c.args.kinds.now c.args.brief) c.args.files.now (run.Stops c.args.out.now n)) e
+      pair_unwritten run.inputs c.args.kinds.now c.args.files.now (λ n. OfMadePair run.inputs (IsPictureOfPair c.args.kinds.now c.args.form) c.args.files.now (run.Stops c.args.out.now n)) e
           c.in-Err.ensures.err,
       before_writing e run.untouched refl,
     )

@@ -10,7 +10,7 @@ returns-clause-ok g c =
     let pair = c.in_ok-pair.pair in
     IfOk-weaker c.run_draw_difference.result _ _
     (fact_of_pair g.F.Folder g.F.Reader.ByteIn c.args.folder.now c.args.files.now c.kinds.result.now c.args.kinds.now c.kinds.ensures pair.classes.items pair.dic pair.first pair.second
-    c.in_ok-pair.ensures.opened _ (c.new-kept.ensures ∙ ap Some c.deref.ensures.value) (λ v l s d a b. IsDrawnDifferenceUnder l s d a b c.args.brief v))
+    c.in_ok-pair.ensures.opened _ (c.new-kept.ensures ∙ ap Some c.deref.ensures.value) (λ v l s d a b. IsDrawnDifferenceUnder l s d a b c.args.form v))
     c.run_draw_difference.ensures.ok
 
 pub returns-clause-err : goal.returns-clause-err

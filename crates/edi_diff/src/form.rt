@@ -1,0 +1,58 @@
+//! The forms in which what differs is told.
+
+ghost use Rattle.std.specs.Prelude.{◌≡◌, IfOk};
+ghost use Rattle.edi_plan.specs.Agreeing.{Agrees};
+ghost use Rattle.edi_diff.specs.Forms.{text_in};
+ghost use Rattle.edi_diff.specs.declared.form.Form.TheVariants.{Objects};
+
+use edi_objects::{Namer, account_text};
+use edi_report::Reporter;
+use edi_schema::Schema;
+use std::alloc::{AllocError, Global};
+
+/// In which form what differs between two sheets is told (docs/FORMAT.md, "Differences").
+#[derive(Clone, Copy, PartialEq, Eq)]
+pub enum Form {
+    /// Object by object, by the attributes that people know.
+    Objects,
+    /// Record by record.
+    Records,
+    /// How many records differ.
+    Brief,
+}
+
+/// The text in a form.
+pub(crate) fn text_in(
+    alloc: Global,
+    schema: &Schema,
+    report: &Reporter<'_>,
+    form: Form,
+) -> Result<Vec<u8>, AllocError>
+    requires first { Agrees schema.now report.now.first.accepted }
+    requires second { Agrees schema.now report.now.second.accepted }
+    ensures { IfOk result (λ text. text.items ≡ text_in schema.now form report.now) }
+{
+    match form {
+        Form::Objects => text_by_objects(alloc, schema, report),
+        Form::Records => report.text(alloc, false),
+        Form::Brief => report.text(alloc, true),
+    }
+}
+
+/// The text object by object, by the attributes that name objects of the cadastral plan.
+fn text_by_objects(
+    alloc: Global,
+    schema: &Schema,
+    report: &Reporter<'_>,
+) -> Result<Vec<u8>, AllocError>
+    requires first { Agrees schema.now report.now.first.accepted }
+    requires second { Agrees schema.now report.now.second.accepted }
+    ensures { IfOk result (λ text. text.items ≡ text_in schema.now Objects report.now) }
+{
+    let identifiers: [&[u8]; 5] = [b"IDU_id", b"TEX_id", b"TEX2_id", b"NUM_id", b"NOM_id"];
+    let namer = Namer {
+        schema,
+        identifiers: &identifiers,
+    };
+    account_text(alloc, &namer, report)
+}
