@@ -5,4 +5,5 @@ pub mod Elements
 pub mod Attributes
 pub mod Objects
 pub mod Accounts
+pub mod Known
 pub mod inner

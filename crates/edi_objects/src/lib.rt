@@ -6,6 +6,7 @@ mod attributes;
 mod bare_links;
 mod elements;
 mod index;
+pub mod known;
 mod marks;
 mod names;
 mod objects;
