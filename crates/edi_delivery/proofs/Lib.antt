@@ -1,0 +1,2 @@
+pub mod SafeNames
+pub mod LotSteps

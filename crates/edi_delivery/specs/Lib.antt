@@ -1,0 +1,5 @@
+pub mod NameParts
+pub mod Lots
+pub mod DeliveryRules
+pub mod DeliveryRefusal
+pub mod inner

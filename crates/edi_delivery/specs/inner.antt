@@ -1,0 +1,4 @@
+-- What private contracts use.
+pub mod LotTests
+pub mod Steps
+pub mod Drafts

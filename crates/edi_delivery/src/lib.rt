@@ -1,0 +1,15 @@
+//! Deliveries: which lots a THF file says that there are, and which files each of them has.
+#![tactic(auto)]
+
+mod count;
+mod draft;
+pub mod fault;
+pub mod file_name;
+mod groups;
+pub mod lot;
+pub mod name_part;
+
+pub use fault::DeliveryFault;
+pub use file_name::{Extension, FileName};
+pub use lot::Lot;
+pub use name_part::NamePart;
