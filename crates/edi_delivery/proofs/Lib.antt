@@ -1,2 +1,3 @@
 pub mod SafeNames
 pub mod LotSteps
+pub mod Repeats

@@ -2,3 +2,4 @@
 pub mod LotTests
 pub mod Steps
 pub mod Drafts
+pub mod Noted

@@ -7,6 +7,7 @@ pub mod fault;
 pub mod file_name;
 mod groups;
 pub mod lot;
+mod lots;
 pub mod name_part;
 
 pub use fault::DeliveryFault;
