@@ -1,5 +1,5 @@
 -- The rules of a delivery.
-use Rattle.std.specs.Prelude.{◌≡◌, ◌⊎◌, ℕ, ◌+◌, ◌≤◌, true, false, List, [], ◌∷◌, ◌++◌, length, codes, Any, Contains}
+use Rattle.std.specs.Prelude.{◌≡◌, ◌⊎◌, ℕ, ◌+◌, ◌≤◌, true, false, List, [], ◌∷◌, ◌++◌, length, codes, Any}
 use Rattle.std.specs.List.{list_any, IsDistinct}
 use Rattle.edi_line.specs.Entry.{Entry}
 use Rattle.edi_record.specs.Records.{values}
@@ -12,13 +12,9 @@ use Rattle.edi_delivery.specs.declared.lot.Lot.{Lot}
 abbrev pub file_codes : List (List ℕ)
 file_codes = codes "SCN" ∷ codes "DIN" ∷ codes "GNN" ∷ codes "GON" ∷ codes "QAN" ∷ codes "GDN" ∷ []
 
--- two lots have a file of one name
-pub record ShareFile (one other : Lot) : Type 0 where
-  pub file : List ℕ
-  pub again : List ℕ
-  pub is_of_one : Contains (files_of one) file
-  pub is_of_other : Contains (files_of other) again
-  pub same : is_same_name again file ≡ true
+-- the other lot has a file with the name of one of the first
+abbrev pub ShareFile : Lot → Lot → Type 0
+ShareFile one other = Any (λ file. Any (λ again. is_same_name again file ≡ true) (files_of other)) (files_of one)
 
 -- over a record and those before it
 module _ (before : List (List Entry)) (group : List Entry) where

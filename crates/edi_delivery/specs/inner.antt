@@ -3,3 +3,4 @@ pub mod LotTests
 pub mod Steps
 pub mod Drafts
 pub mod Noted
+pub mod Taken

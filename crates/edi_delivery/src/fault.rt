@@ -43,6 +43,20 @@ pub(crate) enum LotFault {
     Broken(u16),
 }
 
+impl LotFault {
+    ghost use Rattle.edi_delivery.specs.inner.Taken.{lot_fault_at};
+
+    /// The fault of the record at this place.
+    pub(crate) fn at(self, at: u64) -> RecordFault
+        ensures { result ≡ lot_fault_at at self }
+    {
+        match self {
+            LotFault::Memory(fault) => RecordFault::Memory(fault),
+            LotFault::Broken(rule) => RecordFault::Broken { rule, at },
+        }
+    }
+}
+
 impl From<AllocError> for LotFault {
     ghost from_gives = { λ _ e. e ≡ LotMemory alloc_error };
 

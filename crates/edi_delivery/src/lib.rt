@@ -2,14 +2,15 @@
 #![tactic(auto)]
 
 mod count;
+pub mod delivery;
 mod draft;
 pub mod fault;
 pub mod file_name;
-mod groups;
 pub mod lot;
 mod lots;
 pub mod name_part;
 
+pub use delivery::Delivery;
 pub use fault::DeliveryFault;
 pub use file_name::{Extension, FileName};
 pub use lot::Lot;
