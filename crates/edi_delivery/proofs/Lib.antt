@@ -5,3 +5,7 @@ pub mod SameFiles
 pub mod LotRules
 pub mod Read
 pub mod Whole
+pub mod OneAnswer
+pub mod FiledOrder
+pub mod SafeLots
+pub mod InFolder

@@ -18,8 +18,8 @@ use Rattle.edi_record.specs.RecordRefusal.{IsRecordRefusal}
 use Rattle.edi_record.specs.declared.fault.RecordFault.{RecordFault}
 use Rattle.edi_record.specs.declared.fault.RecordFault.TheVariants.{Broken}
 use Rattle.edi_delivery.specs.Lots.{has_type, is_support, is_lot, StatesLot, StatesLots}
-use Rattle.edi_delivery.specs.DeliveryRules.{BreaksLotRule, BreaksHereRule, BreaksRuleAt, LacksLots, BreaksDeliveryRule}
-use Rattle.edi_delivery.specs.DeliveryRules.BreaksHereRule.{unknown, of_lot}
+use Rattle.edi_delivery.specs.DeliveryRules.{BreaksLotRule, BreaksBehind, BreaksRuleAt, LacksLots, BreaksDeliveryRule}
+use Rattle.edi_delivery.specs.DeliveryRules.BreaksBehind.{unknown, of_lot}
 use Rattle.edi_delivery.specs.inner.LotTests.{lot_tests}
 use Rattle.edi_delivery.specs.inner.Noted.{repeats_name, repeats_file, take_tests}
 use Rattle.edi_delivery.specs.inner.Steps.{IfRule}
@@ -32,7 +32,7 @@ use Rattle.edi_delivery.proofs.LotRules.Repeats.{name, file}
 
 -- ---- one record more
 
-push_states : (before : List (List Entry)) (group : List Entry) (lots : List Lot) (lot : Lot) → is_lot group ≡ true → StatesLots before lots → StatesLot group lot → StatesLots (before ++ group ∷ []) (lots ++ lot ∷ [])
+pub push_states : (before : List (List Entry)) (group : List Entry) (lots : List Lot) (lot : Lot) → is_lot group ≡ true → StatesLots before lots → StatesLot group lot → StatesLots (before ++ group ∷ []) (lots ++ lot ∷ [])
 push_states before group lots lot e h k =
     let more : filter is_lot (before ++ group ∷ []) ≡ filter is_lot before ++ group ∷ [] = filter-append is_lot before (group ∷ []) ∙ ap (λ t. filter is_lot before ++ t) (rw e refl) in
     subst (λ gs. AllZip StatesLot gs (lots ++ lot ∷ [])) (sym more) (push (filter is_lot before) lots h)
@@ -48,13 +48,13 @@ same_states before group lots e h =
     let same : filter is_lot (before ++ group ∷ []) ≡ filter is_lot before = filter-append is_lot before (group ∷ []) ∙ (ap (λ t. filter is_lot before ++ t) (rw e refl) ∙ append-nil (filter is_lot before)) in
     subst (λ gs. AllZip StatesLot gs lots) (sym same) h
 
-push_sound : (before : List (List Entry)) (group : List Entry) → ((rule place : ℕ) → ¬ (BreaksRuleAt before rule place)) → ((rule : ℕ) → ¬ (BreaksHereRule before group rule))
+push_sound : (before : List (List Entry)) (group : List Entry) → ((rule place : ℕ) → ¬ (BreaksRuleAt before rule place)) → ((rule : ℕ) → ¬ (BreaksBehind before group rule))
     → (rule place : ℕ) → ¬ (BreaksRuleAt (before ++ group ∷ []) rule place)
 push_sound before group sound here rule place b = go (two_cuts before group [] b.before b.group b.after b.cut)
   where
     go : AreApart before group b.before b.group → ⊥
     go (inl (rest, same)) = sound rule place (record { before = b.before; group = b.group; after = rest; cut = same; place_is = b.place_is; breaks = b.breaks })
-    go (inr (inl (same, at))) = here rule (subst (λ g. BreaksHereRule before g rule) (sym at) (subst (λ gs. BreaksHereRule gs b.group rule) (sym same) b.breaks))
+    go (inr (inl (same, at))) = here rule (subst (λ g. BreaksBehind before g rule) (sym at) (subst (λ gs. BreaksBehind gs b.group rule) (sym same) b.breaks))
     go (inr (inr short)) =
         let one = ap length b.cut in
         let left = length-append before (group ∷ []) in
@@ -72,7 +72,7 @@ support_taken before group lots e h = record {
   sound = push_sound before group h.sound here;
 }
   where
-    here : (rule : ℕ) → ¬ (BreaksHereRule before group rule)
+    here : (rule : ℕ) → ¬ (BreaksBehind before group rule)
     here rule (unknown is support lot) = both_ways _ support e
     here rule (of_lot lot b) = both_ways _ (no_support group e) lot
 
@@ -80,12 +80,12 @@ module _ (before : List (List Entry)) (group : List Entry) (lots : List Lot) (h 
   pub unknown_least : is_support group ≡ false → is_lot group ≡ false → IsLeastHere before group 701
   unknown_least support lot = record { breaks = unknown refl support lot; least = least }
     where
-      least : (r : ℕ) → BreaksHereRule before group r → 701 ≤ r
+      least : (r : ℕ) → BreaksBehind before group r → 701 ≤ r
       least r (unknown is s l) = omega (arith, is)
       least r (of_lot l b) = absurd (both_ways _ lot l)
 
   module _ (is : is_lot group ≡ true) where
-    by_rule : (rule : ℕ) → BreaksHereRule before group rule → BreaksLotRule before group rule
+    by_rule : (rule : ℕ) → BreaksBehind before group rule → BreaksLotRule before group rule
     by_rule rule (unknown e s l) = absurd (both_ways _ l is)
     by_rule rule (of_lot l b) = b
 
@@ -192,7 +192,7 @@ least_there groups before after group lots rule place cut place_is taken here = 
     at_record r p b (inl (rest, same)) =
         absurd (taken.sound r p (record { before = b.before; group = b.group; after = rest; cut = same; place_is = b.place_is; breaks = b.breaks }))
     at_record r p b (inr (inl (same, at))) =
-        inr (omega (arith, place_is, b.place_is, ap length same), here.least r (subst (λ g. BreaksHereRule before g r) (sym at) (subst (λ gs. BreaksHereRule gs b.group r) (sym same) b.breaks)))
+        inr (omega (arith, place_is, b.place_is, ap length same), here.least r (subst (λ g. BreaksBehind before g r) (sym at) (subst (λ gs. BreaksBehind gs b.group r) (sym same) b.breaks)))
     at_record r p b (inr (inr short)) = inl (omega (arith, place_is, b.place_is, short))
 
     least : (r p : ℕ) → BreaksDeliveryRule groups r p → (place < p) ⊎ ((place ≡ p) × (rule ≤ r))
@@ -212,7 +212,7 @@ all_done : (zones : List Entry) (rest : List Zone) (at : ℕ) (lots : List Lot) 
 all_done zones [] at lots none h = h.cut ∙ append-nil h.done
 all_done zones (z ∷ zs) at lots none h = absurd (omega arith)
 
-no_lots : (groups : List (List Entry)) → StatesLots groups [] → list_any is_lot groups ≡ false
+pub no_lots : (groups : List (List Entry)) → StatesLots groups [] → list_any is_lot groups ≡ false
 no_lots [] h = refl
 no_lots (g ∷ gs) h = go (is_lot g) refl h (no_lots gs)
   where

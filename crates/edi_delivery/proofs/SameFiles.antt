@@ -46,7 +46,7 @@ any_exchange : {X Y : Type 0} (test : X → Y → Bool) (xs : List X) (ys : List
 any_exchange test [] ys = sym (none_of ys)
 any_exchange test (x ∷ xs) ys = ap (λ b. list_any (test x) ys || b) (any_exchange test xs ys) ∙ sym (any_or (test x) (λ y. list_any (λ z. test z y) xs) ys)
 
-any_flat : {X Y : Type 0} (test : Y → Bool) (f : X → List Y) (xs : List X) → list_any test (flat_map f xs) ≡ list_any (λ x. list_any test (f x)) xs
+pub any_flat : {X Y : Type 0} (test : Y → Bool) (f : X → List Y) (xs : List X) → list_any test (flat_map f xs) ≡ list_any (λ x. list_any test (f x)) xs
 any_flat test f [] = refl
 any_flat test f (x ∷ xs) = list_any-append test (f x) (flat_map f xs) ∙ ap (λ b. list_any test (f x) || b) (any_flat test f xs)
 
@@ -66,7 +66,7 @@ repeats_parts ks es (x ∷ xs) =
 repeats_cut : (ks xs : List (List ℕ)) → repeats ks xs ≡ (list_any (λ x. list_any (bytes_eq x) ks) xs || repeats [] xs)
 repeats_cut ks xs = ap (λ t. repeats t xs) (sym (append-nil ks)) ∙ repeats_parts ks [] xs
 
-bytes_turned : (xs ys : List ℕ) → bytes_eq xs ys ≡ bytes_eq ys xs
+pub bytes_turned : (xs ys : List ℕ) → bytes_eq xs ys ≡ bytes_eq ys xs
 bytes_turned xs ys = go (bytes_eq xs ys) refl (bytes_eq ys xs) refl
   where
     go : (a : Bool) → bytes_eq xs ys ≡ a → (b : Bool) → bytes_eq ys xs ≡ b → a ≡ b

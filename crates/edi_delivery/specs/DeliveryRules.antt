@@ -58,9 +58,9 @@ module _ (before : List (List Entry)) (group : List Entry) where
     shared_file : (lot : Lot) → rule ≡ 710 → StatesLot group lot → HasEarlier (λ earlier. ShareFile earlier lot) → BreaksLotRule rule
 
   -- 701: a record that is neither the support nor a lot; or a lot breaks a rule
-  pub data BreaksHereRule (rule : ℕ) : Type 0 where
-    unknown : rule ≡ 701 → is_support group ≡ false → is_lot group ≡ false → BreaksHereRule rule
-    of_lot : is_lot group ≡ true → BreaksLotRule rule → BreaksHereRule rule
+  pub data BreaksBehind (rule : ℕ) : Type 0 where
+    unknown : rule ≡ 701 → is_support group ≡ false → is_lot group ≡ false → BreaksBehind rule
+    of_lot : is_lot group ≡ true → BreaksLotRule rule → BreaksBehind rule
 
 -- the record at this place breaks the rule
 pub record BreaksRuleAt (groups : List (List Entry)) (rule place : ℕ) : Type 0 where
@@ -69,7 +69,7 @@ pub record BreaksRuleAt (groups : List (List Entry)) (rule place : ℕ) : Type 0
   pub after : List (List Entry)
   pub cut : groups ≡ before ++ group ∷ after
   pub place_is : place ≡ length before + 1
-  pub breaks : BreaksHereRule before group rule
+  pub breaks : BreaksBehind before group rule
 
 -- 711: there is no lot, which is missed one past the last record
 pub record LacksLots (groups : List (List Entry)) (rule place : ℕ) : Type 0 where

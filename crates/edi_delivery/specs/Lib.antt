@@ -2,4 +2,5 @@ pub mod NameParts
 pub mod Lots
 pub mod DeliveryRules
 pub mod DeliveryRefusal
+pub mod Laws
 pub mod inner

@@ -6,6 +6,7 @@ pub mod delivery;
 mod draft;
 pub mod fault;
 pub mod file_name;
+pub mod laws;
 pub mod lot;
 mod lots;
 pub mod name_part;

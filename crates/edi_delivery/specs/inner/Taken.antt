@@ -4,7 +4,7 @@ use Rattle.edi_line.specs.Entry.{Entry}
 use Rattle.edi_record.specs.declared.fault.RecordFault.{RecordFault}
 use Rattle.edi_record.specs.declared.fault.RecordFault.TheVariants.{Memory, Broken}
 use Rattle.edi_delivery.specs.Lots.{StatesLots}
-use Rattle.edi_delivery.specs.DeliveryRules.{BreaksHereRule, BreaksRuleAt}
+use Rattle.edi_delivery.specs.DeliveryRules.{BreaksBehind, BreaksRuleAt}
 use Rattle.edi_delivery.specs.declared.lot.Lot.{Lot}
 use Rattle.edi_delivery.specs.declared.fault.LotFault.{LotFault}
 use Rattle.edi_delivery.specs.declared.fault.LotFault.TheVariants.{Memory as LotMemory, Broken as LotBroken}
@@ -16,8 +16,8 @@ pub record IsTaken (before : List (List Entry)) (lots : List Lot) : Type 0 where
 
 -- the record behind these breaks the rule, and none that is less
 pub record IsLeastHere (before : List (List Entry)) (group : List Entry) (rule : ℕ) : Type 0 where
-  pub breaks : BreaksHereRule before group rule
-  pub least : (r : ℕ) → BreaksHereRule before group r → rule ≤ r
+  pub breaks : BreaksBehind before group rule
+  pub least : (r : ℕ) → BreaksBehind before group r → rule ≤ r
 
 -- the fault of the record at a place
 abbrev pub lot_fault_at : ℕ → LotFault → RecordFault
