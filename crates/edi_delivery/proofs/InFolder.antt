@@ -1,9 +1,9 @@
 -- Names of files lead out of no folder.
-use Rattle.std.proofs.Common.{◌≡◌, ◌≢◌, ℕ, zero, suc, ◌+◌, ◌<◌, ◌≤◌, Bool, true, false, ◌&&◌, ◌||◌, List, [], ◌∷◌, length, get_or, All, codes, refl, sym, ap, ◌∙◌, subst, arith}
+use Rattle.std.proofs.Common.{◌≡◌, ◌≢◌, ℕ, zero, suc, ◌<◌, Bool, true, false, ◌&&◌, List, [], ◌∷◌, All, codes, refl, sym, ap, ◌∙◌, arith}
 use Rattle.std.specs.List.{list_all}
 use Rattle.std.proofs.lemmas.Bool.{and_parts, leb-true}
 use Rattle.std.proofs.lemmas.Bool.Decides.{nat_tests}
-use Rattle.edi_delivery.specs.NameParts.{is_word_byte, is_part_byte, is_file_byte, is_file_name}
+use Rattle.edi_delivery.specs.NameParts.{is_word_byte, is_file_byte, is_file_name}
 use Rattle.edi_delivery.specs.Laws.{StaysInFolder}
 
 file_of_word : (c : ℕ) → is_word_byte c ≡ true → is_file_byte c ≡ true

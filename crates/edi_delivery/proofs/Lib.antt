@@ -9,3 +9,4 @@ pub mod OneAnswer
 pub mod FiledOrder
 pub mod SafeLots
 pub mod InFolder
+pub mod KnownDeliveries

@@ -1,5 +1,5 @@
 -- The rules of one record, as tests and as they are said.
-use Rattle.std.proofs.Common.{◌≡◌, ◌⊎◌, inl, inr, ℕ, zero, suc, ◌+◌, ◌<◌, ◌≤◌, Bool, true, false, not, ◌&&◌, ◌||◌, eqb, eq-eqb, ltb, ltb-true, lt-ltb, cond, leb, List, [], ◌∷◌, ◌++◌, length, filter, get_or, Option, Some, None, option_to_list, Any, codes, refl, sym, ap, ◌∙◌, subst, arith}
+use Rattle.std.proofs.Common.{◌≡◌, ◌⊎◌, inl, inr, ℕ, zero, suc, Bool, true, false, not, ◌&&◌, ◌||◌, eqb, eq-eqb, ltb, ltb-true, lt-ltb, cond, List, [], ◌∷◌, length, filter, Option, Some, None, option_to_list, Any, codes, refl, sym, ap, ◌∙◌, subst, arith}
 use Rattle.std.specs.List.{list_any, AllZip, IsDistinct}
 use Rattle.std.specs.Str.{all_ascii_digits}
 use Rattle.std.specs.Str.Parse.{digits_value}
@@ -7,8 +7,6 @@ use Rattle.std.proofs.lemmas.Bool.{both_ways, leb-true, le-leb, eqb-true}
 use Rattle.std.proofs.lemmas.List.Folds.{Any-from_list_any, list_any-from_Any}
 use Rattle.edi_line.specs.Entry.{Entry}
 use Rattle.edi_line.specs.Refusal.{BreaksTest}
-use Rattle.edi_line.specs.inner.Refusal.{first_broken}
-use Rattle.edi_line.proofs.FirstBroken.{IsLeast, none_broken, first_is_least}
 use Rattle.edi_line.proofs.NumberRead.{digits_test, test_digits}
 use Rattle.edi_record.specs.Records.{values}
 use Rattle.edi_record.specs.RecordRules.{Counts}
@@ -17,12 +15,12 @@ use Rattle.edi_record.specs.inner.Texts.{count}
 use Rattle.edi_record.specs.inner.RecordRules.{counts_right}
 use Rattle.edi_delivery.specs.NameParts.{is_name_part, is_same_name}
 use Rattle.edi_delivery.specs.Lots.{is_lot, StatesLot, StatesLots, files_of}
-use Rattle.edi_delivery.specs.DeliveryRules.{file_codes, ShareFile, HasUnsafe, HasSeveral, LacksOne, HasEarlier, BreaksLotRule}
+use Rattle.edi_delivery.specs.DeliveryRules.{file_codes, ShareFile, HasUnsafe, HasSeveral, BreaksLotRule}
 use Rattle.edi_delivery.specs.DeliveryRules.BreaksLotRule.{lacks_name, unsafe_name, lacks_scd, lacks_dic, lacks_vecs, wrong_count, several, unsafe_file, same_lot, same_files, shared_file}
-use Rattle.edi_delivery.specs.inner.LotTests.{lacks_one, is_unsafe, has_several, miscounts, has_unsafe_file, lot_tests}
+use Rattle.edi_delivery.specs.inner.LotTests.{lacks_one, is_unsafe, miscounts, has_unsafe_file, lot_tests}
 use Rattle.edi_delivery.specs.inner.Noted.{repeats_name, repeats_file, take_tests}
 use Rattle.edi_delivery.specs.declared.lot.Lot.{Lot}
-use Rattle.edi_delivery.proofs.SameFiles.{or_parts, shares, has_twins, file_repeats, no_twins, twins}
+use Rattle.edi_delivery.proofs.SameFiles.{shares, has_twins, file_repeats, no_twins, twins}
 
 or_left : (a b : Bool) → a ≡ true → (a || b) ≡ true
 or_left a b e = rw e refl

@@ -1,5 +1,5 @@
 -- Steps of reading a lot.
-use Rattle.std.proofs.Common.{Result, Ok, Err, IfErr, cond, ◌≡◌, ℕ, zero, suc, ◌+◌, ◌<◌, Bool, true, false, not, ◌||◌, List, [], ◌∷◌, ◌++◌, length, map, get_or, Some, None, Option, option_map, option_to_list, codes, refl, sym, ap, ◌∙◌, subst, arith}
+use Rattle.std.proofs.Common.{Result, Ok, Err, IfErr, cond, ◌≡◌, ℕ, zero, suc, ◌<◌, Bool, true, false, ◌||◌, List, [], ◌∷◌, ◌++◌, length, map, get_or, Some, None, option_map, option_to_list, codes, refl, sym, ap, ◌∙◌, arith}
 use Rattle.std.proofs.Common.{Bor}
 use Rattle.std.specs.List.{list_any}
 use Rattle.std.proofs.lemmas.List.Folds.{list_any-append}
@@ -7,7 +7,7 @@ use Rattle.edi_line.specs.Entry.{Entry}
 use Rattle.edi_line.specs.Refusal.{Test, test}
 use Rattle.edi_line.specs.inner.Refusal.{first_broken}
 use Rattle.edi_record.specs.Records.{values}
-use Rattle.edi_delivery.specs.inner.LotTests.{lacks_one, is_unsafe, has_unsafe_file, draft_tests, lot_tests}
+use Rattle.edi_delivery.specs.inner.LotTests.{is_unsafe, has_unsafe_file, draft_tests, lot_tests}
 use Rattle.edi_delivery.specs.inner.Steps.{IfRule}
 use Rattle.edi_delivery.specs.inner.Drafts.{IsDraftOf, own_names}
 use Rattle.edi_delivery.specs.declared.draft.LotDraft.{LotDraft}

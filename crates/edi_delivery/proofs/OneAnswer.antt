@@ -1,8 +1,7 @@
 -- A file has one answer.
-use Rattle.std.proofs.Common.{◌≡◌, ◌⊎◌, inl, inr, ℕ, ◌<◌, ◌≤◌, List, [], ◌∷◌, filter, refl, sym, ap, ◌∙◌, subst, arith}
+use Rattle.std.proofs.Common.{◌≡◌, ◌⊎◌, inl, inr, ℕ, ◌<◌, ◌≤◌, List, [], ◌∷◌, filter, refl, ap, ◌∙◌, subst, arith}
 use Rattle.std.specs.List.{AllZip}
 use Rattle.edi_line.specs.Entry.{Entry}
-use Rattle.edi_line.specs.LineRules.{IsZonesOf}
 use Rattle.edi_line.specs.Refusal.{IsLeastBroken}
 use Rattle.edi_line.specs.Zones.{groups_of}
 use Rattle.edi_line.specs.declared.fault.LineFault.TheVariants as line

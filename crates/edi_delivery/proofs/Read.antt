@@ -1,5 +1,5 @@
 -- Reading the records of a file one by one.
-use Rattle.std.proofs.Common.{Result, Ok, Err, OnOk, ◌≡◌, ◌⊎◌, inl, inr, ℕ, zero, suc, ◌+◌, ◌-◌, ◌<◌, ◌≤◌, Bool, true, false, cond, List, [], ◌∷◌, ◌++◌, length, filter, take, drop, Some, None, unwrap_or, codes, refl, sym, ap, ◌∙◌, subst, arith}
+use Rattle.std.proofs.Common.{Result, Ok, Err, OnOk, ◌≡◌, ◌⊎◌, inl, inr, ℕ, ◌+◌, ◌-◌, ◌<◌, ◌≤◌, Bool, true, false, cond, List, [], ◌∷◌, ◌++◌, length, filter, take, drop, Some, None, unwrap_or, codes, refl, sym, ap, ◌∙◌, subst, arith}
 use Rattle.std.specs.List.{list_any, AllZip}
 use Rattle.std.specs.Str.{bytes_eq}
 use Rattle.std.proofs.lemmas.Bool.{both_ways}
@@ -17,8 +17,8 @@ use Rattle.edi_record.specs.Records.{values, group_at}
 use Rattle.edi_record.specs.RecordRefusal.{IsRecordRefusal}
 use Rattle.edi_record.specs.declared.fault.RecordFault.{RecordFault}
 use Rattle.edi_record.specs.declared.fault.RecordFault.TheVariants.{Broken}
-use Rattle.edi_delivery.specs.Lots.{has_type, is_support, is_lot, StatesLot, StatesLots}
-use Rattle.edi_delivery.specs.DeliveryRules.{BreaksLotRule, BreaksBehind, BreaksRuleAt, LacksLots, BreaksDeliveryRule}
+use Rattle.edi_delivery.specs.Lots.{is_support, is_lot, StatesLot, StatesLots}
+use Rattle.edi_delivery.specs.DeliveryRules.{BreaksLotRule, BreaksBehind, BreaksRuleAt, BreaksDeliveryRule}
 use Rattle.edi_delivery.specs.DeliveryRules.BreaksBehind.{unknown, of_lot}
 use Rattle.edi_delivery.specs.inner.LotTests.{lot_tests}
 use Rattle.edi_delivery.specs.inner.Noted.{repeats_name, repeats_file, take_tests}
@@ -220,7 +220,7 @@ no_lots (g ∷ gs) h = go (is_lot g) refl h (no_lots gs)
     go true e h more = absurd h
     go false e h more = rw e (more h)
 
-some_lot : (groups : List (List Entry)) (l : Lot) (ls : List Lot) → StatesLots groups (l ∷ ls) → list_any is_lot groups ≡ true
+pub some_lot : (groups : List (List Entry)) (l : Lot) (ls : List Lot) → StatesLots groups (l ∷ ls) → list_any is_lot groups ≡ true
 some_lot [] l ls h = absurd h
 some_lot (g ∷ gs) l ls h = go (is_lot g) refl h (some_lot gs l ls)
   where
@@ -228,19 +228,21 @@ some_lot (g ∷ gs) l ls h = go (is_lot g) refl h (some_lot gs l ls)
     go true e h more = rw e refl
     go false e h more = rw e (more h)
 
-pub none_least : (zones : List Entry) (rest : List Zone) (at : ℕ) (lots : List Lot) → length rest < 1 → SoFar zones (entries rest) at lots → lots ≡ []
-    → IsRecordRefusal (BreaksDeliveryRule (groups_of zones)) (Broken 711 (at + 1))
-none_least zones rest at lots none h empty =
-    let all = all_done zones rest at lots none h in
-    let lacks : list_any is_lot (groups_of zones) ≡ false = ap (list_any is_lot) all ∙ no_lots h.done (subst (StatesLots h.done) empty h.taken.states) in
+pub lacks_least : (groups done : List (List Entry)) (lots : List Lot) (place : ℕ) → groups ≡ done → IsTaken done lots → lots ≡ [] → place ≡ length done + 1 → IsLeastBroken (BreaksDeliveryRule groups) 711 place
+lacks_least groups done lots place all taken empty place_is =
+    let lacks : list_any is_lot groups ≡ false = ap (list_any is_lot) all ∙ no_lots done (subst (StatesLots done) empty taken.states) in
     record {
-      is = inr (record { rule_is = refl; place_is = omega (arith, h.counted, ap length all); lacks = lacks });
-      least = least all;
+      is = inr (record { rule_is = refl; place_is = omega (arith, place_is, ap length all); lacks = lacks });
+      least = least;
     }
   where
-    least : groups_of zones ≡ h.done → (r p : ℕ) → BreaksDeliveryRule (groups_of zones) r p → (at + 1 < p) ⊎ ((at + 1 ≡ p) × (711 ≤ r))
-    least all r p (inl b) = absurd (h.taken.sound r p (record { before = b.before; group = b.group; after = b.after; cut = sym all ∙ b.cut; place_is = b.place_is; breaks = b.breaks }))
-    least all r p (inr b) = inr (omega (arith, b.place_is, h.counted, ap length all), omega (arith, b.rule_is))
+    least : (r p : ℕ) → BreaksDeliveryRule groups r p → (place < p) ⊎ ((place ≡ p) × (711 ≤ r))
+    least r p (inl b) = absurd (taken.sound r p (record { before = b.before; group = b.group; after = b.after; cut = sym all ∙ b.cut; place_is = b.place_is; breaks = b.breaks }))
+    least r p (inr b) = inr (omega (arith, b.place_is, place_is, ap length all), omega (arith, b.rule_is))
+
+pub none_least : (zones : List Entry) (rest : List Zone) (at : ℕ) (lots : List Lot) → length rest < 1 → SoFar zones (entries rest) at lots → lots ≡ []
+    → IsRecordRefusal (BreaksDeliveryRule (groups_of zones)) (Broken 711 (at + 1))
+none_least zones rest at lots none h empty = lacks_least (groups_of zones) h.done lots (at + 1) (all_done zones rest at lots none h) h.taken empty (omega (arith, h.counted))
 
 pub all_unbroken : (zones : List Entry) (rest : List Zone) (at : ℕ) (lots : List Lot) → length rest < 1 → SoFar zones (entries rest) at lots → 0 < length lots → IsUnbroken (BreaksDeliveryRule (groups_of zones))
 all_unbroken zones rest at [] none h some rule place b = omega (arith, some)

@@ -1,9 +1,9 @@
 -- Lists with repeats.
-use Rattle.std.proofs.Common.{Some, None, cond, ◌≡◌, ℕ, zero, suc, ◌+◌, ◌<◌, ◌≤◌, Bool, true, false, not, ◌||◌, List, [], ◌∷◌, ◌++◌, length, map, get_or, take, drop, refl, sym, ap, ◌∙◌, arith, add-one}
+use Rattle.std.proofs.Common.{Some, None, cond, ◌≡◌, ℕ, suc, ◌+◌, ◌<◌, Bool, true, false, not, ◌||◌, List, [], ◌∷◌, ◌++◌, length, map, get_or, take, drop, refl, sym, ap, ◌∙◌}
 use Rattle.std.specs.List.{list_any}
 use Rattle.std.specs.Str.{bytes_eq, str_to_ascii_lowercase}
 use Rattle.std.proofs.Math.Seq.{drop-cons}
-use Rattle.std.proofs.lemmas.List.{append_assoc, append-nil, take-append-drop, map-append, take_more, take_all}
+use Rattle.std.proofs.lemmas.List.{append_assoc, append-nil, take-append-drop, map-append, take_more}
 use Rattle.edi_line.specs.inner.Refusal.{first_broken}
 use Rattle.edi_delivery.specs.Lots.{files_of}
 use Rattle.edi_delivery.specs.inner.Steps.{repeats}
@@ -65,7 +65,7 @@ pub noted_more : (ks keys new files : List (List ℕ)) (i : ℕ) (d value : List
     → list_any (bytes_eq value) keys ≡ false → new ≡ cond (list_any (bytes_eq value) keys) keys (keys ++ value ∷ []) → new ≡ ks ++ lower (take (i + 1) files)
 noted_more ks keys new files i d value below noted is none put =
     let more : lower (take (i + 1) files) ≡ lower (take i files) ++ value ∷ [] =
-        ap lower (take_more files i d below) ∙ (map-append str_to_ascii_lowercase (take i files) (get_or files i d ∷ []) ∙ ap (λ t. lower (take i files) ++ t ∷ []) (sym is)) in
+    ap lower (take_more files i d below) ∙ (map-append str_to_ascii_lowercase (take i files) (get_or files i d ∷ []) ∙ ap (λ t. lower (take i files) ++ t ∷ []) (sym is)) in
     put ∙ (ap (λ b. cond b keys (keys ++ value ∷ [])) none ∙ (ap (λ t. t ++ value ∷ []) noted ∙ (append_assoc ks (lower (take i files)) (value ∷ []) ∙ ap (λ t. ks ++ t) (sym more))))
 
 -- the next file is there already

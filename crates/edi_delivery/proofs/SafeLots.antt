@@ -1,10 +1,8 @@
 -- What the rules keep of the lots of a file.
-use Rattle.std.proofs.Common.{◌≡◌, ◌≢◌, ◌⊎◌, inl, inr, ℕ, zero, suc, ◌+◌, ◌<◌, ◌≤◌, Bool, true, false, not, ◌&&◌, ◌||◌, cond, leb, List, [], ◌∷◌, ◌++◌, length, map, filter, flat_map, get_or, Option, option_to_list, Some, None, All, codes, refl, sym, ap, ◌∙◌, subst, arith}
-use Rattle.std.specs.List.{list_any, list_all, AllByRecursion, AllZip, IsDistinct}
-use Rattle.std.specs.Str.{bytes_eq, str_to_ascii_lowercase}
-use Rattle.std.proofs.lemmas.Bool.{and_parts, both_ways, leb-true}
+use Rattle.std.proofs.Common.{◌≡◌, ◌≢◌, inl, inr, ℕ, ◌+◌, Bool, true, false, not, ◌||◌, cond, List, [], ◌∷◌, ◌++◌, length, map, filter, flat_map, option_to_list, codes, refl, sym, ap, ◌∙◌, subst}
+use Rattle.std.specs.List.{list_any, AllByRecursion, AllZip, IsDistinct}
+use Rattle.std.specs.Str.{str_to_ascii_lowercase}
 use Rattle.std.proofs.lemmas.List.{append_assoc, append-nil, map-append}
-use Rattle.std.proofs.lemmas.List.Folds.{list_any-append}
 use Rattle.std.proofs.lemmas.List.Elements.{filter-append}
 use Rattle.edi_line.specs.Entry.{Entry}
 use Rattle.edi_line.specs.Refusal.{BreaksTest}
@@ -12,7 +10,7 @@ use Rattle.edi_line.specs.Zones.{groups_of}
 use Rattle.edi_record.specs.Records.{values}
 use Rattle.edi_delivery.specs.NameParts.{is_name_part, is_file_name, is_same_name, file_name}
 use Rattle.edi_delivery.specs.Lots.{is_lot, StatesLot, StatesLots, files_of}
-use Rattle.edi_delivery.specs.DeliveryRules.{BreaksLotRule, BreaksBehind, BreaksRuleAt, LacksLots, BreaksDeliveryRule}
+use Rattle.edi_delivery.specs.DeliveryRules.{BreaksLotRule, BreaksRuleAt}
 use Rattle.edi_delivery.specs.DeliveryRules.BreaksBehind.{of_lot}
 use Rattle.edi_delivery.specs.DeliveryRefusal.{IsDeliveryOf}
 use Rattle.edi_delivery.specs.Laws.{HasSafeNames, IsDelivery}
@@ -25,7 +23,7 @@ use Rattle.edi_delivery.proofs.LotRules.{lot_rule, take_rule}
 use Rattle.edi_delivery.proofs.Read.{push_states, no_lots}
 use Rattle.edi_delivery.proofs.Repeats.{any_map}
 use Rattle.edi_delivery.proofs.SafeNames.{made_of_parts}
-use Rattle.edi_delivery.proofs.SameFiles.{or_parts, any_flat, bytes_turned, shares, has_twins, file_repeats, no_twins}
+use Rattle.edi_delivery.proofs.SameFiles.{or_parts, any_flat, bytes_turned, file_repeats, no_twins}
 
 -- ---- lists
 
@@ -98,9 +96,9 @@ safe_lot group lot h named safe =
         (
           (safe_files lot.name Dic (lot.dic ∷ []) name (ap (list_any is_unsafe) (sym h.dic) ∙ dic.0)).0,
           all_append IsSafeFile (map (file_name lot.name Gen) (option_to_list lot.general)) _ (safe_files lot.name Gen (option_to_list lot.general) name (ap (list_any is_unsafe) (sym h.general) ∙ general.0))
-          (all_append IsSafeFile (map (file_name lot.name Geo) (option_to_list lot.geo)) _ (safe_files lot.name Geo (option_to_list lot.geo) name (ap (list_any is_unsafe) (sym h.geo) ∙ geo.0))
-          (all_append IsSafeFile (map (file_name lot.name Qal) (option_to_list lot.quality)) _ (safe_files lot.name Qal (option_to_list lot.quality) name (ap (list_any is_unsafe) (sym h.quality) ∙ quality.0))
-          (safe_files lot.name Vec lot.vecs name (ap (list_any is_unsafe) (sym h.vecs) ∙ vecs.0)))),
+              (all_append IsSafeFile (map (file_name lot.name Geo) (option_to_list lot.geo)) _ (safe_files lot.name Geo (option_to_list lot.geo) name (ap (list_any is_unsafe) (sym h.geo) ∙ geo.0))
+              (all_append IsSafeFile (map (file_name lot.name Qal) (option_to_list lot.quality)) _ (safe_files lot.name Qal (option_to_list lot.quality) name (ap (list_any is_unsafe) (sym h.quality) ∙ quality.0))
+              (safe_files lot.name Vec lot.vecs name (ap (list_any is_unsafe) (sym h.vecs) ∙ vecs.0)))),
         ),
       );
     }
@@ -139,14 +137,16 @@ module _ (before : List (List Entry)) (lots : List Lot) (states : StatesLots bef
   kept_more kept =
       let files = or_parts _ _ (sym (file_repeats lots lot) ∙ filed) in
       record {
-        vecs = all_append (λ (l : Lot). l.vecs ≢ []) lots (lot ∷ []) kept.vecs
-            (subst (λ vs. vs ≢ []) is.vecs (some_vecs (values (codes "GDC") group) (values (codes "GDN") group)
-            (no_test 706 (miscounts (values (codes "GDC") group) (values (codes "GDN") group)) (λ e. inr (inr (inr (inr (inl (refl, e))))))))
-            , tt);
-        safe = all_append HasSafeNames lots (lot ∷ []) kept.safe
-            (safe_lot group lot is (no_test 703 (list_any is_unsafe (values (codes "LON") group)) (λ e. inr (inl (refl, e))))
-            (no_test 708 (has_unsafe_file group) (λ e. inr (inr (inr (inr (inr (inr (inl (refl, e)))))))))
-            , tt);
+        vecs = all_append (λ (l : Lot). l.vecs ≢ []) lots (lot ∷ []) kept.vecs (
+          subst (λ vs. vs ≢ []) is.vecs (some_vecs (values (codes "GDC") group) (values (codes "GDN") group)
+              (no_test 706 (miscounts (values (codes "GDC") group) (values (codes "GDN") group)) (λ e. inr (inr (inr (inr (inl (refl, e)))))))),
+          tt,
+        );
+        safe = all_append HasSafeNames lots (lot ∷ []) kept.safe (
+          safe_lot group lot is (no_test 703 (list_any is_unsafe (values (codes "LON") group)) (λ e. inr (inl (refl, e))))
+              (no_test 708 (has_unsafe_file group) (λ e. inr (inr (inr (inr (inr (inr (inl (refl, e))))))))),
+          tt,
+        );
         lots_apart = subst (IsDistinct is_same_name) (sym (map-append (λ (l : Lot). l.name) lots (lot ∷ [])))
             (distinct_append (map (λ (l : Lot). l.name) lots) (lot.name ∷ []) kept.lots_apart (one_distinct lot.name)
             (any_map (λ x. list_any (λ y. is_same_name y x) (lot.name ∷ [])) (λ (l : Lot). l.name) lots

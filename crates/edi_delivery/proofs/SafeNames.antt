@@ -1,5 +1,5 @@
 -- The name of a file that is made of two parts is the name of a file.
-use Rattle.std.proofs.Common.{◌≡◌, ℕ, suc, ◌+◌, ◌≤◌, Bool, true, false, ◌&&◌, ◌||◌, leb, List, [], ◌∷◌, ◌++◌, length, length-append, refl, sym, ap, ◌∙◌, arith}
+use Rattle.std.proofs.Common.{◌≡◌, ℕ, suc, ◌+◌, ◌≤◌, Bool, true, false, ◌&&◌, List, [], ◌∷◌, ◌++◌, length, length-append, refl, arith}
 use Rattle.std.specs.List.{list_all}
 use Rattle.std.proofs.lemmas.Bool.{and_parts, leb-true, le-leb}
 use Rattle.edi_delivery.specs.NameParts.{is_word_byte, is_part_byte, is_file_byte, is_name_part, is_file_name, extension_text, file_name}
@@ -52,10 +52,10 @@ made_of_parts [] own extension e f = let no : false ≡ true = e in absurd cc
 made_of_parts (c ∷ cs) own extension e f =
     let p = and_parts _ _ e in
     let behind : list_all is_file_byte ((cs ++ own) ++ extension_text extension) ≡ true =
-        all_append (cs ++ own) (extension_text extension) (all_append cs own (all_files cs (and_parts _ _ p.1).0) (part_bytes own f)) (extension_bytes extension) in
+    all_append (cs ++ own) (extension_text extension) (all_append cs own (all_files cs (and_parts _ _ p.1).0) (part_bytes own f)) (extension_bytes extension) in
     let long = length-append (cs ++ own) (extension_text extension) in
     let fits : length (c ∷ ((cs ++ own) ++ extension_text extension)) ≤ 255 =
-        few (length ((cs ++ own) ++ extension_text extension)) (length (cs ++ own)) (length cs) (length own) (length (extension_text extension)) long (length-append cs own) (extension_length extension) (part_length (c ∷ cs) e) (part_length own f) in
+    few (length ((cs ++ own) ++ extension_text extension)) (length (cs ++ own)) (length cs) (length own) (length (extension_text extension)) long (length-append cs own) (extension_length extension) (part_length (c ∷ cs) e) (part_length own f) in
     both _ _ p.0 (both _ _ behind (le-leb _ _ fits))
   where
     few : (all front cs own ext : ℕ) → all ≡ front + ext → front ≡ cs + own → ext ≡ 4 → suc cs ≤ 125 → own ≤ 125 → suc all ≤ 255

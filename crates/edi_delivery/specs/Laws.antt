@@ -1,5 +1,5 @@
 -- Laws of deliveries.
-use Rattle.std.specs.Prelude.{◌≡◌, ◌≢◌, ◌↔◌, ◌⊎◌, ⊤, ℕ, ◌<◌, ◌≤◌, true, List, [], ◌∷◌, length, map, filter, flat_map, codes, All}
+use Rattle.std.specs.Prelude.{◌≡◌, ◌≢◌, ◌↔◌, ◌⊎◌, ⊤, ℕ, ◌<◌, ◌≤◌, true, List, [], length, map, filter, flat_map, codes, All}
 use Rattle.std.specs.List.{AllByRecursion, IsDistinct}
 use Rattle.std.specs.Str.{str_to_ascii_lowercase}
 use Rattle.edi_line.specs.Entry.{Entry}

@@ -51,11 +51,7 @@ fn has_type(group: &[Zone<'_>], code: &[u8]) -> bool
 }
 
 /// Takes the next record, which is the support or a lot, or says which is the least rule that it breaks.
-fn take_record(
-    alloc: Global,
-    lots: &mut LotsSoFar,
-    group: &[Zone<'_>],
-) -> Result<(), LotFault>
+fn take_record(alloc: Global, lots: &mut LotsSoFar, group: &[Zone<'_>]) -> Result<(), LotFault>
     requires { HasNoted lots.old }
     ensures noted { OnOk result (HasNoted lots.new) }
     ensures taken { OnOk result ((before : List (List Entry)) → IsTaken before lots.old.lots.items → IsTaken (before ++ entries group.now ∷ []) lots.new.lots.items) }

@@ -83,10 +83,7 @@ fn text_if_any<'b>(
 }
 
 /// The own names of the VEC files: one at least, and as many as the count says if there is one.
-fn counted_sheets<'b>(
-    alloc: Global,
-    group: &'b [Zone<'_>],
-) -> Result<Vec<&'b [u8]>, LotFault>
+fn counted_sheets<'b>(alloc: Global, group: &'b [Zone<'_>]) -> Result<Vec<&'b [u8]>, LotFault>
     ensures vecs { IfOk result (λ vecs. map (λ t. t.now) vecs.items ≡ values (codes "GDN") (entries group.now)) }
     ensures right { OnOk result (miscounts (values (codes "GDC") (entries group.now)) (values (codes "GDN") (entries group.now)) ≡ false) }
     ensures wrong { IfErr result (IfRule (λ r. (r ≡ 706) × (miscounts (values (codes "GDC") (entries group.now)) (values (codes "GDN") (entries group.now)) ≡ true))) }

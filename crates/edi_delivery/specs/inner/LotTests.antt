@@ -1,5 +1,5 @@
 -- The rules of a lot by itself as tests: what reading finds.
-use Rattle.std.specs.Prelude.{ℕ, Bool, true, false, not, ◌||◌, ⊤, nat_le, List, [], ◌∷◌, ◌++◌, length, is_none, codes}
+use Rattle.std.specs.Prelude.{ℕ, Bool, true, not, ◌||◌, nat_le, List, [], ◌∷◌, ◌++◌, length, is_none, codes}
 use Rattle.std.specs.List.{list_any}
 use Rattle.edi_line.specs.Entry.{Entry, first}
 use Rattle.edi_line.specs.Refusal.{Test, test}

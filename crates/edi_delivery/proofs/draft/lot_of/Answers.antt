@@ -1,6 +1,4 @@
-use Rattle.std.proofs.Common.{ap, sym, ◌∙◌}
 use Rattle.edi_line.specs.Entry.{entries}
-use Rattle.edi_delivery.specs.inner.LotTests.{is_unsafe}
 use Rattle.edi_delivery.proofs.LotSteps.{err_of, least_708}
 use Rattle.edi_delivery.proofs.draft.lot_of.Goals as goal
 

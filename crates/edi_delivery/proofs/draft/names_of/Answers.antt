@@ -1,4 +1,3 @@
-use Rattle.std.proofs.Common.{refl, ◌∙◌}
 use Rattle.std.proofs.lemmas.Result.{err_from_is_err_and}
 use Rattle.edi_delivery.proofs.LotSteps.{if_rule, unsafe_at}
 use Rattle.edi_delivery.proofs.draft.names_of.Goals as goal

@@ -1,7 +1,4 @@
 use Rattle.edi_delivery.proofs.delivery.Delivery.read.Goals as goal
-use Rattle.std.proofs.Common.{sym, ◌∙◌, ap, subst}
-use Rattle.edi_line.specs.Entry.{entries}
-use Rattle.edi_line.specs.LineRules.{IsZonesOf}
 use Rattle.edi_delivery.proofs.Whole.{delivery_of}
 
 pub returns-clause-delivery : goal.returns-clause-delivery

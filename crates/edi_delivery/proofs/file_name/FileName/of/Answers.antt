@@ -1,6 +1,6 @@
-use Rattle.std.proofs.Common.{◌≡◌, ◌∙◌, sym, ap, true, arith}
+use Rattle.std.proofs.Common.{◌≡◌, ◌∙◌, ap, arith}
 use Rattle.std.proofs.lemmas.Grind.{common_steps}
-use Rattle.edi_delivery.specs.NameParts.{file_name, is_file_name, is_name_part}
+use Rattle.edi_delivery.specs.NameParts.{file_name, is_file_name}
 use Rattle.edi_delivery.proofs.SafeNames.{made_of_parts}
 use Rattle.edi_delivery.proofs.file_name.FileName.of.Goals as goal
 

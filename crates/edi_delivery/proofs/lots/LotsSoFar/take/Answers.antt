@@ -1,8 +1,7 @@
-use Rattle.std.proofs.Common.{◌≡◌, ◌∙◌, true, false, refl, sym, ap}
+use Rattle.std.proofs.Common.{◌≡◌, ◌∙◌, true, false, sym, ap}
 use Rattle.std.specs.List.{list_any}
 use Rattle.std.specs.Str.{bytes_eq, str_to_ascii_lowercase}
 use Rattle.std.proofs.lemmas.Result.{err_from_is_err_and}
-use Rattle.edi_delivery.specs.inner.Noted.{repeats_name, repeats_file}
 use Rattle.edi_delivery.proofs.LotSteps.{if_rule}
 use Rattle.edi_delivery.proofs.Repeats.{not_false, not_true, name_again, file_again, least_710, both_new, least_709}
 use Rattle.edi_delivery.proofs.lots.LotsSoFar.take.Goals as goal
