@@ -22,5 +22,5 @@ pub record IsDeliveryOf (bytes : List ℕ) (lots : List Lot) : Type 0 where
 -- the refusal of a file: by a rule of lines, or by one of deliveries where no rule of lines is broken
 abbrev pub IsDeliveryRefusal : List ℕ → DeliveryFault → Type 0
 IsDeliveryRefusal bytes (Line fault) = IsLineRefusal (BreaksLineRule bytes) fault
-IsDeliveryRefusal bytes (Record fault) = IsUnbroken (BreaksLineRule bytes) × ((zones : List Entry) × IsZonesOf bytes zones
-    × IsRecordRefusal (BreaksDeliveryRule (groups_of zones)) fault)
+IsDeliveryRefusal bytes (Record fault) = IsUnbroken (BreaksLineRule bytes)
+    × ((zones : List Entry) × IsZonesOf bytes zones × IsRecordRefusal (BreaksDeliveryRule (groups_of zones)) fault)

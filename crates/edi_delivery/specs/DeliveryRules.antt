@@ -46,16 +46,21 @@ module _ (before : List (List Entry)) (group : List Entry) where
     lacks_dic : rule ≡ 705 → LacksOne (codes "DIN") → BreaksLotRule rule
     -- 706: no GDN; a GDC that is repeated, not digits, or not the count of GDN
     lacks_vecs : rule ≡ 706 → values (codes "GDN") group ≡ [] → BreaksLotRule rule
-    wrong_count : rule ≡ 706 → ¬ (Counts (values (codes "GDC") group) (length (values (codes "GDN") group))) → BreaksLotRule rule
+    wrong_count : rule ≡ 706 → ¬ (Counts (values (codes "GDC") group) (length (values (codes "GDN") group)))
+        → BreaksLotRule rule
     -- 707: several GNN, GON or QAN
-    several : rule ≡ 707 → HasSeveral (codes "GNN") ⊎ (HasSeveral (codes "GON") ⊎ HasSeveral (codes "QAN")) → BreaksLotRule rule
+    several : rule ≡ 707 → HasSeveral (codes "GNN") ⊎ (HasSeveral (codes "GON") ⊎ HasSeveral (codes "QAN"))
+        → BreaksLotRule rule
     -- 708: the own name of a file isn't a name
     unsafe_file : rule ≡ 708 → Any HasUnsafe file_codes → BreaksLotRule rule
     -- 709: the name of an earlier lot
-    same_lot : (lot : Lot) → rule ≡ 709 → StatesLot group lot → HasEarlier (λ earlier. is_same_name lot.name earlier.name ≡ true) → BreaksLotRule rule
+    same_lot : (lot : Lot) → rule ≡ 709 → StatesLot group lot
+        → HasEarlier (λ earlier. is_same_name lot.name earlier.name ≡ true) → BreaksLotRule rule
     -- 710: the lot names a file twice, or one that an earlier lot names
-    same_files : (lot : Lot) → rule ≡ 710 → StatesLot group lot → ¬ (IsDistinct is_same_name (files_of lot)) → BreaksLotRule rule
-    shared_file : (lot : Lot) → rule ≡ 710 → StatesLot group lot → HasEarlier (λ earlier. ShareFile earlier lot) → BreaksLotRule rule
+    same_files : (lot : Lot) → rule ≡ 710 → StatesLot group lot
+        → ¬ (IsDistinct is_same_name (files_of lot)) → BreaksLotRule rule
+    shared_file : (lot : Lot) → rule ≡ 710 → StatesLot group lot
+        → HasEarlier (λ earlier. ShareFile earlier lot) → BreaksLotRule rule
 
   -- 701: a record that is neither the support nor a lot; or a lot breaks a rule
   pub data BreaksBehind (rule : ℕ) : Type 0 where

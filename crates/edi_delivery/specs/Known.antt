@@ -15,7 +15,15 @@ lot_lines lines = codes "RTYSA03:GTL\nLONSA01:A\nSCNSA01:S\nDINSA01:D\n" ++ line
 
 -- what a lot with two VEC files and a coordinate system states
 abbrev pub known_lot : Lot
-known_lot = record { name = codes "A"; scd = codes "S"; dic = codes "D"; general = None; geo = Some (codes "S"); quality = None; vecs = codes "T2" ∷ codes "T1" ∷ [] }
+known_lot = record {
+  name = codes "A";
+  scd = codes "S";
+  dic = codes "D";
+  general = None;
+  geo = Some (codes "S");
+  quality = None;
+  vecs = codes "T2" ∷ codes "T1" ∷ [];
+}
 
 -- the file is refused by this rule at this record
 abbrev pub IsRefusedBy : List ℕ → ℕ → ℕ → Type 0

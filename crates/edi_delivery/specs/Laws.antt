@@ -1,5 +1,6 @@
 -- Laws of deliveries.
-use Rattle.std.specs.Prelude.{◌≡◌, ◌≢◌, ◌↔◌, ◌⊎◌, ⊤, ℕ, ◌<◌, ◌≤◌, true, List, [], length, map, filter, flat_map, codes, All}
+use Rattle.std.specs.Prelude.{◌≡◌, ◌≢◌, ◌↔◌, ◌⊎◌, ⊤, ℕ, ◌<◌, ◌≤◌, true, List, [], length, codes, All}
+use Rattle.std.specs.Prelude.{map, filter, flat_map}
 use Rattle.std.specs.List.{AllByRecursion, IsDistinct}
 use Rattle.std.specs.Str.{str_to_ascii_lowercase}
 use Rattle.edi_line.specs.Entry.{Entry}
@@ -26,15 +27,18 @@ WantsMemory (Record (record_fault.Broken rule at)) = ⊥
 
 -- a file states one delivery at most
 abbrev pub DeliveriesAreOne : Type 0
-DeliveriesAreOne = (bytes : List ℕ) (lots others : List Lot) → IsDeliveryOf bytes lots → IsDeliveryOf bytes others → lots ≡ others
+DeliveriesAreOne = (bytes : List ℕ) (lots others : List Lot)
+    → IsDeliveryOf bytes lots → IsDeliveryOf bytes others → lots ≡ others
 
 -- and none where it is refused
 abbrev pub RefusedFilesStateNone : Type 0
-RefusedFilesStateNone = (bytes : List ℕ) (lots : List Lot) (fault : DeliveryFault) → IsDeliveryOf bytes lots → IsDeliveryRefusal bytes fault → WantsMemory fault
+RefusedFilesStateNone = (bytes : List ℕ) (lots : List Lot) (fault : DeliveryFault)
+    → IsDeliveryOf bytes lots → IsDeliveryRefusal bytes fault → WantsMemory fault
 
 -- a file has one refusal at most
 abbrev pub DeliveryRefusalsAreOne : Type 0
-DeliveryRefusalsAreOne = (bytes : List ℕ) (one other : DeliveryFault) → IsDeliveryRefusal bytes one → IsDeliveryRefusal bytes other
+DeliveryRefusalsAreOne = (bytes : List ℕ) (one other : DeliveryFault)
+    → IsDeliveryRefusal bytes one → IsDeliveryRefusal bytes other
     → WantsMemory one ⊎ (WantsMemory other ⊎ (one ≡ other))
 
 -- ---- names
@@ -44,7 +48,8 @@ pub record HasSafeNames (lot : Lot) : Type 0 where
   pub name : is_name_part lot.name ≡ true
   pub files : AllByRecursion (λ file. is_file_name file ≡ true) (files_of lot)
 
--- What each delivery keeps: it has a lot, each lot has a VEC file, the names are safe, no two lots are named the same, and no two files.
+-- What each delivery keeps: it has a lot, and each lot a VEC file; the names are safe; no two lots have the same name,
+-- and no two files.
 pub record IsDelivery (lots : List Lot) : Type 0 where
   pub some : lots ≢ []
   pub vecs : AllByRecursion (λ (lot : Lot). lot.vecs ≢ []) lots
@@ -55,7 +60,8 @@ pub record IsDelivery (lots : List Lot) : Type 0 where
 abbrev pub StatedDeliveriesAreDeliveries : Type 0
 StatedDeliveriesAreDeliveries = (bytes : List ℕ) (lots : List Lot) → IsDeliveryOf bytes lots → IsDelivery lots
 
--- a file name is none of what leads out of a folder, or acts on a terminal: no `/`, `\`, space or control byte, neither `.` nor `..`
+-- a name that leads out of no folder, and does nothing to a terminal: it has no `/`, no `\`, no space and no control
+-- byte, and is neither `.` nor `..`
 pub record StaysInFolder (name : List ℕ) : Type 0 where
   pub some : name ≢ []
   pub short : length name ≤ 255
@@ -70,7 +76,8 @@ FileNamesStayInFolders = (name : List ℕ) → is_file_name name ≡ true → St
 
 -- two names are the same exactly if they are equal in lower case
 abbrev pub NamesAreSameInLowerCase : Type 0
-NamesAreSameInLowerCase = (a b : List ℕ) → (is_same_name a b ≡ true) ↔ (str_to_ascii_lowercase a ≡ str_to_ascii_lowercase b)
+NamesAreSameInLowerCase = (a b : List ℕ)
+    → (is_same_name a b ≡ true) ↔ (str_to_ascii_lowercase a ≡ str_to_ascii_lowercase b)
 
 -- ---- order
 
@@ -80,6 +87,7 @@ lot_zones groups = flat_map (λ g. g) (filter is_lot groups)
 
 -- lots are in the order of their LON, and their VEC files in that of GDN
 abbrev pub LotsAreInOrder : Type 0
-LotsAreInOrder = (bytes : List ℕ) (lots : List Lot) (zones : List Entry) → IsDeliveryOf bytes lots → IsZonesOf bytes zones
+LotsAreInOrder = (bytes : List ℕ) (lots : List Lot) (zones : List Entry)
+    → IsDeliveryOf bytes lots → IsZonesOf bytes zones
     → (map (λ (lot : Lot). lot.name) lots ≡ values (codes "LON") (lot_zones (groups_of zones)))
     × (flat_map (λ (lot : Lot). lot.vecs) lots ≡ values (codes "GDN") (lot_zones (groups_of zones)))

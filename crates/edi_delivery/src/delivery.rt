@@ -54,8 +54,10 @@ fn has_type(group: &[Zone<'_>], code: &[u8]) -> bool
 fn take_record(alloc: Global, lots: &mut LotsSoFar, group: &[Zone<'_>]) -> Result<(), LotFault>
     requires { HasNoted lots.old }
     ensures noted { OnOk result (HasNoted lots.new) }
-    ensures taken { OnOk result ((before : List (List Entry)) → IsTaken before lots.old.lots.items → IsTaken (before ++ entries group.now ∷ []) lots.new.lots.items) }
-    ensures least { IfErr result (IfRule (λ rule. (before : List (List Entry)) → IsTaken before lots.old.lots.items → IsLeastHere before (entries group.now) rule)) }
+    ensures taken { OnOk result ((before : List (List Entry)) → IsTaken before lots.old.lots.items
+        → IsTaken (before ++ entries group.now ∷ []) lots.new.lots.items) }
+    ensures least { IfErr result (IfRule (λ rule. (before : List (List Entry)) → IsTaken before lots.old.lots.items
+        → IsLeastHere before (entries group.now) rule)) }
 {
     if has_type(group, b"GTS") {
         return Ok(());
@@ -110,8 +112,8 @@ impl Delivery {
 
     /// The delivery that a THF file states.
     ///
-    /// The first broken rule is reported: 101 to 110 by the least line; then 701 to 711 by the least record from 1, and there
-    /// the least rule (docs/FORMAT.md, "Deliveries"). `Memory` comes at any step and says nothing of the file.
+    /// The first broken rule is reported: 101 to 110 by the least line; then 701 to 711 by the least record from 1, and
+    /// there the least rule (docs/FORMAT.md, "Deliveries"). `Memory` comes at any step and says nothing of the file.
     pub fn read(alloc: Global, bytes: &[u8]) -> Result<Delivery, DeliveryFault>
         ensures delivery { IfOk result (IsDeliveryOf bytes.now) }
         ensures refusal { IfErr result (IsDeliveryRefusal bytes.now) }

@@ -1,12 +1,14 @@
 //! What the zones of a lot's record say: rules 702 to 708.
 
-ghost use Rattle.std.specs.Prelude.{◌≡◌, true, false, [], ◌∷◌, map, option_map, option_to_list, Some, None, IfOk, OnOk, IfErr, codes};
+ghost use Rattle.std.specs.Prelude.{◌≡◌, true, false, [], ◌∷◌, Some, None, IfOk, OnOk, IfErr, codes};
+ghost use Rattle.std.specs.Prelude.{map, option_map, option_to_list};
 ghost use Rattle.std.specs.List.{list_any};
 ghost use Rattle.edi_line.specs.Entry.{entries};
 ghost use Rattle.edi_line.specs.inner.Refusal.{first_broken};
 ghost use Rattle.edi_record.specs.Records.{values};
 ghost use Rattle.edi_delivery.specs.Lots.{StatesLot};
-ghost use Rattle.edi_delivery.specs.inner.LotTests.{lacks_one, is_unsafe, has_several, miscounts, draft_tests, lot_tests};
+ghost use Rattle.edi_delivery.specs.inner.LotTests.{lacks_one, is_unsafe, has_several, miscounts_vecs};
+ghost use Rattle.edi_delivery.specs.inner.LotTests.{draft_tests, lot_tests};
 ghost use Rattle.edi_delivery.specs.inner.Steps.{IfRule};
 ghost use Rattle.edi_delivery.specs.inner.Drafts.{IsDraftOf, IsLotOf, own_names};
 
@@ -72,7 +74,8 @@ fn text_if_any<'b>(
     group: &'b [Zone<'_>],
     code: [u8; 3],
 ) -> Result<Option<&'b [u8]>, LotFault>
-    ensures any { IfOk result (λ text. values code (entries group.now) ≡ option_to_list (option_map (λ t. t.now) text)) }
+    ensures any { IfOk result (λ text.
+        values code (entries group.now) ≡ option_to_list (option_map (λ t. t.now) text)) }
     ensures several { IfErr result (IfRule (λ r. (r ≡ 707) × (has_several (values code (entries group.now)) ≡ true))) }
 {
     match texts(alloc, group, code)?.as_slice() {
@@ -85,8 +88,8 @@ fn text_if_any<'b>(
 /// The own names of the VEC files: one at least, and as many as the count says if there is one.
 fn counted_sheets<'b>(alloc: Global, group: &'b [Zone<'_>]) -> Result<Vec<&'b [u8]>, LotFault>
     ensures vecs { IfOk result (λ vecs. map (λ t. t.now) vecs.items ≡ values (codes "GDN") (entries group.now)) }
-    ensures right { OnOk result (miscounts (values (codes "GDC") (entries group.now)) (values (codes "GDN") (entries group.now)) ≡ false) }
-    ensures wrong { IfErr result (IfRule (λ r. (r ≡ 706) × (miscounts (values (codes "GDC") (entries group.now)) (values (codes "GDN") (entries group.now)) ≡ true))) }
+    ensures right { OnOk result (miscounts_vecs (entries group.now) ≡ false) }
+    ensures wrong { IfErr result (IfRule (λ r. (r ≡ 706) × (miscounts_vecs (entries group.now) ≡ true))) }
 {
     let vecs = texts(alloc, group, SHEET)?;
     let counts = texts(alloc, group, SHEET_COUNT)?;
@@ -157,7 +160,8 @@ fn name_of(alloc: Global, text: &[u8], rule: u16) -> Result<NamePart, LotFault>
 fn name_if_any(alloc: Global, text: Option<&[u8]>) -> Result<Option<NamePart>, LotFault>
     ensures name { IfOk result (λ name. name ≡ option_map (λ t. t.now) text.entry) }
     ensures safe { OnOk result (list_any is_unsafe (option_to_list (option_map (λ t. t.now) text.entry)) ≡ false) }
-    ensures not_safe { IfErr result (IfRule (λ r. (r ≡ 708) × (list_any is_unsafe (option_to_list (option_map (λ t. t.now) text.entry)) ≡ true))) }
+    ensures not_safe { IfErr result (IfRule (λ r. (r ≡ 708)
+        × (list_any is_unsafe (option_to_list (option_map (λ t. t.now) text.entry)) ≡ true))) }
 {
     match text {
         Some(text) => Ok(Some(name_of(alloc, text, 708)?)),
@@ -169,7 +173,8 @@ fn name_if_any(alloc: Global, text: Option<&[u8]>) -> Result<Option<NamePart>, L
 fn names_of(alloc: Global, texts: &[&[u8]]) -> Result<Vec<NamePart>, LotFault>
     ensures names { IfOk result (λ names. names.items ≡ map (λ t. t.now) texts.now) }
     ensures safe { OnOk result (list_any is_unsafe (map (λ t. t.now) texts.now) ≡ false) }
-    ensures not_safe { IfErr result (IfRule (λ r. (r ≡ 708) × (list_any is_unsafe (map (λ t. t.now) texts.now) ≡ true))) }
+    ensures not_safe { IfErr result (IfRule (λ r. (r ≡ 708)
+        × (list_any is_unsafe (map (λ t. t.now) texts.now) ≡ true))) }
 {
     let mut names = Vec::new(alloc);
     for text in texts {

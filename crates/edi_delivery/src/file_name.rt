@@ -42,8 +42,9 @@ impl Extension {
     }
 }
 
-/// The name of a file in a folder: 1 to 255 letters of ASCII, digits, `_`, `-` and points, of which the first is a letter, a digit
-/// or `_`. So it has no `/` or `\`, no NUL or other control byte, and is neither `.` nor `..`. Contracts see its bytes.
+/// The name of a file in a folder: 1 to 255 letters of ASCII, digits, `_`, `-` and points, of which the first is a
+/// letter, a digit or `_`. So it has no `/` or `\`, no NUL or other control byte, and is neither `.` nor `..`.
+/// Contracts see its bytes.
 pub struct FileName {
     text: Text,
 }
@@ -100,8 +101,8 @@ impl FileName {
     }
 }
 
-/// A name with `a` to `z` for `A` to `Z`, for tables in which names are found however they are spelled: two names are the same for
-/// `FileName::is_same` exactly if these are equal.
+/// A name with `a` to `z` for `A` to `Z`, for tables in which names are found in upper and lower case: two names are
+/// the same for `FileName::is_same` exactly if these are equal.
 pub fn lower_case(alloc: Global, name: &[u8]) -> Result<Text, AllocError>
     ensures { IfOk result (λ lower. lower ≡ str_to_ascii_lowercase name.now) }
 {

@@ -1,6 +1,8 @@
 //! Laws of deliveries.
 
-ghost use Rattle.edi_delivery.specs.Laws.{DeliveriesAreOne, RefusedFilesStateNone, DeliveryRefusalsAreOne, StatedDeliveriesAreDeliveries, FileNamesStayInFolders, NamesAreSameInLowerCase, LotsAreInOrder};
+ghost use Rattle.edi_delivery.specs.Laws.{DeliveriesAreOne, RefusedFilesStateNone, DeliveryRefusalsAreOne};
+ghost use Rattle.edi_delivery.specs.Laws.{StatedDeliveriesAreDeliveries, FileNamesStayInFolders};
+ghost use Rattle.edi_delivery.specs.Laws.{NamesAreSameInLowerCase, LotsAreInOrder};
 
 /// A file states one delivery at most, and has one refusal at most, and not both: it has one answer.
 pub fn deliveries_are_one()

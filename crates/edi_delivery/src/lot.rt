@@ -77,7 +77,8 @@ impl Lot {
         own: &Option<NamePart>,
         files: &mut Vec<FileName>,
     ) -> Result<(), AllocError>
-        ensures { OnOk result (files.new.items ≡ files.old.items ++ map (file_name self.now.name extension) (option_to_list own.now)) }
+        ensures { OnOk result (files.new.items
+            ≡ files.old.items ++ map (file_name self.now.name extension) (option_to_list own.now)) }
     {
         if let Some(own) = own {
             files.push(self.file(alloc, extension, own)?)?;

@@ -23,7 +23,8 @@ fn note_files(
 ) -> Result<(), LotFault>
     ensures noted { OnOk result (noted.new.keys ≡ noted.old.keys ++ map str_to_ascii_lowercase (files_of lot.now)) }
     ensures apart { OnOk result (repeats noted.old.keys (map str_to_ascii_lowercase (files_of lot.now)) ≡ false) }
-    ensures again { IfErr result (IfRule (λ rule. (rule ≡ 710) × (repeats noted.old.keys (map str_to_ascii_lowercase (files_of lot.now)) ≡ true))) }
+    ensures again { IfErr result (IfRule (λ rule. (rule ≡ 710)
+        × (repeats noted.old.keys (map str_to_ascii_lowercase (files_of lot.now)) ≡ true))) }
 {
     let files = lot.files(alloc)?;
     for file in &files {

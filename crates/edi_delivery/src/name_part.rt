@@ -2,7 +2,8 @@
 
 ghost use Rattle.std.specs.Prelude.{◌≡◌, true, false, IfOk, MatchOption};
 ghost use Rattle.std.specs.List.{list_all};
-ghost use Rattle.edi_delivery.specs.NameParts.{is_word_byte as is_word, is_part_byte as is_part, is_name_part as is_name};
+ghost use Rattle.edi_delivery.specs.NameParts.{is_word_byte as is_word, is_part_byte as is_part};
+ghost use Rattle.edi_delivery.specs.NameParts.{is_name_part as is_name};
 
 use edi_line::Text;
 use std::alloc::{AllocError, Global};
@@ -31,7 +32,7 @@ fn are_part_bytes(bytes: &[u8]) -> bool
     bytes.iter().all(|byte| is_part_byte(*byte))
 }
 
-/// Whether a text may be a part of a name: 1 to 125 letters of ASCII, digits, `_` and `-`, of which the first isn't `-`.
+/// Whether a text may be a part of a name: 1 to 125 letters of ASCII, digits, `_` and `-`, not beginning with `-`.
 fn is_name_part(text: &[u8]) -> bool
     ensures { result ≡ is_name text.now }
 {
@@ -43,8 +44,8 @@ fn is_name_part(text: &[u8]) -> bool
     }
 }
 
-/// The name of a lot, or the own name of one of its files: 1 to 125 letters of ASCII, digits, `_` and `-`, of which the first
-/// isn't `-`. Contracts see its bytes.
+/// The name of a lot, or the own name of one of its files: 1 to 125 letters of ASCII, digits, `_` and `-`, not
+/// beginning with `-`. Contracts see its bytes.
 pub struct NamePart {
     text: Text,
 }
@@ -69,7 +70,8 @@ impl Model for NamePart {
 impl NamePart {
     /// The text as a part of a name, or none where it isn't one.
     pub fn new(alloc: Global, text: &[u8]) -> Result<Option<NamePart>, AllocError>
-        ensures { IfOk result (λ part. MatchOption part (is_name text.now ≡ false) (λ p. (p ≡ text.now) × (is_name text.now ≡ true))) }
+        ensures { IfOk result (λ part.
+            MatchOption part (is_name text.now ≡ false) (λ p. (p ≡ text.now) × (is_name text.now ≡ true))) }
     {
         if !is_name_part(text) {
             return Ok(None);

@@ -17,8 +17,12 @@ pub record IsDraftOf (group : List Entry) (d : LotDraft) : Type 0 where
 -- all of them
 abbrev pub own_names : LotDraft → List (List ℕ)
 own_names d =
-    d.scd.now ∷ (d.dic.now ∷ (option_to_list (option_map (λ t. t.now) d.general) ++ (option_to_list (option_map (λ t. t.now) d.geo)
-    ++ (option_to_list (option_map (λ t. t.now) d.quality) ++ map (λ t. t.now) d.vecs.items))))
+    d.scd.now
+    ∷ (d.dic.now
+    ∷ (option_to_list (option_map (λ t. t.now) d.general)
+    ++ (option_to_list (option_map (λ t. t.now) d.geo)
+    ++ (option_to_list (option_map (λ t. t.now) d.quality)
+    ++ map (λ t. t.now) d.vecs.items))))
 
 -- the lot with these own names, and this name
 pub record IsLotOf (d : LotDraft) (name : List ℕ) (lot : Lot) : Type 0 where

@@ -22,13 +22,22 @@ has_several texts = nat_le 2 (length texts)
 abbrev pub miscounts : List (List ℕ) → List (List ℕ) → Bool
 miscounts counts vecs = is_none (first vecs) || not (counts_right counts (length vecs))
 
+abbrev pub miscounts_vecs : List Entry → Bool
+miscounts_vecs group = miscounts (values (codes "GDC") group) (values (codes "GDN") group)
+
+-- two files of a sort of which a lot has one at most
+abbrev pub has_two_of_one : List Entry → Bool
+has_two_of_one group =
+    has_several (values (codes "GNN") group)
+    || (has_several (values (codes "GON") group) || has_several (values (codes "QAN") group))
+
 -- the rules 704 to 707
 abbrev pub draft_tests : List Entry → List Test
 draft_tests group =
     test 704 (lacks_one (values (codes "SCN") group))
     ∷ test 705 (lacks_one (values (codes "DIN") group))
-    ∷ test 706 (miscounts (values (codes "GDC") group) (values (codes "GDN") group))
-    ∷ test 707 (has_several (values (codes "GNN") group) || (has_several (values (codes "GON") group) || has_several (values (codes "QAN") group)))
+    ∷ test 706 (miscounts_vecs group)
+    ∷ test 707 (has_two_of_one group)
     ∷ []
 
 -- a file's own name that isn't a name
