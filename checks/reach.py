@@ -25,6 +25,8 @@ CLAIMS = [
      [("edi_compare", "Pairings", "PairingCarries"), ("edi_plan", "Agreeing", "HasClasses")]),
     ("verify", "whether a file states a pairing that carries one sheet's plan onto another's",
      [("edi_pairing", "Verified", "IsVerified"), ("edi_pairing", "Verified", "IsVerifyRefusal")]),
+    ("Delivery::read", "the lots that a THF file states, or its refusal",
+     [("edi_delivery", "DeliveryRefusal", "IsDeliveryOf"), ("edi_delivery", "DeliveryRefusal", "IsDeliveryRefusal")]),
 ]
 
 WORD = re.compile(r"[A-Za-z_][\w'-]*(?:\.[A-Za-z_][\w'-]*)*")
@@ -169,7 +171,7 @@ def count(items):
 
 def page(base):
     out = ["# What the claims rest on", "",
-           "Every definition that the contracts of four calls reach, file by file, from the claim down. Made by",
+           "Every definition that the contracts of five calls reach, file by file, from the claim down. Made by",
            "`checks/reach.py`; the gate checks that it is current. [AUDIT.md](AUDIT.md) says how to read it.", ""]
     listed = set()
     for call, what, roots in CLAIMS:

@@ -8,7 +8,8 @@ A rule's sentence is that of the tables of docs/FORMAT.md. Its definition is the
 (specs/inner/ aside) that a comment `-- RULE: ..` stands above or in, or that has a test of
 that number (202 is the test of an identifier, which schemas share). Its code is the sources that name its number (edi_explain and edi_outcome
 aside, which say what others found). Its cases are those in
-crates/conform/data and program/cases that want its refusal, but for those of outcomes, which are given one.
+crates/conform/data and program/cases that want its refusal, but for those of outcomes, which are given one; of the rules of
+deliveries, the known files of edi_delivery that have it.
 """
 import glob
 import os
@@ -16,6 +17,9 @@ import re
 import sys
 
 ROOT = os.path.dirname(os.path.dirname(os.path.abspath(__file__)))
+
+# the known files of deliveries, and what the definitions say of them
+KNOWN_DELIVERIES = "crates/edi_delivery/src/known.rt"
 
 # crates that say what others found
 SAYERS = ("crates/edi_explain/", "crates/edi_outcome/")
@@ -33,7 +37,7 @@ def paths(pattern):
 
 def sentences():
     """The rules in the order of docs/FORMAT.md, each with where it is broken and its place."""
-    rows = re.findall(r"^\| ([1-6]\d\d) \| (.*) \| (.*) \|$", read("docs/FORMAT.md"), re.M)
+    rows = re.findall(r"^\| ([1-7]\d\d) \| (.*) \| (.*) \|$", read("docs/FORMAT.md"), re.M)
     return {int(rule): (sentence, place) for rule, sentence, place in rows}
 
 
@@ -43,7 +47,7 @@ def definitions():
     for path in paths("crates/*/specs/*.antt"):
         lines = read(path).split("\n")
         for at, line in enumerate(lines):
-            rule = re.search(r"^\s*-- ([1-6]\d\d): |\btest ([1-6]\d\d) |: rule ≡ (202) ", line)
+            rule = re.search(r"^\s*-- ([1-7]\d\d): |\btest ([1-7]\d\d) |: rule ≡ (202) ", line)
             if rule:
                 number = int(next(filter(None, rule.groups())))
                 found.setdefault(number, []).append((path, name_at(lines, at)))
@@ -73,7 +77,7 @@ def code():
             if re.search(r"\b(ensures|requires)\b|#\[", text):
                 continue
             text = text.replace("SchemaFault::Kinds", "604")
-            for rule in re.findall(r"\b([1-5]\d\d|60[1-4])\b", text):
+            for rule in re.findall(r"\b([1-5]\d\d|60[1-4]|70\d|71[01])\b", text):
                 files = found.setdefault(int(rule), [])
                 if path not in files:
                     files.append(path)
@@ -93,6 +97,8 @@ def cases():
             rule = re.search(r"^refused (?:\w+ )?(\d\d\d)\b", wanted, re.M)
             if rule:
                 found.setdefault(int(rule[1]), []).append((os.path.basename(path), title))
+    for title, rule in re.findall(r"ensures (\w+) \{ IsRefusedBy [^}]*\) (7\d\d) \d+ \}", read(KNOWN_DELIVERIES)):
+        found.setdefault(int(rule), []).append((os.path.basename(KNOWN_DELIVERIES), title.replace("_", " ")))
     return found
 
 

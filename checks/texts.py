@@ -2,6 +2,8 @@
 """Compares the sentences of the rules in crates/edi_explain/src/texts/ with the tables of docs/FORMAT.md.
 
     checks/texts.py [--check]  fails if a rule's sentence isn't that of the table
+
+The rules of deliveries, from 701 on, have no text yet.
 """
 import glob
 import os

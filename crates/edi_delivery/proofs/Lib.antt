@@ -1,0 +1,12 @@
+pub mod SafeNames
+pub mod LotSteps
+pub mod Repeats
+pub mod SameFiles
+pub mod LotRules
+pub mod Read
+pub mod Whole
+pub mod OneAnswer
+pub mod FiledOrder
+pub mod SafeLots
+pub mod InFolder
+pub mod KnownDeliveries

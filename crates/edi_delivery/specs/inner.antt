@@ -1,0 +1,6 @@
+-- What private contracts use.
+pub mod LotTests
+pub mod Steps
+pub mod Drafts
+pub mod Noted
+pub mod Taken
