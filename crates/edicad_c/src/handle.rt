@@ -73,6 +73,13 @@ impl Handle {
         }
     }
 
+    /// Frees what the handle holds, and leaves it empty.
+    pub fn clear(&mut self, alloc: Global)
+        ensures { self.new.held ≡ None }
+    {
+        drop(self.take(alloc));
+    }
+
     /// Puts something into the handle. What it held before is freed.
     pub fn put(&mut self, content: Box<Content>)
         ensures { self.new.held ≡ Some content.value }

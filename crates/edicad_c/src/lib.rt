@@ -1,6 +1,21 @@
 //! The library for C.
 #![tactic(auto)]
 
+ghost use Rattle.std.specs.Prelude.{◌≡◌};
+
+pub mod answer;
 pub mod content;
+pub mod handed;
 pub mod handle;
 mod loose;
+pub mod schemas;
+
+const VERSION: u32 = 1;
+
+/// The version of this interface.
+#[unsafe(no_mangle)]
+pub extern "C" fn edicad_version() -> u32
+    ensures { result ≡ 1 }
+{
+    VERSION
+}
