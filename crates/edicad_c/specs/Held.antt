@@ -1,10 +1,11 @@
 -- What handles hold.
-use Rattle.std.specs.Prelude.{◌≡◌, ℕ, List, [], Option, Some, None}
+use Rattle.std.specs.Prelude.{◌≡◌, ◌⊎◌, ℕ, List, [], Option, Some, None, option_map}
+use Rattle.std.specs.Global.{Box}
 use Rattle.edi_schema.specs.Classes.{Classes}
 use Rattle.edicad_c.specs.declared.answer.Answer.{Answer}
 use Rattle.edicad_c.specs.declared.content.Content.{Content}
 use Rattle.edicad_c.specs.declared.content.Content.TheVariants.{Schema, Bytes}
-use Rattle.edicad_c.specs.Answers.{wrong_call}
+use Rattle.edicad_c.specs.Answers.{no_memory, wrong_call}
 
 abbrev pub schema_of : Content → Option Classes
 schema_of (Schema s) = Some s
@@ -29,8 +30,20 @@ HoldsBytes (Some (Bytes v)) bytes = v.items ≡ bytes
 HoldsBytes (Some (Schema s)) bytes = ⊥
 HoldsBytes None bytes = ⊥
 
--- the answer under the schema that the handle holds; where it holds none, the call was wrong
-abbrev pub UnderSchema : Option Content → (Classes → Answer → Type 0) → Answer → Type 0
-UnderSchema (Some (Schema s)) P answer = P s answer
-UnderSchema (Some (Bytes v)) P answer = answer ≡ wrong_call
-UnderSchema None P answer = answer ≡ wrong_call
+-- a fact of the schema that the handle holds, or another where it holds none
+abbrev pub MatchSchema : Option Content → (Classes → Type 0) → Type 0 → Type 0
+MatchSchema (Some (Schema s)) P Q = P s
+MatchSchema (Some (Bytes v)) P Q = Q
+MatchSchema None P Q = Q
+
+-- the call was wrong, and the handle for what it gives is empty
+abbrev pub IsWrong : Option Content → Answer → Type 0
+IsWrong held answer = (held ≡ None) × (answer ≡ wrong_call)
+
+-- the bytes with this answer; or none, since memory ran out
+abbrev pub IsGiven : Answer → List ℕ → Option Content → Answer → Type 0
+IsGiven answer bytes held given = (HoldsBytes held bytes × (given ≡ answer)) ⊎ ((held ≡ None) × (given ≡ no_memory))
+
+-- what is in a box, if there is one
+abbrev pub in_box : Option (Box Content) → Option Content
+in_box boxed = option_map (λ content. content.value) boxed

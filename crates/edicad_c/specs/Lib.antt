@@ -2,4 +2,6 @@ pub mod Answers
 pub mod Copies
 pub mod Handles
 pub mod Held
+pub mod Pairs
 pub mod Schemas
+pub mod Sheets

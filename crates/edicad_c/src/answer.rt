@@ -1,8 +1,9 @@
 //! What each call answers.
 
 ghost use Rattle.std.specs.Prelude.{◌≡◌};
-ghost use Rattle.edicad_c.specs.Answers.{done, no_memory, of_schema, refused_at_line, refused_at_record, refused_kinds, source_number, wrong_call};
+ghost use Rattle.edicad_c.specs.Answers.{differs, differs_at, done, no_memory, of_difference, of_pair, of_schema, of_sheet, of_verdict, refused_at_line, refused_at_record, refused_kinds, source_number, wrong_call};
 
+use edi_compare::{CompareFault, Fault, Verdict};
 use edi_schema::{SchemaFault, Source};
 
 /// The number of the file of classes among a call's inputs.
@@ -17,13 +18,19 @@ pub const SECOND_INPUT: u32 = 4;
 pub const PAIRING_INPUT: u32 = 5;
 
 const DONE: u32 = 0;
+
 const DIFFERS: u32 = 1;
+
 const REFUSED: u32 = 2;
+
 const WRONG_CALL: u32 = 3;
+
 const NO_MEMORY: u32 = 5;
 
 const NO_UNIT: u32 = 0;
+
 const LINES: u32 = 1;
+
 const RECORDS: u32 = 2;
 
 // The rule of the classes of the four kinds.
@@ -67,6 +74,69 @@ impl Answer {
         Answer::of_status(NO_MEMORY)
     }
 
+    /// Two plans differ, or a pairing doesn't carry.
+    pub fn differs() -> Answer
+        ensures { result ≡ differs }
+    {
+        Answer::of_status(DIFFERS)
+    }
+
+    /// Two plans differ, and their canonical files first at this line.
+    pub fn differs_at(line: u64) -> Answer
+        ensures { result ≡ differs_at line }
+    {
+        Answer {
+            status: DIFFERS,
+            input: 0,
+            rule: 0,
+            unit: LINES,
+            place: line,
+        }
+    }
+
+    /// Whether two sheets state the same plan.
+    pub fn of_difference(same: bool) -> Answer
+        ensures { result ≡ of_difference same }
+    {
+        if same {
+            Answer::done()
+        } else {
+            Answer::differs()
+        }
+    }
+
+    /// The verdict on two sheets.
+    pub fn of_verdict(verdict: &Verdict) -> Answer
+        ensures { result ≡ of_verdict verdict.now }
+    {
+        match verdict {
+            Verdict::Same(_) => Answer::done(),
+            Verdict::Different { line } => Answer::differs_at(*line),
+        }
+    }
+
+    /// The refusal of the sheet that is the input of this number.
+    pub fn of_sheet(input: u32, fault: &Fault) -> Answer
+        ensures { result ≡ of_sheet input fault.now }
+    {
+        match fault {
+            Fault::Memory(_) => Answer::no_memory(),
+            Fault::Line { rule, at } => Answer::refused_at_line(input, *rule, *at),
+            Fault::Entry { rule, at } => Answer::refused_at_record(input, *rule, *at),
+        }
+    }
+
+    /// The refusal of the first of two sheets, or of the second.
+    pub fn of_pair(fault: &CompareFault) -> Answer
+        ensures { result ≡ of_pair fault.now }
+    {
+        match fault {
+            CompareFault::Memory(_) => Answer::no_memory(),
+            CompareFault::First(fault) => Answer::of_sheet(FIRST_INPUT, fault),
+            CompareFault::Second(fault) => Answer::of_sheet(SECOND_INPUT, fault),
+        }
+    }
+
     // An answer of which there is no more to say.
     fn of_status(status: u32) -> Answer
         ensures { result ≡ record { status = status; input = 0; rule = 0; unit = 0; place = 0 } }
@@ -80,8 +150,8 @@ impl Answer {
         }
     }
 
-    // An input is refused by a rule of lines.
-    fn refused_at_line(input: u32, rule: u16, at: u64) -> Answer
+    /// An input is refused by a rule of lines.
+    pub fn refused_at_line(input: u32, rule: u16, at: u64) -> Answer
         ensures { result ≡ refused_at_line input rule at }
     {
         Answer {

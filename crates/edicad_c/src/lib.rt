@@ -5,10 +5,13 @@ ghost use Rattle.std.specs.Prelude.{◌≡◌};
 
 pub mod answer;
 pub mod content;
+pub mod given;
 pub mod handed;
 pub mod handle;
 mod loose;
+pub mod pairs;
 pub mod schemas;
+pub mod sheets;
 
 const VERSION: u32 = 1;
 

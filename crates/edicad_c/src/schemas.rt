@@ -48,13 +48,7 @@ pub extern "C" fn edicad_schema_load_kinds(
 }
 
 // Loads the schema of two files into a handle.
-fn load(
-    alloc: Global,
-    scd: &[u8],
-    dic: &[u8],
-    kinds: &Kinds<'_>,
-    schema: &mut Handle,
-) -> Answer
+fn load(alloc: Global, scd: &[u8], dic: &[u8], kinds: &Kinds<'_>, schema: &mut Handle) -> Answer
     ensures { IsLoaded scd.now dic.now kinds.now schema.new.held result }
 {
     schema.clear(alloc);
