@@ -1,5 +1,6 @@
 pub mod Answers
 pub mod Copies
+pub mod Explains
 pub mod Handles
 pub mod Held
 pub mod Pairs
