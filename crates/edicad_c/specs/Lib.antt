@@ -3,6 +3,8 @@ pub mod Copies
 pub mod Explains
 pub mod Handles
 pub mod Held
+pub mod Paired
 pub mod Pairs
 pub mod Schemas
 pub mod Sheets
+pub mod Verifications

@@ -10,6 +10,7 @@ pub mod given;
 pub mod handed;
 pub mod handle;
 mod loose;
+pub mod pairings;
 pub mod pairs;
 pub mod schemas;
 pub mod sheets;
