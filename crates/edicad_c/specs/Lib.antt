@@ -1,5 +1,6 @@
 pub mod Answers
 pub mod Copies
+pub mod Differences
 pub mod Explains
 pub mod Handles
 pub mod Held

@@ -5,6 +5,7 @@ ghost use Rattle.std.specs.Prelude.{◌≡◌};
 
 pub mod answer;
 pub mod content;
+pub mod differences;
 pub mod explains;
 pub mod given;
 pub mod handed;
