@@ -1,6 +1,6 @@
 #!/bin/bash
-# Builds library/out/libedicad.a and library/out/libedicad.so. With --install PREFIX it puts them, the header and edicad.pc below PREFIX;
-# DESTDIR may stand before that, as usual.
+# Builds library/out/libedicad.a and library/out/libedicad.so; with --built it takes those that are there. With --install PREFIX it puts them,
+# the header and edicad.pc below PREFIX, or below DESTDIR and PREFIX.
 set -eu
 top=$(cd "$(dirname "$0")/.." && pwd)
 here=$top/library
@@ -10,7 +10,7 @@ kit=$(cd "$(dirname "$(readlink -f "$(command -v rt)")")/.." && pwd)
 cc=${CC:-cc}
 
 usage() {
-    echo "usage: build.sh [--install PREFIX]" >&2
+    echo "usage: build.sh [--built] [--install PREFIX]" >&2
     exit 3
 }
 
@@ -39,8 +39,15 @@ install_below() {
     sed "s|@PREFIX@|$prefix|; s|@VERSION@|$version|" "$here/edicad.pc.in" >"$root/lib/pkgconfig/edicad.pc"
 }
 
-case "${1:-}" in
-'') [ $# -eq 0 ] || usage; build ;;
---install) [ $# -eq 2 ] || usage; build; install_below "$2" ;;
-*) usage ;;
-esac
+is_built=no
+prefix=
+while [ $# -gt 0 ]; do
+    case "$1" in
+    --built) is_built=yes ;;
+    --install) [ $# -gt 1 ] || usage; prefix=$2; shift ;;
+    *) usage ;;
+    esac
+    shift
+done
+[ "$is_built" = yes ] || build
+[ -z "$prefix" ] || install_below "$prefix"

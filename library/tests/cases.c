@@ -12,6 +12,9 @@
 
 enum { MOST_INPUTS = 4 };
 
+_Static_assert(sizeof(edicad_answer) == 24 && offsetof(edicad_answer, place) == 16, "an answer as the library has it");
+_Static_assert(sizeof(edicad_schema) == sizeof(void *) && sizeof(edicad_bytes) == sizeof(void *), "handles as the library has them");
+
 /* Bytes with room of their own, so that reading past them is found. */
 typedef struct {
     uint8_t *at;
@@ -52,12 +55,17 @@ static bytes read_file(const char *path) {
     return all;
 }
 
-/* The place of a line in the text, or its end. */
+/* Where the next line begins, or the end. */
+static const char *behind_line(const char *at, const char *end) {
+    const char *feed = memchr(at, '\n', end - at);
+    return feed ? feed + 1 : end;
+}
+
+/* Where a line of the text is this one, or the end. */
 static const char *line_at(const char *text, const char *end, const char *line) {
     size_t length = strlen(line);
-    for (const char *at = text; at < end; at = memchr(at, '\n', end - at) + 1) {
+    for (const char *at = text; at < end; at = behind_line(at, end)) {
         if ((size_t)(end - at) >= length && memcmp(at, line, length) == 0) return at;
-        if (!memchr(at, '\n', end - at)) break;
     }
     return end;
 }

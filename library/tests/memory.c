@@ -1,4 +1,5 @@
-/* Refuses growths of memory, and counts what is held: memory SCD DIC A B.
+/* Refuses growths of memory, and counts what is held: memory SCD DIC A B OTHER.
+ * A and B state one plan, and OTHER another.
  *
  * It is linked with --wrap=malloc, --wrap=realloc and --wrap=free, so that the library asks here. First each growth of each call is refused in turn: the
  * call answers that memory ran out, or what it answers else, and what it holds is freed. Then a million calls at random, in any order that the
@@ -67,8 +68,9 @@ static bytes read_file(const char *path) {
     return all;
 }
 
-static bytes scd, dic, none, sheets[4], pairing;
-enum { SHEETS = 4, CALLS = 9 };
+enum { SHEETS = 5, CALLS = 9 };
+
+static bytes scd, dic, none, sheets[SHEETS], pairing;
 
 static const char *const names[CALLS] = {"load", "check", "canonical", "digest", "explain", "compare", "pairing", "verify", "diff"};
 
@@ -174,13 +176,14 @@ static void at_random(long count) {
 }
 
 int main(int count, char **words) {
-    if (count != 5) return 3;
+    if (count != 6) return 3;
     scd = read_file(words[1]);
     dic = read_file(words[2]);
     sheets[0] = read_file(words[3]);
     sheets[1] = read_file(words[4]);
     sheets[2] = none;
     sheets[3] = (bytes){sheets[0].at, sheets[0].length / 2};
+    sheets[4] = read_file(words[5]);
     edicad_schema schema = EDICAD_EMPTY;
     edicad_bytes given = EDICAD_EMPTY;
     check(make(0, &schema, none, none, &given).status == EDICAD_DONE, names[0], 0);
