@@ -48,29 +48,29 @@ source_number Scd = 1
 source_number Dic = 2
 
 -- the refusal of a schema
-abbrev pub of_schema : SchemaFault → Answer
-of_schema (schema.Memory e) = no_memory
-of_schema (schema.Line file rule at) = refused_at_line (source_number file) rule at
-of_schema (schema.Entry file rule at) = refused_at_record (source_number file) rule at
-of_schema schema.Kinds = refused_kinds
+abbrev pub schema_answer : SchemaFault → Answer
+schema_answer (schema.Memory e) = no_memory
+schema_answer (schema.Line file rule at) = refused_at_line (source_number file) rule at
+schema_answer (schema.Entry file rule at) = refused_at_record (source_number file) rule at
+schema_answer schema.Kinds = refused_kinds
 
 -- the refusal of the sheet that is the input of this number
-abbrev pub of_sheet : ℕ → Fault → Answer
-of_sheet input (sheet.Memory e) = no_memory
-of_sheet input (sheet.Line rule at) = refused_at_line input rule at
-of_sheet input (sheet.Entry rule at) = refused_at_record input rule at
+abbrev pub sheet_answer : ℕ → Fault → Answer
+sheet_answer input (sheet.Memory e) = no_memory
+sheet_answer input (sheet.Line rule at) = refused_at_line input rule at
+sheet_answer input (sheet.Entry rule at) = refused_at_record input rule at
 
 -- the refusal of the first of two sheets, or of the second
-abbrev pub of_pair : CompareFault → Answer
-of_pair (pair.Memory e) = no_memory
-of_pair (pair.First f) = of_sheet 3 f
-of_pair (pair.Second f) = of_sheet 4 f
+abbrev pub pair_answer : CompareFault → Answer
+pair_answer (pair.Memory e) = no_memory
+pair_answer (pair.First f) = sheet_answer 3 f
+pair_answer (pair.Second f) = sheet_answer 4 f
 
 -- the verdict on two sheets
-abbrev pub of_verdict : Verdict → Answer
-of_verdict (Same pairing) = done
-of_verdict (Different line) = differs_at line
+abbrev pub verdict_answer : Verdict → Answer
+verdict_answer (Same pairing) = done
+verdict_answer (Different line) = differs_at line
 
 -- whether two sheets state the same plan
-abbrev pub of_difference : Bool → Answer
-of_difference same = if same then done else differs
+abbrev pub difference_answer : Bool → Answer
+difference_answer same = if same then done else differs

@@ -6,7 +6,7 @@ use Rattle.edi_diff.specs.Differences.{IsDifference}
 use Rattle.edi_diff.specs.declared.differing.Difference.{Difference}
 use Rattle.edicad_c.specs.declared.answer.Answer.{Answer}
 use Rattle.edicad_c.specs.declared.content.Content.{Content}
-use Rattle.edicad_c.specs.Answers.{of_difference}
+use Rattle.edicad_c.specs.Answers.{difference_answer}
 use Rattle.edicad_c.specs.Held.{IsGiven}
 use Rattle.edicad_c.specs.Pairs.{RefusesPair}
 
@@ -15,5 +15,5 @@ use Rattle.edicad_c.specs.Pairs.{RefusesPair}
 abbrev pub IsDifferenceGiven : Classes → List ℕ → List ℕ → Bool → Option Content → Answer → Type 0
 IsDifferenceGiven s a b brief held answer =
     ((found : Difference) × IsAccepted s a × IsAccepted s b × IsDifference s a b brief found
-    × IsGiven (of_difference found.same) found.text.items held answer)
+    × IsGiven (difference_answer found.same) found.text.items held answer)
     ⊎ ((held ≡ None) × RefusesPair s a b answer)

@@ -9,7 +9,7 @@ use Rattle.edi_compare.specs.declared.fault.Fault.{Fault}
 use Rattle.edi_explain.specs.Explained.{DescribesPlan, ExplainsSheet}
 use Rattle.edicad_c.specs.declared.answer.Answer.{Answer}
 use Rattle.edicad_c.specs.declared.content.Content.{Content}
-use Rattle.edicad_c.specs.Answers.{done, no_memory, of_sheet}
+use Rattle.edicad_c.specs.Answers.{done, no_memory, sheet_answer}
 use Rattle.edicad_c.specs.Held.{IsGiven}
 
 -- memory ran out, and the handle is empty
@@ -23,7 +23,7 @@ IsDescribed p held answer = ((text : List ℕ) × DescribesPlan p text × IsGive
 -- the text that explains a fault of a sheet, by the name of its file
 abbrev pub IsExplained : Classes → List ℕ → List ℕ → Fault → Option Content → Answer → Type 0
 IsExplained s sheet name f held answer =
-    ((text : List ℕ) × ExplainsSheet s sheet name f text × IsGiven (of_sheet 3 f) text held answer) ⊎ LacksRoom held answer
+    ((text : List ℕ) × ExplainsSheet s sheet name f text × IsGiven (sheet_answer 3 f) text held answer) ⊎ LacksRoom held answer
 
 -- The sheet is accepted, and the handle holds the text on its plan; or the answer is its refusal, and the handle holds the text that explains it.
 abbrev pub IsExplanation : Classes → List ℕ → List ℕ → Option Content → Answer → Type 0

@@ -37,8 +37,8 @@ MatchSchema (Some (Bytes v)) P Q = Q
 MatchSchema None P Q = Q
 
 -- the call was wrong, and the handle for what it gives is empty
-abbrev pub IsWrong : Option Content → Answer → Type 0
-IsWrong held answer = (held ≡ None) × (answer ≡ wrong_call)
+abbrev pub IsWrongCall : Option Content → Answer → Type 0
+IsWrongCall held answer = (held ≡ None) × (answer ≡ wrong_call)
 
 -- the bytes with this answer; or none, since memory ran out
 abbrev pub IsGiven : Answer → List ℕ → Option Content → Answer → Type 0

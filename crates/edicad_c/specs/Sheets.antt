@@ -8,12 +8,12 @@ use Rattle.edi_compare.specs.Rules.{IsAccepted}
 use Rattle.edi_compare.specs.declared.fault.Fault.{Fault}
 use Rattle.edicad_c.specs.declared.answer.Answer.{Answer}
 use Rattle.edicad_c.specs.declared.content.Content.{Content}
-use Rattle.edicad_c.specs.Answers.{done, of_sheet}
+use Rattle.edicad_c.specs.Answers.{done, sheet_answer}
 use Rattle.edicad_c.specs.Held.{HoldsBytes}
 
 -- the answer is the refusal of the sheet, the input of this number, or that memory ran out
 abbrev pub Refuses : Classes → ℕ → List ℕ → Answer → Type 0
-Refuses s input sheet answer = (f : Fault) × IsRefusal s sheet f × (answer ≡ of_sheet input f)
+Refuses s input sheet answer = (f : Fault) × IsRefusal s sheet f × (answer ≡ sheet_answer input f)
 
 -- the sheet is accepted; or the answer is its refusal
 abbrev pub IsCheck : Classes → List ℕ → Answer → Type 0

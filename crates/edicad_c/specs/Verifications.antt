@@ -11,15 +11,15 @@ use Rattle.edi_pairing.specs.declared.verified.Verified.{Verified}
 use Rattle.edi_pairing.specs.declared.verified.Verified.TheVariants.{Carries, Fails}
 use Rattle.edicad_c.specs.declared.answer.Answer.{Answer}
 use Rattle.edicad_c.specs.declared.content.Content.{Content}
-use Rattle.edicad_c.specs.Answers.{differs, done, no_memory, of_sheet, refused_at_line}
+use Rattle.edicad_c.specs.Answers.{differs, done, no_memory, sheet_answer, refused_at_line}
 use Rattle.edicad_c.specs.Held.{IsGiven}
 
 -- the refusal of two sheets, or of a pairing's file at a line
-abbrev pub of_verify : VerifyFault → Answer
-of_verify (refused.Memory e) = no_memory
-of_verify (refused.First f) = of_sheet 3 f
-of_verify (refused.Second f) = of_sheet 4 f
-of_verify (refused.Pairing at why) = refused_at_line 5 0 at
+abbrev pub verify_answer : VerifyFault → Answer
+verify_answer (refused.Memory e) = no_memory
+verify_answer (refused.First f) = sheet_answer 3 f
+verify_answer (refused.Second f) = sheet_answer 4 f
+verify_answer (refused.Pairing at why) = refused_at_line 5 0 at
 
 -- nothing where a pairing carries, and else why it doesn't, by the name of its file
 abbrev pub IsVerifiedGiven : List ℕ → Verified → Option Content → Answer → Type 0
@@ -28,10 +28,10 @@ IsVerifiedGiven name (Fails why) held answer = IsGiven differs (unpaired_text na
 
 -- the refusal of a sheet; or that of the pairing's file, with the reason
 abbrev pub IsFaultGiven : VerifyFault → Option Content → Answer → Type 0
-IsFaultGiven (refused.Memory e) held answer = (held ≡ None) × (answer ≡ of_verify (refused.Memory e))
-IsFaultGiven (refused.First f) held answer = (held ≡ None) × (answer ≡ of_verify (refused.First f))
-IsFaultGiven (refused.Second f) held answer = (held ≡ None) × (answer ≡ of_verify (refused.Second f))
-IsFaultGiven (refused.Pairing at why) held answer = IsGiven (of_verify (refused.Pairing at why)) (reason_words why) held answer
+IsFaultGiven (refused.Memory e) held answer = (held ≡ None) × (answer ≡ verify_answer (refused.Memory e))
+IsFaultGiven (refused.First f) held answer = (held ≡ None) × (answer ≡ verify_answer (refused.First f))
+IsFaultGiven (refused.Second f) held answer = (held ≡ None) × (answer ≡ verify_answer (refused.Second f))
+IsFaultGiven (refused.Pairing at why) held answer = IsGiven (verify_answer (refused.Pairing at why)) (reason_words why) held answer
 
 -- Both sheets are accepted, the file states a pairing of them, and the answer is whether it carries, with the reason if it doesn't; or the answer
 -- is the refusal of a sheet or of the file.

@@ -1,7 +1,7 @@
 //! What each call answers.
 
 ghost use Rattle.std.specs.Prelude.{◌≡◌};
-ghost use Rattle.edicad_c.specs.Answers.{differs, differs_at, done, no_memory, of_difference, of_pair, of_schema, of_sheet, of_verdict, refused_at_line, refused_at_record, refused_kinds, source_number, wrong_call};
+ghost use Rattle.edicad_c.specs.Answers.{differs, differs_at, done, no_memory, difference_answer, pair_answer, schema_answer, sheet_answer, verdict_answer, refused_at_line, refused_at_record, refused_kinds, source_number, wrong_call};
 
 use edi_compare::{CompareFault, Fault, Verdict};
 use edi_schema::{SchemaFault, Source};
@@ -96,7 +96,7 @@ impl Answer {
 
     /// Whether two sheets state the same plan.
     pub fn of_difference(same: bool) -> Answer
-        ensures { result ≡ of_difference same }
+        ensures { result ≡ difference_answer same }
     {
         if same {
             Answer::done()
@@ -107,7 +107,7 @@ impl Answer {
 
     /// The verdict on two sheets.
     pub fn of_verdict(verdict: &Verdict) -> Answer
-        ensures { result ≡ of_verdict verdict.now }
+        ensures { result ≡ verdict_answer verdict.now }
     {
         match verdict {
             Verdict::Same(_) => Answer::done(),
@@ -117,7 +117,7 @@ impl Answer {
 
     /// The refusal of the sheet that is the input of this number.
     pub fn of_sheet(input: u32, fault: &Fault) -> Answer
-        ensures { result ≡ of_sheet input fault.now }
+        ensures { result ≡ sheet_answer input fault.now }
     {
         match fault {
             Fault::Memory(_) => Answer::no_memory(),
@@ -128,7 +128,7 @@ impl Answer {
 
     /// The refusal of the first of two sheets, or of the second.
     pub fn of_pair(fault: &CompareFault) -> Answer
-        ensures { result ≡ of_pair fault.now }
+        ensures { result ≡ pair_answer fault.now }
     {
         match fault {
             CompareFault::Memory(_) => Answer::no_memory(),
@@ -178,7 +178,7 @@ impl Answer {
 
     /// The refusal of a schema.
     pub fn of_schema(fault: &SchemaFault) -> Answer
-        ensures { result ≡ of_schema fault.now }
+        ensures { result ≡ schema_answer fault.now }
     {
         match fault {
             SchemaFault::Memory(_) => Answer::no_memory(),

@@ -3,7 +3,7 @@
 ghost use Rattle.std.specs.Prelude.{◌≡◌, Some};
 ghost use Rattle.edi_explain.specs.Found.{IsFound};
 ghost use Rattle.edicad_c.specs.Explains.{IsDescribed, IsExplained, IsExplanation};
-ghost use Rattle.edicad_c.specs.Held.{IsWrong, MatchSchema, in_box};
+ghost use Rattle.edicad_c.specs.Held.{IsWrongCall, MatchSchema, in_box};
 
 use crate::answer::{Answer, FIRST_INPUT};
 use crate::content::Content;
@@ -24,7 +24,7 @@ pub extern "C" fn edicad_explain(
     text: &mut Handle,
 ) -> Answer
     ensures kept { schema.new.held ≡ schema.old.held }
-    ensures answer { MatchSchema schema.old.held (λ s. IsExplanation s sheet.now name.now text.new.held result) (IsWrong text.new.held result) }
+    ensures answer { MatchSchema schema.old.held (λ s. IsExplanation s sheet.now name.now text.new.held result) (IsWrongCall text.new.held result) }
 {
     text.clear(alloc);
     let Some(content) = schema.take(alloc) else {
@@ -37,7 +37,7 @@ pub extern "C" fn edicad_explain(
 
 // The same under the schema that a handle holds.
 fn explanation(alloc: Global, content: &Content, sheet: &[u8], name: &[u8]) -> Given
-    ensures { MatchSchema (Some content.now) (λ s. IsExplanation s sheet.now name.now (in_box result.bytes) result.answer) (IsWrong (in_box result.bytes) result.answer) }
+    ensures { MatchSchema (Some content.now) (λ s. IsExplanation s sheet.now name.now (in_box result.bytes) result.answer) (IsWrongCall (in_box result.bytes) result.answer) }
 {
     let Some(schema) = content.schema() else {
         return Given::nothing(Answer::wrong_call());

@@ -2,9 +2,9 @@
 
 ghost use Rattle.std.specs.Prelude.{◌≡◌, IfOk, Some};
 ghost use Rattle.edi_pairing.specs.UnpairedText.{unpaired_text};
-ghost use Rattle.edicad_c.specs.Held.{IsWrong, MatchSchema, in_box};
-ghost use Rattle.edicad_c.specs.Paired.{IsPaired};
-ghost use Rattle.edicad_c.specs.Verifications.{IsFaultGiven, IsVerification, IsVerifiedGiven, of_verify};
+ghost use Rattle.edicad_c.specs.Held.{IsWrongCall, MatchSchema, in_box};
+ghost use Rattle.edicad_c.specs.Paired.{IsPairingGiven};
+ghost use Rattle.edicad_c.specs.Verifications.{IsFaultGiven, IsVerification, IsVerifiedGiven, verify_answer};
 
 use crate::answer::{Answer, FIRST_INPUT, PAIRING_INPUT, SECOND_INPUT};
 use crate::content::Content;
@@ -30,7 +30,7 @@ pub extern "C" fn edicad_pairing(
     pairing: &mut Handle,
 ) -> Answer
     ensures kept { schema.new.held ≡ schema.old.held }
-    ensures answer { MatchSchema schema.old.held (λ s. IsPaired s first.now second.now pairing.new.held result) (IsWrong pairing.new.held result) }
+    ensures answer { MatchSchema schema.old.held (λ s. IsPairingGiven s first.now second.now pairing.new.held result) (IsWrongCall pairing.new.held result) }
 {
     pairing.clear(alloc);
     let Some(content) = schema.take(alloc) else {
@@ -43,7 +43,7 @@ pub extern "C" fn edicad_pairing(
 
 // The file of a pairing of two sheets under the schema that a handle holds.
 fn paired(alloc: Global, content: &Content, first: &[u8], second: &[u8]) -> Given
-    ensures { MatchSchema (Some content.now) (λ s. IsPaired s first.now second.now (in_box result.bytes) result.answer) (IsWrong (in_box result.bytes) result.answer) }
+    ensures { MatchSchema (Some content.now) (λ s. IsPairingGiven s first.now second.now (in_box result.bytes) result.answer) (IsWrongCall (in_box result.bytes) result.answer) }
 {
     let Some(schema) = content.schema() else {
         return Given::nothing(Answer::wrong_call());
@@ -69,7 +69,7 @@ pub extern "C" fn edicad_verify(
     reason: &mut Handle,
 ) -> Answer
     ensures kept { schema.new.held ≡ schema.old.held }
-    ensures answer { MatchSchema schema.old.held (λ s. IsVerification s first.now second.now pairing.now name.now reason.new.held result) (IsWrong reason.new.held result) }
+    ensures answer { MatchSchema schema.old.held (λ s. IsVerification s first.now second.now pairing.now name.now reason.new.held result) (IsWrongCall reason.new.held result) }
 {
     reason.clear(alloc);
     let Some(content) = schema.take(alloc) else {
@@ -89,7 +89,7 @@ fn verification(
     pairing: &[u8],
     name: &[u8],
 ) -> Given
-    ensures { MatchSchema (Some content.now) (λ s. IsVerification s first.now second.now pairing.now name.now (in_box result.bytes) result.answer) (IsWrong (in_box result.bytes) result.answer) }
+    ensures { MatchSchema (Some content.now) (λ s. IsVerification s first.now second.now pairing.now name.now (in_box result.bytes) result.answer) (IsWrongCall (in_box result.bytes) result.answer) }
 {
     let Some(schema) = content.schema() else {
         return Given::nothing(Answer::wrong_call());
@@ -141,7 +141,7 @@ fn given_of_fault(alloc: Global, fault: &VerifyFault) -> Given
 
 // The answer of a pairing that isn't judged.
 fn answer_of(fault: &VerifyFault) -> Answer
-    ensures { result ≡ of_verify fault.now }
+    ensures { result ≡ verify_answer fault.now }
 {
     match fault {
         VerifyFault::Memory(_) => Answer::no_memory(),

@@ -2,7 +2,7 @@
 
 ghost use Rattle.std.specs.Prelude.{◌≡◌, Some};
 ghost use Rattle.edicad_c.specs.Answers.{wrong_call};
-ghost use Rattle.edicad_c.specs.Held.{IsWrong, MatchSchema, in_box};
+ghost use Rattle.edicad_c.specs.Held.{IsWrongCall, MatchSchema, in_box};
 ghost use Rattle.edicad_c.specs.Sheets.{IsCanonicalFile, IsCheck, IsDigest};
 
 use crate::answer::{Answer, FIRST_INPUT};
@@ -49,7 +49,7 @@ pub extern "C" fn edicad_canonical(
     canonical: &mut Handle,
 ) -> Answer
     ensures kept { schema.new.held ≡ schema.old.held }
-    ensures answer { MatchSchema schema.old.held (λ s. IsCanonicalFile s sheet.now canonical.new.held result) (IsWrong canonical.new.held result) }
+    ensures answer { MatchSchema schema.old.held (λ s. IsCanonicalFile s sheet.now canonical.new.held result) (IsWrongCall canonical.new.held result) }
 {
     canonical.clear(alloc);
     let Some(content) = schema.take(alloc) else {
@@ -62,7 +62,7 @@ pub extern "C" fn edicad_canonical(
 
 // The canonical file of a sheet under the schema that a handle holds.
 fn canonical_file(alloc: Global, content: &Content, sheet: &[u8]) -> Given
-    ensures { MatchSchema (Some content.now) (λ s. IsCanonicalFile s sheet.now (in_box result.bytes) result.answer) (IsWrong (in_box result.bytes) result.answer) }
+    ensures { MatchSchema (Some content.now) (λ s. IsCanonicalFile s sheet.now (in_box result.bytes) result.answer) (IsWrongCall (in_box result.bytes) result.answer) }
 {
     let Some(schema) = content.schema() else {
         return Given::nothing(Answer::wrong_call());
