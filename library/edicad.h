@@ -6,9 +6,9 @@
  * pointer is an empty input if its length is 0; with another length it is a mistake that isn't caught. Any bytes may be given: those that
  * are no sheet are refused.
  *
- * HANDLES. A schema and the bytes that a call gives are held by structs of one pointer. Set one to EDICAD_EMPTY before its first use. Whoever
- * has it owns what it holds, and frees it once with edicad_schema_free or edicad_bytes_free; a call that puts something into it frees what it
- * held before. Never copy such a struct, never write its pointer, and give no two of one type to one call. An empty handle is always
+ * HANDLES. A schema, and the bytes or the pairs that a call gives, are held by structs of one pointer. Set one to EDICAD_EMPTY before its first use.
+ * Whoever has it owns what it holds, and frees it once with edicad_schema_free, edicad_bytes_free or edicad_pairs_free; a call that puts something
+ * into it frees what it held before. Never copy such a struct, never write its pointer, and give no two of one type to one call. An empty handle is always
  * allowed: a schema that was never loaded, or was freed, makes a call answer EDICAD_WRONG_CALL, and so does a handle that holds something
  * else. Freeing an empty one does nothing. A pointer to a handle, to an answer's digest or to room that isn't empty is never null, which isn't
  * caught.
@@ -78,7 +78,18 @@ typedef struct edicad_bytes {
     void *inner;
 } edicad_bytes;
 
+/* Pairs that a call gave, or nothing. */
+typedef struct edicad_pairs {
+    void *inner;
+} edicad_pairs;
+
 #define EDICAD_EMPTY {0}
+
+/* A record of the first of two sheets, by the record of the second that it is. */
+typedef struct edicad_pair {
+    uint32_t second;   /* the place of the second sheet's record, from 0, in the order of its file */
+    uint32_t reversed; /* 1 of an arc that is reversed, else 0 */
+} edicad_pair;
 
 /* EDICAD_VERSION of the library that is linked. */
 uint32_t edicad_version(void);
@@ -132,6 +143,11 @@ edicad_answer edicad_compare(edicad_schema *schema, const uint8_t *first, size_t
 edicad_answer edicad_pairing(edicad_schema *schema, const uint8_t *first, size_t first_length, const uint8_t *second, size_t second_length,
                              edicad_bytes *pairing);
 
+/* What edicad_compare answers, and with EDICAD_DONE pairs holds a pair for each record of the first sheet, in the order of its file, which together carry the
+ * one plan onto the other: the same as edicad_pairing gives, by places in place of identifiers. Else pairs is empty. */
+edicad_answer edicad_pair_records(edicad_schema *schema, const uint8_t *first, size_t first_length, const uint8_t *second, size_t second_length,
+                                  edicad_pairs *pairs);
+
 /* Whether the file of a pairing, wherever it comes from, carries the plan of the first sheet onto that of the second: EDICAD_DONE exactly if it
  * does, and reason is empty; EDICAD_DIFFERENT if it states a pairing that doesn't, and reason says why, in a line that names the file by
  * name. EDICAD_REFUSED: a sheet is refused; or, with EDICAD_PAIRING, the file states no pairing of the two: place is its first wrong line, and reason
@@ -154,6 +170,17 @@ edicad_answer edicad_bytes_copy(edicad_bytes *bytes, uint8_t *room, size_t lengt
 
 /* Frees them, and leaves the handle empty. */
 void edicad_bytes_free(edicad_bytes *bytes);
+
+/* ---- pairs that a call gave ---- */
+
+/* How many pairs there are; 0 of an empty handle. */
+size_t edicad_pairs_length(edicad_pairs *pairs);
+
+/* Copies them to room, which must have room for exactly so many: else EDICAD_WRONG_CALL, and room is as it was. */
+edicad_answer edicad_pairs_copy(edicad_pairs *pairs, edicad_pair *room, size_t length);
+
+/* Frees them, and leaves the handle empty. */
+void edicad_pairs_free(edicad_pairs *pairs);
 
 #ifdef __cplusplus
 }

@@ -13,7 +13,8 @@
 enum { MOST_INPUTS = 4 };
 
 _Static_assert(sizeof(edicad_answer) == 24 && offsetof(edicad_answer, place) == 16, "an answer as the library has it");
-_Static_assert(sizeof(edicad_schema) == sizeof(void *) && sizeof(edicad_bytes) == sizeof(void *), "handles as the library has them");
+_Static_assert(sizeof(edicad_schema) == sizeof(void *) && sizeof(edicad_bytes) == sizeof(void *) && sizeof(edicad_pairs) == sizeof(void *), "handles as the library has them");
+_Static_assert(sizeof(edicad_pair) == 8, "a pair as the library has it");
 
 /* Bytes with room of their own, so that reading past them is found. */
 typedef struct {
@@ -213,6 +214,33 @@ static edicad_answer verified(edicad_schema *schema, bytes a, bytes b, bytes pai
     return edicad_verify(schema, a.at, a.length, b.at, b.length, pairing.at, pairing.length, (const uint8_t *)"p", 1, reason);
 }
 
+/* A pair for each record, as the file of the pairing has them: a place of the second sheet, and whether the arc is reversed. */
+static void pairs_case(edicad_schema *schema, const block *it, edicad_answer compared, bytes pairing) {
+    bytes a = it->inputs[0], b = it->inputs[1];
+    edicad_pairs held = EDICAD_EMPTY;
+    edicad_answer answer = edicad_pair_records(schema, a.at, a.length, b.at, b.length, &held);
+    check(same_answer(compared, answer), it, "compared with pairs");
+    size_t length = edicad_pairs_length(&held), lines = 0, reversed = 0, marked = 0;
+    for (size_t i = 0; i < pairing.length; i++) lines += pairing.at[i] == '\n';
+    check(length == (lines ? lines - 1 : 0), it, "as many pairs as lines");
+    edicad_pair *pairs = malloc((length + 1) * sizeof *pairs);
+    uint8_t *met = calloc(length + 1, 1);
+    if (!pairs || !met) stop("no memory", "");
+    check(edicad_pairs_copy(&held, pairs, length + 1).status == EDICAD_WRONG_CALL, it, "pairs for other room");
+    check(edicad_pairs_copy(&held, pairs, length).status == EDICAD_DONE, it, "pairs copied");
+    for (size_t i = 0; i < length; i++) {
+        check(pairs[i].second < length && !met[pairs[i].second] && pairs[i].reversed <= 1, it, "each record once");
+        if (pairs[i].second < length) met[pairs[i].second] = 1;
+        marked += pairs[i].reversed;
+    }
+    for (size_t i = 0; i + 9 < pairing.length; i++) reversed += memcmp(pairing.at + i, ";reversed\n", 10) == 0;
+    check(marked == reversed, it, "as many reversed arcs");
+    edicad_pairs_free(&held);
+    check(edicad_pairs_length(&held) == 0, it, "no pairs once they are freed");
+    free(pairs);
+    free(met);
+}
+
 static void compare_case(edicad_schema *schema, const block *it) {
     bytes a = it->inputs[0], b = it->inputs[1];
     edicad_bytes held = EDICAD_EMPTY, text = EDICAD_EMPTY;
@@ -225,6 +253,7 @@ static void compare_case(edicad_schema *schema, const block *it) {
     bytes pairing = taken(&held), said = taken(&text);
     check((pairing.length > 0) == (compared.status == EDICAD_DONE), it, "a pairing of the same");
     check((said.length > 0) == (compared.status != EDICAD_REFUSED), it, "a text of differences");
+    pairs_case(schema, it, compared, pairing);
     if (compared.status == EDICAD_DONE) {
         check(verified(schema, a, b, pairing, &text).status == EDICAD_DONE && edicad_bytes_length(&text) == 0, it, "its pairing verified");
         pairing.length--;

@@ -68,11 +68,20 @@ static bytes read_file(const char *path) {
     return all;
 }
 
-enum { SHEETS = 5, CALLS = 9 };
+enum { SHEETS = 5, CALLS = 10 };
 
 static bytes scd, dic, none, sheets[SHEETS], pairing;
 
-static const char *const names[CALLS] = {"load", "check", "canonical", "digest", "explain", "compare", "pairing", "verify", "diff"};
+static const char *const names[CALLS] = {"load", "check", "canonical", "digest", "explain", "compare", "pairing", "verify", "diff", "pair_records"};
+
+/* The records paired, and their pairs let go. */
+static edicad_answer paired(edicad_schema *schema, bytes a, bytes b) {
+    edicad_pairs pairs = EDICAD_EMPTY;
+    edicad_answer answer = edicad_pair_records(schema, a.at, a.length, b.at, b.length, &pairs);
+    check((edicad_pairs_length(&pairs) > 0) == (answer.status == EDICAD_DONE), "pairs", answer.status);
+    edicad_pairs_free(&pairs);
+    return answer;
+}
 
 /* A call by its number, over two sheets, with a handle for what it gives. */
 static edicad_answer make(int call, edicad_schema *schema, bytes a, bytes b, edicad_bytes *given) {
@@ -87,6 +96,7 @@ static edicad_answer make(int call, edicad_schema *schema, bytes a, bytes b, edi
     case 5: return edicad_compare(schema, a.at, a.length, b.at, b.length);
     case 6: return edicad_pairing(schema, a.at, a.length, b.at, b.length, given);
     case 7: return edicad_verify(schema, a.at, a.length, b.at, b.length, pairing.at, pairing.length, name, 4, given);
+    case 9: return paired(schema, a, b);
     default: return edicad_diff(schema, a.at, a.length, b.at, b.length, false, given);
     }
 }
@@ -143,7 +153,7 @@ static void at_random(long count) {
         edicad_bytes *given = &handles[random_below(3)];
         bytes a = sheets[random_below(SHEETS)], b = sheets[random_below(SHEETS)];
         asked = 0;
-        refuse_at = random_below(4) ? 0 : 1 + random_below(200);
+        refuse_at = random_below(4) ? 0 : 1 + random_below(300);
         unsigned what = random_below(40);
         if (what == 0) {
             edicad_schema_free(schema);

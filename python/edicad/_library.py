@@ -24,8 +24,14 @@ class Answer(ctypes.Structure):
     ]
 
 
+class RecordPair(ctypes.Structure):
+    """A record of the first sheet, by the record of the second that it is."""
+
+    _fields_ = [("second", ctypes.c_uint32), ("reversed", ctypes.c_uint32)]
+
+
 class Handle(ctypes.Structure):
-    """A schema, or bytes that a call gave; empty when it is made."""
+    """A schema, or bytes or pairs that a call gave; empty when it is made."""
 
     _fields_ = [("inner", ctypes.c_void_p)]
 
@@ -45,11 +51,15 @@ FUNCTIONS = {
     "edicad_explain": (Answer, HANDLE + BYTES * 2 + HANDLE),
     "edicad_compare": (Answer, HANDLE + BYTES * 2),
     "edicad_pairing": (Answer, HANDLE + BYTES * 2 + HANDLE),
+    "edicad_pair_records": (Answer, HANDLE + BYTES * 2 + HANDLE),
     "edicad_verify": (Answer, HANDLE + BYTES * 4 + HANDLE),
     "edicad_diff": (Answer, HANDLE + BYTES * 2 + (ctypes.c_bool,) + HANDLE),
     "edicad_bytes_length": (ctypes.c_size_t, HANDLE),
     "edicad_bytes_copy": (Answer, HANDLE + BYTES),
     "edicad_bytes_free": (None, HANDLE),
+    "edicad_pairs_length": (ctypes.c_size_t, HANDLE),
+    "edicad_pairs_copy": (Answer, HANDLE + BYTES),
+    "edicad_pairs_free": (None, HANDLE),
 }
 
 

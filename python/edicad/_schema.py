@@ -9,7 +9,7 @@ import weakref
 from typing import Any, Iterator, Sequence, Union
 
 from edicad import _library
-from edicad._library import DIFFERENT, DONE, INPUTS, NO_MEMORY, REFUSED, UNITS, Answer, Handle, Input
+from edicad._library import DIFFERENT, DONE, INPUTS, NO_MEMORY, REFUSED, UNITS, Answer, Handle, Input, RecordPair
 from edicad._values import Comparison, Difference, Explanation, Pairing, Refused, Verification
 
 _edicad = _library.load()
@@ -146,6 +146,21 @@ class Schema:
         with Input(_bytes_of(first)) as a, Input(_bytes_of(second)) as b, self._lent() as schema, _given() as given:
             answer = _ended(_edicad.edicad_pairing(schema, *a, *b, given), DONE, DIFFERENT)
             return Pairing.of_file(_taken(given)) if answer.status == DONE else None
+
+    def pair_records(self, first: Source, second: Source) -> list[tuple[int, bool]] | None:
+        """The same by places: of each record of the first sheet, in the order of its file, the place of its record in the second, from 0, and whether it is
+        an arc that is reversed."""
+        pairs = Handle()
+        try:
+            with Input(_bytes_of(first)) as a, Input(_bytes_of(second)) as b, self._lent() as schema:
+                answer = _ended(_edicad.edicad_pair_records(schema, *a, *b, pairs), DONE, DIFFERENT)
+            if answer.status == DIFFERENT:
+                return None
+            room = (RecordPair * _edicad.edicad_pairs_length(pairs))()
+            _ended(_edicad.edicad_pairs_copy(pairs, room, len(room)), DONE)
+        finally:
+            _edicad.edicad_pairs_free(pairs)
+        return [(it.second, it.reversed == 1) for it in room]
 
     def verify(self, first: Source, second: Source, pairing: Source, name: str | None = None) -> Verification:
         """Whether the file of a pairing, wherever it comes from, carries the plan of the first sheet onto that of the second. The reason names the file

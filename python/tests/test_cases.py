@@ -92,7 +92,12 @@ class Cases(unittest.TestCase):
                 pairing = schema.pairing(first, second)
                 self.assertEqual(pairing is not None, case.wanted == "same\n")
                 self.assertEqual(schema.diff(first, second).same, pairing is not None)
+                places = schema.pair_records(first, second)
+                self.assertEqual(places is not None, pairing is not None)
                 if pairing:
+                    names = [it for it in second.replace(b"\r", b"").split(b"\n") if it.startswith(b"RID")]
+                    self.assertEqual([it.reversed for it in pairing.pairs], [turned for _, turned in places])
+                    self.assertEqual([it.second for it in pairing.pairs], [names[place][8:] for place, _ in places])
                     self.assertEqual(len(pairing.pairs), pairing.file.count(b"\n") - 1)
                     self.assertTrue(schema.verify(first, second, pairing.file).carries)
         self.assertGreater(count, 10)

@@ -8,7 +8,7 @@ use Rattle.edicad_c.specs.declared.answer.Answer.{Answer}
 use Rattle.edicad_c.specs.declared.content.Content.{Content}
 use Rattle.edicad_c.specs.Answers.{difference_answer}
 use Rattle.edicad_c.specs.Held.{IsGiven}
-use Rattle.edicad_c.specs.Pairs.{RefusesPair}
+use Rattle.edicad_c.specs.Comparisons.{RefusesPair}
 
 -- Both sheets are accepted, the answer is whether they state the same plan, and the handle holds the text of what differs; or the answer is
 -- the refusal, and the handle is empty.

@@ -9,7 +9,7 @@ use Rattle.edicad_c.specs.declared.answer.Answer.{Answer}
 use Rattle.edicad_c.specs.declared.content.Content.{Content}
 use Rattle.edicad_c.specs.Answers.{differs_at, done}
 use Rattle.edicad_c.specs.Held.{IsGiven}
-use Rattle.edicad_c.specs.Pairs.{RefusesPair}
+use Rattle.edicad_c.specs.Comparisons.{RefusesPair}
 
 -- the file of a pairing; or an empty handle, and the line at which the canonical files differ
 abbrev pub IsComparedGiven : Compared → Option Content → Answer → Type 0

@@ -35,7 +35,7 @@ pub extern "C" fn edicad_diff(
 
 // The same under the schema that a handle holds.
 fn difference(alloc: Global, content: &Content, first: &[u8], second: &[u8], brief: bool) -> Given
-    ensures { MatchSchema (Some content.now) (λ s. IsDifferenceGiven s first.now second.now brief (in_box result.bytes) result.answer) (IsWrongCall (in_box result.bytes) result.answer) }
+    ensures { MatchSchema (Some content.now) (λ s. IsDifferenceGiven s first.now second.now brief (in_box result.content) result.answer) (IsWrongCall (in_box result.content) result.answer) }
 {
     let Some(schema) = content.schema() else {
         return Given::nothing(Answer::wrong_call());

@@ -37,7 +37,7 @@ pub extern "C" fn edicad_explain(
 
 // The same under the schema that a handle holds.
 fn explanation(alloc: Global, content: &Content, sheet: &[u8], name: &[u8]) -> Given
-    ensures { MatchSchema (Some content.now) (λ s. IsExplanation s sheet.now name.now (in_box result.bytes) result.answer) (IsWrongCall (in_box result.bytes) result.answer) }
+    ensures { MatchSchema (Some content.now) (λ s. IsExplanation s sheet.now name.now (in_box result.content) result.answer) (IsWrongCall (in_box result.content) result.answer) }
 {
     let Some(schema) = content.schema() else {
         return Given::nothing(Answer::wrong_call());
@@ -50,7 +50,7 @@ fn explanation(alloc: Global, content: &Content, sheet: &[u8], name: &[u8]) -> G
 
 // What an accepted sheet holds.
 fn description(alloc: Global, sound: &Sound) -> Given
-    ensures { IsDescribed sound.now (in_box result.bytes) result.answer }
+    ensures { IsDescribed sound.now (in_box result.content) result.answer }
 {
     match describe_plan(alloc, sound.plan()) {
         Ok(text) => Given::of_bytes(alloc, Answer::done(), text),
@@ -61,7 +61,7 @@ fn description(alloc: Global, sound: &Sound) -> Given
 // Where and why a sheet is refused.
 fn cause(alloc: Global, schema: &Schema, sheet: &[u8], name: &[u8], found: &Found) -> Given
     requires { IsFound schema.now sheet.now found.now }
-    ensures { IsExplained schema.now sheet.now name.now found.now.fault (in_box result.bytes) result.answer }
+    ensures { IsExplained schema.now sheet.now name.now found.now.fault (in_box result.content) result.answer }
 {
     match explain_sheet(alloc, schema, sheet, name, found) {
         Ok(text) => {

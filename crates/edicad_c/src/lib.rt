@@ -4,6 +4,7 @@
 ghost use Rattle.std.specs.Prelude.{◌≡◌};
 
 pub mod answer;
+pub mod comparing;
 pub mod content;
 pub mod differences;
 pub mod explains;
@@ -11,8 +12,8 @@ pub mod given;
 pub mod handed;
 pub mod handle;
 mod loose;
+pub mod pair;
 pub mod pairings;
-pub mod pairs;
 pub mod schemas;
 pub mod sheets;
 

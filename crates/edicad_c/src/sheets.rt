@@ -62,7 +62,7 @@ pub extern "C" fn edicad_canonical(
 
 // The canonical file of a sheet under the schema that a handle holds.
 fn canonical_file(alloc: Global, content: &Content, sheet: &[u8]) -> Given
-    ensures { MatchSchema (Some content.now) (λ s. IsCanonicalFile s sheet.now (in_box result.bytes) result.answer) (IsWrongCall (in_box result.bytes) result.answer) }
+    ensures { MatchSchema (Some content.now) (λ s. IsCanonicalFile s sheet.now (in_box result.content) result.answer) (IsWrongCall (in_box result.content) result.answer) }
 {
     let Some(schema) = content.schema() else {
         return Given::nothing(Answer::wrong_call());

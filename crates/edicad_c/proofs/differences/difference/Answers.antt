@@ -8,7 +8,7 @@ use Rattle.edicad_c.proofs.differences.difference.Goals as goal
 
 pub returns-in-Ok : goal.returns-in-Ok
 returns-in-Ok c =
-    let g = c.of_bytes in let held = in_box g.result.bytes in let answer = g.result.answer in let w = c.in-Ok in
+    let g = c.of_bytes in let held = in_box g.result.content in let answer = g.result.answer in let w = c.in-Ok in
     match_some c.args.content.now c.in-Some.schema.now (λ s. IsDifferenceGiven s c.args.first.now c.args.second.now c.args.brief held answer) (IsWrongCall held answer) c.in-Some.ensures
     (inl (
       w.difference,

@@ -11,7 +11,7 @@ use Rattle.edicad_c.proofs.pairings.paired.Goals as goal
 
 pub returns-in-Ok-Same : goal.returns-in-Ok-Same
 returns-in-Ok-Same c =
-    let held = in_box c.of_bytes.result.bytes in let answer = c.of_bytes.result.answer in let s = c.in-Some.schema.now in let a = c.args.first.now in let b = c.args.second.now in
+    let held = in_box c.of_bytes.result.content in let answer = c.of_bytes.result.answer in let s = c.in-Some.schema.now in let a = c.args.first.now in let b = c.args.second.now in
     let w = c.in-Ok-Same in
     match_some c.args.content.now s (λ s. IsPairingGiven s a b held answer) (IsWrongCall held answer) c.in-Some.ensures
     (inl (
@@ -24,7 +24,7 @@ returns-in-Ok-Same c =
 
 pub returns-in-Ok-Different : goal.returns-in-Ok-Different
 returns-in-Ok-Different c =
-    let g = c.nothing-in-Ok-Different in let held = in_box g.result.bytes in let answer = g.result.answer in let s = c.in-Some.schema.now in let a = c.args.first.now in
+    let g = c.nothing-in-Ok-Different in let held = in_box g.result.content in let answer = g.result.answer in let s = c.in-Some.schema.now in let a = c.args.first.now in
     let b = c.args.second.now in let w = c.in-Ok-Different in
     match_some c.args.content.now s (λ s. IsPairingGiven s a b held answer) (IsWrongCall held answer) c.in-Some.ensures
     (inl (

@@ -7,6 +7,6 @@ use Rattle.edicad_c.proofs.pairings.verification.Goals as goal
 
 pub returns-in-Ok : goal.returns-in-Ok
 returns-in-Ok c =
-    let g = c.given_of_verified in let held = in_box g.result.bytes in let answer = g.result.answer in let w = c.in-Ok in
+    let g = c.given_of_verified in let held = in_box g.result.content in let answer = g.result.answer in let w = c.in-Ok in
     match_some c.args.content.now c.in-Some.schema.now (λ s. IsVerification s c.args.first.now c.args.second.now c.args.pairing.now c.args.name.now held answer) (IsWrongCall held answer) c.in-Some.ensures
     (inl (w.verified, w.ensures.first, w.ensures.second, w.ensures.answer, g.ensures))

@@ -8,7 +8,7 @@ use Rattle.edicad_c.proofs.sheets.canonical_file.Goals as goal
 
 pub returns-in-Ok : goal.returns-in-Ok
 returns-in-Ok c =
-    let held = in_box c.of_bytes.result.bytes in let answer = c.of_bytes.result.answer in
+    let held = in_box c.of_bytes.result.content in let answer = c.of_bytes.result.answer in
     match_some c.args.content.now c.in-Some.schema.now (λ s. IsCanonicalFile s c.args.sheet.now held answer) (IsWrongCall held answer) c.in-Some.ensures
     (elim c.of_bytes.ensures [
       | inl given ↦ inl (c.in-Ok.file.items, c.in-Ok.ensures.form, given.0, given.1 ∙ c.done.ensures)

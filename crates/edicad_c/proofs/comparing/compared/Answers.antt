@@ -2,8 +2,8 @@
 use Rattle.std.proofs.Common.{◌≡◌, inl}
 use Rattle.edicad_c.proofs.HeldSteps.{match_some}
 use Rattle.edicad_c.specs.Answers.{wrong_call}
-use Rattle.edicad_c.specs.Pairs.{IsComparison}
-use Rattle.edicad_c.proofs.pairs.compared.Goals as goal
+use Rattle.edicad_c.specs.Comparisons.{IsComparison}
+use Rattle.edicad_c.proofs.comparing.compared.Goals as goal
 
 pub returns-in-Ok : goal.returns-in-Ok
 returns-in-Ok c =

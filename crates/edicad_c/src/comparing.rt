@@ -3,7 +3,7 @@
 ghost use Rattle.std.specs.Prelude.{◌≡◌, Some};
 ghost use Rattle.edicad_c.specs.Answers.{wrong_call};
 ghost use Rattle.edicad_c.specs.Held.{MatchSchema};
-ghost use Rattle.edicad_c.specs.Pairs.{IsComparison};
+ghost use Rattle.edicad_c.specs.Comparisons.{IsComparison};
 
 use crate::answer::Answer;
 use crate::content::Content;
