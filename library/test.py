@@ -5,6 +5,7 @@
 fails, unless it is told to go without: valgrind, c++ or pkg-config.
 """
 import argparse
+import json
 import os
 import pathlib
 import re
@@ -121,7 +122,7 @@ def python(library):
 
 
 def wheel(folder):
-    """The wheel, unpacked, with its own library: an example gives the example's digests."""
+    """The wheel, unpacked, with its own library: the examples run over it."""
     name = run([sys.executable, TOP / "python" / "backend.py", folder]).strip()
     with zipfile.ZipFile(folder / name) as packed:
         packed.extractall(folder / "wheel")
@@ -134,6 +135,12 @@ def wheel(folder):
     bad.mkdir()
     shutil.copy(PARCEL / "sheet.vec", bad / "good.vec")
     (bad / "bad.vec").write_bytes((PARCEL / "sheet.vec").read_bytes().replace(b"RIDSA07:Noeud_2", b"RIDSA07:Noeud_1"))
+    moved = folder / "moved.vec"
+    moved.write_bytes((PARCEL / "sheet.vec").read_bytes().replace(b":+5.00;+5.00;", b":+5.00;+6.00;"))
+    found = json.loads(run([sys.executable, TOP / "python" / "examples" / "differing.py", *SCHEMA, PARCEL / "sheet.vec", moved], env=env))["features"]
+    arc = {"type": "LineString", "coordinates": [[10.0, 0.0], [5.0, 6.0], [0.0, 0.0]]}
+    if [it["geometry"] for it in found if it["properties"]["type"] == "PAR"] != [arc]:
+        fail(f"differing.py: {found}")
     table = run([sys.executable, TOP / "python" / "examples" / "refusals.py", *SCHEMA, bad], env=env).split("\n")
     if table[0].split() != ["accepted", "1"] or table[1].split() != ["301", "1"] or not table[2].endswith("[301]"):
         fail(f"refusals.py: {table}")
