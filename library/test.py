@@ -1,8 +1,9 @@
 #!/usr/bin/env python3
-"""Builds the library, and tries it from C and from Python: test.py [--built] [--without TOOL]..
+"""Builds the library, and tries it from C and from Python: test.py [--after-ci | --built] [--without TOOL]..
 
---built takes what library/build.sh made before. Each step has a line; the first that fails ends the run. Where a tool is lacking the run
-fails, unless it is told to go without: valgrind, c++ or pkg-config.
+--after-ci, for the gate, builds over the libraries that `rt ci` has just proved in this checkout; --built takes what library/build.sh made
+before. Each step has a line; the first that fails ends the run. Where a tool is lacking the run fails, unless it is told to go without:
+valgrind, c++ or pkg-config.
 """
 import argparse
 import json
@@ -153,12 +154,15 @@ def step(what, said):
 
 def main():
     parser = argparse.ArgumentParser(usage=__doc__)
+    parser.add_argument("--after-ci", action="store_true")
     parser.add_argument("--built", action="store_true")
     parser.add_argument("--without", action="append", default=[], choices=TOOLS)
     given = parser.parse_args()
     lacking = [it for it in ("cc", "nm", "ar", "ld", "objcopy", *TOOLS) if it not in given.without and not shutil.which(it)]
     if lacking:
         fail(f"lacking: {', '.join(lacking)}")
+    if given.after_ci:
+        run([sys.executable, HERE / "over_ci.py"])
     if not given.built:
         run([HERE / "build.sh"])
         step("built", "libedicad.a and libedicad.so")
