@@ -144,7 +144,7 @@ edicad_answer edicad_pairing(edicad_schema *schema, const uint8_t *first, size_t
                              edicad_bytes *pairing);
 
 /* What edicad_compare answers, and with EDICAD_DONE pairs holds a pair for each record of the first sheet, in the order of its file, which together carry the
- * one plan onto the other: the same as edicad_pairing gives, by places in place of identifiers. Else pairs is empty. */
+ * one plan onto the other: a pairing by places, as that of edicad_pairing is one by identifiers. Else pairs is empty. */
 edicad_answer edicad_pair_records(edicad_schema *schema, const uint8_t *first, size_t first_length, const uint8_t *second, size_t second_length,
                                   edicad_pairs *pairs);
 

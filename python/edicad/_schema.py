@@ -148,7 +148,7 @@ class Schema:
             return Pairing.of_file(_taken(given)) if answer.status == DONE else None
 
     def pair_records(self, first: Source, second: Source) -> list[tuple[int, bool]] | None:
-        """The same by places: of each record of the first sheet, in the order of its file, the place of its record in the second, from 0, and whether it is
+        """Such a pairing by places: of each record of the first sheet, in the order of its file, the place of its record in the second, from 0, and whether it is
         an arc that is reversed."""
         pairs = Handle()
         try:
