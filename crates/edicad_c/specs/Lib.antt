@@ -1,0 +1,12 @@
+pub mod Answers
+pub mod Comparisons
+pub mod Copies
+pub mod Differences
+pub mod Explains
+pub mod Handles
+pub mod Held
+pub mod PairLists
+pub mod Paired
+pub mod Schemas
+pub mod Sheets
+pub mod Verifications

@@ -1,0 +1,50 @@
+//! What differs between two sheets.
+
+ghost use Rattle.std.specs.Prelude.{◌≡◌, Some};
+ghost use Rattle.edicad_c.specs.Differences.{IsDifferenceGiven};
+ghost use Rattle.edicad_c.specs.Held.{IsWrongCall, MatchSchema, in_box};
+
+use crate::answer::Answer;
+use crate::content::Content;
+use crate::given::Given;
+use crate::handle::Handle;
+use edi_diff::diff;
+use std::alloc::Global;
+
+/// The text of what differs between two sheets, or with `brief` that without the lines of records.
+#[unsafe(no_mangle)]
+pub extern "C" fn edicad_diff(
+    alloc: Global,
+    schema: &mut Handle,
+    first: &[u8],
+    second: &[u8],
+    brief: bool,
+    text: &mut Handle,
+) -> Answer
+    ensures kept { schema.new.held ≡ schema.old.held }
+    ensures answer { MatchSchema schema.old.held (λ s. IsDifferenceGiven s first.now second.now brief text.new.held result) (IsWrongCall text.new.held result) }
+{
+    text.clear(alloc);
+    let Some(content) = schema.take(alloc) else {
+        return Answer::wrong_call();
+    };
+    let given = difference(alloc, &content, first, second, brief);
+    schema.put(content);
+    given.hand_out(alloc, text)
+}
+
+// The same under the schema that a handle holds.
+fn difference(alloc: Global, content: &Content, first: &[u8], second: &[u8], brief: bool) -> Given
+    ensures { MatchSchema (Some content.now) (λ s. IsDifferenceGiven s first.now second.now brief (in_box result.content) result.answer) (IsWrongCall (in_box result.content) result.answer) }
+{
+    let Some(schema) = content.schema() else {
+        return Given::nothing(Answer::wrong_call());
+    };
+    match diff(alloc, schema, first, second, brief) {
+        Ok(difference) => {
+            let answer = Answer::of_difference(difference.same);
+            Given::of_bytes(alloc, answer, difference.text)
+        }
+        Err(fault) => Given::nothing(Answer::of_pair(&fault)),
+    }
+}

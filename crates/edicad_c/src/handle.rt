@@ -1,0 +1,98 @@
+//! What a caller in C holds of the library.
+
+ghost use Rattle.std.specs.Prelude.{◌≡◌, Option, option_map, None, Some};
+ghost use Rattle.edicad_c.specs.Handles.{Owns, held_coded};
+ghost use Rattle.edicad_c.specs.declared.content.Content.{Content};
+
+use crate::content::Content;
+use crate::loose::Loose;
+use std::alloc::Global;
+use std::marker::Model;
+use std::mem::replace;
+use std::ptr::null_mut;
+
+/// A pointer that owns a schema or bytes, or null, which owns nothing. C has it as a struct of one pointer, which it sets to null
+/// before the first call, and neither copies nor writes afterwards.
+#[repr(C)]
+pub struct Handle {
+    at: *mut u8,
+    alloc: Global,
+    pub ghost held: { Option Content } by { held_coded },
+}
+
+impl Model for Handle {
+    ghost also_owns = { λ handle. Owns handle.alloc handle.at handle.held };
+}
+
+impl Handle {
+    // A handle that holds nothing.
+    fn empty(alloc: Global) -> Handle
+        ensures { result.held ≡ None }
+    {
+        Handle {
+            at: null_mut(),
+            alloc,
+        }
+    }
+
+    // A handle that holds what the box holds.
+    fn of_loose(loose: Loose<Content, Global>) -> Handle
+        ensures { result.held ≡ Some loose.value }
+    {
+        let Loose { at, alloc } = loose;
+        Handle {
+            at: at as *mut u8,
+            alloc,
+        }
+    }
+
+    // What a handle holds.
+    fn into_loose(self) -> Option<Loose<Content, Global>>
+        ensures { option_map (λ loose. loose.value) result ≡ self.held }
+    {
+        let Handle { at, alloc } = self;
+        if at.is_null() {
+            None
+        } else {
+            Some(Loose {
+                at: at as *mut Content,
+                alloc,
+            })
+        }
+    }
+
+    /// Takes out what the handle holds, and leaves it empty.
+    pub fn take(&mut self, alloc: Global) -> Option<Box<Content>>
+        ensures taken { option_map (λ content. content.value) result ≡ self.old.held }
+        ensures empty { self.new.held ≡ None }
+    {
+        let held = replace(self, Handle::empty(alloc));
+        match held.into_loose() {
+            Some(loose) => Some(loose.into_box()),
+            None => None,
+        }
+    }
+
+    /// Frees what the handle holds, and leaves it empty.
+    pub fn clear(&mut self, alloc: Global)
+        ensures { self.new.held ≡ None }
+    {
+        drop(self.take(alloc));
+    }
+
+    /// Puts something into the handle. What it held before is freed.
+    pub fn put(&mut self, content: Box<Content>)
+        ensures { self.new.held ≡ Some content.value }
+    {
+        *self = Handle::of_loose(Loose::of(content));
+    }
+}
+
+impl Drop for Handle {
+    fn drop(self) {
+        match self.into_loose() {
+            Some(loose) => drop(loose.into_box()),
+            None => {}
+        }
+    }
+}
