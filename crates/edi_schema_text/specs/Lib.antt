@@ -1,0 +1,2 @@
+pub mod SchemaText
+pub mod Laws
