@@ -50,7 +50,7 @@ named_none (e ∷ s) n some = go (list_any is_semicolon e.0.rty) refl (named_non
 
 -- ---- what is settled
 
-settled_role : (rty : List ℕ) (c : Class) → (settled rty c).role ≡ c.role
+pub settled_role : (rty : List ℕ) (c : Class) → (settled rty c).role ≡ c.role
 settled_role rty c = go (bytes_eq rty (codes "ATT")) refl
   where
     go : (b : Bool) → bytes_eq rty (codes "ATT") ≡ b → (settled rty c).role ≡ c.role
