@@ -166,7 +166,7 @@ placed test there agrees (e ∷ s) all = go (list_any is_semicolon e.0.rty) refl
         ∙ (ap (option_map (embed (e ∷ s))) (sym (position-cons there (meaning_of e) (meaning s)))
         ∙ ap (λ l. option_map (embed (e ∷ s)) (position there l)) (sym (meaning_own e s h)))))
 
-each_at : {X : Type 0} (P : X → Type 0) (xs : List X) → ((k : ℕ) (x : X) → slice_get xs k ≡ Some x → P x) → AllByRecursion P xs
+pub each_at : {X : Type 0} (P : X → Type 0) (xs : List X) → ((k : ℕ) (x : X) → slice_get xs k ≡ Some x → P x) → AllByRecursion P xs
 each_at P [] all = tt
 each_at P (x ∷ xs) all = (all 0 x refl, each_at P xs (λ k y h. all (suc k) y h))
 

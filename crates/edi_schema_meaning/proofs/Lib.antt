@@ -4,3 +4,8 @@ pub mod Broken
 pub mod Carried
 pub mod Keyed
 pub mod LaidOut
+pub mod References
+pub mod Stated
+pub mod Phases
+pub mod Forms
+pub mod Alike

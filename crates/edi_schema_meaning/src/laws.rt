@@ -1,8 +1,8 @@
 //! What the text of a schema decides.
 
-ghost use Rattle.edi_schema_meaning.specs.Laws.{EmptyLaw};
+ghost use Rattle.edi_schema_meaning.specs.Laws.{OneTextOneAnswer};
 
-/// A placeholder while the lemmas are written.
-pub fn empty_law()
-    ensures { EmptyLaw }
+/// Two schemas with one text answer each file alike.
+pub fn one_text_one_answer()
+    ensures { OneTextOneAnswer }
 {}
