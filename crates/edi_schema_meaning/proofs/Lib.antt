@@ -9,3 +9,5 @@ pub mod Stated
 pub mod Phases
 pub mod Forms
 pub mod Alike
+pub mod Probing
+pub mod Told
