@@ -11,3 +11,6 @@ pub mod Forms
 pub mod Alike
 pub mod Probing
 pub mod Told
+pub mod Apart
+pub mod Numbers
+pub mod Agreeing

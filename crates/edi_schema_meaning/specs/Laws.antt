@@ -1,9 +1,63 @@
--- What the text of a schema decides.
-use Rattle.std.specs.Prelude.{◌≡◌}
-use Rattle.edi_schema.specs.Classes.{Classes, IsSchema}
+-- What the text of a schema decides, and what is decided by it alone.
+use Rattle.std.specs.Prelude.{◌≡◌, Bool, true, false, option_map, Some, None, codes}
+use Rattle.edi_record.specs.Texts.{HasNoSemicolon}
+use Rattle.edi_record.specs.declared.name.Name.{Name}
+use Rattle.edi_record.specs.declared.record.Kind.TheVariants.{Pno, Pfe}
+use Rattle.edi_schema.specs.Classes.{Classes, IsSchema, is_number_named, role_named}
+use Rattle.edi_schema.specs.Roles.{is_plain}
+use Rattle.edi_schema.specs.declared.role.Role.{Role}
+use Rattle.edi_schema.specs.declared.role.Role.TheVariants.{Initial, Final, Left, Right, Plain}
+use Rattle.edi_plan.specs.Joined.{beside}
+use Rattle.edi_write.specs.Written.{IsPrintableName}
+use Rattle.edi_compare.specs.Refused.{IsRefusal}
+use Rattle.edi_compare.specs.Rules.{IsAccepted}
+use Rattle.edi_compare.specs.declared.fault.Fault.TheVariants.{Entry}
 use Rattle.edi_schema_text.specs.SchemaText.{text_of_schema}
 use Rattle.edi_schema_meaning.specs.Answers.{AnswerAlike}
+use Rattle.edi_schema_meaning.specs.Probes.{join_records, loop_records, node_records, probe, start_records, value_records}
 
 -- two schemas with one text answer alike
 abbrev pub OneTextOneAnswer : Type 0
 OneTextOneAnswer = (s t : Classes) → IsSchema s → IsSchema t → text_of_schema s ≡ text_of_schema t → AnswerAlike s t
+
+-- what a schema answers to the small sheets of a name
+pub record AnswersProbes (s : Classes) (name : Name) : Type 0 where
+  -- one node: accepted if the class is there, and else refused by 302
+  pub known : (role : Role) → role_named s name ≡ Some role → IsAccepted s (probe (node_records name))
+  pub unknown : role_named s name ≡ None → IsRefusal s (probe (node_records name)) (Entry 302 1)
+
+  -- a link with one node at both ends: refused by 306 if the class has a kind, and not if it has none
+  pub of_a_kind : (role : Role) → role_named s name ≡ Some role → is_plain role ≡ false → IsRefusal s (probe (loop_records name)) (Entry 306 1)
+  pub of_no_kind : role_named s name ≡ Some Plain → ¬ (IsRefusal s (probe (loop_records name)) (Entry 306 1))
+
+  -- a link from an arc to a node: refused by 306 if the kind is of faces, and not if it is of nodes
+  pub of_faces : (role : Role) → role_named s name ≡ Some role → beside role ≡ Pfe → IsRefusal s (probe (join_records name)) (Entry 306 1)
+  pub of_nodes : (role : Role) → role_named s name ≡ Some role → beside role ≡ Pno → ¬ (IsRefusal s (probe (join_records name)) (Entry 306 1))
+
+  -- the same with the node at the arc's first point alone: refused by 402 if the kind is that of final nodes, and not if it is that of initial ones
+  pub of_ends : role_named s name ≡ Some Final → IsRefusal s (probe (start_records name)) (Entry 402 1)
+  pub of_starts : role_named s name ≡ Some Initial → ¬ (IsRefusal s (probe (start_records name)) (Entry 402 1))
+
+  -- two nodes with an attribute of `01` and of `1`: refused by 403 if its values are numbers, and not if they are bytes
+  pub of_numbers : name.rty ≡ codes "ATT" → is_number_named s name ≡ Some true → IsRefusal s (probe (value_records name)) (Entry 403 2)
+  pub of_bytes : name.rty ≡ codes "ATT" → is_number_named s name ≡ Some false → ¬ (IsRefusal s (probe (value_records name)) (Entry 403 2))
+
+abbrev pub ProbesAreAnswered : Type 0
+ProbesAreAnswered = (s : Classes) (name : Name) → IsPrintableName name → AnswersProbes s name
+
+-- left for right
+abbrev pub one_side : Role → Role
+one_side Initial = Initial
+one_side Final = Final
+one_side Left = Left
+one_side Right = Left
+one_side Plain = Plain
+
+-- both schemas have a class of this name, of one kind but for left and right, or neither has; and for attributes of numbers in both or in neither
+pub record AgreeButSides (s t : Classes) (name : Name) : Type 0 where
+  pub kind : option_map one_side (role_named s name) ≡ option_map one_side (role_named t name)
+  pub numbers : name.rty ≡ codes "ATT" → is_number_named s name ≡ is_number_named t name
+
+-- two schemas that answer alike agree so on each name that a pointer can have
+abbrev pub OneAnswerOneMeaning : Type 0
+OneAnswerOneMeaning = (s t : Classes) → IsSchema s → IsSchema t → AnswerAlike s t → (name : Name) → HasNoSemicolon name.rty → AgreeButSides s t name
