@@ -4,3 +4,4 @@ pub mod Meaning
 pub mod Named
 pub mod Sorted
 pub mod Tell
+pub mod Stated

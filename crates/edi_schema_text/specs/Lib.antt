@@ -1,2 +1,3 @@
 pub mod SchemaText
+pub mod Known
 pub mod Laws
