@@ -42,7 +42,7 @@ use Rattle.edi_compare.specs.declared.fault.Fault.TheVariants.{Entry}
 use Rattle.edi_schema_meaning.proofs.Probing.{CanBeRead, IsPlainName, bare_arc, bare_link, bare_node, probe_records, probe_sheet}
 use Rattle.edi_schema_meaning.proofs.Told.{first_is, link_least, not_wrong, place_none, place_some, reference_back, refused_at_one, topology_back, unknown_first, unknown_least, wrong_first}
 use Rattle.edi_schema_meaning.specs.Answers.{AnswerAlike}
-use Rattle.edi_schema_meaning.specs.Probes.{arc_of, end_at, join_records, link_of, loop_records, node_of, node_records, probe, spot, start_records}
+use Rattle.edi_schema_meaning.specs.Probes.{arc_of, end_at, join_records, link_of, loop_records, node_of, node_records, plain_letters, probe, spot, start_records}
 
 -- what an end names is one record
 names_one : (s : Classes) (list : List Record) (e : End) (place k : ℕ) (kind : Kind) (q : Record) → place_named list e.target ≡ Some k → slice_get list k ≡ Some q → Names s list e place kind → q.kind ≡ kind
@@ -62,7 +62,7 @@ not_unknown s list r rest is k known (joins_wrong e h) = omega (arith, e)
 not_unknown s list r rest is k known (repeats_side e h) = omega (arith, e)
 
 -- one record repeats no object
-lone : (cse : Option (List ℕ)) (q : PlanRecord) → IsUnbroken (BreaksObjectRule (record { cse = cse; list = q ∷ [] }))
+pub lone : (cse : Option (List ℕ)) (q : PlanRecord) → IsUnbroken (BreaksObjectRule (record { cse = cse; list = q ∷ [] }))
 lone cse q rule at (repeats_object e a less h) = let second = h.second in omega (arith, less, second)
 
 head_same : (a b c d : End) → a ∷ b ∷ [] ≡ c ∷ d ∷ [] → (a ≡ c) × (b ≡ d)
@@ -87,20 +87,17 @@ arc_link : Par ≡ Lnk → ⊥
 arc_link h = omega (arith, ap kind_rank h)
 
 module _ (n : Name) (plain : IsPlainName n) where
-  node : Record
-  node = node_of n (codes "N") []
+  can_node : CanBeRead plain_letters (node_of n (codes "N") [])
+  can_node = bare_node plain_letters n plain (codes "N") refl (none_is 10 (codes "N") refl)
 
-  can_node : CanBeRead (node_of n (codes "N") [])
-  can_node = bare_node n plain (codes "N") refl (none_is 10 (codes "N") refl)
+  can_arc : CanBeRead plain_letters (arc_of n (codes "A"))
+  can_arc = bare_arc plain_letters n plain (codes "A") refl (none_is 10 (codes "A") refl)
 
-  can_arc : CanBeRead (arc_of n (codes "A"))
-  can_arc = bare_arc n plain (codes "A") refl (none_is 10 (codes "A") refl)
+  can_loop : CanBeRead plain_letters (link_of n (codes "L") (end_at Pno (codes "N")) (end_at Pno (codes "N")))
+  can_loop = bare_link plain_letters n plain (codes "L") Pno Pno (codes "N") (codes "N") refl (none_is 10 (codes "L") refl) refl (none_is 10 (codes "N") refl) refl (none_is 10 (codes "N") refl)
 
-  can_loop : CanBeRead (link_of n (codes "L") (end_at Pno (codes "N")) (end_at Pno (codes "N")))
-  can_loop = bare_link n plain (codes "L") Pno Pno (codes "N") (codes "N") refl (none_is 10 (codes "L") refl) refl (none_is 10 (codes "N") refl) refl (none_is 10 (codes "N") refl)
-
-  can_join : CanBeRead (link_of n (codes "L") (end_at Par (codes "A")) (end_at Pno (codes "N")))
-  can_join = bare_link n plain (codes "L") Par Pno (codes "A") (codes "N") refl (none_is 10 (codes "L") refl) refl (none_is 10 (codes "A") refl) refl (none_is 10 (codes "N") refl)
+  can_join : CanBeRead plain_letters (link_of n (codes "L") (end_at Par (codes "A")) (end_at Pno (codes "N")))
+  can_join = bare_link plain_letters n plain (codes "L") Par Pno (codes "A") (codes "N") refl (none_is 10 (codes "L") refl) refl (none_is 10 (codes "A") refl) refl (none_is 10 (codes "N") refl)
 
   -- ---- a class that one schema alone has
 
@@ -152,9 +149,6 @@ module _ (n : Name) (plain : IsPlainName n) where
 
   loop_sheet : Sheet
   loop_sheet = record { cse = None; list = loop_records n; few = lit≤ tt; in_shape = refl }
-
-  loop : Record
-  loop = link_of n (codes "L") (end_at Pno (codes "N")) (end_at Pno (codes "N"))
 
   loop_stated : IsSheetOf (probe (loop_records n)) loop_sheet
   unfolding loop_sheet

@@ -14,3 +14,6 @@ pub mod Told
 pub mod Apart
 pub mod Numbers
 pub mod Agreeing
+pub mod PrintedBytes
+pub mod OwnForm
+pub mod Lettered

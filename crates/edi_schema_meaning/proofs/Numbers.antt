@@ -34,7 +34,7 @@ use Rattle.edi_compare.specs.Rules.{RecordsHold, ReferencesHold}
 use Rattle.edi_compare.specs.declared.fault.Fault.TheVariants.{Entry}
 use Rattle.edi_schema_meaning.proofs.Probing.{CanBeRead, IsPlainName, probe_records, probe_sheet, valued_node}
 use Rattle.edi_schema_meaning.proofs.Told.{place_some, topology_back}
-use Rattle.edi_schema_meaning.specs.Probes.{node_of, probe, spot, value_records, valued}
+use Rattle.edi_schema_meaning.specs.Probes.{node_of, plain_letters, probe, spot, value_records, valued}
 
 zero_one : number (codes "01") ≡ Some (pos 1000000)
 unfolding number whole_number fraction_number
@@ -51,10 +51,10 @@ spellings : Bytes (codes "1") ≡ Bytes (codes "01") → ⊥
 spellings h = cc
 
 module _ (n : Name) (plain : IsPlainName n) (att : n.rty ≡ codes "ATT") where
-  can_values : AllByRecursion CanBeRead (value_records n)
+  can_values : AllByRecursion (CanBeRead plain_letters) (value_records n)
   can_values =
-      (valued_node n plain (codes "N") (codes "01") refl (none_is 10 (codes "N") refl) (none_is 10 (codes "01") refl),
-        (valued_node n plain (codes "M") (codes "1") refl (none_is 10 (codes "M") refl) (none_is 10 (codes "1") refl), tt))
+      (valued_node plain_letters n plain (codes "N") (codes "01") refl (none_is 10 (codes "N") refl) (none_is 10 (codes "01") refl) refl,
+        (valued_node plain_letters n plain (codes "M") (codes "1") refl (none_is 10 (codes "M") refl) (none_is 10 (codes "1") refl) refl, tt))
 
   value_sheet : Sheet
   value_sheet = record { cse = None; list = value_records n; few = lit≤ tt; in_shape = refl }
