@@ -49,7 +49,7 @@ use Rattle.edi_schema_meaning.proofs.PrintedBytes.{AreBytes, NameBytes, are_byte
 use Rattle.edi_schema_meaning.proofs.Probing.{CanBeRead, IsPlainName, file_records, file_sheet, valued_node, zones_printable}
 use Rattle.edi_schema_meaning.proofs.Told.{place_some}
 use Rattle.edi_schema_meaning.specs.Answers.{AnswerAlike}
-use Rattle.edi_schema_meaning.specs.Probes.{node_of, spot, valued}
+use Rattle.edi_schema_meaning.specs.Probes.{letter_records, node_of, spot, valued}
 
 -- ---- an empty value
 
@@ -66,9 +66,6 @@ not_number : (m : ℤ) → ¬ (IsNumberText [] m)
 not_number m h = none-some m (sym no_number ∙ (number_is [] m).1 h)
 
 -- ---- a node with an attribute of the class, under letters
-
-abbrev letter_records : Name → List Record
-letter_records n = node_of n (codes "N1") (valued n [] ∷ []) ∷ []
 
 abbrev letter_plan : ℕ → Role → Drawing
 letter_plan k role = record {

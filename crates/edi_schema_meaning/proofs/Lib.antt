@@ -17,3 +17,4 @@ pub mod Agreeing
 pub mod PrintedBytes
 pub mod OwnForm
 pub mod Lettered
+pub mod Sided

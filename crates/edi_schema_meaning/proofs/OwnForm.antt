@@ -1,5 +1,5 @@
 -- A file that is the layout of its own plan is its own canonical file.
-use Rattle.std.proofs.Common.{◌≡◌, ℕ, zero, suc, ◌≤◌, Bool, true, false, cond, List, [], ◌∷◌, length, Option, Some, None, option_map, refl, sym, ap, ◌∙◌, subst}
+use Rattle.std.proofs.Common.{◌≡◌, ℕ, zero, suc, ◌≤◌, Bool, true, false, cond, List, [], ◌∷◌, length, Option, Some, None, option_map, unwrap_or, refl, sym, ap, ◌∙◌, subst}
 use Rattle.std.specs.List.{AllByRecursion}
 use Rattle.std.specs.Map.{keys_of}
 use Rattle.std.proofs.lemmas.Option.{none-some, same_Some}
@@ -10,7 +10,7 @@ use Rattle.edi_record.specs.declared.name.Name.{Name}
 use Rattle.edi_record.specs.declared.record.Record.{Record}
 use Rattle.edi_record.specs.declared.sheet.Sheet.{Sheet}
 use Rattle.edi_schema.proofs.Names.{same_name}
-use Rattle.edi_schema.specs.Classes.{Classes, IsSchema, is_name, place_of}
+use Rattle.edi_schema.specs.Classes.{Classes, IsSchema, class_name_at, is_name, place_of}
 use Rattle.edi_plan.proofs.Built.{plans_agreeing, plans_whole}
 use Rattle.edi_plan.specs.PlanOf.{IsPlanOf}
 use Rattle.edi_plan.specs.Plans.{Drawing}
@@ -20,7 +20,7 @@ use Rattle.edi_rank.specs.EqualObjects.{BreaksObjectRule}
 use Rattle.edi_rank.specs.InOrder.{IsInOrder}
 use Rattle.edi_topo.specs.TopologyRules.{BreaksTopologyRule}
 use Rattle.edi_write.proofs.WrittenRecords.{written_layout}
-use Rattle.edi_write.specs.Layout.{class_name_of, layout}
+use Rattle.edi_write.specs.Layout.{class_name_of, layout, no_name}
 use Rattle.edi_write.specs.Written.{letters, written_records}
 use Rattle.edi_compare.proofs.Headline.{decide}
 use Rattle.edi_compare.proofs.Phases.{all_held, one_plan, references_held, topology_held}
@@ -32,18 +32,21 @@ use Rattle.edi_compare.specs.Rules.{IsAccepted, RecordsHold, ReferencesHold}
 use Rattle.edi_schema_meaning.proofs.Embed.{position-cons}
 
 -- the name at the place of a name
-pub name_at_place : (s : Classes) (n : Name) (k : ℕ) → place_of s n ≡ Some k → class_name_of s k ≡ n
-name_at_place [] n k h = absurd (none-some k h)
-name_at_place (e ∷ s) n k h = go (is_name n e.0) refl (sym (position-cons (is_name n) e.0 (keys_of s)) ∙ h) (name_at_place s n)
+pub name_there : (s : Classes) (n : Name) (k : ℕ) → place_of s n ≡ Some k → class_name_at s k ≡ Some n
+name_there [] n k h = absurd (none-some k h)
+name_there (e ∷ s) n k h = go (is_name n e.0) refl (sym (position-cons (is_name n) e.0 (keys_of s)) ∙ h) (name_there s n)
   where
-    behind : (o : Option ℕ) → place_of s n ≡ o → option_map suc o ≡ Some k → ((j : ℕ) → place_of s n ≡ Some j → class_name_of s j ≡ n) → class_name_of (e ∷ s) k ≡ n
+    behind : (o : Option ℕ) → place_of s n ≡ o → option_map suc o ≡ Some k → ((j : ℕ) → place_of s n ≡ Some j → class_name_at s j ≡ Some n) → class_name_at (e ∷ s) k ≡ Some n
     behind None p g more = absurd (none-some k g)
-    behind (Some j) p g more = subst (λ i. class_name_of (e ∷ s) i ≡ n) (same_Some (suc j) k g) (more j p)
-    go : (b : Bool) → is_name n e.0 ≡ b → cond (is_name n e.0) (Some 0) (option_map suc (place_of s n)) ≡ Some k → ((j : ℕ) → place_of s n ≡ Some j → class_name_of s j ≡ n) → class_name_of (e ∷ s) k ≡ n
+    behind (Some j) p g more = subst (λ i. class_name_at (e ∷ s) i ≡ Some n) (same_Some (suc j) k g) (more j p)
+    go : (b : Bool) → is_name n e.0 ≡ b → cond (is_name n e.0) (Some 0) (option_map suc (place_of s n)) ≡ Some k → ((j : ℕ) → place_of s n ≡ Some j → class_name_at s j ≡ Some n) → class_name_at (e ∷ s) k ≡ Some n
     go true same g more =
         let first : 0 ≡ k = same_Some 0 k (sym (ap (λ b. cond b (Some 0) (option_map suc (place_of s n))) same) ∙ g) in
-        subst (λ i. class_name_of (e ∷ s) i ≡ n) first (sym (same_name n e.0 same))
+        subst (λ i. class_name_at (e ∷ s) i ≡ Some n) first (ap Some (sym (same_name n e.0 same)))
     go false other g more = behind (place_of s n) refl (sym (ap (λ b. cond b (Some 0) (option_map suc (place_of s n))) other) ∙ g) more
+
+pub name_at_place : (s : Classes) (n : Name) (k : ℕ) → place_of s n ≡ Some k → class_name_of s k ≡ n
+name_at_place s n k h = ap (λ o. unwrap_or o no_name) (name_there s n k h)
 
 -- a canonical file is the canonical file of itself
 pub own_form : (s : Classes) → IsSchema s → (c : List ℕ) → IsCanonical s c → IsFormOf s c c

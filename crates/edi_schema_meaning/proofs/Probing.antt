@@ -38,7 +38,7 @@ use Rattle.edi_compare.proofs.KnownSheetsTests.{none_is}
 use Rattle.edi_compare.proofs.Phases.{records_held}
 use Rattle.edi_compare.specs.PlanOfFile.{IsSheetOf}
 use Rattle.edi_compare.specs.Rules.{RecordsHold}
-use Rattle.edi_schema_meaning.specs.Probes.{arc_of, end_at, link_of, node_of, plain_letters, probe, spot, valued}
+use Rattle.edi_schema_meaning.specs.Probes.{arc_of, end_at, face_of, link_of, node_of, plain_letters, probe, spot, valued}
 
 -- ---- what records can be printed
 
@@ -104,6 +104,14 @@ module _ (L : Letters) (n : Name) (plain : IsPlainName n) where
         follows = record { identifier = id; shape = refl; few_attributes = lit< tt; few_points = lit< tt; few_ends = lit< tt; pointers = tt };
         settled = refl;
       }
+
+  pub bare_face : (rid : List ℕ) → is_identifier rid ≡ true → IsOneLine rid → CanBeRead L (face_of n rid)
+  bare_face rid id line = record {
+    is_record = record { class = plain.name; points = tt; no_points = λ h. refl; ends = tt; no_ends = λ h. refl; classes = tt; extras = tt };
+    is_line = record { rid = line; class = plain.line; points = tt; ends = tt; few = lit< tt; few_points = lit< tt; few_ends = lit< tt; attributes = tt; extras = tt };
+    follows = record { identifier = id; shape = refl; few_attributes = lit< tt; few_points = lit< tt; few_ends = lit< tt; pointers = tt };
+    settled = refl;
+  }
 
   pub bare_link : (rid : List ℕ) (j k : Kind) (a b : List ℕ) → is_identifier rid ≡ true → IsOneLine rid → list_any is_semicolon a ≡ false → IsOneLine a → list_any is_semicolon b ≡ false → IsOneLine b
       → CanBeRead L (link_of n rid (end_at j a) (end_at k b))

@@ -6,7 +6,7 @@ use Rattle.edi_record.specs.declared.name.Name.{Name}
 use Rattle.edi_record.specs.declared.record.Attribute.{Attribute}
 use Rattle.edi_record.specs.declared.record.End.{End}
 use Rattle.edi_record.specs.declared.record.Kind.{Kind}
-use Rattle.edi_record.specs.declared.record.Kind.TheVariants.{Pno, Par, Lnk}
+use Rattle.edi_record.specs.declared.record.Kind.TheVariants.{Pno, Par, Pfe, Lnk}
 use Rattle.edi_record.specs.declared.record.Point.{Point}
 use Rattle.edi_record.specs.declared.record.Record.{Record}
 
@@ -30,6 +30,9 @@ node_of class rid attributes = record { kind = Pno; rid = rid; scp = class; poin
 -- from 0;0 to 1;0, in millionths
 abbrev pub arc_of : Name → List ℕ → Record
 arc_of class rid = record { kind = Par; rid = rid; scp = class; points = spot 0 0 ∷ spot 1 0 ∷ []; ends = []; attributes = []; extras = [] }
+
+abbrev pub face_of : Name → List ℕ → Record
+face_of class rid = record { kind = Pfe; rid = rid; scp = class; points = []; ends = []; attributes = []; extras = [] }
 
 abbrev pub link_of : Name → List ℕ → End → End → Record
 link_of class rid a b = record { kind = Lnk; rid = rid; scp = class; points = []; ends = a ∷ b ∷ []; attributes = []; extras = [] }
@@ -55,6 +58,16 @@ start_records class = arc_of class (codes "A") ∷ node_of class (codes "N") [] 
 -- two nodes that differ in the spelling of an attribute's value
 abbrev pub value_records : Name → List Record
 value_records class = node_of class (codes "N") (valued class (codes "01") ∷ []) ∷ node_of class (codes "M") (valued class (codes "1") ∷ []) ∷ []
+
+-- a node with an attribute of no value
+abbrev pub letter_records : Name → List Record
+letter_records class = node_of class (codes "N1") (valued class [] ∷ []) ∷ []
+
+-- an arc between two faces: a link of the one class joins it with the first, and one of the other with the second
+abbrev pub side_records : Name → Name → List Record
+side_records class other =
+    arc_of class (codes "A1") ∷ face_of class (codes "F1") ∷ face_of class (codes "F2")
+    ∷ link_of class (codes "L1") (end_at Par (codes "A1")) (end_at Pfe (codes "F1")) ∷ link_of other (codes "L2") (end_at Par (codes "A1")) (end_at Pfe (codes "F2")) ∷ []
 
 -- the formats and values of attributes don't count for what is read
 abbrev pub plain_letters : Letters
