@@ -89,9 +89,6 @@ spots : spot 0 0 ≡ spot 1 0 → ⊥
 spots h = let e : pos 0 ≡ pos 1 = ap (λ q. q.x) h in absurd (omega (arith, ap (λ z. Rattle.edi_line.specs.Number.size_of z) e))
 
 module _ (j k : ℕ) (role : Role) (faces : beside role ≡ Pfe) where
-  p : Drawing
-  p = side_plan j k role
-
   role_faces : (i : ℕ) → i < 5 → beside (record_at (side_plan j k role) i).role ≡ Pfe
   role_faces = at_five (λ i. beside (record_at (side_plan j k role) i).role ≡ Pfe) faces faces faces faces (other_faces role faces)
 
@@ -224,3 +221,134 @@ side_disorder j k h = greater (h.rise.faces 1 2 (record { first = lit< tt; secon
   where
     greater : Greater ≡ Less → ⊥
     greater e = cc
+
+-- ---- the file
+
+module _ (L : Letters) (printable : HasPrintableLetters L) (m n : Name) (first : IsPlainName m) (second : IsPlainName n) where
+  can_sides : AllByRecursion (CanBeRead L) (side_records m n)
+  can_sides =
+      (bare_arc L m first (codes "A1") refl (none_is 10 (codes "A1") refl),
+        (bare_face L m first (codes "F1") refl (none_is 10 (codes "F1") refl),
+        (bare_face L m first (codes "F2") refl (none_is 10 (codes "F2") refl),
+        (bare_link L m first (codes "L1") Par Pfe (codes "A1") (codes "F1") refl (none_is 10 (codes "L1") refl) refl (none_is 10 (codes "A1") refl) refl (none_is 10 (codes "F1") refl),
+        (bare_link L n second (codes "L2") Par Pfe (codes "A1") (codes "F2") refl (none_is 10 (codes "L2") refl) refl (none_is 10 (codes "A1") refl) refl (none_is 10 (codes "F2") refl), tt)))))
+
+  side_sheet : Sheet
+  side_sheet = record { cse = None; list = side_records m n; few = lit≤ tt; in_shape = refl }
+
+  side_refers : (role : Role) (s : Classes) (j k : ℕ) → beside role ≡ Pfe → place_of s m ≡ Some j → place_of s n ≡ Some k → role_named s m ≡ Some role → role_named s n ≡ Some (exchanged role) → Refer s (side_records m n)
+  unfolding is_elsewhere
+  side_refers Left s j k faces hj hk hm hn = record { names = refl; classes = rw (hj, hk) refl; attributes = refl; subsets = refl; ends = refl; joins = rw (hm, hn) refl; kinds = rw (hm, hn) refl }
+  side_refers Right s j k faces hj hk hm hn = record { names = refl; classes = rw (hj, hk) refl; attributes = refl; subsets = refl; ends = refl; joins = rw (hm, hn) refl; kinds = rw (hm, hn) refl }
+  side_refers Initial s j k faces hj hk hm hn = absurd (omega (arith, ap kind_rank faces))
+  side_refers Final s j k faces hj hk hm hn = absurd (omega (arith, ap kind_rank faces))
+  side_refers Plain s j k faces hj hk hm hn = absurd (omega (arith, ap kind_rank faces))
+
+  -- what a schema with the two classes makes of it
+  sides_written : (s : Classes) (role : Role) (j k : ℕ) → beside role ≡ Pfe → place_of s m ≡ Some j → place_of s n ≡ Some k → role_named s m ≡ Some role → role_named s n ≡ Some (exchanged role)
+      → IsWrittenSo s (records_layout L None (side_records m n)) (side_records m n) (side_plan j k role)
+  unfolding side_sheet digits
+  sides_written s role j k faces hj hk hm hn =
+      let x : class_name_of s j ≡ m = name_at_place s m j hj in
+      let y : class_name_of s k ≡ n = name_at_place s n k hk in
+      record {
+        sheet = side_sheet;
+        states = file_sheet L printable (side_records m n) can_sides (lit≤ tt) side_sheet refl refl;
+        list = refl;
+        records = file_records L printable (side_records m n) can_sides (lit≤ tt) s;
+        references = references_as s (side_records m n) (side_refers role s j k faces hj hk hm hn);
+        plan = record {
+          set = refl;
+          each = (
+            record { kind = refl; class = hj; role = hm; points = refl; attributes = tt; extras = refl; ends = tt },
+            (record { kind = refl; class = hj; role = hm; points = refl; attributes = tt; extras = refl; ends = tt },
+              (record { kind = refl; class = hj; role = hm; points = refl; attributes = tt; extras = refl; ends = tt },
+              (record { kind = refl; class = hj; role = hm; points = refl; attributes = tt; extras = refl; ends = (record { target = refl; sns = refl }, (record { target = refl; sns = refl }, tt)) },
+              (record { kind = refl; class = hk; role = hn; points = refl; attributes = tt; extras = refl; ends = (record { target = refl; sns = refl }, (record { target = refl; sns = refl }, tt)) }, tt)))),
+          );
+        };
+        no_set = refl;
+        topology = side_topology j k role faces;
+        objects = side_objects j k role faces;
+        written = λ i.
+            record { kind = Par; rid = codes "A1"; scp = x i; points = spot 0 0 ∷ spot 1 0 ∷ []; ends = []; attributes = []; extras = [] }
+            ∷ record { kind = Pfe; rid = codes "F1"; scp = x i; points = []; ends = []; attributes = []; extras = [] }
+            ∷ record { kind = Pfe; rid = codes "F2"; scp = x i; points = []; ends = []; attributes = []; extras = [] }
+            ∷ record { kind = Lnk; rid = codes "L1"; scp = x i; points = []; ends = end_at Par (codes "A1") ∷ end_at Pfe (codes "F1") ∷ []; attributes = []; extras = [] }
+            ∷ record { kind = Lnk; rid = codes "L2"; scp = y i; points = []; ends = end_at Par (codes "A1") ∷ end_at Pfe (codes "F2") ∷ []; attributes = []; extras = [] }
+            ∷ [];
+      }
+
+-- ---- its bytes
+
+arc_bytes : (L : Letters) (n : Name) → NameBytes n → AllByRecursion ZoneBytes (zones_of_record L (arc_of n (codes "A1")))
+unfolding zones_of_record zones_of_body digits point_text size_text fraction_digits
+arc_bytes L n name =
+    (headed (codes "RTYSA") (codes "PAR") refl (lit< tt) (lit< tt) (known_bytes (codes "PAR") refl),
+      (headed (codes "RIDSA") (codes "A1") refl (lit< tt) (lit< tt) (known_bytes (codes "A1") refl),
+      (headed (codes "SCPCP") (class_text n) refl (lit< tt) (lit< tt) (class_bytes n name),
+      (headed (codes "PTCSN") (codes "2") refl (lit< tt) (lit< tt) (known_bytes (codes "2") refl),
+      (headed (codes "CORCC") (point_text (spot 0 0)) refl (lit< tt) (lit< tt) (known_bytes (point_text (spot 0 0)) refl),
+      (headed (codes "CORCC") (point_text (spot 1 0)) refl (lit< tt) (lit< tt) (known_bytes (point_text (spot 1 0)) refl),
+      (headed (codes "ATCSN") (codes "0") refl (lit< tt) (lit< tt) (known_bytes (codes "0") refl), tt)))))))
+
+face_bytes : (L : Letters) (n : Name) (rid : List ℕ) → NameBytes n → AreBytes rid → AllByRecursion ZoneBytes (zones_of_record L (face_of n rid))
+unfolding zones_of_record zones_of_body digits
+face_bytes L n rid name id =
+    (headed (codes "RTYSA") (codes "PFE") refl (lit< tt) (lit< tt) (known_bytes (codes "PFE") refl),
+      (headed (codes "RIDSA") rid refl (lit< tt) (lit< tt) id,
+      (headed (codes "SCPCP") (class_text n) refl (lit< tt) (lit< tt) (class_bytes n name),
+      (headed (codes "ATCSN") (codes "0") refl (lit< tt) (lit< tt) (known_bytes (codes "0") refl), tt))))
+
+link_bytes : (L : Letters) (n : Name) (rid face : List ℕ) → NameBytes n → AreBytes rid → AreBytes (end_text (record { rty = codes "PFE"; rid = face })) → AllByRecursion ZoneBytes (zones_of_record L (link_of n rid (end_at Par (codes "A1")) (end_at Pfe face)))
+unfolding zones_of_record zones_of_body zones_of_end digits pointer_text
+link_bytes L n rid face name id target =
+    (headed (codes "RTYSA") (codes "LNK") refl (lit< tt) (lit< tt) (known_bytes (codes "LNK") refl),
+      (headed (codes "RIDSA") rid refl (lit< tt) (lit< tt) id,
+      (headed (codes "SCPCP") (class_text n) refl (lit< tt) (lit< tt) (class_bytes n name),
+      (headed (codes "FTCSN") (codes "2") refl (lit< tt) (lit< tt) (known_bytes (codes "2") refl),
+      (headed (codes "FTPCP") (end_text (record { rty = codes "PAR"; rid = codes "A1" })) refl (lit< tt) (lit< tt) (known_bytes (end_text (record { rty = codes "PAR"; rid = codes "A1" })) refl),
+      (headed (codes "FTPCP") (end_text (record { rty = codes "PFE"; rid = face })) refl (lit< tt) (lit< tt) target,
+      (headed (codes "ATCSN") (codes "0") refl (lit< tt) (lit< tt) (known_bytes (codes "0") refl), tt)))))))
+
+first_target : AreBytes (end_text (record { rty = codes "PFE"; rid = codes "F1" }))
+unfolding pointer_text
+first_target = known_bytes (end_text (record { rty = codes "PFE"; rid = codes "F1" })) refl
+
+second_target : AreBytes (end_text (record { rty = codes "PFE"; rid = codes "F2" }))
+unfolding pointer_text
+second_target = known_bytes (end_text (record { rty = codes "PFE"; rid = codes "F2" })) refl
+
+side_bytes : (L : Letters) (m n : Name) → NameBytes m → NameBytes n → IsBytes (records_layout L None (side_records m n))
+side_bytes L m n first second =
+    let last : AllByRecursion ZoneBytes (zone_end ∷ []) = (headed (codes "EOMT ") [] refl (lit< tt) (lit< tt) tt, tt) in
+    let link2 = zones_joined (zones_of_record L (link_of n (codes "L2") (end_at Par (codes "A1")) (end_at Pfe (codes "F2")))) [] (link_bytes L n (codes "L2") (codes "F2") second (known_bytes (codes "L2") refl) second_target) tt in
+    let link1 = zones_joined (zones_of_record L (link_of m (codes "L1") (end_at Par (codes "A1")) (end_at Pfe (codes "F1")))) _ (link_bytes L m (codes "L1") (codes "F1") first (known_bytes (codes "L1") refl) first_target) link2 in
+    let face2 = zones_joined (zones_of_record L (face_of m (codes "F2"))) _ (face_bytes L m (codes "F2") first (known_bytes (codes "F2") refl)) link1 in
+    let face1 = zones_joined (zones_of_record L (face_of m (codes "F1"))) _ (face_bytes L m (codes "F1") first (known_bytes (codes "F1") refl)) face2 in
+    let arc = zones_joined (zones_of_record L (arc_of m (codes "A1"))) _ (arc_bytes L m first) face1 in
+    are_bytes (records_layout L None (side_records m n)) (printed_bytes (zones_of_sheet L None (side_records m n))
+    (headed (codes "BOMT ") (codes "CANON.VEC") refl (lit< tt) (lit< tt) (known_bytes (codes "CANON.VEC") refl), zones_joined _ (zone_end ∷ []) arc last))
+  where
+    zone_end : Entry
+    zone_end = Rattle.edi_record.specs.CanonicalZones.end_zone
+
+-- ---- two schemas
+
+-- a canonical file of the one, in which the lesser name is to the left, isn't one of the other, where it is to the right
+pub sides_told : (s t : Classes) → IsSchema s → IsSchema t → ((b c : List ℕ) → IsFormOf s b c → IsFormOf t b c) → (m n : Name) → IsPlainName m → IsPlainName n → NameBytes m → NameBytes n → name_cmp m n ≡ Less
+    → role_named s m ≡ Some Left → role_named s n ≡ Some Right → role_named t m ≡ Some Right → role_named t n ≡ Some Left → ⊥
+sides_told s t hs ht form m n first second mb nb less sm sn tm tn =
+    let j = place_some s m Left sm in
+    let k = place_some s n Right sn in
+    let J = place_some t m Right tm in
+    let K = place_some t n Left tn in
+    let L = letters s in
+    let printable : HasPrintableLetters L = letters_printable s hs in
+    let c = records_layout L None (side_records m n) in
+    let order : nat_cmp j.0 k.0 ≡ Less = sym (classes_ordered s hs j.0 k.0 m n (name_there s m j.0 j.1) (name_there s n k.0 k.1)) ∙ less in
+    let here = sides_written L printable m n first second s Left j.0 k.0 refl j.1 k.1 sm sn in
+    let there = sides_written L printable m n first second t Right J.0 K.0 refl J.1 K.1 tm tn in
+    let canonical : IsCanonical s c = canonical_so s hs c (side_records m n) (side_plan j.0 k.0 Left) here refl (side_bytes L m n mb nb) (side_order j.0 k.0 order) in
+    let again : IsCanonical t c = (form c c (own_form s hs c canonical)).canonical in
+    side_disorder J.0 K.0 (order_back t ht c (side_records m n) (side_plan J.0 K.0 Right) there again)
