@@ -16,7 +16,7 @@ use Rattle.edi_schema_meaning.proofs.Numbers.{value_not_refused, value_refused}
 use Rattle.edi_schema_meaning.proofs.Probing.{IsPlainName}
 use Rattle.edi_schema_meaning.proofs.Told.{plain_name}
 use Rattle.edi_schema_meaning.specs.Answers.{AnswerAlike}
-use Rattle.edi_schema_meaning.specs.Laws.{AgreeButSides, AnswersProbes, OneAnswerOneMeaning, ProbesAreAnswered, one_side}
+use Rattle.edi_schema_meaning.specs.Laws.{AnswersProbes, ProbesAreAnswered}
 use Rattle.edi_schema_meaning.specs.Probes.{join_records, loop_records, node_records, probe, start_records, value_records}
 use Rattle.edi_compare.specs.Refused.{IsRefusal}
 use Rattle.edi_compare.specs.declared.fault.Fault.TheVariants.{Entry}
@@ -35,6 +35,14 @@ faces_kind Final h = refl
 faces_kind Left h = refl
 faces_kind Right h = refl
 faces_kind Plain h = absurd cc
+
+-- left for right
+abbrev pub one_side : Role → Role
+one_side Initial = Initial
+one_side Final = Final
+one_side Left = Left
+one_side Right = Left
+one_side Plain = Plain
 
 pub probes : ProbesAreAnswered
 probes s n printable =
@@ -68,7 +76,7 @@ module _ (s t : Classes) (alike : AnswerAlike s t) (n : Name) (plain : IsPlainNa
   at_values : IsRefusal s (probe (value_records n)) (Entry 403 2) ↔ IsRefusal t (probe (value_records n)) (Entry 403 2)
   at_values = alike.refused (probe (value_records n)) (Entry 403 2)
 
-  -- a kind against another
+  -- a kind against another, but for the sides
   told : (a b : Role) → role_named s n ≡ Some a → role_named t n ≡ Some b → one_side a ≡ one_side b
   told Plain Plain ha hb = refl
   told Plain Initial ha hb = absurd (loop_not_refused n plain s ha (at_loop.1 (loop_refused n plain t Initial hb refl)))
@@ -96,7 +104,7 @@ module _ (s t : Classes) (alike : AnswerAlike s t) (n : Name) (plain : IsPlainNa
   told Right Left ha hb = refl
   told Right Right ha hb = refl
 
-  kinds : (o p : Option Role) → role_named s n ≡ o → role_named t n ≡ p → option_map one_side o ≡ option_map one_side p
+  pub kinds : (o p : Option Role) → role_named s n ≡ o → role_named t n ≡ p → option_map one_side o ≡ option_map one_side p
   kinds None None ho hp = refl
   kinds None (Some b) ho hp = absurd (node_not_refused n plain t b hp (at_node.0 (node_refused n plain s ho)))
   kinds (Some a) None ho hp = absurd (node_not_refused n plain s a ho (at_node.1 (node_refused n plain t hp)))
@@ -110,26 +118,8 @@ module _ (s t : Classes) (alike : AnswerAlike s t) (n : Name) (plain : IsPlainNa
   values att false true hb hc =
       absurd (value_not_refused n plain att s (role_there s n false hb).0 (role_there s n false hb).1 hb (at_values.1 (value_refused n plain att t (role_there t n true hc).0 (role_there t n true hc).1 hc)))
 
-  numbers : n.rty ≡ codes "ATT" → (o p : Option Class) → class_named s n ≡ o → class_named t n ≡ p → option_map (λ c. c.is_number) o ≡ option_map (λ c. c.is_number) p
+  pub numbers : n.rty ≡ codes "ATT" → (o p : Option Class) → class_named s n ≡ o → class_named t n ≡ p → option_map (λ c. c.is_number) o ≡ option_map (λ c. c.is_number) p
   numbers att None None ho hp = refl
   numbers att None (Some d) ho hp = absurd (none-some (one_side d.role) (kinds None (Some d.role) (ap (option_map (λ c. c.role)) ho) (ap (option_map (λ c. c.role)) hp)))
   numbers att (Some c) None ho hp = absurd (none-some (one_side c.role) (sym (kinds (Some c.role) None (ap (option_map (λ c. c.role)) ho) (ap (option_map (λ c. c.role)) hp))))
   numbers att (Some c) (Some d) ho hp = ap Some (values att c.is_number d.is_number (ap (option_map (λ c. c.is_number)) ho) (ap (option_map (λ c. c.is_number)) hp))
-
-  agree : AgreeButSides s t n
-  agree = record { kind = kinds (role_named s n) (role_named t n) refl refl; numbers = λ att. numbers att (class_named s n) (class_named t n) refl refl }
-
--- a name that neither schema has
-agree_none : (s t : Classes) (n : Name) → class_named s n ≡ None → class_named t n ≡ None → AgreeButSides s t n
-agree_none s t n hs ht = record {
-  kind = ap (λ o. option_map one_side (option_map (λ c. c.role) o)) (hs ∙ sym ht);
-  numbers = λ att. ap (option_map (λ c. c.is_number)) (hs ∙ sym ht);
-}
-
-pub one_meaning : OneAnswerOneMeaning
-one_meaning s t hs ht alike n whole = go (class_named s n) (class_named t n) refl refl
-  where
-    go : (o p : Option Class) → class_named s n ≡ o → class_named t n ≡ p → AgreeButSides s t n
-    go None None ho hp = agree_none s t n ho hp
-    go (Some c) p ho hp = agree s t alike n (plain_name s hs n whole c.role (ap (option_map (λ c. c.role)) ho))
-    go None (Some d) ho hp = agree s t alike n (plain_name t ht n whole d.role (ap (option_map (λ c. c.role)) hp))

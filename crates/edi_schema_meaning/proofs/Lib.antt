@@ -18,3 +18,4 @@ pub mod PrintedBytes
 pub mod OwnForm
 pub mod Lettered
 pub mod Sided
+pub mod OneText

@@ -70,19 +70,19 @@ place_some s n role h = some_is (place_of s n) (sym (named_placed s n) ∙ (sym 
 pub place_none : (s : Classes) (n : Name) → role_named s n ≡ None → place_of s n ≡ None
 place_none s n h = none_is (place_of s n) (sym (named_placed s n) ∙ (sym (mapped_some (λ c. c.role) (class_named s n)) ∙ ap is_some h))
 
--- the name of a class can be read of a file
-read_name : (s : Classes) → AllByRecursion (λ e. IsReadName e.0) s → (n : Name) (c : Class) → class_named s n ≡ Some c → IsReadName n
-read_name [] all n c h = absurd (none-some c h)
-read_name (e ∷ s) all n c h = go (is_name n e.0) refl h (read_name s all.1 n c)
+-- what holds of each name holds of that of a class
+pub all_named : (P : Name → Type 0) (s : Classes) → AllByRecursion (λ e. P e.0) s → (n : Name) (c : Class) → class_named s n ≡ Some c → P n
+all_named P [] all n c h = absurd (none-some c h)
+all_named P (e ∷ s) all n c h = go (is_name n e.0) refl h (all_named P s all.1 n c)
   where
-    go : (b : Bool) → is_name n e.0 ≡ b → class_named (e ∷ s) n ≡ Some c → (class_named s n ≡ Some c → IsReadName n) → IsReadName n
-    go true same g more = subst IsReadName (sym (same_name n e.0 same)) all.0
+    go : (b : Bool) → is_name n e.0 ≡ b → class_named (e ∷ s) n ≡ Some c → (class_named s n ≡ Some c → P n) → P n
+    go true same g more = subst P (sym (same_name n e.0 same)) all.0
     go false other g more = more (rw other at g)
 
 pub plain_name : (s : Classes) → IsSchema s → (n : Name) → HasNoSemicolon n.rty → (role : Role) → role_named s n ≡ Some role → IsPlainName n
 plain_name s keeps n plain role h =
     let class = some_is (class_named s n) (sym (mapped_some (λ c. c.role) (class_named s n)) ∙ ap is_some h) in
-    let read = read_name s keeps.readable n class.0 class.1 in
+    let read = all_named IsReadName s keeps.readable n class.0 class.1 in
     record { name = record { rty = plain; rid = read.2 }; line = record { rty = read.0; rid = read.1 } }
 
 -- ---- which rule of references a file breaks

@@ -1,12 +1,13 @@
--- What the text of a schema decides, and what is decided by it alone.
-use Rattle.std.specs.Prelude.{◌≡◌, Bool, true, false, option_map, Some, None, codes}
-use Rattle.edi_record.specs.Texts.{HasNoSemicolon}
+-- What the text of a schema decides: every answer, and nothing but answers.
+use Rattle.std.specs.Prelude.{◌≡◌, Bool, true, false, Some, None, codes}
+use Rattle.std.specs.List.{AllByRecursion}
+use Rattle.edi_line.specs.Bytes.{IsBytes}
 use Rattle.edi_record.specs.declared.name.Name.{Name}
 use Rattle.edi_record.specs.declared.record.Kind.TheVariants.{Pno, Pfe}
 use Rattle.edi_schema.specs.Classes.{Classes, IsSchema, is_number_named, role_named}
 use Rattle.edi_schema.specs.Roles.{is_plain}
 use Rattle.edi_schema.specs.declared.role.Role.{Role}
-use Rattle.edi_schema.specs.declared.role.Role.TheVariants.{Initial, Final, Left, Right, Plain}
+use Rattle.edi_schema.specs.declared.role.Role.TheVariants.{Initial, Final, Plain}
 use Rattle.edi_plan.specs.Joined.{beside}
 use Rattle.edi_write.specs.Written.{IsPrintableName}
 use Rattle.edi_compare.specs.Refused.{IsRefusal}
@@ -45,19 +46,10 @@ pub record AnswersProbes (s : Classes) (name : Name) : Type 0 where
 abbrev pub ProbesAreAnswered : Type 0
 ProbesAreAnswered = (s : Classes) (name : Name) → IsPrintableName name → AnswersProbes s name
 
--- left for right
-abbrev pub one_side : Role → Role
-one_side Initial = Initial
-one_side Final = Final
-one_side Left = Left
-one_side Right = Left
-one_side Plain = Plain
+-- each name is of bytes, as those of every file are
+abbrev pub HasByteNames : Classes → Type 0
+HasByteNames s = AllByRecursion (λ e. IsBytes e.0.rty × IsBytes e.0.rid) s
 
--- both schemas have a class of this name, of one kind but for left and right, or neither has; and for attributes of numbers in both or in neither
-pub record AgreeButSides (s t : Classes) (name : Name) : Type 0 where
-  pub kind : option_map one_side (role_named s name) ≡ option_map one_side (role_named t name)
-  pub numbers : name.rty ≡ codes "ATT" → is_number_named s name ≡ is_number_named t name
-
--- two schemas that answer alike agree so on each name that a pointer can have
-abbrev pub OneAnswerOneMeaning : Type 0
-OneAnswerOneMeaning = (s t : Classes) → IsSchema s → IsSchema t → AnswerAlike s t → (name : Name) → HasNoSemicolon name.rty → AgreeButSides s t name
+-- two schemas that answer alike have one text
+abbrev pub OneAnswerOneText : Type 0
+OneAnswerOneText = (s t : Classes) → IsSchema s → IsSchema t → HasByteNames s → AnswerAlike s t → text_of_schema s ≡ text_of_schema t

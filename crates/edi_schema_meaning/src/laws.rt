@@ -1,6 +1,6 @@
 //! What the text of a schema decides.
 
-ghost use Rattle.edi_schema_meaning.specs.Laws.{OneAnswerOneMeaning, OneTextOneAnswer, ProbesAreAnswered};
+ghost use Rattle.edi_schema_meaning.specs.Laws.{OneAnswerOneText, OneTextOneAnswer, ProbesAreAnswered};
 
 /// Two schemas with one text answer each file alike.
 pub fn one_text_one_answer()
@@ -13,8 +13,7 @@ pub fn probes_tell()
     ensures { ProbesAreAnswered }
 {}
 
-/// Two schemas that answer each file alike have classes of the same names that a pointer can have, of the same kinds but for
-/// left and right, and the same classes of attributes have numbers.
-pub fn one_answer_one_meaning()
-    ensures { OneAnswerOneMeaning }
+/// Two schemas that answer each file alike have one text.
+pub fn one_answer_one_text()
+    ensures { OneAnswerOneText }
 {}

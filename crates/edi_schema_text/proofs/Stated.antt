@@ -14,12 +14,12 @@ use Rattle.edi_schema_text.proofs.Sorted.{one_list}
 use Rattle.edi_schema_text.specs.Laws.{OneStatementOneText}
 use Rattle.edi_schema_text.specs.SchemaText.{text_of_schema}
 
-In : Name × Class → Classes → Type 0
+-- the entry stands somewhere
+abbrev pub In : Name × Class → Classes → Type 0
 In x s = (k : ℕ) × (slice_get s k ≡ Some x)
 
 -- the class at a name is there
 named_in : (s : Classes) (n : Name) (c : Class) → class_named s n ≡ Some c → In (n, c) s
-unfolding In
 named_in [] n c h = absurd (none-some c h)
 named_in (e ∷ s) n c h = go (is_name n e.0) refl h (named_in s n c)
   where
@@ -31,8 +31,7 @@ named_in (e ∷ s) n c h = go (is_name n e.0) refl h (named_in s n c)
     go false other h more = let found = more (rw other at h) in (suc found.0, found.1)
 
 -- and what is there is the class at its name, in a list that rises
-in_named : (s : Classes) → AlwaysRises name_cmp (keys_of s) → (x : Name × Class) → In x s → class_named s x.0 ≡ Some x.1
-unfolding In
+pub in_named : (s : Classes) → AlwaysRises name_cmp (keys_of s) → (x : Name × Class) → In x s → class_named s x.0 ≡ Some x.1
 in_named [] up x h = absurd (none-some x h.1)
 in_named (e ∷ s) up x (zero, h) = let same = same_Some e x h in subst (λ y. class_named (e ∷ s) y.0 ≡ Some y.1) same (rw (name_itself e.0) refl)
 in_named (e ∷ s) up x (suc k, h) =
@@ -40,7 +39,6 @@ in_named (e ∷ s) up x (suc k, h) =
     rw (other_name e.0 x.0 less) (in_named s up.1 x (k, h))
 
 moved : (s t : Classes) → IsPermutation s t → (x : Name × Class) → In x s → In x t
-unfolding In
 moved s t same x h =
     let there = Contains-permutation s t x same (h.0, slice_get_within s h.0 x h.1, get_or_from_slice_get s h.0 x x h.1) in
     (there.0, slice_get-get_or t there.0 x there.1 ∙ ap Some there.2)
