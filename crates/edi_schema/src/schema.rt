@@ -142,6 +142,22 @@ impl Schema {
         }
     }
 
+    /// How many classes there are.
+    pub fn class_count(&self) -> usize
+        ensures { result ≡ length self.now }
+    {
+        self.classes.len()
+    }
+
+    /// The class at a place from 0, in the order of the names.
+    pub fn class_at(&self, place: usize) -> ClassRef
+        requires { place < length self.now }
+        ensures { result ≡ place }
+    {
+        self.keeps();
+        ClassRef::at(place as u32)
+    }
+
     /// The class with a name. Classes count from 0 in the order of their types, then of their identifiers.
     pub fn class(&self, name: &Name) -> Option<ClassRef>
         ensures class { result ≡ place_of self.now name.now }

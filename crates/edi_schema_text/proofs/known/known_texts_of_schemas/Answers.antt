@@ -1,0 +1,15 @@
+use Rattle.std.proofs.Common.{refl}
+use Rattle.edi_schema_text.specs.SchemaText.{line_of_class}
+use Rattle.edi_schema_text.proofs.known.known_texts_of_schemas.Goals as goal
+
+pub returns-clause-text : goal.returns-clause-text
+unfolding line_of_class
+returns-clause-text c = refl
+
+pub returns-clause-exchanged : goal.returns-clause-exchanged
+unfolding line_of_class
+returns-clause-exchanged c = refl
+
+pub returns-clause-more : goal.returns-clause-more
+unfolding line_of_class
+returns-clause-more c = refl

@@ -1,0 +1,3 @@
+pub mod SchemaText
+pub mod Known
+pub mod Laws
