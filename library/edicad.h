@@ -156,7 +156,7 @@ edicad_answer edicad_verify(edicad_schema *schema, const uint8_t *first, size_t 
                             const uint8_t *pairing, size_t pairing_length, const uint8_t *name, size_t name_length, edicad_bytes *reason);
 
 /* What differs between two sheets (docs/FORMAT.md, "Differences"): EDICAD_DONE if they state the same plan, EDICAD_DIFFERENT if not, and text
- * holds a line for each record that differs, and the counts; the counts alone if brief. EDICAD_REFUSED as of edicad_compare. Else text is empty. */
+ * tells it record by record, and how many records differ; that alone if brief. EDICAD_REFUSED as of edicad_compare. Else text is empty. */
 edicad_answer edicad_diff(edicad_schema *schema, const uint8_t *first, size_t first_length, const uint8_t *second, size_t second_length,
                           bool brief, edicad_bytes *text);
 

@@ -1,17 +1,17 @@
 //! What differs between two sheets.
 
 ghost use Rattle.std.specs.Prelude.{◌≡◌, Some};
-ghost use Rattle.edicad_c.specs.Differences.{IsDifferenceGiven};
+ghost use Rattle.edicad_c.specs.Differences.{IsDifferenceGiven, form_given};
 ghost use Rattle.edicad_c.specs.Held.{IsWrongCall, MatchSchema, in_box};
 
 use crate::answer::Answer;
 use crate::content::Content;
 use crate::given::Given;
 use crate::handle::Handle;
-use edi_diff::diff;
+use edi_diff::{Form, diff};
 use std::alloc::Global;
 
-/// The text of what differs between two sheets, or with `brief` that without the lines of records.
+/// What differs between two sheets, record by record, or with `brief` how many records do.
 #[unsafe(no_mangle)]
 pub extern "C" fn edicad_diff(
     alloc: Global,
@@ -33,6 +33,13 @@ pub extern "C" fn edicad_diff(
     given.hand_out(alloc, text)
 }
 
+// Record by record, or how many records differ.
+fn form_given(brief: bool) -> Form
+    ensures { result ≡ form_given brief }
+{
+    if brief { Form::Brief } else { Form::Records }
+}
+
 // The same under the schema that a handle holds.
 fn difference(alloc: Global, content: &Content, first: &[u8], second: &[u8], brief: bool) -> Given
     ensures { MatchSchema (Some content.now) (λ s. IsDifferenceGiven s first.now second.now brief (in_box result.content) result.answer) (IsWrongCall (in_box result.content) result.answer) }
@@ -40,7 +47,7 @@ fn difference(alloc: Global, content: &Content, first: &[u8], second: &[u8], bri
     let Some(schema) = content.schema() else {
         return Given::nothing(Answer::wrong_call());
     };
-    match diff(alloc, schema, first, second, brief) {
+    match diff(alloc, schema, first, second, form_given(brief)) {
         Ok(difference) => {
             let answer = Answer::of_difference(difference.same);
             Given::of_bytes(alloc, answer, difference.text)
