@@ -10,8 +10,8 @@ use Rattle.edicad_c.specs.Answers.{difference_answer}
 use Rattle.edicad_c.specs.Held.{IsGiven}
 use Rattle.edicad_c.specs.Comparisons.{RefusesPair}
 
--- Both sheets are accepted, the answer is whether they state the same plan, and the handle holds the text of what differs; or the answer is
--- the refusal, and the handle is empty.
+-- Both sheets are accepted, the answer is whether they state the same plan, and the handle holds the text of what
+-- differs; or the answer is the refusal, and the handle is empty.
 abbrev pub IsDifferenceGiven : Classes → List ℕ → List ℕ → Bool → Option Content → Answer → Type 0
 IsDifferenceGiven s a b brief held answer =
     ((found : Difference) × IsAccepted s a × IsAccepted s b × IsDifference s a b brief found
