@@ -16,5 +16,6 @@ RefusesPair s a b answer = (f : CompareFault) × IsPairRefusal s a b f × (answe
 -- both sheets are accepted, and the answer is the verdict on them; or it is the refusal
 abbrev pub IsComparison : Classes → List ℕ → List ℕ → Answer → Type 0
 IsComparison s a b answer =
-    ((verdict : Verdict) × IsAccepted s a × IsAccepted s b × IsVerdict s a b verdict × (answer ≡ verdict_answer verdict))
+    ((verdict : Verdict) × IsAccepted s a × IsAccepted s b × IsVerdict s a b verdict
+    × (answer ≡ verdict_answer verdict))
     ⊎ RefusesPair s a b answer

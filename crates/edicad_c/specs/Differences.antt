@@ -17,8 +17,8 @@ abbrev pub form_given : Bool → Form
 form_given true = Brief
 form_given false = Records
 
--- Both sheets are accepted, the answer is whether they state the same plan, and the handle holds the text of what differs; or the answer is
--- the refusal, and the handle is empty.
+-- Both sheets are accepted, the answer is whether they state the same plan, and the handle holds the text of what
+-- differs; or the answer is the refusal, and the handle is empty.
 abbrev pub IsDifferenceGiven : Classes → List ℕ → List ℕ → Bool → Option Content → Answer → Type 0
 IsDifferenceGiven s a b brief held answer =
     ((found : Difference) × IsAccepted s a × IsAccepted s b × IsDifference s a b (form_given brief) found

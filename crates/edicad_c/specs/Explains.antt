@@ -18,14 +18,18 @@ LacksRoom held answer = (held ≡ None) × (answer ≡ no_memory)
 
 -- the text on a plan
 abbrev pub IsDescribed : Drawing → Option Content → Answer → Type 0
-IsDescribed p held answer = ((text : List ℕ) × DescribesPlan p text × IsGiven done text held answer) ⊎ LacksRoom held answer
+IsDescribed p held answer =
+    ((text : List ℕ) × DescribesPlan p text × IsGiven done text held answer)
+    ⊎ LacksRoom held answer
 
 -- the text that explains a fault of a sheet, by the name of its file
 abbrev pub IsExplained : Classes → List ℕ → List ℕ → Fault → Option Content → Answer → Type 0
 IsExplained s sheet name f held answer =
-    ((text : List ℕ) × ExplainsSheet s sheet name f text × IsGiven (sheet_answer 3 f) text held answer) ⊎ LacksRoom held answer
+    ((text : List ℕ) × ExplainsSheet s sheet name f text × IsGiven (sheet_answer 3 f) text held answer)
+    ⊎ LacksRoom held answer
 
--- The sheet is accepted, and the handle holds the text on its plan; or the answer is its refusal, and the handle holds the text that explains it.
+-- The sheet is accepted, and the handle holds the text on its plan; or the answer is its refusal, and the handle holds
+-- the text that explains it.
 abbrev pub IsExplanation : Classes → List ℕ → List ℕ → Option Content → Answer → Type 0
 IsExplanation s sheet name held answer =
     ((p : Drawing) × IsAccepted s sheet × IsPlanOfFile s sheet p × IsDescribed p held answer)

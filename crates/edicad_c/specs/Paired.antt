@@ -16,9 +16,10 @@ abbrev pub IsComparedGiven : Compared → Option Content → Answer → Type 0
 IsComparedGiven (Same file) held answer = IsGiven done file.items held answer
 IsComparedGiven (Different line) held answer = (held ≡ None) × (answer ≡ differs_at line)
 
--- Both sheets are accepted, and the handle holds a file that states a pairing which carries the first plan onto the second, or there is none;
--- or the answer is the refusal, and the handle is empty.
+-- Both sheets are accepted, and the handle holds a file that states a pairing which carries the first plan onto the
+-- second, or there is none; or the answer is the refusal, and the handle is empty.
 abbrev pub IsPairingGiven : Classes → List ℕ → List ℕ → Option Content → Answer → Type 0
 IsPairingGiven s a b held answer =
-    ((compared : Compared) × IsAccepted s a × IsAccepted s b × IsComparedTo s a b compared × IsComparedGiven compared held answer)
+    ((compared : Compared) × IsAccepted s a × IsAccepted s b × IsComparedTo s a b compared
+    × IsComparedGiven compared held answer)
     ⊎ ((held ≡ None) × RefusesPair s a b answer)

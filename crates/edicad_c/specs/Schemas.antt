@@ -1,5 +1,5 @@
 -- What loading a schema answers.
-use Rattle.std.specs.Prelude.{◌≡◌, ◌⊎◌, ℕ, List, Option, None}
+use Rattle.std.specs.Prelude.{◌≡◌, ◌⊎◌, ℕ, List, Option, None, codes}
 use Rattle.edi_schema.specs.Classes.{Classes}
 use Rattle.edi_schema.specs.Roles.{AreKindCodes, KindCodes}
 use Rattle.edi_schema.specs.SchemaRefusal.{IsGoodSchema, IsSchemaRefusal}
@@ -9,7 +9,16 @@ use Rattle.edicad_c.specs.declared.content.Content.{Content}
 use Rattle.edicad_c.specs.Answers.{done, schema_answer, wrong_call}
 use Rattle.edicad_c.specs.Held.{HoldsSchema}
 
--- The handle holds the schema of the two files under the codes of the kinds; or it is empty, and the answer is the refusal of the files.
+-- the usual codes of the four kinds
+abbrev pub usual_codes : KindCodes
+usual_codes = record { initial = codes "IND"; final_node = codes "FND"; left = codes "LPO"; right = codes "RPO" }
+
+-- the codes of the four kinds, as they are given
+abbrev pub codes_in_order : List ℕ → List ℕ → List ℕ → List ℕ → KindCodes
+codes_in_order a b c d = record { initial = a; final_node = b; left = c; right = d }
+
+-- The handle holds the schema of the two files under the codes of the kinds; or it is empty, and the answer is the
+-- refusal of the files.
 abbrev pub IsLoaded : List ℕ → List ℕ → KindCodes → Option Content → Answer → Type 0
 IsLoaded scd dic kinds held answer =
     ((s : Classes) × IsGoodSchema scd dic kinds s × HoldsSchema held s × (answer ≡ done))

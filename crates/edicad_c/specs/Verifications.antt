@@ -31,11 +31,13 @@ abbrev pub IsFaultGiven : VerifyFault → Option Content → Answer → Type 0
 IsFaultGiven (refused.Memory e) held answer = (held ≡ None) × (answer ≡ verify_answer (refused.Memory e))
 IsFaultGiven (refused.First f) held answer = (held ≡ None) × (answer ≡ verify_answer (refused.First f))
 IsFaultGiven (refused.Second f) held answer = (held ≡ None) × (answer ≡ verify_answer (refused.Second f))
-IsFaultGiven (refused.Pairing at why) held answer = IsGiven (verify_answer (refused.Pairing at why)) (reason_words why) held answer
+IsFaultGiven (refused.Pairing at why) held answer =
+    IsGiven (verify_answer (refused.Pairing at why)) (reason_words why) held answer
 
--- Both sheets are accepted, the file states a pairing of them, and the answer is whether it carries, with the reason if it doesn't; or the answer
--- is the refusal of a sheet or of the file.
+-- Both sheets are accepted, the file states a pairing of them, and the answer is whether it carries, with the reason if
+-- it doesn't; or the answer is the refusal of a sheet or of the file.
 abbrev pub IsVerification : Classes → List ℕ → List ℕ → List ℕ → List ℕ → Option Content → Answer → Type 0
 IsVerification s a b file name held answer =
-    ((verified : Verified) × IsAccepted s a × IsAccepted s b × IsVerified s a b file verified × IsVerifiedGiven name verified held answer)
+    ((verified : Verified) × IsAccepted s a × IsAccepted s b × IsVerified s a b file verified
+    × IsVerifiedGiven name verified held answer)
     ⊎ ((f : VerifyFault) × IsVerifyRefusal s a b file f × IsFaultGiven f held answer)

@@ -1,7 +1,9 @@
 //! What each call answers.
 
 ghost use Rattle.std.specs.Prelude.{◌≡◌};
-ghost use Rattle.edicad_c.specs.Answers.{differs, differs_at, done, no_memory, difference_answer, pair_answer, schema_answer, sheet_answer, verdict_answer, refused_at_line, refused_at_record, refused_kinds, source_number, wrong_call};
+ghost use Rattle.edicad_c.specs.Answers.{difference_answer, pair_answer, schema_answer, sheet_answer, verdict_answer};
+ghost use Rattle.edicad_c.specs.Answers.{refused_at_line, refused_at_record, refused_kinds, source_number};
+ghost use Rattle.edicad_c.specs.Answers.{differs, differs_at, done, no_memory, wrong_call};
 
 use edi_compare::{CompareFault, Fault, Verdict};
 use edi_schema::{SchemaFault, Source};
@@ -42,7 +44,8 @@ const KINDS_RULE: u32 = 604;
 pub struct Answer {
     /// 0 done, 1 different, 2 refused, 3 a wrong call, 5 out of memory: as the program's exit statuses.
     pub status: u32,
-    /// Which input is refused: 1 the file of classes, 2 the dictionary, 3 the first sheet, 4 the second, 5 the pairing's file; else 0.
+    /// Which input is refused: 1 the file of classes, 2 the dictionary, 3 the first sheet, 4 the second, 5 the
+    /// pairing's file; else 0.
     pub input: u32,
     /// The rule that is broken, or 0.
     pub rule: u32,

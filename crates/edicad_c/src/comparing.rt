@@ -20,7 +20,8 @@ pub extern "C" fn edicad_compare(
     second: &[u8],
 ) -> Answer
     ensures kept { schema.new.held ≡ schema.old.held }
-    ensures answer { MatchSchema schema.old.held (λ s. IsComparison s first.now second.now result) (result ≡ wrong_call) }
+    ensures answer { MatchSchema schema.old.held (λ s. IsComparison s first.now second.now result)
+        (result ≡ wrong_call) }
 {
     let Some(content) = schema.take(alloc) else {
         return Answer::wrong_call();

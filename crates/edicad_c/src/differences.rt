@@ -22,7 +22,8 @@ pub extern "C" fn edicad_diff(
     text: &mut Handle,
 ) -> Answer
     ensures kept { schema.new.held ≡ schema.old.held }
-    ensures answer { MatchSchema schema.old.held (λ s. IsDifferenceGiven s first.now second.now brief text.new.held result) (IsWrongCall text.new.held result) }
+    ensures answer { MatchSchema schema.old.held
+        (λ s. IsDifferenceGiven s first.now second.now brief text.new.held result) (IsWrongCall text.new.held result) }
 {
     text.clear(alloc);
     let Some(content) = schema.take(alloc) else {
@@ -42,7 +43,9 @@ fn form_given(brief: bool) -> Form
 
 // The same under the schema that a handle holds.
 fn difference(alloc: Global, content: &Content, first: &[u8], second: &[u8], brief: bool) -> Given
-    ensures { MatchSchema (Some content.now) (λ s. IsDifferenceGiven s first.now second.now brief (in_box result.content) result.answer) (IsWrongCall (in_box result.content) result.answer) }
+    ensures { MatchSchema (Some content.now)
+        (λ s. IsDifferenceGiven s first.now second.now brief (in_box result.content) result.answer)
+        (IsWrongCall (in_box result.content) result.answer) }
 {
     let Some(schema) = content.schema() else {
         return Given::nothing(Answer::wrong_call());

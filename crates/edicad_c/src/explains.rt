@@ -24,7 +24,8 @@ pub extern "C" fn edicad_explain(
     text: &mut Handle,
 ) -> Answer
     ensures kept { schema.new.held ≡ schema.old.held }
-    ensures answer { MatchSchema schema.old.held (λ s. IsExplanation s sheet.now name.now text.new.held result) (IsWrongCall text.new.held result) }
+    ensures answer { MatchSchema schema.old.held (λ s. IsExplanation s sheet.now name.now text.new.held result)
+        (IsWrongCall text.new.held result) }
 {
     text.clear(alloc);
     let Some(content) = schema.take(alloc) else {
@@ -37,7 +38,9 @@ pub extern "C" fn edicad_explain(
 
 // The same under the schema that a handle holds.
 fn explanation(alloc: Global, content: &Content, sheet: &[u8], name: &[u8]) -> Given
-    ensures { MatchSchema (Some content.now) (λ s. IsExplanation s sheet.now name.now (in_box result.content) result.answer) (IsWrongCall (in_box result.content) result.answer) }
+    ensures { MatchSchema (Some content.now)
+        (λ s. IsExplanation s sheet.now name.now (in_box result.content) result.answer)
+        (IsWrongCall (in_box result.content) result.answer) }
 {
     let Some(schema) = content.schema() else {
         return Given::nothing(Answer::wrong_call());

@@ -45,7 +45,8 @@ impl Given {
 
     /// The pairs of a pairing; or that there is no memory for them.
     pub fn of_pairs(alloc: Global, pairs: Vec<Pair>) -> Given
-        ensures { (pairing : Pairing) → pairs.items ≡ pairs_of pairing → IsPairsHeld pairing (in_box result.content) result.answer }
+        ensures { (pairing : Pairing) → pairs.items ≡ pairs_of pairing
+            → IsPairsHeld pairing (in_box result.content) result.answer }
     {
         match Box::new(alloc, Content::Pairs(pairs)) {
             Ok(content) => Given {

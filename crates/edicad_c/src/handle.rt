@@ -11,8 +11,8 @@ use std::marker::Model;
 use std::mem::replace;
 use std::ptr::null_mut;
 
-/// A pointer that owns a schema or bytes, or null, which owns nothing. C has it as a struct of one pointer, which it sets to null
-/// before the first call, and neither copies nor writes afterwards.
+/// A pointer that owns a schema, bytes or pairs, or null, which owns nothing. C has it as a struct of one pointer,
+/// which it sets to null before the first call, and neither copies nor writes afterwards.
 #[repr(C)]
 pub struct Handle {
     at: *mut u8,

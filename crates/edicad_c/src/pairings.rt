@@ -33,7 +33,8 @@ pub extern "C" fn edicad_pairing(
     pairing: &mut Handle,
 ) -> Answer
     ensures kept { schema.new.held ≡ schema.old.held }
-    ensures answer { MatchSchema schema.old.held (λ s. IsPairingGiven s first.now second.now pairing.new.held result) (IsWrongCall pairing.new.held result) }
+    ensures answer { MatchSchema schema.old.held (λ s. IsPairingGiven s first.now second.now pairing.new.held result)
+        (IsWrongCall pairing.new.held result) }
 {
     pairing.clear(alloc);
     let Some(content) = schema.take(alloc) else {
@@ -46,7 +47,9 @@ pub extern "C" fn edicad_pairing(
 
 // The file of a pairing of two sheets under the schema that a handle holds.
 fn paired(alloc: Global, content: &Content, first: &[u8], second: &[u8]) -> Given
-    ensures { MatchSchema (Some content.now) (λ s. IsPairingGiven s first.now second.now (in_box result.content) result.answer) (IsWrongCall (in_box result.content) result.answer) }
+    ensures { MatchSchema (Some content.now)
+        (λ s. IsPairingGiven s first.now second.now (in_box result.content) result.answer)
+        (IsWrongCall (in_box result.content) result.answer) }
 {
     let Some(schema) = content.schema() else {
         return Given::nothing(Answer::wrong_call());
@@ -70,7 +73,8 @@ pub extern "C" fn edicad_pair_records(
     pairs: &mut Handle,
 ) -> Answer
     ensures kept { schema.new.held ≡ schema.old.held }
-    ensures answer { MatchSchema schema.old.held (λ s. IsPairsGiven s first.now second.now pairs.new.held result) (IsWrongCall pairs.new.held result) }
+    ensures answer { MatchSchema schema.old.held (λ s. IsPairsGiven s first.now second.now pairs.new.held result)
+        (IsWrongCall pairs.new.held result) }
 {
     pairs.clear(alloc);
     let Some(content) = schema.take(alloc) else {
@@ -83,7 +87,9 @@ pub extern "C" fn edicad_pair_records(
 
 // Which record of the second sheet each of the first is under the schema that a handle holds.
 fn record_pairs(alloc: Global, content: &Content, first: &[u8], second: &[u8]) -> Given
-    ensures { MatchSchema (Some content.now) (λ s. IsPairsGiven s first.now second.now (in_box result.content) result.answer) (IsWrongCall (in_box result.content) result.answer) }
+    ensures { MatchSchema (Some content.now)
+        (λ s. IsPairsGiven s first.now second.now (in_box result.content) result.answer)
+        (IsWrongCall (in_box result.content) result.answer) }
 {
     let Some(schema) = content.schema() else {
         return Given::nothing(Answer::wrong_call());
@@ -106,7 +112,8 @@ fn pairs_given(alloc: Global, pairing: &Pairing) -> Given
     }
 }
 
-/// Whether a file states a pairing that carries the plan of the first sheet onto that of the second; where it doesn't, why, by this name of the file.
+/// Whether a file states a pairing that carries the plan of the first sheet onto that of the second; where it doesn't,
+/// why, by this name of the file.
 #[unsafe(no_mangle)]
 pub extern "C" fn edicad_verify(
     alloc: Global,
@@ -118,7 +125,9 @@ pub extern "C" fn edicad_verify(
     reason: &mut Handle,
 ) -> Answer
     ensures kept { schema.new.held ≡ schema.old.held }
-    ensures answer { MatchSchema schema.old.held (λ s. IsVerification s first.now second.now pairing.now name.now reason.new.held result) (IsWrongCall reason.new.held result) }
+    ensures answer { MatchSchema schema.old.held
+        (λ s. IsVerification s first.now second.now pairing.now name.now reason.new.held result)
+        (IsWrongCall reason.new.held result) }
 {
     reason.clear(alloc);
     let Some(content) = schema.take(alloc) else {
@@ -138,7 +147,9 @@ fn verification(
     pairing: &[u8],
     name: &[u8],
 ) -> Given
-    ensures { MatchSchema (Some content.now) (λ s. IsVerification s first.now second.now pairing.now name.now (in_box result.content) result.answer) (IsWrongCall (in_box result.content) result.answer) }
+    ensures { MatchSchema (Some content.now)
+        (λ s. IsVerification s first.now second.now pairing.now name.now (in_box result.content) result.answer)
+        (IsWrongCall (in_box result.content) result.answer) }
 {
     let Some(schema) = content.schema() else {
         return Given::nothing(Answer::wrong_call());

@@ -1,9 +1,9 @@
 //! Loading schemas.
 
-ghost use Rattle.std.specs.Prelude.{◌≡◌, IfErr, IfOk, codes};
+ghost use Rattle.std.specs.Prelude.{◌≡◌, IfErr, IfOk};
 ghost use Rattle.edi_schema.specs.Classes.{Classes};
 ghost use Rattle.edi_schema.specs.SchemaRefusal.{IsGoodSchema, IsSchemaRefusal};
-ghost use Rattle.edicad_c.specs.Schemas.{IsLoaded, IsLoadedUnder};
+ghost use Rattle.edicad_c.specs.Schemas.{IsLoaded, IsLoadedUnder, codes_in_order, usual_codes};
 
 use crate::answer::Answer;
 use crate::content::Content;
@@ -19,7 +19,7 @@ pub extern "C" fn edicad_schema_load(
     dic: &[u8],
     schema: &mut Handle,
 ) -> Answer
-    ensures { IsLoaded scd.now dic.now (record { initial = codes "IND"; final_node = codes "FND"; left = codes "LPO"; right = codes "RPO" }) schema.new.held result }
+    ensures { IsLoaded scd.now dic.now usual_codes schema.new.held result }
 {
     load(alloc, scd, dic, &Kinds::usual(), schema)
 }
@@ -36,7 +36,8 @@ pub extern "C" fn edicad_schema_load_kinds(
     right: &[u8],
     schema: &mut Handle,
 ) -> Answer
-    ensures { IsLoadedUnder scd.now dic.now (record { initial = initial.now; final_node = final_node.now; left = left.now; right = right.now }) schema.new.held result }
+    ensures { IsLoadedUnder scd.now dic.now (codes_in_order initial.now final_node.now left.now right.now)
+        schema.new.held result }
 {
     match Kinds::new(initial, final_node, left, right) {
         Some(kinds) => load(alloc, scd, dic, &kinds, schema),
@@ -68,7 +69,8 @@ fn loaded(
     dic: &[u8],
     kinds: &Kinds<'_>,
 ) -> Result<Box<Content>, SchemaFault>
-    ensures schema { IfOk result (λ content. (s : Classes) × IsGoodSchema scd.now dic.now kinds.now s × (content.value ≡ Content.Schema s)) }
+    ensures schema { IfOk result (λ content. (s : Classes) × IsGoodSchema scd.now dic.now kinds.now s
+        × (content.value ≡ Content.Schema s)) }
     ensures refusal { IfErr result (IsSchemaRefusal scd.now dic.now kinds.now) }
 {
     let schema = Schema::load(alloc, scd, dic, kinds)?;

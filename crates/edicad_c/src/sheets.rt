@@ -49,7 +49,8 @@ pub extern "C" fn edicad_canonical(
     canonical: &mut Handle,
 ) -> Answer
     ensures kept { schema.new.held ≡ schema.old.held }
-    ensures answer { MatchSchema schema.old.held (λ s. IsCanonicalFile s sheet.now canonical.new.held result) (IsWrongCall canonical.new.held result) }
+    ensures answer { MatchSchema schema.old.held (λ s. IsCanonicalFile s sheet.now canonical.new.held result)
+        (IsWrongCall canonical.new.held result) }
 {
     canonical.clear(alloc);
     let Some(content) = schema.take(alloc) else {
@@ -62,7 +63,8 @@ pub extern "C" fn edicad_canonical(
 
 // The canonical file of a sheet under the schema that a handle holds.
 fn canonical_file(alloc: Global, content: &Content, sheet: &[u8]) -> Given
-    ensures { MatchSchema (Some content.now) (λ s. IsCanonicalFile s sheet.now (in_box result.content) result.answer) (IsWrongCall (in_box result.content) result.answer) }
+    ensures { MatchSchema (Some content.now) (λ s. IsCanonicalFile s sheet.now (in_box result.content) result.answer)
+        (IsWrongCall (in_box result.content) result.answer) }
 {
     let Some(schema) = content.schema() else {
         return Given::nothing(Answer::wrong_call());
@@ -82,7 +84,8 @@ pub extern "C" fn edicad_digest(
     digest: &mut [u8; 32],
 ) -> Answer
     ensures kept { schema.new.held ≡ schema.old.held }
-    ensures answer { MatchSchema schema.old.held (λ s. IsDigest s sheet.now digest.old digest.new result) ((digest.new ≡ digest.old) × (result ≡ wrong_call)) }
+    ensures answer { MatchSchema schema.old.held (λ s. IsDigest s sheet.now digest.old digest.new result)
+        ((digest.new ≡ digest.old) × (result ≡ wrong_call)) }
 {
     let Some(content) = schema.take(alloc) else {
         return Answer::wrong_call();
@@ -94,7 +97,8 @@ pub extern "C" fn edicad_digest(
 
 // Puts the digest of a sheet under the schema that a handle holds.
 fn put_digest(alloc: Global, content: &Content, sheet: &[u8], digest: &mut [u8; 32]) -> Answer
-    ensures { MatchSchema (Some content.now) (λ s. IsDigest s sheet.now digest.old digest.new result) ((digest.new ≡ digest.old) × (result ≡ wrong_call)) }
+    ensures { MatchSchema (Some content.now) (λ s. IsDigest s sheet.now digest.old digest.new result)
+        ((digest.new ≡ digest.old) × (result ≡ wrong_call)) }
 {
     let Some(schema) = content.schema() else {
         return Answer::wrong_call();
