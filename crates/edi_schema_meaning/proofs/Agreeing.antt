@@ -1,22 +1,19 @@
 -- What two schemas that answer alike have in common.
-use Rattle.std.proofs.Common.{◌≡◌, ◌≢◌, ◌↔◌, ℕ, Bool, true, false, true≢false, List, Option, Some, None, option_map, codes, refl, sym, ap, ◌∙◌, subst}
-use Rattle.std.proofs.lemmas.Option.{none-some, same_Some}
-use Rattle.edi_record.specs.Texts.{HasNoSemicolon}
+use Rattle.std.proofs.Common.{◌≡◌, ◌↔◌, Bool, true, false, Option, Some, None, option_map, codes, refl, sym, ap, ◌∙◌}
+use Rattle.std.proofs.lemmas.Option.{none-some}
 use Rattle.edi_record.specs.declared.name.Name.{Name}
-use Rattle.edi_record.specs.declared.record.Kind.TheVariants.{Pno, Pfe}
-use Rattle.edi_schema.specs.Classes.{Classes, IsSchema, class_named, is_number_named, role_named}
+use Rattle.edi_record.specs.declared.record.Kind.TheVariants.{Pfe}
+use Rattle.edi_schema.specs.Classes.{Classes, class_named, is_number_named, role_named}
 use Rattle.edi_schema.specs.Roles.{is_plain}
 use Rattle.edi_schema.specs.declared.class.Class.{Class}
 use Rattle.edi_schema.specs.declared.role.Role.{Role}
 use Rattle.edi_schema.specs.declared.role.Role.TheVariants.{Initial, Final, Left, Right, Plain}
 use Rattle.edi_plan.specs.Joined.{beside}
-use Rattle.edi_write.specs.Written.{IsPrintableName}
 use Rattle.edi_schema_meaning.proofs.Apart.{join_not_refused, join_refused, loop_not_refused, loop_refused, node_accepted, node_not_refused, node_refused, start_not_refused, start_refused}
 use Rattle.edi_schema_meaning.proofs.Numbers.{value_not_refused, value_refused}
 use Rattle.edi_schema_meaning.proofs.Probing.{IsPlainName}
-use Rattle.edi_schema_meaning.proofs.Told.{plain_name}
 use Rattle.edi_schema_meaning.specs.Answers.{AnswerAlike}
-use Rattle.edi_schema_meaning.specs.Laws.{AnswersProbes, ProbesAreAnswered}
+use Rattle.edi_schema_meaning.specs.Laws.{ProbesAreAnswered}
 use Rattle.edi_schema_meaning.specs.Probes.{join_records, loop_records, node_records, probe, start_records, value_records}
 use Rattle.edi_compare.specs.Refused.{IsRefusal}
 use Rattle.edi_compare.specs.declared.fault.Fault.TheVariants.{Entry}

@@ -1,19 +1,15 @@
 -- Two schemas with one text answer alike.
-use Rattle.std.proofs.Common.{◌≡◌, ◌↔◌, ℕ, List, length, sym, ◌∙◌, subst}
+use Rattle.std.proofs.Common.{◌≡◌, ℕ, List, sym, ◌∙◌, subst}
 use Rattle.edi_schema.specs.Classes.{Classes, IsSchema}
 use Rattle.edi_plan.specs.Plans.{Drawing}
-use Rattle.edi_rank.specs.Labelling.{turned_at}
 use Rattle.edi_compare.specs.Pairings.{PairingCarries}
-use Rattle.edi_compare.specs.PlanOfFile.{IsPlanOfFile, StateSame}
 use Rattle.edi_compare.specs.Rules.{IsAccepted}
 use Rattle.edi_compare.specs.Verdicts.{IsVerdict}
-use Rattle.edi_compare.specs.declared.fault.Fault.{Fault}
 use Rattle.edi_compare.specs.declared.pairing.Pairing.{Pairing}
 use Rattle.edi_compare.specs.declared.pairing.Verdict.{Verdict}
 use Rattle.edi_compare.specs.declared.pairing.Verdict.TheVariants.{Same, Different}
 use Rattle.edi_schema_text.proofs.Meaning.{meaning}
 use Rattle.edi_schema_text.proofs.Tell.{text_told}
-use Rattle.edi_schema_text.specs.SchemaText.{text_of_schema}
 use Rattle.edi_schema_meaning.proofs.Carried.{carried_back, carried_in}
 use Rattle.edi_schema_meaning.proofs.Embed.{back_again, embed, partner_placed, unembed}
 use Rattle.edi_schema_meaning.proofs.Forms.{accepted_back, accepted_in, canonical_back, canonical_in, form_back, form_in, held_again, held_back, held_in, linked_back, linked_in, state_back, state_in}
@@ -40,21 +36,23 @@ module _ (s : Classes) (keeps : IsSchema s) where
   verdict_in : (a b : List ℕ) (v : Verdict) → IsAccepted (meaning s) a → IsAccepted (meaning s) b → IsVerdict (meaning s) a b v → IsVerdict s a b v
   verdict_in a b (Same pairing) ha hb h = (renamed (embed s) h.0, renamed (embed s) h.1, held_in s a ha h.0 h.2, held_in s b hb h.1 h.3, pairing_in h.0 h.1 pairing h.4)
   verdict_in a b (Different line) ha hb h =
-      let more = h.1 in
-      (λ same. h.0 (state_back s keeps a b (accepted_in s a ha) (accepted_in s b hb) same),
-        (more.0, more.1, canonical_in s keeps more.0 more.2, canonical_in s keeps more.1 more.3, state_in s keeps a more.0 ha more.2.accepted more.4, state_in s keeps b more.1 hb more.3.accepted more.5, more.6))
+      let more = h.1 in (
+        λ same. h.0 (state_back s keeps a b (accepted_in s a ha) (accepted_in s b hb) same),
+        (more.0, more.1, canonical_in s keeps more.0 more.2, canonical_in s keeps more.1 more.3, state_in s keeps a more.0 ha more.2.accepted more.4, state_in s keeps b more.1 hb more.3.accepted more.5, more.6),
+      )
 
   verdict_back : (a b : List ℕ) (v : Verdict) → IsAccepted s a → IsAccepted s b → IsVerdict s a b v → IsVerdict (meaning s) a b v
   verdict_back a b (Same pairing) ha hb h =
       let p = renamed (unembed s) h.0 in
       let q = renamed (unembed s) h.1 in
       let again : PairingCarries s (renamed (embed s) p) (renamed (embed s) q) pairing =
-          subst (λ x. PairingCarries s x (renamed (embed s) q) pairing) (sym (held_again s a ha h.0 h.2)) (subst (λ x. PairingCarries s h.0 x pairing) (sym (held_again s b hb h.1 h.3)) h.4) in
+      subst (λ x. PairingCarries s x (renamed (embed s) q) pairing) (sym (held_again s a ha h.0 h.2)) (subst (λ x. PairingCarries s h.0 x pairing) (sym (held_again s b hb h.1 h.3)) h.4) in
       (p, q, held_back s a ha h.0 h.2, held_back s b hb h.1 h.3, pairing_back p q pairing again)
   verdict_back a b (Different line) ha hb h =
-      let more = h.1 in
-      (λ same. h.0 (state_in s keeps a b (accepted_back s a ha) (accepted_back s b hb) same),
-        (more.0, more.1, canonical_back s keeps more.0 more.2, canonical_back s keeps more.1 more.3, state_back s keeps a more.0 ha more.2.accepted more.4, state_back s keeps b more.1 hb more.3.accepted more.5, more.6))
+      let more = h.1 in (
+        λ same. h.0 (state_in s keeps a b (accepted_back s a ha) (accepted_back s b hb) same),
+        (more.0, more.1, canonical_back s keeps more.0 more.2, canonical_back s keeps more.1 more.3, state_back s keeps a more.0 ha more.2.accepted more.4, state_back s keeps b more.1 hb more.3.accepted more.5, more.6),
+      )
 
   -- a schema answers as what it means
   as_meaning : AnswerAlike s (meaning s)
@@ -73,13 +71,13 @@ through s u t h g = record {
   refused = λ b fault. (λ x. (g.refused b fault).1 ((h.refused b fault).0 x), λ x. (h.refused b fault).1 ((g.refused b fault).0 x));
   form = λ b c. (λ x. (g.form b c).1 ((h.form b c).0 x), λ x. (h.form b c).1 ((g.form b c).0 x));
   same = λ a b ha hb.
-    let ta = (g.accepted a).1 ((h.accepted a).0 ha) in
-    let tb = (g.accepted b).1 ((h.accepted b).0 hb) in
-    (λ x. (g.same a b ta tb).1 ((h.same a b ha hb).0 x), λ x. (h.same a b ha hb).1 ((g.same a b ta tb).0 x));
+      let ta = (g.accepted a).1 ((h.accepted a).0 ha) in
+      let tb = (g.accepted b).1 ((h.accepted b).0 hb) in
+      (λ x. (g.same a b ta tb).1 ((h.same a b ha hb).0 x), λ x. (h.same a b ha hb).1 ((g.same a b ta tb).0 x));
   verdict = λ a b v ha hb.
-    let ta = (g.accepted a).1 ((h.accepted a).0 ha) in
-    let tb = (g.accepted b).1 ((h.accepted b).0 hb) in
-    (λ x. (g.verdict a b v ta tb).1 ((h.verdict a b v ha hb).0 x), λ x. (h.verdict a b v ha hb).1 ((g.verdict a b v ta tb).0 x));
+      let ta = (g.accepted a).1 ((h.accepted a).0 ha) in
+      let tb = (g.accepted b).1 ((h.accepted b).0 hb) in
+      (λ x. (g.verdict a b v ta tb).1 ((h.verdict a b v ha hb).0 x), λ x. (h.verdict a b v ha hb).1 ((g.verdict a b v ta tb).0 x));
 }
 
 pub one_answer : OneTextOneAnswer

@@ -1,32 +1,28 @@
 -- Two schemas that answer alike name the same classes, and their kinds differ in sides at most.
 use Rattle.std.proofs.Common.{◌≡◌, ◌≢◌, ◌⊎◌, inl, inr, ℕ, zero, suc, ◌+◌, ◌-◌, ◌<◌, ◌≤◌, Bool, true, false, not, cond, ◌&&◌, ◌||◌, true≢false, List, [], ◌∷◌, ◌++◌, length, map, get_or, Option, Some, None, option_map, codes, slice_get, refl, sym, ap, ◌∙◌, subst, arith, lit≤, lit<}
-use Rattle.std.specs.Prelude.{is_some, pos, flat_map}
-use Rattle.std.specs.List.{AllByRecursion, AllZip, list_all, list_any}
+use Rattle.std.specs.Prelude.{is_some, pos}
 use Rattle.std.proofs.lemmas.Option.{none-some, same_Some}
-use Rattle.edi_line.specs.Refusal.{IsLeastBroken, IsUnbroken}
+use Rattle.edi_line.specs.Refusal.{IsUnbroken}
 use Rattle.edi_record.specs.Shapes.{kind_rank}
-use Rattle.edi_record.specs.Texts.{HasNoSemicolon}
 use Rattle.edi_record.specs.declared.name.Name.{Name}
 use Rattle.edi_record.specs.declared.record.End.{End}
 use Rattle.edi_record.specs.declared.record.Kind.{Kind}
-use Rattle.edi_record.specs.declared.record.Kind.TheVariants.{Pno, Par, Pfe, Fea, Lnk}
-use Rattle.edi_record.specs.declared.record.Point.{Point}
+use Rattle.edi_record.specs.declared.record.Kind.TheVariants.{Pno, Par, Pfe, Lnk}
 use Rattle.edi_record.specs.declared.record.Record.{Record}
 use Rattle.edi_record.specs.declared.sheet.Sheet.{Sheet}
-use Rattle.edi_schema.specs.Classes.{Classes, IsSchema, place_of, role_named}
+use Rattle.edi_schema.specs.Classes.{Classes, place_of, role_named}
 use Rattle.edi_schema.specs.Roles.{is_plain}
 use Rattle.edi_schema.specs.declared.role.Role.{Role}
 use Rattle.edi_schema.specs.declared.role.Role.TheVariants.{Initial, Final, Left, Right, Plain}
 use Rattle.edi_plan.specs.Joined.{beside}
-use Rattle.edi_plan.specs.PlanOf.{IsPlanOf, StatesPlanEnd, StatesPlanRecord, place_named}
+use Rattle.edi_plan.specs.PlanOf.{place_named}
 use Rattle.edi_plan.specs.Plans.{Drawing, IsPlace, record_at}
 use Rattle.edi_plan.specs.ReferenceRules.{BreaksReferenceRule, JoinsArcTo, Names}
 use Rattle.edi_plan.specs.ReferenceRules.BreaksReferenceRule.{repeats_name, lacks_class, lacks_attribute_class, leaves_subset, names_nothing, joins_wrong, repeats_side}
 use Rattle.edi_plan.specs.Sides.{Side}
 use Rattle.edi_plan.specs.inner.Resolving.{is_elsewhere}
-use Rattle.edi_plan.specs.declared.record.PlanEnd.{PlanEnd}
 use Rattle.edi_plan.specs.declared.record.PlanRecord.{PlanRecord}
-use Rattle.edi_topo.proofs.AtPlaces.{BreaksOfArc, breaks_of_arc, breaks_of_node, breaks_of_other, broken_place, first_is_least, none_is_broken}
+use Rattle.edi_topo.proofs.AtPlaces.{BreaksOfArc, breaks_of_arc, breaks_of_node, first_is_least, none_is_broken}
 use Rattle.edi_topo.proofs.AtPlaces.BreaksOfArc.{starts, ends, reverses, repeats}
 use Rattle.edi_topo.specs.TopologyRules.{BreaksTopologyRule, EndsElsewhere}
 use Rattle.edi_topo.specs.TopologyRules.BreaksTopologyRule.{ends_elsewhere}
@@ -37,11 +33,10 @@ use Rattle.edi_compare.proofs.KnownSheetsTests.{none_is}
 use Rattle.edi_compare.proofs.Phases.{all_held, references_held, topology_held, topology_refusal}
 use Rattle.edi_compare.specs.PlanOfFile.{IsPlanOfFile, IsSheetOf}
 use Rattle.edi_compare.specs.Refused.{IsRefusal}
-use Rattle.edi_compare.specs.Rules.{Breaks, IsAccepted, RecordsHold, ReferencesHold}
+use Rattle.edi_compare.specs.Rules.{IsAccepted, RecordsHold, ReferencesHold}
 use Rattle.edi_compare.specs.declared.fault.Fault.TheVariants.{Entry}
 use Rattle.edi_schema_meaning.proofs.Probing.{CanBeRead, IsPlainName, bare_arc, bare_link, bare_node, probe_records, probe_sheet}
 use Rattle.edi_schema_meaning.proofs.Told.{first_is, link_least, not_wrong, place_none, place_some, reference_back, refused_at_one, topology_back, unknown_first, unknown_least, wrong_first}
-use Rattle.edi_schema_meaning.specs.Answers.{AnswerAlike}
 use Rattle.edi_schema_meaning.specs.Probes.{arc_of, end_at, join_records, link_of, loop_records, node_of, node_records, plain_letters, probe, spot, start_records}
 
 -- what an end names is one record
@@ -135,14 +130,14 @@ module _ (n : Name) (plain : IsPlainName n) where
       let b = probe (node_records n) in
       let p = node_plan known.0 role in
       let references : ReferencesHold s b =
-          references_held s b (node_read s) node_sheet node_stated
-          (references_as s (node_records n) (record { names = refl; classes = ap (λ o. is_some o && true) known.1; attributes = refl; subsets = refl; ends = refl; joins = refl; kinds = refl })) in
+      references_held s b (node_read s) node_sheet node_stated
+      (references_as s (node_records n) (record { names = refl; classes = ap (λ o. is_some o && true) known.1; attributes = refl; subsets = refl; ends = refl; joins = refl; kinds = refl })) in
       let states : IsPlanOfFile s b p =
-          (node_sheet, node_stated, record { set = refl; each = (record { kind = refl; class = known.1; role = has; points = refl; attributes = tt; extras = refl; ends = tt }, tt) }) in
+      (node_sheet, node_stated, record { set = refl; each = (record { kind = refl; class = known.1; role = has; points = refl; attributes = tt; extras = refl; ends = tt }, tt) }) in
       let topology : IsUnbroken (BreaksTopologyRule p) =
-          none_is_broken p 1 (λ k h. h) (λ k low rule broken.
-          let at : k ≡ 0 = omega (arith, low) in
-          let early = (breaks_of_node p 0 refl rule (subst (λ j. BreaksTopologyRule p rule (suc j)) at broken)).1.1 in omega (arith, early)) in
+      none_is_broken p 1 (λ k h. h) (λ k low rule broken.
+      let at : k ≡ 0 = omega (arith, low) in
+      let early = (breaks_of_node p 0 refl rule (subst (λ j. BreaksTopologyRule p rule (suc j)) at broken)).1.1 in omega (arith, early)) in
       all_held s b (topology_held s b references p states topology) p states (lone p.cse (record { kind = Pno; class = known.0; role = role; points = spot 0 0 ∷ []; attributes = []; extras = []; ends = [] }))
 
   -- ---- a class of a kind, and of none
@@ -286,14 +281,20 @@ module _ (n : Name) (plain : IsPlainName n) where
 
   start_states : (s : Classes) (role : Role) (k : ℕ) → place_of s n ≡ Some k → role_named s n ≡ Some role → IsPlanOfFile s (probe (start_records n)) (start_plan k role)
   unfolding start_sheet start_plan
-  start_states s role k known has = (start_sheet, start_stated, record {
-    set = refl;
-    each = (
-      record { kind = refl; class = known; role = has; points = refl; attributes = tt; extras = refl; ends = tt },
-      (record { kind = refl; class = known; role = has; points = refl; attributes = tt; extras = refl; ends = tt },
-        (record { kind = refl; class = known; role = has; points = refl; attributes = tt; extras = refl; ends = (record { target = refl; sns = refl }, (record { target = refl; sns = refl }, tt)) }, tt)),
-    );
-  })
+  start_states s role k known has = (
+    start_sheet,
+    start_stated,
+    record {
+      set = refl;
+      each = (
+        record { kind = refl; class = known; role = has; points = refl; attributes = tt; extras = refl; ends = tt },
+        (
+          record { kind = refl; class = known; role = has; points = refl; attributes = tt; extras = refl; ends = tt },
+          (record { kind = refl; class = known; role = has; points = refl; attributes = tt; extras = refl; ends = (record { target = refl; sns = refl }, (record { target = refl; sns = refl }, tt)) }, tt),
+        ),
+      );
+    },
+  )
 
   start_roles : (k : ℕ) (role : Role) (i : ℕ) → IsPlace (start_plan k role) i → (record_at (start_plan k role) i).role ≡ role
   unfolding start_plan
@@ -319,8 +320,10 @@ module _ (n : Name) (plain : IsPlainName n) where
     where
       final_plain : Final ≢ Plain
       final_plain h = cc
+
       spots : spot 0 0 ≢ spot 1 0
       spots h = let e : pos 0 ≡ pos 1 = ap (λ q. q.x) h in absurd (omega (arith, Rattle.std.proofs.Common.ap (λ z. Rattle.edi_line.specs.Number.size_of z) e))
+
       least : (rule : ℕ) → BreaksOfArc (start_plan (place_some s n Final has).0 Final) 0 rule → 402 ≤ rule
       least rule (starts e h) = absurd (initial_final (other_side (place_some s n Final has).0 Final Initial h.0 h.1 h.7))
         where
@@ -339,6 +342,7 @@ module _ (n : Name) (plain : IsPlainName n) where
     where
       initial_final : Initial ≡ Final → ⊥
       initial_final g = cc
+
       go : (k : ℕ) → BreaksOfArc (start_plan k Initial) 0 402 → ⊥
       go k (starts e x) = omega (arith, e)
       go k (ends e x) = initial_final (other_side k Initial Final x.0 x.1 x.7)

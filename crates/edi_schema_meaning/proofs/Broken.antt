@@ -1,5 +1,5 @@
 -- A plan breaks the rules of topology and of objects that it breaks with its classes renamed.
-use Rattle.std.proofs.Common.{◌≡◌, ◌≢◌, ◌⊎◌, inl, inr, ℕ, zero, suc, ◌+◌, ◌<◌, Bool, true, false, cond, ◌&&◌, ◌==◌, List, [], ◌∷◌, ◌++◌, length, map, reverse, filter_map, Option, Some, None, option_map, count_by, IsPermutation, refl, sym, ap, ◌∙◌, subst, arith}
+use Rattle.std.proofs.Common.{◌≡◌, ◌⊎◌, inl, inr, ℕ, Bool, true, false, cond, ◌&&◌, ◌==◌, List, [], ◌∷◌, map, Some, None, option_map, count_by, IsPermutation, refl, sym, ap, ◌∙◌, subst}
 use Rattle.std.specs.List.{AllZip, list_any}
 use Rattle.std.proofs.lemmas.List.Sorted.{IsPermutation-map}
 use Rattle.edi_record.specs.Records.{is_link}
@@ -7,9 +7,8 @@ use Rattle.edi_record.specs.declared.record.Kind.{Kind}
 use Rattle.edi_record.specs.declared.record.Point.{Point}
 use Rattle.edi_schema.specs.declared.role.Role.{Role}
 use Rattle.edi_schema.specs.declared.role.Role.TheVariants.{Left, Right}
-use Rattle.edi_plan.specs.Plans.{Drawing, IsPlace, is_object, record_at}
-use Rattle.edi_plan.specs.Sides.{Side, targets}
-use Rattle.edi_plan.specs.declared.record.PlanEnd.{PlanEnd}
+use Rattle.edi_plan.specs.Plans.{Drawing, is_object, record_at}
+use Rattle.edi_plan.specs.Sides.{Side}
 use Rattle.edi_plan.specs.declared.record.PlanRecord.{PlanRecord}
 use Rattle.edi_topo.specs.TopologyRules.{AreEqualNodes, BreaksTopologyRule, HasPoints}
 use Rattle.edi_topo.specs.TopologyRules.BreaksTopologyRule.{starts_elsewhere, ends_elsewhere, repeats_node, equals_reverse, repeats_arc, bounds_nothing}

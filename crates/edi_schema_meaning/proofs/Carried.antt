@@ -1,10 +1,9 @@
 -- A map carries one plan onto another exactly if it does with the classes of both renamed.
-use Rattle.std.proofs.Common.{◌≡◌, ℕ, ◌+◌, ◌<◌, Bool, true, false, cond, List, [], ◌∷◌, length, map, reverse, Option, Some, None, option_map, IsPermutation, refl, sym, ap, ◌∙◌, subst, arith}
-use Rattle.std.specs.List.{list_any}
+use Rattle.std.proofs.Common.{◌≡◌, ℕ, Bool, true, false, cond, List, map, IsPermutation, refl, sym, ap, ◌∙◌, subst}
 use Rattle.std.proofs.lemmas.List.Sorted.{IsPermutation-map}
 use Rattle.edi_schema.specs.Classes.{Classes, partner_of}
 use Rattle.edi_schema.specs.Roles.{is_plain}
-use Rattle.edi_plan.specs.Plans.{Drawing, IsPlace, record_at}
+use Rattle.edi_plan.specs.Plans.{Drawing, record_at}
 use Rattle.edi_plan.specs.declared.record.PlanAttribute.{PlanAttribute}
 use Rattle.edi_plan.specs.declared.record.PlanRecord.{PlanRecord}
 use Rattle.edi_rank.specs.Same.{Carries, CarriesRecord, OneToOne, Same, class_after, has_turned_arc}
@@ -56,9 +55,9 @@ module _ (s u : Classes) (f g : ℕ → ℕ) (again : (k : ℕ) → g (f k) ≡ 
     arcs = λ i h t. kind_at f p i ∙ c.arcs i (place_back f p i h) t;
     cse = c.cse;
     each = λ i h.
-      let there = place_back f p i h in
-      subst (λ a. CarriesRecord s to turned i a (record_at (renamed f q) (to i))) (sym (record_in f p i there))
-      (subst (CarriesRecord s to turned i (renamed_record f (record_at p i))) (sym (record_in f q (to i) (c.places.within i there))) (record_carried to turned i (record_at p i) (record_at q (to i)) (c.each i there)));
+        let there = place_back f p i h in
+        subst (λ a. CarriesRecord s to turned i a (record_at (renamed f q) (to i))) (sym (record_in f p i there))
+        (subst (CarriesRecord s to turned i (renamed_record f (record_at p i))) (sym (record_in f q (to i) (c.places.within i there))) (record_carried to turned i (record_at p i) (record_at q (to i)) (c.each i there)));
   }
 
   pub carried_back : (to : ℕ → ℕ) (turned : ℕ → Bool) (p q : Drawing) → Carries s to turned (renamed f p) (renamed f q) → Carries u to turned p q

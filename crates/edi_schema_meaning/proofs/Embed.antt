@@ -1,22 +1,20 @@
 -- Where the classes that a pointer can name stand in a schema.
 use Rattle.std.proofs.Common.{◌≡◌, ℕ, zero, suc, ◌+◌, ◌<◌, ◌≤◌, Bool, true, false, cond, not, nat_lt, true≢false, List, [], ◌∷◌, length, map, filter, Option, Some, None, option_map, unwrap_or, slice_get, position, count_by, codes, bytes_eq, refl, sym, ap, ◌∙◌, subst, arith, Ordering, Less, Equal, Greater}
 use Rattle.std.specs.List.{AllByRecursion, list_any, position_or_len}
-use Rattle.std.specs.Map.{lookup, keys_of}
 use Rattle.std.specs.Ordering.{nat_cmp, MatchOrdering}
 use Rattle.std.specs.Cmp.{nat_cmp_is, ranks}
-use Rattle.std.proofs.lemmas.Bool.{ltb-true, lt-ltb, and_parts}
+use Rattle.std.proofs.lemmas.Bool.{ltb-true, lt-ltb}
 use Rattle.std.proofs.lemmas.Option.{none-some, same_Some, slice_get-map}
 use Rattle.edi_record.specs.Texts.{is_semicolon}
 use Rattle.edi_record.specs.declared.name.Name.{Name}
 use Rattle.edi_schema.proofs.Paired.{itself, role_there, still_kind, there}
 use Rattle.edi_schema.proofs.Pointable.{is_the_one, makes_pointable, some_pass}
-use Rattle.edi_schema.specs.Classes.{Classes, IsSchema, class_at, class_name_at, class_named, has_role, is_name, is_number_of, is_pointable, partner_at, partner_of, place_of, role_of}
+use Rattle.edi_schema.specs.Classes.{Classes, IsSchema, class_name_at, has_role, is_name, is_pointable, partner_at, partner_of, place_of, role_of}
 use Rattle.edi_schema.specs.Roles.{exchanged, is_plain, same_role}
 use Rattle.edi_schema.specs.declared.class.Class.{Class}
 use Rattle.edi_schema.specs.declared.role.Role.{Role}
 use Rattle.edi_schema.specs.declared.role.Role.TheVariants.{Plain}
-use Rattle.edi_schema_text.specs.SchemaText.{is_nameable}
-use Rattle.edi_schema_text.proofs.Meaning.{meaning, meaning_of, settled}
+use Rattle.edi_schema_text.proofs.Meaning.{meaning, meaning_of}
 use Rattle.edi_schema_text.proofs.Named.{bool_false, name_apart, settled_role}
 
 -- ---- the places
@@ -92,9 +90,9 @@ lt-suc a b = go (nat_lt a b) refl
     go : (t : Bool) → nat_lt a b ≡ t → nat_lt (1 + a) (suc b) ≡ t
     go true h = let below : a < b = ltb-true a b h in lt-ltb (1 + a) (suc b) (omega (arith, below))
     go false h = bool_false (nat_lt (1 + a) (suc b)) (λ g.
-      let below : 1 + a < suc b = ltb-true (1 + a) (suc b) g in
-      let less : a < b = omega (arith, below) in
-      true≢false (sym (lt-ltb a b less) ∙ h))
+        let below : 1 + a < suc b = ltb-true (1 + a) (suc b) g in
+        let less : a < b = omega (arith, below) in
+        true≢false (sym (lt-ltb a b less) ∙ h))
 
 pub position-cons : {X : Type 0} (test : X → Bool) (x : X) (xs : List X) → position test (x ∷ xs) ≡ cond (test x) (Some 0) (option_map suc (position test xs))
 position-cons {X} test x xs = go (test x) refl
@@ -102,6 +100,7 @@ position-cons {X} test x xs = go (test x) refl
     later : (t : Bool) → cond t (Some (1 + position_or_len test xs)) None ≡ option_map suc (cond t (Some (position_or_len test xs)) None)
     later true = ap Some (Rattle.std.proofs.Common.one-add (position_or_len test xs))
     later false = refl
+
     go : (b : Bool) → test x ≡ b → position test (x ∷ xs) ≡ cond b (Some 0) (option_map suc (position test xs))
     go true h = rw h (rw (lt-ltb 0 (length (x ∷ xs)) (omega arith)) refl)
     go false h = rw h (ap (λ t. cond t (Some (1 + position_or_len test xs)) None) (lt-suc (position_or_len test xs) (length xs)) ∙ later (nat_lt (position_or_len test xs) (length xs)))
@@ -147,11 +146,13 @@ placed test there agrees (e ∷ s) all = go (list_any is_semicolon e.0.rty) refl
   where
     mapped : Option ℕ
     mapped = position there (meaning s)
+
     own : (b : Bool) → test e ≡ b → list_any is_semicolon e.0.rty ≡ false → position test s ≡ option_map (embed s) mapped
         → cond b (Some 0) (option_map suc (position test s)) ≡ option_map (embed (e ∷ s)) (cond b (Some 0) (option_map suc mapped))
     own true t h more = ap Some (sym (embed_first e s h))
     own false t h more =
         ap (option_map suc) more ∙ (sym (mapped_twice (λ k. suc (embed s k)) suc (embed s) (λ k. refl) mapped) ∙ mapped_twice (λ k. suc (embed s k)) (embed (e ∷ s)) suc (λ k. sym (embed_later e s h k)) mapped)
+
     go : (b : Bool) → list_any is_semicolon e.0.rty ≡ b → position test s ≡ option_map (embed s) mapped → position test (e ∷ s) ≡ option_map (embed (e ∷ s)) (position there (meaning (e ∷ s)))
     go true h more =
         position-cons test e s
@@ -226,8 +227,10 @@ partner_placed s keeps k = ap (λ o. unwrap_or o (embed s k)) (go (is_plain (rol
   where
     same : role_of (meaning s) k ≡ role_of s (embed s k)
     same = role_placed s k
+
     at : Role → Classes → Option ℕ
     at role t = cond (is_plain role) None (position (has_role (exchanged role)) t)
+
     go : (b : Bool) → is_plain (role_of s (embed s k)) ≡ b → partner_at s (embed s k) ≡ option_map (embed s) (partner_at (meaning s) k)
     go true h = ap (λ t. cond t None (position (has_role (exchanged (role_of s (embed s k)))) s)) h
         ∙ sym (ap (λ t. option_map (embed s) (cond t None (position (has_role (exchanged (role_of (meaning s) k))) (meaning s)))) (ap is_plain same ∙ h))

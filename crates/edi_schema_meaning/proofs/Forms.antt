@@ -1,6 +1,5 @@
 -- Every answer to a sheet is that under what the schema means.
-use Rattle.std.proofs.Common.{◌≡◌, ◌↔◌, ℕ, List, refl, sym, ap, ◌∙◌, subst}
-use Rattle.edi_record.specs.declared.sheet.Sheet.{Sheet}
+use Rattle.std.proofs.Common.{◌≡◌, ℕ, List, sym, ap, ◌∙◌, subst}
 use Rattle.edi_schema.specs.Classes.{Classes, IsSchema}
 use Rattle.edi_plan.specs.Plans.{Drawing}
 use Rattle.edi_rank.proofs.SameLaws.{same_refl}
@@ -8,10 +7,10 @@ use Rattle.edi_rank.specs.InOrder.{IsInOrder}
 use Rattle.edi_rank.specs.Same.{Same}
 use Rattle.edi_write.proofs.WrittenPrinted.{attribute_classes}
 use Rattle.edi_write.specs.Layout.{layout}
-use Rattle.edi_compare.specs.Canonical.{IsCanonical, IsOnlyForm}
+use Rattle.edi_compare.specs.Canonical.{IsCanonical}
 use Rattle.edi_compare.specs.Headline.{IsFormOf}
 use Rattle.edi_compare.specs.PlanOfFile.{IsPlanOfFile, StateSame}
-use Rattle.edi_compare.specs.Rules.{IsAccepted, ReferencesHold}
+use Rattle.edi_compare.specs.Rules.{IsAccepted}
 use Rattle.edi_schema_text.proofs.Meaning.{meaning}
 use Rattle.edi_schema_meaning.proofs.Carried.{same_back, same_in}
 use Rattle.edi_schema_meaning.proofs.Embed.{back_again, embed, partner_placed, same_order, unembed}
@@ -61,7 +60,7 @@ module _ (s : Classes) where
         let p = renamed (unembed s) h.0 in
         let q = renamed (unembed s) h.1 in
         let again : Same s (renamed (embed s) p) (renamed (embed s) q) =
-            subst (λ x. Same s x (renamed (embed s) q)) (sym (held_again a ha h.0 h.2)) (subst (Same s h.0) (sym (held_again b hb h.1 h.3)) h.4) in
+        subst (λ x. Same s x (renamed (embed s) q)) (sym (held_again a ha h.0 h.2)) (subst (Same s h.0) (sym (held_again b hb h.1 h.3)) h.4) in
         (p, q, held_back a ha h.0 h.2, held_back b hb h.1 h.3, same_back s (meaning s) (embed s) (unembed s) (back_again s) (partner_placed s keeps) p q again)
 
     -- ---- canonical files
@@ -97,9 +96,9 @@ module _ (s : Classes) where
       canonical = canonical_in c h.canonical;
       same = state_in b c h.accepted h.canonical.accepted h.same;
       only = λ d is.
-        let there : IsCanonical (meaning s) d = canonical_back d is in
-        let one = h.only d there in
-        (λ same. one.0 (state_back b d (accepted_in b h.accepted) is.accepted same), λ e. state_in b d h.accepted there.accepted (one.1 e));
+          let there : IsCanonical (meaning s) d = canonical_back d is in
+          let one = h.only d there in
+          (λ same. one.0 (state_back b d (accepted_in b h.accepted) is.accepted same), λ e. state_in b d h.accepted there.accepted (one.1 e));
     }
 
     pub form_back : (b c : List ℕ) → IsFormOf s b c → IsFormOf (meaning s) b c
@@ -108,7 +107,7 @@ module _ (s : Classes) where
       canonical = canonical_back c h.canonical;
       same = state_back b c h.accepted h.canonical.accepted h.same;
       only = λ d is.
-        let there : IsCanonical s d = canonical_in d is in
-        let one = h.only d there in
-        (λ same. one.0 (state_in b d (accepted_back b h.accepted) is.accepted same), λ e. state_back b d h.accepted there.accepted (one.1 e));
+          let there : IsCanonical s d = canonical_in d is in
+          let one = h.only d there in
+          (λ same. one.0 (state_in b d (accepted_back b h.accepted) is.accepted same), λ e. state_back b d h.accepted there.accepted (one.1 e));
     }

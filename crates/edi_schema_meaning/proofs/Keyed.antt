@@ -1,5 +1,5 @@
 -- The order of the records of a plan is the same with its classes renamed, where the renaming rises.
-use Rattle.std.proofs.Common.{◌≡◌, ℕ, suc, ◌+◌, ◌<◌, ◌≤◌, Bool, true, false, cond, ◌&&◌, ◌==◌, List, [], ◌∷◌, length, map, filter_map, Option, Some, None, option_map, refl, sym, ap, ◌∙◌, subst, arith, Ordering}
+use Rattle.std.proofs.Common.{◌≡◌, ℕ, suc, ◌≤◌, Bool, true, false, cond, ◌&&◌, ◌==◌, List, [], ◌∷◌, map, filter_map, Option, Some, None, option_map, refl, sym, ap, ◌∙◌, subst, Ordering}
 use Rattle.std.specs.Prelude.{option_and_then}
 use Rattle.std.specs.List.{AllByRecursion}
 use Rattle.std.specs.Ordering.{is_gt, nat_cmp, ordering_then}
@@ -14,16 +14,14 @@ use Rattle.edi_plan.specs.declared.record.PlanAttribute.{PlanAttribute}
 use Rattle.edi_plan.specs.declared.record.PlanEnd.{PlanEnd}
 use Rattle.edi_plan.specs.declared.record.PlanRecord.{PlanRecord}
 use Rattle.edi_topo.specs.NodeKeys.{node_key, node_key_cmp}
-use Rattle.edi_topo.specs.declared.node_key.NodeKey.{NodeKey}
 use Rattle.edi_rank.specs.InOrder.{AllRise, Both, IsInOrder}
 use Rattle.edi_rank.specs.Keys.{arc_beside, end_cmp, ends_key, face_key_cmp, least_side, link_key, link_key_cmp, marked, numbered, object_key, object_key_cmp, piece_by, side_by, side_of, sides_of}
 use Rattle.edi_rank.specs.Turned.{is_forward}
 use Rattle.edi_rank.specs.declared.keys.FaceKey.{FaceKey}
 use Rattle.edi_rank.specs.declared.keys.LinkKey.{LinkKey}
-use Rattle.edi_rank.specs.declared.keys.NumberedEnd.{NumberedEnd}
 use Rattle.edi_rank.specs.declared.keys.ObjectKey.{ObjectKey}
 use Rattle.edi_schema_meaning.proofs.Broken.{piece_in}
-use Rattle.edi_schema_meaning.proofs.Renamed.{ends_at, filter_map-map, kind_at, place_back, place_in, points_at, record_in, renamed, renamed_attribute, renamed_record, role_at}
+use Rattle.edi_schema_meaning.proofs.Renamed.{filter_map-map, kind_at, place_back, place_in, points_at, record_in, renamed, renamed_attribute, renamed_record}
 
 -- ---- lists whose elements compare as before
 

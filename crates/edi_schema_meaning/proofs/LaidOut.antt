@@ -1,26 +1,25 @@
 -- The layout of a plan is the same with its classes renamed, where the names are.
-use Rattle.std.proofs.Common.{◌≡◌, ℕ, ◌+◌, ◌<◌, Bool, true, false, List, [], ◌∷◌, ◌++◌, length, map, take, Option, Some, None, option_map, unwrap_or, count_by, codes, refl, sym, ap, ◌∙◌, subst, arith}
+use Rattle.std.proofs.Common.{◌≡◌, ℕ, ◌+◌, List, [], ◌∷◌, ◌++◌, length, map, take, Option, Some, None, option_map, unwrap_or, count_by, codes, refl, sym, ap, ◌∙◌}
 use Rattle.std.specs.Prelude.{flat_map, option_to_list, slice_get}
 use Rattle.std.specs.List.{AllByRecursion}
 use Rattle.std.proofs.lemmas.List.{length-map, take-map}
 use Rattle.edi_line.specs.Bytes.{letter_a}
-use Rattle.edi_line.specs.Entry.{Entry}
 use Rattle.edi_line.specs.Printing.{printed}
-use Rattle.edi_record.specs.CanonicalZones.{attribute_count_zone, attribute_zone, begin_zone, class_zone, cse_zone, end_count_zone, end_zone, extra_zone, identifier_zone, point_count_zone, point_zone, set_zone, sns_zone, target_zone, type_zone, value_zone}
+use Rattle.edi_record.specs.CanonicalZones.{attribute_count_zone, attribute_zone, begin_zone, class_zone, cse_zone, end_count_zone, end_zone, extra_zone, identifier_zone, set_zone, sns_zone, target_zone, type_zone, value_zone}
 use Rattle.edi_record.specs.Shapes.{kind_code}
 use Rattle.edi_record.specs.declared.name.Name.{Name}
 use Rattle.edi_record.specs.declared.record.Kind.{Kind}
 use Rattle.edi_record.specs.declared.record.Kind.TheVariants.{Pno, Par, Pfe, Fea, Lnk}
-use Rattle.edi_schema.specs.Classes.{Classes, class_at}
+use Rattle.edi_schema.specs.Classes.{Classes}
 use Rattle.edi_schema.specs.declared.class.Class.{Class}
 use Rattle.edi_plan.specs.Plans.{Drawing, record_at, same_kind}
 use Rattle.edi_plan.specs.declared.record.PlanAttribute.{PlanAttribute}
 use Rattle.edi_plan.specs.declared.record.PlanEnd.{PlanEnd}
 use Rattle.edi_plan.specs.declared.record.PlanRecord.{PlanRecord}
 use Rattle.edi_rank.proofs.KeysPreserved.{count_by-map}
-use Rattle.edi_write.specs.Layout.{attribute_zones, body_zones, class_letter_of, class_name_of, end_zones, head_zones, identifier, layout, name_in, no_name, number_in, record_zones, sheet_zones, tail_zones, zones_from}
+use Rattle.edi_write.specs.Layout.{attribute_zones, body_zones, class_letter_of, class_name_of, end_zones, identifier, layout, name_in, no_name, number_in, record_zones, zones_from}
 use Rattle.edi_write.specs.Written.{HasAttributeClasses}
-use Rattle.edi_schema_text.proofs.Meaning.{meaning, meaning_of, settled}
+use Rattle.edi_schema_text.proofs.Meaning.{meaning, meaning_of}
 use Rattle.edi_schema_text.proofs.Named.{settled_same}
 use Rattle.edi_schema_meaning.proofs.Embed.{class_placed, embed, stands}
 use Rattle.edi_schema_meaning.proofs.Renamed.{kind_at, renamed, renamed_attribute, renamed_record}
@@ -39,14 +38,13 @@ letter_placed s k att = go (slice_get s (embed s k)) refl
         ∙ sym (ap (λ x. unwrap_or (option_map (λ c. c.letter) (option_map (λ e. e.1) x)) letter_a) (stands s k ∙ ap (option_map meaning_of) h))
     go (Some e) h =
         let name : class_name_of (meaning s) k ≡ e.0 =
-            ap (λ o. unwrap_or o no_name) (Rattle.std.proofs.lemmas.Option.slice_get-map (λ x. x.0) (meaning s) k ∙ ap (option_map (λ x. x.0)) (stands s k ∙ ap (option_map meaning_of) h)) in
+        ap (λ o. unwrap_or o no_name) (Rattle.std.proofs.lemmas.Option.slice_get-map (λ x. x.0) (meaning s) k ∙ ap (option_map (λ x. x.0)) (stands s k ∙ ap (option_map meaning_of) h)) in
         let is : e.0.rty ≡ codes "ATT" = ap (λ n. n.rty) (sym name) ∙ att in
         ap (λ x. unwrap_or (option_map (λ c. c.letter) (option_map (λ e. e.1) x)) letter_a) h
         ∙ (ap (λ c. c.letter) (sym (settled_same e.0.rty e.1 is))
         ∙ sym (ap (λ x. unwrap_or (option_map (λ c. c.letter) (option_map (λ e. e.1) x)) letter_a) (stands s k ∙ ap (option_map meaning_of) h)))
 
 module _ (s : Classes) (p : Drawing) where
-
   -- ---- numbers
 
   number_same : (k : ℕ) → number_in (meaning s) (renamed (embed s) p) k ≡ number_in (meaning s) p k

@@ -1,10 +1,10 @@
 -- Two schemas that answer alike have the same letters for classes of attributes.
-use Rattle.std.proofs.Common.{◌≡◌, ◌≢◌, ℕ, zero, suc, ◌+◌, ◌<◌, ◌≤◌, Bool, true, false, not, ◌&&◌, ◌||◌, true≢false, List, [], ◌∷◌, ◌++◌, length, get_or, map, Option, Some, None, option_map, unwrap_or, codes, bytes_eq, refl, sym, ap, ◌∙◌, subst, arith, lit≤, lit<, ℤ}
+use Rattle.std.proofs.Common.{◌≡◌, ℕ, zero, suc, ◌<◌, ◌≤◌, Bool, true, false, ◌&&◌, List, [], ◌∷◌, ◌++◌, get_or, map, Some, None, codes, refl, sym, ap, ◌∙◌, subst, arith, lit≤, lit<, ℤ}
 use Rattle.std.specs.Fmt.{digits}
-use Rattle.std.specs.Prelude.{is_none, is_some, nat_le, pos}
-use Rattle.std.specs.List.{AllByRecursion, AllZip, list_all, list_any}
+use Rattle.std.specs.Prelude.{is_some, nat_le}
+use Rattle.std.specs.List.{AllByRecursion}
 use Rattle.std.proofs.lemmas.Bool.{leb-true}
-use Rattle.std.proofs.lemmas.Option.{none-some, same_Some}
+use Rattle.std.proofs.lemmas.Option.{none-some}
 use Rattle.std.proofs.lemmas.Slice.Eq.{bytes_eq-Decides}
 use Rattle.edi_line.proofs.NumberRead.{number_is}
 use Rattle.edi_line.proofs.Printed.{printed_again}
@@ -13,43 +13,37 @@ use Rattle.edi_line.specs.Bytes.{IsBytes}
 use Rattle.edi_line.specs.Entry.{Entry}
 use Rattle.edi_line.specs.Number.{IsNumberText, fraction_digits, size_text}
 use Rattle.edi_line.specs.Printing.{line_numbered, zone_headed}
-use Rattle.edi_line.specs.Refusal.{IsUnbroken}
 use Rattle.edi_line.specs.inner.Number.{fraction_number, number, whole_number}
 use Rattle.edi_record.specs.CanonicalZones.{class_text, value_text}
 use Rattle.edi_line.specs.Spelling.{is_printable}
 use Rattle.edi_plan.proofs.Built.{both_true}
-use Rattle.edi_record.specs.RecordLayout.{HasPrintableLetters, Letters, records_layout, zones_of_attribute, zones_of_body, zones_of_end, zones_of_record, zones_of_sheet}
-use Rattle.edi_record.specs.Records.{IsValueOf}
+use Rattle.edi_record.specs.RecordLayout.{HasPrintableLetters, Letters, records_layout, zones_of_attribute, zones_of_body, zones_of_record, zones_of_sheet}
 use Rattle.edi_record.specs.Texts.{point_text}
 use Rattle.edi_record.specs.inner.Records.{value_of}
 use Rattle.edi_record.specs.declared.name.Name.{Name}
 use Rattle.edi_record.specs.declared.record.Kind.TheVariants.{Pno}
-use Rattle.edi_record.specs.declared.record.Record.{Record}
 use Rattle.edi_record.specs.declared.record.Value.TheVariants.{Bytes}
 use Rattle.edi_record.specs.declared.sheet.Sheet.{Sheet}
-use Rattle.edi_schema.specs.Classes.{Classes, IsSchema, is_number_named, letter_named, place_of, role_named}
+use Rattle.edi_schema.specs.Classes.{Classes, IsSchema, place_of, role_named}
 use Rattle.edi_schema.specs.declared.role.Role.{Role}
 use Rattle.edi_plan.specs.Plans.{Drawing, IsPlace, record_at}
-use Rattle.edi_plan.specs.PlanOf.{IsPlanOf}
 use Rattle.edi_plan.specs.inner.Resolving.{is_elsewhere}
-use Rattle.edi_rank.specs.InOrder.{AllRise, Both, IsInOrder}
+use Rattle.edi_rank.specs.InOrder.{IsInOrder}
 use Rattle.edi_topo.proofs.AtPlaces.{breaks_of_node, none_is_broken}
 use Rattle.edi_topo.specs.TopologyRules.{BreaksTopologyRule}
-use Rattle.edi_rank.specs.EqualObjects.{BreaksObjectRule}
 use Rattle.edi_write.proofs.WrittenPrinted.{letters_printable}
-use Rattle.edi_write.specs.Layout.{class_name_of, identifier}
-use Rattle.edi_write.specs.Written.{letters, written_records}
-use Rattle.edi_compare.proofs.KnownSheetsReferences.{Refer, references_as}
+use Rattle.edi_write.specs.Layout.{class_name_of}
+use Rattle.edi_write.specs.Written.{letters}
+use Rattle.edi_compare.proofs.KnownSheetsReferences.{references_as}
 use Rattle.edi_compare.proofs.KnownSheetsTests.{none_is}
 use Rattle.edi_compare.specs.Canonical.{IsCanonical}
-use Rattle.edi_compare.specs.PlanOfFile.{IsSheetOf}
 use Rattle.edi_schema_meaning.proofs.Apart.{lone}
 use Rattle.edi_schema_meaning.proofs.OwnForm.{IsWrittenSo, canonical_so, laid_out_back, name_at_place, own_form}
 use Rattle.edi_schema_meaning.proofs.PrintedBytes.{AreBytes, NameBytes, are_bytes, class_bytes, headed, known_bytes, printed_bytes}
 use Rattle.edi_schema_meaning.proofs.Probing.{CanBeRead, IsPlainName, file_records, file_sheet, valued_node, zones_printable}
 use Rattle.edi_schema_meaning.proofs.Told.{place_some}
 use Rattle.edi_schema_meaning.specs.Answers.{AnswerAlike}
-use Rattle.edi_schema_meaning.specs.Probes.{letter_records, node_of, spot, valued}
+use Rattle.edi_schema_meaning.specs.Probes.{letter_records, spot}
 
 -- ---- an empty value
 
@@ -90,12 +84,15 @@ letter_order k role = record {
   where
     not_two : (i j : ℕ) → i < 1 → j < 1 → suc i < suc j → ⊥
     not_two i j hi hj less = omega (arith, hi, hj, less)
+
     no_arc : (i : ℕ) → i < 1 → (record_at (letter_plan k role) i).kind ≡ Rattle.edi_record.specs.declared.record.Kind.TheVariants.Par → ⊥
     no_arc zero h e = omega (arith, ap Rattle.edi_record.specs.Shapes.kind_rank e)
     no_arc (suc i) h e = omega (arith, h)
+
     at : (i : ℕ) → i < 1 → Rattle.edi_schema.specs.Sorted.NeverFalls Rattle.edi_plan.specs.Orders.attribute_cmp (record_at (letter_plan k role) i).attributes
     at zero h = (tt, tt)
     at (suc i) h = absurd (omega (arith, h))
+
     none : (i : ℕ) → i < 1 → Rattle.edi_schema.specs.Sorted.NeverFalls Rattle.edi_rank.specs.Keys.end_cmp (map (Rattle.edi_rank.specs.Keys.numbered (letter_plan k role) suc) (Rattle.edi_plan.specs.Plans.others_of (record_at (letter_plan k role) i)))
     none zero h = tt
     none (suc i) h = absurd (omega (arith, h))
@@ -129,8 +126,8 @@ module _ (L : Letters) (printable : HasPrintableLetters L) (n : Name) (plain : I
         plan = record { set = refl; each = (record { kind = refl; class = known; role = has; points = refl; attributes = (record { class = known; set = refl; value = (refl, λ may m. not_number m) }, tt); extras = refl; ends = tt }, tt) };
         no_set = refl;
         topology = none_is_broken (letter_plan k role) 1 (λ j h. h) (λ j low rule broken.
-          let at : j ≡ 0 = omega (arith, low) in
-          let early = (breaks_of_node (letter_plan k role) 0 refl rule (subst (λ i. BreaksTopologyRule (letter_plan k role) rule (suc i)) at broken)).1.1 in omega (arith, early));
+            let at : j ≡ 0 = omega (arith, low) in
+            let early = (breaks_of_node (letter_plan k role) 0 refl rule (subst (λ i. BreaksTopologyRule (letter_plan k role) rule (suc i)) at broken)).1.1 in omega (arith, early));
         objects = lone None (record { kind = Pno; class = k; role = role; points = spot 0 0 ∷ []; attributes = record { atp = k; tex = None; value = Bytes [] } ∷ []; extras = []; ends = [] });
         written = λ i. record { kind = Pno; rid = codes "N1"; scp = name i; points = spot 0 0 ∷ []; ends = []; attributes = record { atp = name i; tex = None; atv = [] } ∷ []; extras = [] } ∷ [];
       }
@@ -143,16 +140,31 @@ letter_bytes L n name letter =
     let text = class_text n in
     let class = class_bytes n name in
     let value : AreBytes (value_text (value_of (L.is_number n) [])) = subst AreBytes (sym (empty_value (L.is_number n))) tt in
-    are_bytes (records_layout L None (letter_records n)) (printed_bytes (zones_of_sheet L None (letter_records n))
-    (headed (codes "BOMT ") (codes "CANON.VEC") refl (lit< tt) (lit< tt) (known_bytes (codes "CANON.VEC") refl),
-      (headed (codes "RTYSA") (codes "PNO") refl (lit< tt) (lit< tt) (known_bytes (codes "PNO") refl),
-      (headed (codes "RIDSA") (codes "N1") refl (lit< tt) (lit< tt) (known_bytes (codes "N1") refl),
-      (headed (codes "SCPCP") text refl (lit< tt) (lit< tt) class,
-      (headed (codes "CORCC") (point_text (spot 0 0)) refl (lit< tt) (lit< tt) (known_bytes (point_text (spot 0 0)) refl),
-      (headed (codes "ATCSN") (codes "1") refl (lit< tt) (lit< tt) (known_bytes (codes "1") refl),
-      (headed (codes "ATPCP") text refl (lit< tt) (lit< tt) class,
-      (headed (codes "ATVS" ++ L.letter n ∷ []) (value_text (value_of (L.is_number n) [])) refl (lit< tt) letter value,
-      (headed (codes "EOMT ") [] refl (lit< tt) (lit< tt) tt, tt))))))))))
+    are_bytes (records_layout L None (letter_records n)) (printed_bytes (zones_of_sheet L None (letter_records n)) (
+      headed (codes "BOMT ") (codes "CANON.VEC") refl (lit< tt) (lit< tt) (known_bytes (codes "CANON.VEC") refl),
+      (
+        headed (codes "RTYSA") (codes "PNO") refl (lit< tt) (lit< tt) (known_bytes (codes "PNO") refl),
+        (
+          headed (codes "RIDSA") (codes "N1") refl (lit< tt) (lit< tt) (known_bytes (codes "N1") refl),
+          (
+            headed (codes "SCPCP") text refl (lit< tt) (lit< tt) class,
+            (
+              headed (codes "CORCC") (point_text (spot 0 0)) refl (lit< tt) (lit< tt) (known_bytes (point_text (spot 0 0)) refl),
+              (
+                headed (codes "ATCSN") (codes "1") refl (lit< tt) (lit< tt) (known_bytes (codes "1") refl),
+                (
+                  headed (codes "ATPCP") text refl (lit< tt) (lit< tt) class,
+                  (
+                    headed (codes "ATVS" ++ L.letter n ∷ []) (value_text (value_of (L.is_number n) [])) refl (lit< tt) letter value,
+                    (headed (codes "EOMT ") [] refl (lit< tt) (lit< tt) tt, tt),
+                  ),
+                ),
+              ),
+            ),
+          ),
+        ),
+      ),
+    ))
 
 -- ---- the letter of the file
 

@@ -1,14 +1,12 @@
 -- Two schemas that answer alike have numbers for the same classes of attributes.
-use Rattle.std.proofs.Common.{◌≡◌, ◌≢◌, ◌⊎◌, inl, inr, ℕ, zero, suc, ◌+◌, ◌<◌, ◌≤◌, Bool, true, false, not, ◌&&◌, true≢false, List, [], ◌∷◌, length, map, Option, Some, None, option_map, codes, bytes_eq, refl, sym, ap, ◌∙◌, subst, arith, lit≤, lit<, IsPermutation, ℤ}
-use Rattle.std.specs.Prelude.{is_some, pos, is_none}
-use Rattle.std.specs.List.{AllByRecursion, AllZip, list_all, list_any}
+use Rattle.std.proofs.Common.{◌≡◌, ℕ, zero, suc, ◌<◌, true, false, ◌&&◌, true≢false, [], ◌∷◌, Some, None, codes, refl, sym, ap, ◌∙◌, subst, arith, lit≤, lit<, IsPermutation}
+use Rattle.std.specs.Prelude.{is_some, pos}
+use Rattle.std.specs.List.{AllByRecursion}
 use Rattle.std.proofs.lemmas.List.Elements.{All-from_recursion, recursion_from_All}
 use Rattle.std.proofs.lemmas.List.Sorted.{All-permutation, IsPermutation-refl}
-use Rattle.std.proofs.lemmas.Option.{none-some, same_Some}
+use Rattle.std.proofs.lemmas.Option.{same_Some}
 use Rattle.std.proofs.lemmas.Slice.Eq.{bytes_eq-Decides}
 use Rattle.edi_line.proofs.NumberRead.{number_is}
-use Rattle.edi_line.specs.Number.{IsNumberText}
-use Rattle.edi_line.specs.Refusal.{IsUnbroken}
 use Rattle.edi_line.specs.inner.Number.{fraction_number, number, whole_number}
 use Rattle.edi_record.specs.Records.{IsValueOf}
 use Rattle.edi_record.specs.declared.name.Name.{Name}
@@ -18,10 +16,9 @@ use Rattle.edi_record.specs.declared.record.Value.TheVariants.{Bytes, Number}
 use Rattle.edi_record.specs.declared.sheet.Sheet.{Sheet}
 use Rattle.edi_schema.specs.Classes.{Classes, is_number_named, place_of, role_named}
 use Rattle.edi_schema.specs.declared.role.Role.{Role}
-use Rattle.edi_plan.specs.PlanOf.{IsPlanOf}
-use Rattle.edi_plan.specs.Plans.{Drawing, IsPlace, record_at}
+use Rattle.edi_plan.specs.Plans.{Drawing}
 use Rattle.edi_plan.specs.declared.record.PlanAttribute.{PlanAttribute}
-use Rattle.edi_plan.specs.inner.Resolving.{is_elsewhere, lacks_class}
+use Rattle.edi_plan.specs.inner.Resolving.{is_elsewhere}
 use Rattle.edi_topo.proofs.AtPlaces.{breaks_of_node, first_is_least}
 use Rattle.edi_topo.specs.TopologyRules.{AreEqualNodes, BreaksTopologyRule}
 use Rattle.edi_topo.specs.TopologyRules.BreaksTopologyRule.{repeats_node}
@@ -34,7 +31,7 @@ use Rattle.edi_compare.specs.Rules.{RecordsHold, ReferencesHold}
 use Rattle.edi_compare.specs.declared.fault.Fault.TheVariants.{Entry}
 use Rattle.edi_schema_meaning.proofs.Probing.{CanBeRead, IsPlainName, probe_records, probe_sheet, valued_node}
 use Rattle.edi_schema_meaning.proofs.Told.{place_some, topology_back}
-use Rattle.edi_schema_meaning.specs.Probes.{node_of, plain_letters, probe, spot, value_records, valued}
+use Rattle.edi_schema_meaning.specs.Probes.{plain_letters, probe, spot, value_records}
 
 zero_one : number (codes "01") ≡ Some (pos 1000000)
 unfolding number whole_number fraction_number
@@ -52,9 +49,10 @@ spellings h = cc
 
 module _ (n : Name) (plain : IsPlainName n) (att : n.rty ≡ codes "ATT") where
   can_values : AllByRecursion (CanBeRead plain_letters) (value_records n)
-  can_values =
-      (valued_node plain_letters n plain (codes "N") (codes "01") refl (none_is 10 (codes "N") refl) (none_is 10 (codes "01") refl) refl,
-        (valued_node plain_letters n plain (codes "M") (codes "1") refl (none_is 10 (codes "M") refl) (none_is 10 (codes "1") refl) refl, tt))
+  can_values = (
+    valued_node plain_letters n plain (codes "N") (codes "01") refl (none_is 10 (codes "N") refl) (none_is 10 (codes "01") refl) refl,
+    (valued_node plain_letters n plain (codes "M") (codes "1") refl (none_is 10 (codes "M") refl) (none_is 10 (codes "1") refl) refl, tt),
+  )
 
   value_sheet : Sheet
   value_sheet = record { cse = None; list = value_records n; few = lit≤ tt; in_shape = refl }
@@ -94,13 +92,17 @@ module _ (n : Name) (plain : IsPlainName n) (att : n.rty ≡ codes "ATT") where
   value_states : (s : Classes) (k : ℕ) (role : Role) (v w : Value) → place_of s n ≡ Some k → role_named s n ≡ Some role → IsValueOf (is_number_named s n ≡ Some true) (codes "01") v → IsValueOf (is_number_named s n ≡ Some true) (codes "1") w
       → IsPlanOfFile s (probe (value_records n)) (value_plan k role v w)
   unfolding value_sheet value_plan
-  value_states s k role v w known has first second = (value_sheet, value_stated, record {
-    set = refl;
-    each = (
-      record { kind = refl; class = known; role = has; points = refl; attributes = (record { class = known; set = refl; value = first }, tt); extras = refl; ends = tt },
-      (record { kind = refl; class = known; role = has; points = refl; attributes = (record { class = known; set = refl; value = second }, tt); extras = refl; ends = tt }, tt),
-    );
-  })
+  value_states s k role v w known has first second = (
+    value_sheet,
+    value_stated,
+    record {
+      set = refl;
+      each = (
+        record { kind = refl; class = known; role = has; points = refl; attributes = (record { class = known; set = refl; value = first }, tt); extras = refl; ends = tt },
+        (record { kind = refl; class = known; role = has; points = refl; attributes = (record { class = known; set = refl; value = second }, tt); extras = refl; ends = tt }, tt),
+      );
+    },
+  )
 
   pub value_refused : (s : Classes) (role : Role) → role_named s n ≡ Some role → is_number_named s n ≡ Some true → IsRefusal s (probe (value_records n)) (Entry 403 2)
   unfolding value_plan
@@ -114,8 +116,8 @@ module _ (n : Name) (plain : IsPlainName n) (att : n.rty ≡ codes "ATT") where
       topology_refusal s b 403 2 (value_held s known.0 known.1) p states
       (first_is_least p 1 403 (record { is = repeats_node refl (0, 1, refl, lit< tt, equal); least = λ rule broken. let e = (breaks_of_node p 1 refl rule broken).0 in omega (arith, e) })
       (λ k low rule broken.
-        let at : k ≡ 0 = omega (arith, low) in
-        let early = (breaks_of_node p 0 refl rule (subst (λ j. BreaksTopologyRule p rule (suc j)) at broken)).1.1 in omega (arith, early)))
+      let at : k ≡ 0 = omega (arith, low) in
+      let early = (breaks_of_node p 0 refl rule (subst (λ j. BreaksTopologyRule p rule (suc j)) at broken)).1.1 in omega (arith, early)))
 
   pub value_not_refused : (s : Classes) (role : Role) → role_named s n ≡ Some role → is_number_named s n ≡ Some false → IsRefusal s (probe (value_records n)) (Entry 403 2) → ⊥
   unfolding value_sheet value_plan

@@ -1,6 +1,6 @@
 -- Two schemas that answer alike have one text.
-use Rattle.std.proofs.Common.{◌≡◌, ◌≢◌, ◌⊎◌, inl, inr, ℕ, ◌<◌, ◌≤◌, Bool, true, false, true≢false, List, [], ◌∷◌, Option, Some, None, option_map, unwrap_or, slice_get, codes, refl, sym, ap, ◌∙◌, subst, arith, Ordering, Less, Equal, Greater}
-use Rattle.std.specs.List.{AllByRecursion, list_any}
+use Rattle.std.proofs.Common.{◌≡◌, ◌≢◌, ◌⊎◌, inl, inr, ℕ, ◌<◌, Bool, true, false, true≢false, Option, Some, None, option_map, unwrap_or, slice_get, codes, refl, sym, ap, ◌∙◌, Ordering, Less, Equal, Greater}
+use Rattle.std.specs.List.{list_any}
 use Rattle.std.specs.Ordering.{is_eq, ordering_reverse}
 use Rattle.std.proofs.lemmas.List.Elements.{recursion_from_All}
 use Rattle.std.proofs.lemmas.Option.{none-some, same_Some}
@@ -12,17 +12,16 @@ use Rattle.edi_schema.proofs.Ordered.{name_total}
 use Rattle.edi_schema.proofs.Paired.{itself, one_place, one_role, paired, role_there, still_kind, there}
 use Rattle.edi_schema.proofs.Pointable.{partner_named}
 use Rattle.edi_schema.proofs.ReadNames.{whole_text}
-use Rattle.edi_schema.specs.Classes.{Classes, IsSchema, class_named, has_role, letter_named, name_cmp, partner_of, place_of, role_named, role_of}
+use Rattle.edi_schema.specs.Classes.{Classes, IsSchema, class_named, has_role, name_cmp, partner_of, role_named, role_of}
 use Rattle.edi_schema.specs.Roles.{exchanged, is_plain, same_role}
 use Rattle.edi_schema.specs.declared.class.Class.{Class}
 use Rattle.edi_schema.specs.declared.role.Role.{Role}
 use Rattle.edi_schema.specs.declared.role.Role.TheVariants.{Initial, Final, Left, Right, Plain}
 use Rattle.edi_plan.proofs.Built.{role_at_place}
-use Rattle.edi_write.specs.Written.{letters}
 use Rattle.edi_schema_text.proofs.Named.{no_semicolon}
 use Rattle.edi_schema_text.proofs.Stated.{in_named}
 use Rattle.edi_schema_text.proofs.Tell.{meaning_one, text_made}
-use Rattle.edi_schema_text.specs.SchemaText.{AgreeOn, MeanSame, text_of_schema}
+use Rattle.edi_schema_text.specs.SchemaText.{AgreeOn, MeanSame}
 use Rattle.edi_schema_meaning.proofs.Agreeing.{kinds, numbers, one_side}
 use Rattle.edi_schema_meaning.proofs.Lettered.{same_letter}
 use Rattle.edi_schema_meaning.proofs.OwnForm.{name_there}
@@ -64,7 +63,7 @@ one_name s keeps m n role kind hm hn =
     let x = entry_of s m role hm kind in
     let y = entry_of s n role hn kind in
     let place : x.0 ≡ y.0 =
-        one_place (has_role role) s x.0 y.0 x.1 y.1 (keeps.one role kind) x.2 y.2 (ap (same_role role) x.4 ∙ itself role) (ap (same_role role) y.4 ∙ itself role) in
+    one_place (has_role role) s x.0 y.0 x.1 y.1 (keeps.one role kind) x.2 y.2 (ap (same_role role) x.4 ∙ itself role) (ap (same_role role) y.4 ∙ itself role) in
     let entry : x.1 ≡ y.1 = same_Some x.1 y.1 (sym x.2 ∙ (ap (slice_get s) place ∙ y.2)) in
     sym x.3 ∙ (ap (λ (e : Name × Class). e.0) entry ∙ y.3)
 
@@ -133,8 +132,10 @@ module _ (s t : Classes) (hs : IsSchema s) (ht : IsSchema t) (bytes : HasByteNam
     where
       px : IsPlainName x
       px = plain_name s hs x wx Left sx
+
       py : IsPlainName y
       py = plain_name s hs y wy Right sy
+
       go : (o : Ordering) → name_cmp x y ≡ o → ⊥
       go Less h = sides_told s t hs ht (λ b c. (alike.form b c).0) x y px py (name_bytes s bytes x Left sx) (name_bytes s bytes y Right sy) h sx sy tx ty
       go Greater h =
@@ -158,9 +159,11 @@ module _ (s t : Classes) (hs : IsSchema s) (ht : IsSchema t) (bytes : HasByteNam
           let real : is_plain (exchanged a) ≡ false = still_kind a ∙ kind in
           let same : n ≡ m = one_name t ht n m (exchanged a) real ht_n h in
           apart (same_Some a (exchanged a) (sym hs_n ∙ (ap (role_named s) same ∙ hm)))
+
       pick : (m : Name) → role_named s m ≡ Some (exchanged a) → (b : Role) → role_named t m ≡ Some b → (b ≡ a) ⊎ (b ≡ exchanged a) → role_named t m ≡ Some a
       pick m hm b e (inl is) = e ∙ ap Some is
       pick m hm b e (inr is) = absurd (taken m hm (e ∙ ap Some is))
+
       go : (m : Name) → role_named s m ≡ Some (exchanged a) → option_map one_side (Some (exchanged a)) ≡ option_map one_side (role_named t m) → (o : Option Role) → role_named t m ≡ o → role_named t m ≡ Some a
       go m hm sides None e = absurd (none-some (one_side (exchanged a)) (sym (sides ∙ ap (option_map one_side) e)))
       go m hm sides (Some b) e = pick m hm b e (choice b (same_Some (one_side (exchanged a)) (one_side b) (sides ∙ ap (option_map one_side) e)))
@@ -173,13 +176,16 @@ module _ (s t : Classes) (hs : IsSchema s) (ht : IsSchema t) (bytes : HasByteNam
       left hl hr =
           let m = partner_there n Left whole refl left_right left_kind hl hr in
           exchange n m.0 whole m.1 hl m.2 hr m.3
+
       right : role_named s n ≡ Some Right → role_named t n ≡ Some Left → ⊥
       right hr hl =
           let m = partner_there n Right whole refl (λ e. left_right (sym e)) right_kind hr hl in
           exchange m.0 n m.1 whole m.2 hr m.3 hl
+
       other : same_role a b ≡ false → ((a ≡ Left) × (b ≡ Right)) ⊎ ((a ≡ Right) × (b ≡ Left)) → ⊥
       other e (inl x) = left (ha ∙ ap Some x.0) (hb ∙ ap Some x.1)
       other e (inr x) = right (ha ∙ ap Some x.0) (hb ∙ ap Some x.1)
+
       go : (c : Bool) → same_role a b ≡ c → same_role a b ≡ true
       go true e = e
       go false e = absurd (other e (sides_or_same a b sides (λ same. true≢false (sym (itself b) ∙ (ap (λ r. same_role r b) (sym same) ∙ e)))))

@@ -1,6 +1,5 @@
 -- A file that is the layout of its own plan is its own canonical file.
-use Rattle.std.proofs.Common.{◌≡◌, ℕ, zero, suc, ◌≤◌, Bool, true, false, cond, List, [], ◌∷◌, length, Option, Some, None, option_map, unwrap_or, refl, sym, ap, ◌∙◌, subst}
-use Rattle.std.specs.List.{AllByRecursion}
+use Rattle.std.proofs.Common.{◌≡◌, ℕ, suc, Bool, true, false, cond, List, [], ◌∷◌, Option, Some, None, option_map, unwrap_or, refl, sym, ap, ◌∙◌, subst}
 use Rattle.std.specs.Map.{keys_of}
 use Rattle.std.proofs.lemmas.Option.{none-some, same_Some}
 use Rattle.edi_line.specs.Bytes.{IsBytes}
@@ -39,6 +38,7 @@ name_there (e ∷ s) n k h = go (is_name n e.0) refl (sym (position-cons (is_nam
     behind : (o : Option ℕ) → place_of s n ≡ o → option_map suc o ≡ Some k → ((j : ℕ) → place_of s n ≡ Some j → class_name_at s j ≡ Some n) → class_name_at (e ∷ s) k ≡ Some n
     behind None p g more = absurd (none-some k g)
     behind (Some j) p g more = subst (λ i. class_name_at (e ∷ s) i ≡ Some n) (same_Some (suc j) k g) (more j p)
+
     go : (b : Bool) → is_name n e.0 ≡ b → cond (is_name n e.0) (Some 0) (option_map suc (place_of s n)) ≡ Some k → ((j : ℕ) → place_of s n ≡ Some j → class_name_at s j ≡ Some n) → class_name_at (e ∷ s) k ≡ Some n
     go true same g more =
         let first : 0 ≡ k = same_Some 0 k (sym (ap (λ b. cond b (Some 0) (option_map suc (place_of s n))) same) ∙ g) in

@@ -1,11 +1,11 @@
 -- What a file breaks, phase by phase, under two schemas that are linked.
-use Rattle.std.proofs.Common.{◌≡◌, ◌⊎◌, ℕ, ◌<◌, ◌≤◌, List}
-use Rattle.edi_line.specs.Refusal.{IsLeastBroken, IsUnbroken}
+use Rattle.std.proofs.Common.{ℕ, List}
+use Rattle.edi_line.specs.Refusal.{IsLeastBroken}
 use Rattle.edi_record.specs.declared.sheet.Sheet.{Sheet}
 use Rattle.edi_schema.specs.Classes.{Classes}
 use Rattle.edi_plan.specs.PlanOf.{IsPlanOf}
 use Rattle.edi_plan.specs.Plans.{Drawing}
-use Rattle.edi_compare.specs.PlanOfFile.{IsPlanOfFile, IsSheetOf}
+use Rattle.edi_compare.specs.PlanOfFile.{IsPlanOfFile}
 use Rattle.edi_compare.specs.Refused.{IsRefusal}
 use Rattle.edi_compare.specs.Rules.{Breaks, IsAccepted, LinesHold, RecordsHold, ReferencesHold, TopologyHolds}
 use Rattle.edi_compare.specs.Rules.Breaks.{of_lines, of_records, of_references, of_topology, of_objects}

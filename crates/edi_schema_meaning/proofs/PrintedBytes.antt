@@ -1,6 +1,5 @@
 -- What is printed of zones of bytes are bytes.
-use Rattle.std.proofs.Common.{◌≡◌, ℕ, zero, suc, ◌+◌, ◌-◌, ◌/◌, ◌%◌, ◌<◌, ◌≤◌, Bool, true, false, nat_lt, nat_le, cond, List, [], ◌∷◌, ◌++◌, length, map, take, drop, codes, None, refl, sym, ap, ◌∙◌, subst, arith, lit<, length-drop}
-use Rattle.std.specs.Fmt.{digits}
+use Rattle.std.proofs.Common.{◌≡◌, ℕ, zero, suc, ◌+◌, ◌-◌, ◌/◌, ◌%◌, ◌<◌, ◌≤◌, Bool, true, false, nat_lt, nat_le, cond, List, [], ◌∷◌, ◌++◌, length, take, drop, codes, refl, arith, lit<, length-drop}
 use Rattle.std.specs.Prelude.{slice_index}
 use Rattle.std.specs.List.{AllByRecursion, flat_map, list_all}
 use Rattle.std.proofs.lemmas.Bool.{leb-true, ltb-true}
@@ -8,16 +7,11 @@ use Rattle.std.proofs.lemmas.List.{length-take-le}
 use Rattle.std.proofs.lemmas.List.Elements.{All-from_recursion}
 use Rattle.edi_line.specs.Bytes.{IsBytes, line_width}
 use Rattle.edi_line.specs.Entry.{Entry}
-use Rattle.edi_line.specs.Number.{fraction_digits, size_text}
-use Rattle.edi_line.specs.Printing.{broken_into, content_text, line_text, lines_of_zone, next_zone, printed, printed_zone, with_value, zone_headed}
-use Rattle.edi_record.specs.CanonicalZones.{class_text, end_text}
-use Rattle.edi_record.specs.RecordLayout.{Letters, records_layout, zones_of_attribute, zones_of_body, zones_of_end, zones_of_record, zones_of_sheet}
-use Rattle.edi_record.specs.Texts.{point_text, pointer_text}
+use Rattle.edi_line.specs.Printing.{broken_into, content_text, line_text, next_zone, printed, printed_zone, with_value, zone_headed}
+use Rattle.edi_record.specs.CanonicalZones.{class_text}
+use Rattle.edi_record.specs.Texts.{pointer_text}
 use Rattle.edi_record.specs.declared.name.Name.{Name}
-use Rattle.edi_record.specs.declared.record.Record.{Record}
 use Rattle.edi_compare.proofs.KnownSheetsTests.{all_said}
-use Rattle.edi_schema.proofs.ReadNames.{whole_text}
-use Rattle.edi_plan.proofs.Built.{both_true}
 
 abbrev pub AreBytes : List ℕ → Type 0
 AreBytes xs = AllByRecursion (λ c. c < 256) xs

@@ -1,39 +1,30 @@
 -- Files of a few records, and what they break.
-use Rattle.std.proofs.Common.{◌≡◌, ◌≢◌, ◌⊎◌, inl, inr, ℕ, zero, suc, ◌+◌, ◌-◌, ◌<◌, ◌≤◌, Bool, true, false, not, true≢false, List, [], ◌∷◌, length, map, get_or, Option, Some, None, codes, slice_get, refl, sym, ap, ◌∙◌, subst, arith, lit≤, lit<}
-use Rattle.std.specs.Prelude.{Any, IfSome, pos}
+use Rattle.std.proofs.Common.{◌≡◌, ℕ, ◌≤◌, true, false, true≢false, List, [], ◌∷◌, length, map, None, codes, refl, sym, ◌∙◌, subst, arith, lit<}
 use Rattle.std.specs.List.{AllByRecursion, AllZip, list_any}
-use Rattle.std.proofs.lemmas.Option.{none-some, same_Some}
 use Rattle.edi_line.proofs.ZonesFound.{zones_of}
 use Rattle.edi_line.specs.LineRules.{IsZonesOf}
-use Rattle.edi_line.specs.Number.{MOST, size_of}
 use Rattle.edi_line.specs.Printing.{IsOneLine, IsPrintable}
-use Rattle.edi_line.specs.Refusal.{IsLeastBroken, IsUnbroken}
 use Rattle.edi_line.specs.Zones.{groups_of}
 use Rattle.edi_record.proofs.Printable.{sheet_printable}
 use Rattle.edi_record.proofs.SheetStated.{sheet_again}
 use Rattle.edi_record.proofs.Sound.{sheet_sound}
 use Rattle.edi_record.proofs.StatesSaid.{all_said}
-use Rattle.edi_record.specs.RecordLayout.{FollowsRules, HasPrintableLetters, IsLineAttribute, IsLineEnd, IsLineName, IsLineRecord, IsName, IsPoint, IsRecord, Letters, records_layout, settled_record, zones_of_sheet}
+use Rattle.edi_record.specs.RecordLayout.{FollowsRules, HasPrintableLetters, IsLineEnd, IsLineName, IsLineRecord, IsName, IsPoint, IsRecord, Letters, records_layout, settled_record, zones_of_sheet}
 use Rattle.edi_record.specs.CanonicalZones.{value_text}
 use Rattle.edi_record.specs.RecordRules.{is_identifier}
 use Rattle.edi_record.specs.inner.Records.{value_of}
 use Rattle.edi_record.specs.Records.{StatesSheet, has_points, is_link}
-use Rattle.edi_record.specs.Shapes.{is_in_shape, kind_code}
+use Rattle.edi_record.specs.Shapes.{kind_code}
 use Rattle.edi_record.specs.Sound.{IsSoundFile}
-use Rattle.edi_record.specs.Texts.{HasNoSemicolon, is_semicolon}
+use Rattle.edi_record.specs.Texts.{is_semicolon}
 use Rattle.edi_record.specs.declared.name.Name.{Name}
-use Rattle.edi_record.specs.declared.record.Attribute.{Attribute}
-use Rattle.edi_record.specs.declared.record.End.{End}
 use Rattle.edi_record.specs.declared.record.Kind.{Kind}
 use Rattle.edi_record.specs.declared.record.Kind.TheVariants.{Pno, Par, Pfe, Fea, Lnk}
-use Rattle.edi_record.specs.declared.record.Point.{Point}
 use Rattle.edi_record.specs.declared.record.Record.{Record}
 use Rattle.edi_record.specs.declared.sheet.Sheet.{Sheet}
 use Rattle.edi_schema.proofs.FewGroups.{zones_are}
 use Rattle.edi_schema.proofs.ReadNames.{whole_text}
 use Rattle.edi_schema.specs.Classes.{Classes}
-use Rattle.edi_plan.specs.ReferenceRules.{BreaksReferenceRule}
-use Rattle.edi_plan.specs.ReferenceRules.BreaksReferenceRule.{repeats_name, lacks_class, lacks_attribute_class, leaves_subset, names_nothing, joins_wrong, repeats_side}
 use Rattle.edi_compare.proofs.KnownSheetsTests.{none_is}
 use Rattle.edi_compare.proofs.Phases.{records_held}
 use Rattle.edi_compare.specs.PlanOfFile.{IsSheetOf}
@@ -89,8 +80,17 @@ module _ (L : Letters) (n : Name) (plain : IsPlainName n) where
   pub valued_node : (rid value : List ℕ) → is_identifier rid ≡ true → IsOneLine rid → IsOneLine value → value_text (value_of (L.is_number n) value) ≡ value → CanBeRead L (node_of n rid (valued n value ∷ []))
   valued_node rid value id line text same = record {
     is_record = record { class = plain.name; points = (spot_is 0 0 (omega arith) (omega arith), tt); no_points = λ h. absurd (true≢false h); ends = tt; no_ends = λ h. refl; classes = (plain.name, tt); extras = tt };
-    is_line = record { rid = line; class = plain.line; points = (spot_is 0 0 (omega arith) (omega arith), tt); ends = tt; few = lit< tt; few_points = lit< tt; few_ends = lit< tt;
-      attributes = (record { class = plain.line; set = tt; value = text }, tt); extras = tt };
+    is_line = record {
+      rid = line;
+      class = plain.line;
+      points = (spot_is 0 0 (omega arith) (omega arith), tt);
+      ends = tt;
+      few = lit< tt;
+      few_points = lit< tt;
+      few_ends = lit< tt;
+      attributes = (record { class = plain.line; set = tt; value = text }, tt);
+      extras = tt;
+    };
     follows = record { identifier = id; shape = refl; few_attributes = lit< tt; few_points = lit< tt; few_ends = lit< tt; pointers = tt };
     settled = λ i. node_of n rid (valued n (same i) ∷ []);
   }
@@ -144,12 +144,15 @@ module _ (L : Letters) (printable : HasPrintableLetters L) where
     pub file_sheet : (sheet : Sheet) → sheet.cse ≡ None → sheet.list ≡ rs → IsSheetOf (records_layout L None rs) sheet
     file_sheet sheet cse list =
         let again = sheet_again L None rs zones_printable (parts IsRecord (λ r c. c.is_record) rs all) in
-        let are : zones_of (records_layout L None rs) ≡ sound.zones = sym (zones_are (records_layout L None rs) sound.zones sound.are_zones) in
-        (zones_of (records_layout L None rs), subst (IsZonesOf (records_layout L None rs)) (sym are) sound.are_zones, record {
-          cse = cse ∙ sym again.0;
-          records = subst (AllZip Rattle.edi_record.specs.Records.States (groups_of (zones_of (records_layout L None rs)))) (settled_all rs all ∙ sym list)
-              (all_said (groups_of (zones_of (records_layout L None rs))) (map (settled_record L) rs) again.1);
-        })
+        let are : zones_of (records_layout L None rs) ≡ sound.zones = sym (zones_are (records_layout L None rs) sound.zones sound.are_zones) in (
+          zones_of (records_layout L None rs),
+          subst (IsZonesOf (records_layout L None rs)) (sym are) sound.are_zones,
+          record {
+            cse = cse ∙ sym again.0;
+            records = subst (AllZip Rattle.edi_record.specs.Records.States (groups_of (zones_of (records_layout L None rs)))) (settled_all rs all ∙ sym list)
+                (all_said (groups_of (zones_of (records_layout L None rs))) (map (settled_record L) rs) again.1);
+          },
+        )
 
     -- and breaks no rule of lines and of records
     pub file_records : (s : Classes) → RecordsHold s (records_layout L None rs)

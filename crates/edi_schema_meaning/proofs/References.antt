@@ -1,13 +1,13 @@
 -- What a sheet breaks of the rules of references, under two schemas with one kind for each name that a pointer can have.
-use Rattle.std.proofs.Common.{◌≡◌, ◌≢◌, ◌⊎◌, inl, inr, ℕ, suc, ◌-◌, ◌<◌, ◌≤◌, Bool, true, false, true≢false, List, [], ◌∷◌, length, Option, Some, None, option_map, codes, bytes_eq, slice_get, refl, sym, ap, ◌∙◌, subst, arith}
+use Rattle.std.proofs.Common.{◌≡◌, ◌≢◌, ◌⊎◌, inl, inr, ℕ, suc, ◌-◌, ◌≤◌, Bool, true, false, true≢false, List, [], ◌∷◌, Some, None, codes, bytes_eq, slice_get, refl, sym, ap, ◌∙◌, subst, arith}
 use Rattle.std.specs.List.{AllByRecursion, AllZip, list_any}
-use Rattle.std.proofs.lemmas.Option.{get_or_from_slice_get, none-some, same_Some, slice_get_within}
+use Rattle.std.proofs.lemmas.Option.{get_or_from_slice_get, slice_get_within}
 use Rattle.std.proofs.lemmas.Slice.Eq.{bytes_eq-Decides}
 use Rattle.edi_line.specs.Entry.{Entry}
 use Rattle.edi_line.specs.Refusal.{IsUnbroken}
 use Rattle.edi_line.specs.Zones.{groups_of}
-use Rattle.edi_record.specs.Records.{States, StatesSheet}
-use Rattle.edi_record.specs.Texts.{HasNoSemicolon, is_semicolon}
+use Rattle.edi_record.specs.Records.{States}
+use Rattle.edi_record.specs.Texts.{is_semicolon}
 use Rattle.edi_record.specs.declared.name.Name.{Name}
 use Rattle.edi_record.specs.declared.record.Attribute.{Attribute}
 use Rattle.edi_record.specs.declared.record.Record.{Record}
@@ -19,7 +19,7 @@ use Rattle.edi_plan.proofs.RuleLemmas.{any_map}
 use Rattle.edi_plan.specs.ReferenceRules.{BreaksReferenceRule, IsLinkOfRole, IsRecordAt}
 use Rattle.edi_plan.specs.ReferenceRules.BreaksReferenceRule.{repeats_name, lacks_class, lacks_attribute_class, leaves_subset, names_nothing, joins_wrong, repeats_side}
 use Rattle.edi_compare.specs.PlanOfFile.{IsSheetOf}
-use Rattle.edi_schema_text.proofs.Named.{bool_false, no_semicolon}
+use Rattle.edi_schema_text.proofs.Named.{no_semicolon}
 use Rattle.edi_schema_meaning.proofs.Embed.{each_at}
 
 -- ---- what names a sheet has

@@ -1,8 +1,8 @@
 -- Two schemas that answer alike don't exchange left and right.
 use Rattle.std.proofs.Common.{◌≡◌, ◌≢◌, ◌⊎◌, inl, inr, ℕ, zero, suc, ◌+◌, ◌<◌, ◌≤◌, Bool, true, false, not, cond, ◌&&◌, ◌||◌, true≢false, List, [], ◌∷◌, ◌++◌, length, map, reverse, Option, Some, None, codes, refl, sym, ap, ◌∙◌, subst, arith, lit≤, lit<, Ordering, Less, Equal, Greater}
 use Rattle.std.specs.Fmt.{digits}
-use Rattle.std.specs.Prelude.{is_some, nat_eq, nat_le, pos}
-use Rattle.std.specs.List.{AllByRecursion, AllZip}
+use Rattle.std.specs.Prelude.{nat_eq, nat_le, pos}
+use Rattle.std.specs.List.{AllByRecursion}
 use Rattle.std.specs.Option.{option_cmp}
 use Rattle.std.specs.Ordering.{is_gt, nat_cmp}
 use Rattle.std.proofs.lemmas.Bool.{leb-true}
@@ -12,35 +12,33 @@ use Rattle.edi_line.specs.Number.{fraction_digits, size_text}
 use Rattle.edi_line.specs.Refusal.{IsUnbroken}
 use Rattle.edi_record.specs.CanonicalZones.{class_text, end_text}
 use Rattle.edi_record.specs.RecordLayout.{HasPrintableLetters, Letters, records_layout, zones_of_body, zones_of_end, zones_of_record, zones_of_sheet}
-use Rattle.edi_record.specs.Shapes.{kind_code, kind_rank}
+use Rattle.edi_record.specs.Shapes.{kind_rank}
 use Rattle.edi_record.specs.Texts.{point_text, pointer_text}
 use Rattle.edi_record.specs.declared.name.Name.{Name}
 use Rattle.edi_record.specs.declared.record.Kind.{Kind}
 use Rattle.edi_record.specs.declared.record.Kind.TheVariants.{Pno, Par, Pfe, Fea, Lnk}
-use Rattle.edi_record.specs.declared.record.Record.{Record}
 use Rattle.edi_record.specs.declared.sheet.Sheet.{Sheet}
 use Rattle.edi_schema.proofs.Ordered.{classes_ordered}
-use Rattle.edi_schema.specs.Classes.{Classes, IsSchema, class_name_at, name_cmp, place_of, role_named}
+use Rattle.edi_schema.specs.Classes.{Classes, IsSchema, name_cmp, place_of, role_named}
 use Rattle.edi_schema.specs.Roles.{exchanged}
 use Rattle.edi_schema.specs.Sorted.{NeverFalls}
 use Rattle.edi_schema.specs.declared.role.Role.{Role}
 use Rattle.edi_schema.specs.declared.role.Role.TheVariants.{Initial, Final, Left, Right, Plain}
 use Rattle.edi_plan.specs.Joined.{beside}
 use Rattle.edi_plan.specs.Orders.{attribute_cmp}
-use Rattle.edi_plan.specs.Plans.{Drawing, IsPlace, others_of, record_at}
+use Rattle.edi_plan.specs.Plans.{Drawing, others_of, record_at}
 use Rattle.edi_plan.specs.Sides.{Side}
 use Rattle.edi_plan.specs.inner.Resolving.{is_elsewhere}
-use Rattle.edi_plan.specs.declared.record.PlanRecord.{PlanRecord}
 use Rattle.edi_rank.specs.EqualObjects.{BreaksObjectRule}
 use Rattle.edi_rank.specs.EqualObjects.BreaksObjectRule.{repeats_object}
-use Rattle.edi_rank.specs.InOrder.{AllRise, Both, IsInOrder}
+use Rattle.edi_rank.specs.InOrder.{IsInOrder}
 use Rattle.edi_rank.specs.Keys.{end_cmp, face_key_cmp, least_side, link_key, link_key_cmp, numbered}
 use Rattle.edi_topo.proofs.AtPlaces.{BreaksOfArc, breaks_of_arc, breaks_of_face, breaks_of_other, none_is_broken}
 use Rattle.edi_topo.proofs.AtPlaces.BreaksOfArc.{starts, ends, reverses, repeats}
 use Rattle.edi_topo.specs.TopologyRules.{BreaksTopologyRule}
 use Rattle.edi_write.proofs.WrittenPrinted.{letters_printable}
-use Rattle.edi_write.specs.Layout.{class_name_of, identifier}
-use Rattle.edi_write.specs.Written.{letters, written_records}
+use Rattle.edi_write.specs.Layout.{class_name_of}
+use Rattle.edi_write.specs.Written.{letters}
 use Rattle.edi_compare.proofs.KnownSheetsReferences.{Refer, references_as}
 use Rattle.edi_compare.proofs.KnownSheetsTests.{all_below, none_is, only_one, true_below}
 use Rattle.edi_compare.specs.Canonical.{IsCanonical}
@@ -125,14 +123,17 @@ module _ (j k : ℕ) (role : Role) (faces : beside role ≡ Pfe) where
     where
       left_real : Left ≢ Plain
       left_real g = cc
+
       right_real : Right ≢ Plain
       right_real g = cc
+
       first_bound : (a : Role) → role ≡ a → ¬ ((Side (side_plan j k role) 0 Left 1) ⊎ (Side (side_plan j k role) 0 Right 1)) → ⊥
       first_bound Left e none = none (inl (first_side Left e left_real))
       first_bound Right e none = none (inr (first_side Right e right_real))
       first_bound Initial e none = not_initial role faces e
       first_bound Final e none = not_final role faces e
       first_bound Plain e none = omega (arith, ap kind_rank (sym (ap beside e) ∙ faces))
+
       second_bound : (a : Role) → role ≡ a → ¬ ((Side (side_plan j k role) 0 Left 2) ⊎ (Side (side_plan j k role) 0 Right 2)) → ⊥
       second_bound Left e none = none (inr (second_side Right (ap exchanged e) right_real))
       second_bound Right e none = none (inl (second_side Left (ap exchanged e) left_real))
@@ -198,14 +199,14 @@ module _ (j k : ℕ) (less : nat_cmp j k ≡ Less) where
   pub side_order : IsInOrder (side_plan j k Left)
   side_order = record {
     by_type = λ i n below there.
-      let tests = true_below 5 (λ n. all_below n (λ i. nat_le (kind_rank (record_at (side_plan j k Left) i).kind) (kind_rank (record_at (side_plan j k Left) n).kind))) refl n there in
-      leb-true _ _ (true_below n (λ i. nat_le (kind_rank (record_at (side_plan j k Left) i).kind) (kind_rank (record_at (side_plan j k Left) n).kind)) tests i below);
+        let tests = true_below 5 (λ n. all_below n (λ i. nat_le (kind_rank (record_at (side_plan j k Left) i).kind) (kind_rank (record_at (side_plan j k Left) n).kind))) refl n there in
+        leb-true _ _ (true_below n (λ i. nat_le (kind_rank (record_at (side_plan j k Left) i).kind) (kind_rank (record_at (side_plan j k Left) n).kind)) tests i below);
     rise = record {
       nodes = λ i n b. absurd (kind_is j k Left left Pno 0 refl refl i b.first b.first_kind);
       arcs = λ i n b.
-        let first = only Par 1 0 refl refl i b.first b.first_kind in
-        let second = only Par 1 0 refl refl n b.second b.second_kind in
-        let up = b.lesser in absurd (omega (arith, first, second, up));
+          let first = only Par 1 0 refl refl i b.first b.first_kind in
+          let second = only Par 1 0 refl refl n b.second b.second_kind in
+          let up = b.lesser in absurd (omega (arith, first, second, up));
       faces = λ i n b. faces_rise i n b.first b.second b.first_kind b.second_kind b.lesser;
       objects = λ i n b. absurd (kind_is j k Left left Fea 3 refl refl i b.first b.first_kind);
       links = λ i n b. links_rise i n b.first b.second b.first_kind b.second_kind b.lesser;
@@ -226,12 +227,19 @@ side_disorder j k h = greater (h.rise.faces 1 2 (record { first = lit< tt; secon
 
 module _ (L : Letters) (printable : HasPrintableLetters L) (m n : Name) (first : IsPlainName m) (second : IsPlainName n) where
   can_sides : AllByRecursion (CanBeRead L) (side_records m n)
-  can_sides =
-      (bare_arc L m first (codes "A1") refl (none_is 10 (codes "A1") refl),
-        (bare_face L m first (codes "F1") refl (none_is 10 (codes "F1") refl),
-        (bare_face L m first (codes "F2") refl (none_is 10 (codes "F2") refl),
-        (bare_link L m first (codes "L1") Par Pfe (codes "A1") (codes "F1") refl (none_is 10 (codes "L1") refl) refl (none_is 10 (codes "A1") refl) refl (none_is 10 (codes "F1") refl),
-        (bare_link L n second (codes "L2") Par Pfe (codes "A1") (codes "F2") refl (none_is 10 (codes "L2") refl) refl (none_is 10 (codes "A1") refl) refl (none_is 10 (codes "F2") refl), tt)))))
+  can_sides = (
+    bare_arc L m first (codes "A1") refl (none_is 10 (codes "A1") refl),
+    (
+      bare_face L m first (codes "F1") refl (none_is 10 (codes "F1") refl),
+      (
+        bare_face L m first (codes "F2") refl (none_is 10 (codes "F2") refl),
+        (
+          bare_link L m first (codes "L1") Par Pfe (codes "A1") (codes "F1") refl (none_is 10 (codes "L1") refl) refl (none_is 10 (codes "A1") refl) refl (none_is 10 (codes "F1") refl),
+          (bare_link L n second (codes "L2") Par Pfe (codes "A1") (codes "F2") refl (none_is 10 (codes "L2") refl) refl (none_is 10 (codes "A1") refl) refl (none_is 10 (codes "F2") refl), tt),
+        ),
+      ),
+    ),
+  )
 
   side_sheet : Sheet
   side_sheet = record { cse = None; list = side_records m n; few = lit≤ tt; in_shape = refl }
@@ -261,10 +269,16 @@ module _ (L : Letters) (printable : HasPrintableLetters L) (m n : Name) (first :
           set = refl;
           each = (
             record { kind = refl; class = hj; role = hm; points = refl; attributes = tt; extras = refl; ends = tt },
-            (record { kind = refl; class = hj; role = hm; points = refl; attributes = tt; extras = refl; ends = tt },
-              (record { kind = refl; class = hj; role = hm; points = refl; attributes = tt; extras = refl; ends = tt },
-              (record { kind = refl; class = hj; role = hm; points = refl; attributes = tt; extras = refl; ends = (record { target = refl; sns = refl }, (record { target = refl; sns = refl }, tt)) },
-              (record { kind = refl; class = hk; role = hn; points = refl; attributes = tt; extras = refl; ends = (record { target = refl; sns = refl }, (record { target = refl; sns = refl }, tt)) }, tt)))),
+            (
+              record { kind = refl; class = hj; role = hm; points = refl; attributes = tt; extras = refl; ends = tt },
+              (
+                record { kind = refl; class = hj; role = hm; points = refl; attributes = tt; extras = refl; ends = tt },
+                (
+                  record { kind = refl; class = hj; role = hm; points = refl; attributes = tt; extras = refl; ends = (record { target = refl; sns = refl }, (record { target = refl; sns = refl }, tt)) },
+                  (record { kind = refl; class = hk; role = hn; points = refl; attributes = tt; extras = refl; ends = (record { target = refl; sns = refl }, (record { target = refl; sns = refl }, tt)) }, tt),
+                ),
+              ),
+            ),
           );
         };
         no_set = refl;
@@ -283,33 +297,60 @@ module _ (L : Letters) (printable : HasPrintableLetters L) (m n : Name) (first :
 
 arc_bytes : (L : Letters) (n : Name) → NameBytes n → AllByRecursion ZoneBytes (zones_of_record L (arc_of n (codes "A1")))
 unfolding zones_of_record zones_of_body digits point_text size_text fraction_digits
-arc_bytes L n name =
-    (headed (codes "RTYSA") (codes "PAR") refl (lit< tt) (lit< tt) (known_bytes (codes "PAR") refl),
-      (headed (codes "RIDSA") (codes "A1") refl (lit< tt) (lit< tt) (known_bytes (codes "A1") refl),
-      (headed (codes "SCPCP") (class_text n) refl (lit< tt) (lit< tt) (class_bytes n name),
-      (headed (codes "PTCSN") (codes "2") refl (lit< tt) (lit< tt) (known_bytes (codes "2") refl),
-      (headed (codes "CORCC") (point_text (spot 0 0)) refl (lit< tt) (lit< tt) (known_bytes (point_text (spot 0 0)) refl),
-      (headed (codes "CORCC") (point_text (spot 1 0)) refl (lit< tt) (lit< tt) (known_bytes (point_text (spot 1 0)) refl),
-      (headed (codes "ATCSN") (codes "0") refl (lit< tt) (lit< tt) (known_bytes (codes "0") refl), tt)))))))
+arc_bytes L n name = (
+  headed (codes "RTYSA") (codes "PAR") refl (lit< tt) (lit< tt) (known_bytes (codes "PAR") refl),
+  (
+    headed (codes "RIDSA") (codes "A1") refl (lit< tt) (lit< tt) (known_bytes (codes "A1") refl),
+    (
+      headed (codes "SCPCP") (class_text n) refl (lit< tt) (lit< tt) (class_bytes n name),
+      (
+        headed (codes "PTCSN") (codes "2") refl (lit< tt) (lit< tt) (known_bytes (codes "2") refl),
+        (
+          headed (codes "CORCC") (point_text (spot 0 0)) refl (lit< tt) (lit< tt) (known_bytes (point_text (spot 0 0)) refl),
+          (
+            headed (codes "CORCC") (point_text (spot 1 0)) refl (lit< tt) (lit< tt) (known_bytes (point_text (spot 1 0)) refl),
+            (headed (codes "ATCSN") (codes "0") refl (lit< tt) (lit< tt) (known_bytes (codes "0") refl), tt),
+          ),
+        ),
+      ),
+    ),
+  ),
+)
 
 face_bytes : (L : Letters) (n : Name) (rid : List ℕ) → NameBytes n → AreBytes rid → AllByRecursion ZoneBytes (zones_of_record L (face_of n rid))
 unfolding zones_of_record zones_of_body digits
-face_bytes L n rid name id =
-    (headed (codes "RTYSA") (codes "PFE") refl (lit< tt) (lit< tt) (known_bytes (codes "PFE") refl),
-      (headed (codes "RIDSA") rid refl (lit< tt) (lit< tt) id,
-      (headed (codes "SCPCP") (class_text n) refl (lit< tt) (lit< tt) (class_bytes n name),
-      (headed (codes "ATCSN") (codes "0") refl (lit< tt) (lit< tt) (known_bytes (codes "0") refl), tt))))
+face_bytes L n rid name id = (
+  headed (codes "RTYSA") (codes "PFE") refl (lit< tt) (lit< tt) (known_bytes (codes "PFE") refl),
+  (
+    headed (codes "RIDSA") rid refl (lit< tt) (lit< tt) id,
+    (
+      headed (codes "SCPCP") (class_text n) refl (lit< tt) (lit< tt) (class_bytes n name),
+      (headed (codes "ATCSN") (codes "0") refl (lit< tt) (lit< tt) (known_bytes (codes "0") refl), tt),
+    ),
+  ),
+)
 
 link_bytes : (L : Letters) (n : Name) (rid face : List ℕ) → NameBytes n → AreBytes rid → AreBytes (end_text (record { rty = codes "PFE"; rid = face })) → AllByRecursion ZoneBytes (zones_of_record L (link_of n rid (end_at Par (codes "A1")) (end_at Pfe face)))
 unfolding zones_of_record zones_of_body zones_of_end digits pointer_text
-link_bytes L n rid face name id target =
-    (headed (codes "RTYSA") (codes "LNK") refl (lit< tt) (lit< tt) (known_bytes (codes "LNK") refl),
-      (headed (codes "RIDSA") rid refl (lit< tt) (lit< tt) id,
-      (headed (codes "SCPCP") (class_text n) refl (lit< tt) (lit< tt) (class_bytes n name),
-      (headed (codes "FTCSN") (codes "2") refl (lit< tt) (lit< tt) (known_bytes (codes "2") refl),
-      (headed (codes "FTPCP") (end_text (record { rty = codes "PAR"; rid = codes "A1" })) refl (lit< tt) (lit< tt) (known_bytes (end_text (record { rty = codes "PAR"; rid = codes "A1" })) refl),
-      (headed (codes "FTPCP") (end_text (record { rty = codes "PFE"; rid = face })) refl (lit< tt) (lit< tt) target,
-      (headed (codes "ATCSN") (codes "0") refl (lit< tt) (lit< tt) (known_bytes (codes "0") refl), tt)))))))
+link_bytes L n rid face name id target = (
+  headed (codes "RTYSA") (codes "LNK") refl (lit< tt) (lit< tt) (known_bytes (codes "LNK") refl),
+  (
+    headed (codes "RIDSA") rid refl (lit< tt) (lit< tt) id,
+    (
+      headed (codes "SCPCP") (class_text n) refl (lit< tt) (lit< tt) (class_bytes n name),
+      (
+        headed (codes "FTCSN") (codes "2") refl (lit< tt) (lit< tt) (known_bytes (codes "2") refl),
+        (
+          headed (codes "FTPCP") (end_text (record { rty = codes "PAR"; rid = codes "A1" })) refl (lit< tt) (lit< tt) (known_bytes (end_text (record { rty = codes "PAR"; rid = codes "A1" })) refl),
+          (
+            headed (codes "FTPCP") (end_text (record { rty = codes "PFE"; rid = face })) refl (lit< tt) (lit< tt) target,
+            (headed (codes "ATCSN") (codes "0") refl (lit< tt) (lit< tt) (known_bytes (codes "0") refl), tt),
+          ),
+        ),
+      ),
+    ),
+  ),
+)
 
 first_target : AreBytes (end_text (record { rty = codes "PFE"; rid = codes "F1" }))
 unfolding pointer_text

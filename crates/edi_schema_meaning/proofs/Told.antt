@@ -1,16 +1,15 @@
 -- What a file of a few records breaks of the rules of references, and what is told by that.
-use Rattle.std.proofs.Common.{◌≡◌, ◌≢◌, ◌⊎◌, inl, inr, ℕ, zero, suc, ◌+◌, ◌-◌, ◌<◌, ◌≤◌, Bool, true, false, not, cond, true≢false, List, [], ◌∷◌, length, map, get_or, Option, Some, None, option_map, codes, slice_get, position, refl, sym, ap, ◌∙◌, subst, arith, lit≤, lit<}
+use Rattle.std.proofs.Common.{◌≡◌, ◌≢◌, ◌⊎◌, inl, inr, ℕ, zero, suc, ◌<◌, ◌≤◌, Bool, true, false, cond, true≢false, List, [], ◌∷◌, length, get_or, Option, Some, None, option_map, codes, slice_get, refl, sym, ap, ◌∙◌, subst, arith}
 use Rattle.std.specs.Prelude.{Any, is_some}
 use Rattle.std.specs.List.{AllByRecursion, list_any}
 use Rattle.std.specs.Map.{keys_of, lookup}
 use Rattle.std.proofs.lemmas.Option.{none-some, same_Some}
-use Rattle.edi_line.specs.Refusal.{IsLeastBroken, IsUnbroken}
-use Rattle.edi_record.specs.RecordLayout.{IsLineName, IsName}
-use Rattle.edi_record.specs.Texts.{HasNoSemicolon, is_semicolon}
+use Rattle.edi_line.specs.Refusal.{IsLeastBroken}
+use Rattle.edi_record.specs.Texts.{HasNoSemicolon}
 use Rattle.edi_record.specs.declared.name.Name.{Name}
 use Rattle.edi_record.specs.declared.record.End.{End}
 use Rattle.edi_record.specs.declared.record.Kind.{Kind}
-use Rattle.edi_record.specs.declared.record.Kind.TheVariants.{Pno, Par, Pfe, Fea, Lnk}
+use Rattle.edi_record.specs.declared.record.Kind.TheVariants.{Pno, Pfe, Lnk}
 use Rattle.edi_record.specs.declared.record.Record.{Record}
 use Rattle.edi_record.specs.declared.sheet.Sheet.{Sheet}
 use Rattle.edi_schema.proofs.Names.{same_name}
@@ -23,7 +22,6 @@ use Rattle.edi_plan.specs.Joined.{beside}
 use Rattle.edi_plan.specs.Plans.{Drawing}
 use Rattle.edi_plan.specs.ReferenceRules.{BreaksReferenceRule, IsLinkOfRole, IsRecordAt, JoinsArcTo, JoinsWrong, Names}
 use Rattle.edi_plan.specs.ReferenceRules.BreaksReferenceRule.{repeats_name, lacks_class, lacks_attribute_class, leaves_subset, names_nothing, joins_wrong, repeats_side}
-use Rattle.edi_rank.specs.EqualObjects.{BreaksObjectRule}
 use Rattle.edi_rank.specs.EqualObjects.BreaksObjectRule.{repeats_object}
 use Rattle.edi_topo.specs.TopologyRules.{BreaksTopologyRule}
 use Rattle.edi_topo.specs.TopologyRules.BreaksTopologyRule.{starts_elsewhere, ends_elsewhere, repeats_node, equals_reverse, repeats_arc, bounds_nothing}

@@ -1,5 +1,5 @@
 -- Small sheets that show where two schemas differ: each of records of one class.
-use Rattle.std.specs.Prelude.{ℕ, Bool, false, pos, List, [], ◌∷◌, None, codes}
+use Rattle.std.specs.Prelude.{ℕ, false, pos, List, [], ◌∷◌, None, codes}
 use Rattle.edi_record.specs.RecordLayout.{Letters, records_layout}
 use Rattle.edi_record.specs.Shapes.{kind_code}
 use Rattle.edi_record.specs.declared.name.Name.{Name}
