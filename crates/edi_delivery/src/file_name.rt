@@ -1,10 +1,12 @@
 //! Names of files.
 
-ghost use Rattle.std.specs.Prelude.{◌≡◌, map, true, IfOk};
+ghost use Rattle.std.specs.Prelude.{◌≡◌, map, true, false, IfOk, MatchOption};
+ghost use Rattle.std.specs.List.{list_all};
 ghost use Rattle.std.specs.Str.{str_to_ascii_lowercase};
+ghost use Rattle.edi_delivery.specs.NameParts.{is_file_byte as is_byte};
 ghost use Rattle.edi_delivery.specs.NameParts.{extension_text, file_name, is_file_name, is_same_name};
 
-use crate::name_part::NamePart;
+use crate::name_part::{NamePart, is_word_byte};
 use edi_line::Text;
 use std::alloc::{AllocError, Global};
 use std::marker::Model;
@@ -42,6 +44,34 @@ impl Extension {
     }
 }
 
+/// How many bytes the name of a file has at most.
+const MOST_BYTES: usize = 255;
+
+/// Whether a byte is a letter of ASCII, a digit, `_`, `-` or a point.
+fn is_file_byte(byte: u8) -> bool
+    ensures { result ≡ is_byte byte }
+{
+    is_word_byte(byte) || byte == b'-' || byte == b'.'
+}
+
+fn are_file_bytes(bytes: &[u8]) -> bool
+    ensures { result ≡ list_all is_byte bytes.now }
+{
+    bytes.iter().all(|byte| is_file_byte(*byte))
+}
+
+/// Whether a text may be the name of a file.
+fn is_name(text: &[u8]) -> bool
+    ensures { result ≡ is_file_name text.now }
+{
+    match text {
+        [first, behind @ ..] => {
+            is_word_byte(*first) && are_file_bytes(behind) && text.len() <= MOST_BYTES
+        }
+        [] => false,
+    }
+}
+
 /// The name of a file in a folder: 1 to 255 letters of ASCII, digits, `_`, `-` and points, of which the first is a
 /// letter, a digit or `_`. So it has no `/` or `\`, no NUL or other control byte, and is neither `.` nor `..`.
 /// Contracts see its bytes.
@@ -67,6 +97,19 @@ impl Model for FileName {
 }
 
 impl FileName {
+    /// The text as the name of a file, or none where it isn't one.
+    pub fn new(alloc: Global, text: &[u8]) -> Result<Option<FileName>, AllocError>
+        ensures { IfOk result (λ name.
+            MatchOption name (is_file_name text.now ≡ false) (λ n. (n ≡ text.now) × (is_file_name text.now ≡ true))) }
+    {
+        if !is_name(text) {
+            return Ok(None);
+        }
+        Ok(Some(FileName {
+            text: Text::from_slice(alloc, text)?,
+        }))
+    }
+
     /// The name of a lot's file, with its extension in capitals.
     pub fn of(
         alloc: Global,
