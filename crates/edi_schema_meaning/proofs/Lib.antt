@@ -18,4 +18,5 @@ pub mod PrintedBytes
 pub mod OwnForm
 pub mod Lettered
 pub mod Sided
+pub mod ReadBytes
 pub mod OneText

@@ -22,6 +22,8 @@ use Rattle.edi_schema_text.proofs.Named.{no_semicolon}
 use Rattle.edi_schema_text.proofs.Stated.{in_named}
 use Rattle.edi_schema_text.proofs.Tell.{meaning_one, text_made}
 use Rattle.edi_schema_text.specs.SchemaText.{AgreeOn, MeanSame}
+use Rattle.edi_schema_meaning.proofs.Alike.{one_answer}
+use Rattle.edi_schema_meaning.proofs.ReadBytes.{good_names, good_schema}
 use Rattle.edi_schema_meaning.proofs.Agreeing.{kinds, numbers, one_side}
 use Rattle.edi_schema_meaning.proofs.Lettered.{same_letter}
 use Rattle.edi_schema_meaning.proofs.OwnForm.{name_there}
@@ -30,7 +32,7 @@ use Rattle.edi_schema_meaning.proofs.Probing.{IsPlainName}
 use Rattle.edi_schema_meaning.proofs.Sided.{sides_told}
 use Rattle.edi_schema_meaning.proofs.Told.{all_named, place_some, plain_name}
 use Rattle.edi_schema_meaning.specs.Answers.{AnswerAlike}
-use Rattle.edi_schema_meaning.specs.Laws.{HasByteNames, OneAnswerOneText}
+use Rattle.edi_schema_meaning.specs.Laws.{HasByteNames, OneAnswerOneText, TextsDecideAnswers}
 
 -- ---- names and kinds
 
@@ -229,3 +231,9 @@ module _ (s t : Classes) (hs : IsSchema s) (ht : IsSchema t) (bytes : HasByteNam
 
 pub one_text : OneAnswerOneText
 one_text s t hs ht bytes alike = text_made s t (meaning_one s t hs ht (mean_same s t hs ht bytes alike))
+
+pub texts_decide : TextsDecideAnswers
+texts_decide scd dic scd' dic' kinds kinds' s t bytes first second =
+    let hs = good_schema scd dic kinds s first in
+    let ht = good_schema scd' dic' kinds' t second in
+    (one_answer s t hs ht, one_text s t hs ht (good_names scd dic kinds s bytes first))

@@ -20,12 +20,12 @@ pub joined : (xs ys : List ℕ) → AreBytes xs → AreBytes ys → AreBytes (xs
 joined [] ys hx hy = hy
 joined (x ∷ xs) ys hx hy = (hx.0, joined xs ys hx.1 hy)
 
-taken : (n : ℕ) (xs : List ℕ) → AreBytes xs → AreBytes (take n xs)
+pub taken : (n : ℕ) (xs : List ℕ) → AreBytes xs → AreBytes (take n xs)
 taken zero xs h = tt
 taken (suc n) [] h = tt
 taken (suc n) (x ∷ xs) h = (h.0, taken n xs h.1)
 
-dropped : (n : ℕ) (xs : List ℕ) → AreBytes xs → AreBytes (drop n xs)
+pub dropped : (n : ℕ) (xs : List ℕ) → AreBytes xs → AreBytes (drop n xs)
 dropped zero xs h = h
 dropped (suc n) [] h = tt
 dropped (suc n) (x ∷ xs) h = dropped n xs h.1

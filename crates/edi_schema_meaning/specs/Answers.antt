@@ -9,9 +9,9 @@ use Rattle.edi_compare.specs.Verdicts.{IsVerdict}
 use Rattle.edi_compare.specs.declared.fault.Fault.{Fault}
 use Rattle.edi_compare.specs.declared.pairing.Verdict.{Verdict}
 
--- Two schemas answer alike: they accept the same files, refuse each other file by one rule at one place, and give each one canonical
--- file; two files that they accept state the same plan under the one exactly if under the other, with the same pairing or the same
--- first line that differs.
+-- Two schemas answer alike: they accept the same files, refuse each other file by one rule at one place, and give
+-- each one canonical file; two files that they accept state the same plan under the one exactly if under the other,
+-- with the same pairings or the same first line that differs.
 pub record AnswerAlike (s t : Classes) : Type 0 where
   pub accepted : (b : List ℕ) → IsAccepted s b ↔ IsAccepted t b
   pub refused : (b : List ℕ) (fault : Fault) → IsRefusal s b fault ↔ IsRefusal t b fault

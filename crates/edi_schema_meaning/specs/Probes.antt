@@ -18,24 +18,41 @@ spot x y = record { x = pos x; y = pos y; z = None }
 
 -- an end at a record of this type and identifier
 abbrev pub end_at : Kind → List ℕ → End
-end_at kind rid = record { lot = codes "CANON"; subset = codes "S"; target = record { rty = kind_code kind; rid = rid }; sns = None }
+end_at kind rid = record {
+  lot = codes "CANON";
+  subset = codes "S";
+  target = record { rty = kind_code kind; rid = rid };
+  sns = None;
+}
 
 -- an attribute of the class with this value
 abbrev pub valued : Name → List ℕ → Attribute
 valued class value = record { atp = class; tex = None; atv = value }
 
+-- a record of the class with these points, ends and attributes
+abbrev pub record_of : Kind → Name → List ℕ → List Point → List End → List Attribute → Record
+record_of kind class rid points ends attributes = record {
+  kind = kind;
+  rid = rid;
+  scp = class;
+  points = points;
+  ends = ends;
+  attributes = attributes;
+  extras = [];
+}
+
 abbrev pub node_of : Name → List ℕ → List Attribute → Record
-node_of class rid attributes = record { kind = Pno; rid = rid; scp = class; points = spot 0 0 ∷ []; ends = []; attributes = attributes; extras = [] }
+node_of class rid attributes = record_of Pno class rid (spot 0 0 ∷ []) [] attributes
 
 -- from 0;0 to 1;0, in millionths
 abbrev pub arc_of : Name → List ℕ → Record
-arc_of class rid = record { kind = Par; rid = rid; scp = class; points = spot 0 0 ∷ spot 1 0 ∷ []; ends = []; attributes = []; extras = [] }
+arc_of class rid = record_of Par class rid (spot 0 0 ∷ spot 1 0 ∷ []) [] []
 
 abbrev pub face_of : Name → List ℕ → Record
-face_of class rid = record { kind = Pfe; rid = rid; scp = class; points = []; ends = []; attributes = []; extras = [] }
+face_of class rid = record_of Pfe class rid [] [] []
 
 abbrev pub link_of : Name → List ℕ → End → End → Record
-link_of class rid a b = record { kind = Lnk; rid = rid; scp = class; points = []; ends = a ∷ b ∷ []; attributes = []; extras = [] }
+link_of class rid a b = record_of Lnk class rid [] (a ∷ b ∷ []) []
 
 -- ---- sheets
 
@@ -45,19 +62,33 @@ node_records class = node_of class (codes "N") [] ∷ []
 
 -- a link that has one node at both ends
 abbrev pub loop_records : Name → List Record
-loop_records class = link_of class (codes "L") (end_at Pno (codes "N")) (end_at Pno (codes "N")) ∷ node_of class (codes "N") [] ∷ []
+loop_records class =
+    link_of class (codes "L") (end_at Pno (codes "N")) (end_at Pno (codes "N"))
+    ∷ node_of class (codes "N") []
+    ∷ []
 
 -- a link from an arc to the node at its first point
 abbrev pub join_records : Name → List Record
-join_records class = link_of class (codes "L") (end_at Par (codes "A")) (end_at Pno (codes "N")) ∷ arc_of class (codes "A") ∷ node_of class (codes "N") [] ∷ []
+join_records class =
+    link_of class (codes "L") (end_at Par (codes "A")) (end_at Pno (codes "N"))
+    ∷ arc_of class (codes "A")
+    ∷ node_of class (codes "N") []
+    ∷ []
 
 -- the same, the arc first
 abbrev pub start_records : Name → List Record
-start_records class = arc_of class (codes "A") ∷ node_of class (codes "N") [] ∷ link_of class (codes "L") (end_at Par (codes "A")) (end_at Pno (codes "N")) ∷ []
+start_records class =
+    arc_of class (codes "A")
+    ∷ node_of class (codes "N") []
+    ∷ link_of class (codes "L") (end_at Par (codes "A")) (end_at Pno (codes "N"))
+    ∷ []
 
 -- two nodes that differ in the spelling of an attribute's value
 abbrev pub value_records : Name → List Record
-value_records class = node_of class (codes "N") (valued class (codes "01") ∷ []) ∷ node_of class (codes "M") (valued class (codes "1") ∷ []) ∷ []
+value_records class =
+    node_of class (codes "N") (valued class (codes "01") ∷ [])
+    ∷ node_of class (codes "M") (valued class (codes "1") ∷ [])
+    ∷ []
 
 -- a node with an attribute of no value
 abbrev pub letter_records : Name → List Record
@@ -66,8 +97,12 @@ letter_records class = node_of class (codes "N1") (valued class [] ∷ []) ∷ [
 -- an arc between two faces: a link of the one class joins it with the first, and one of the other with the second
 abbrev pub side_records : Name → Name → List Record
 side_records class other =
-    arc_of class (codes "A1") ∷ face_of class (codes "F1") ∷ face_of class (codes "F2")
-    ∷ link_of class (codes "L1") (end_at Par (codes "A1")) (end_at Pfe (codes "F1")) ∷ link_of other (codes "L2") (end_at Par (codes "A1")) (end_at Pfe (codes "F2")) ∷ []
+    arc_of class (codes "A1")
+    ∷ face_of class (codes "F1")
+    ∷ face_of class (codes "F2")
+    ∷ link_of class (codes "L1") (end_at Par (codes "A1")) (end_at Pfe (codes "F1"))
+    ∷ link_of other (codes "L2") (end_at Par (codes "A1")) (end_at Pfe (codes "F2"))
+    ∷ []
 
 -- the formats and values of attributes don't count for what is read
 abbrev pub plain_letters : Letters

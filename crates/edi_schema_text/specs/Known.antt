@@ -8,7 +8,8 @@ use Rattle.edi_schema.specs.declared.role.Role.{Role}
 use Rattle.edi_schema.specs.declared.role.Role.TheVariants.{Left, Right, Plain}
 
 abbrev pub said : List ℕ → List ℕ → Role → ℕ → Bool → Name × Class
-said rty rid role letter is_number = (record { rty = rty; rid = rid }, record { role = role; letter = letter; is_number = is_number })
+said rty rid role letter is_number =
+    (record { rty = rty; rid = rid }, record { role = role; letter = letter; is_number = is_number })
 
 -- attributes, an object, and the links to the faces of an arc, which are of these kinds
 abbrev pub sided_classes : Role → Role → Classes

@@ -1,8 +1,9 @@
 -- The text of a schema: what it says of the classes that a sheet can name, as far as sheets depend on it.
 --
--- A record and an attribute name their class by a pointer, and no part of a pointer has a semicolon. So no sheet names a class
--- whose type has one. An attribute's class is of type ATT (rule 303), so that the letter of a class and whether its values are
--- numbers count for that type alone. The class of a link may be of any type, so that the kind counts for each.
+-- A record and an attribute name their class by a pointer, and no part of a pointer has a semicolon. So no sheet
+-- names a class whose type has one. An attribute's class is of type ATT (rule 303), so that the letter of a class and
+-- whether its values are numbers count for that type alone. The class of a link may be of any type, so that the kind
+-- counts for each.
 use Rattle.std.specs.Prelude.{◌≡◌, ℕ, Bool, not, List, [], ◌∷◌, ◌++◌, filter, flat_map, codes, bytes_eq, if◌then◌else◌}
 use Rattle.std.specs.List.{list_any}
 use Rattle.edi_line.specs.Bytes.{line_feed, semicolon}
@@ -23,7 +24,8 @@ is_nameable entry = not (list_any is_semicolon entry.0.rty)
 abbrev pub is_attribute_class : Name × Class → Bool
 is_attribute_class entry = bytes_eq entry.0.rty (codes "ATT")
 
--- both schemas have a class of this name, of one kind, or neither has; and for attributes of one letter, and of numbers in both or in neither
+-- both schemas have a class of this name, of one kind, or neither has; and for attributes of one letter, and of
+-- numbers in both or in neither
 pub record AgreeOn (s t : Classes) (name : Name) : Type 0 where
   pub kind : role_named s name ≡ role_named t name
   pub letter : name.rty ≡ codes "ATT" → letter_named s name ≡ letter_named t name
@@ -53,12 +55,14 @@ values_word is_number = if is_number then codes "number" else codes "bytes"
 
 -- the letter of a class and what its values are; `-` for both where no attribute has the class
 abbrev pub values_text : Name × Class → List ℕ
-values_text entry = if is_attribute_class entry then entry.1.letter ∷ semicolon ∷ values_word entry.1.is_number else codes "-;-"
+values_text entry =
+    if is_attribute_class entry then entry.1.letter ∷ semicolon ∷ values_word entry.1.is_number else codes "-;-"
 
 -- `TYPE;IDENTIFIER;LETTER;VALUES;KIND`
 unfoldable pub line_of_class : Name × Class → List ℕ
 line_of_class entry =
-    entry.0.rty ++ semicolon ∷ (entry.0.rid ++ semicolon ∷ (values_text entry ++ semicolon ∷ (kind_text entry.1.role ++ line_feed ∷ [])))
+    entry.0.rty ++ semicolon
+    ∷ (entry.0.rid ++ semicolon ∷ (values_text entry ++ semicolon ∷ (kind_text entry.1.role ++ line_feed ∷ [])))
 
 -- the lines of these classes, but for those that no pointer can name
 abbrev pub class_lines : Classes → List ℕ

@@ -8,7 +8,7 @@ ghost use Rattle.edi_schema_text.specs.SchemaText.{text_of_schema};
 /// The text of a schema. The letter of the class of an object and a class that no pointer can name are no part of it.
 pub fn known_texts_of_schemas()
     ensures text { text_of_schema (sided_classes Right Left) ≡ sided_text (codes "right face") (codes "left face") }
-    ensures exchanged { text_of_schema (sided_classes Left Right) ≡ sided_text (codes "left face") (codes "right face") }
+    ensures sides { text_of_schema (sided_classes Left Right) ≡ sided_text (codes "left face") (codes "right face") }
     ensures more { text_of_schema more_classes ≡ text_of_schema (sided_classes Right Left) }
 {}
 

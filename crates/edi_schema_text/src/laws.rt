@@ -7,7 +7,8 @@ pub fn texts_tell_schemas()
     ensures { TextsTellSchemas }
 {}
 
-/// Files that state the same classes have schemas with one text, whatever the order of their records, their lots and remarks.
+/// Files that state the same classes have schemas with one text, whatever the order of their records, their lots and
+/// remarks.
 pub fn one_statement_one_text()
     ensures { OneStatementOneText }
 {}

@@ -19,8 +19,8 @@ RTYSA03:DIA\nRIDSA05:SUP_n\nTYPSA01:R\n\
 RTYSA03:DIA\nRIDSA05:NOM_n\nTYPSA01:A\n\
 EOMT 00:\n";
 
-// The same classes in another order, of another lot, with remarks, with a word for the object, and with a class that no pointer
-// can name.
+// The same classes in another order, of another lot, with remarks, with a word for the object, and with a class that no
+// pointer can name.
 const OTHER_CLASSES: &[u8] = b"BOMT 12:EDZZ99SE.SCD\n\
 REMT 05:other\n\
 RTYSA03:REL\nRIDSA06:DRT_id\nKNDSA03:RPO\n\

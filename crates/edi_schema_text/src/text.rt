@@ -11,8 +11,8 @@ use edi_schema::{Class, Role, Schema};
 use sha2::{Digest, Sha256};
 use std::alloc::{AllocError, Global};
 
-/// The text of a schema: a head, and a line for each class that a pointer can name, in the order of the names. Two schemas have one
-/// text exactly if they mean the same (`laws::texts_tell_schemas`).
+/// The text of a schema: a head, and a line for each class that a pointer can name, in the order of the names. Two
+/// schemas have one text exactly if they mean the same (`laws::texts_tell_schemas`).
 pub fn schema_text(alloc: Global, schema: &Schema) -> Result<Vec<u8>, AllocError>
     ensures { IfOk result (λ text. text.items ≡ text_of_schema schema.now) }
 {
@@ -34,7 +34,8 @@ pub fn schema_digest(alloc: Global, schema: &Schema) -> Result<[u8; 32], AllocEr
 // Adds the line of the class at a place, but for one that no pointer can name.
 fn put_class(text: &mut Vec<u8>, schema: &Schema, place: usize) -> Result<(), AllocError>
     requires { place < length schema.now }
-    ensures { (entry : ClassName × SaidClass) → slice_get schema.now place ≡ Some entry → OnOk result (text.new.items ≡ text.old.items ++ class_lines (entry ∷ [])) }
+    ensures { (entry : ClassName × SaidClass) → slice_get schema.now place ≡ Some entry
+        → OnOk result (text.new.items ≡ text.old.items ++ class_lines (entry ∷ [])) }
 {
     let class = schema.class_at(place);
     let name = schema.name(class);

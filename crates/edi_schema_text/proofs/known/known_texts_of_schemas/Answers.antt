@@ -6,9 +6,9 @@ pub returns-clause-text : goal.returns-clause-text
 unfolding line_of_class
 returns-clause-text c = refl
 
-pub returns-clause-exchanged : goal.returns-clause-exchanged
+pub returns-clause-sides : goal.returns-clause-sides
 unfolding line_of_class
-returns-clause-exchanged c = refl
+returns-clause-sides c = refl
 
 pub returns-clause-more : goal.returns-clause-more
 unfolding line_of_class
