@@ -13,8 +13,8 @@ use Rattle.edi_report.specs.declared.sheet.LocatedSheet.{LocatedSheet}
 use Rattle.edi_report.specs.Tables.{AreMarks, IsFitting}
 use Rattle.edi_diff.specs.Changes.{AreChanges, ArePartsOfEach}
 use Rattle.edi_diff.specs.Differences.{IsDifferenceText}
-use Rattle.edi_diff.specs.declared.form.Form.{Form}
-use Rattle.edi_diff.specs.Forms.{text_in}
+use Rattle.edi_diff.specs.declared.form.TextForm.{TextForm}
+use Rattle.edi_diff.specs.Forms.{text_of_form}
 
 -- nothing but the records that are the same
 pub no_changes : (s : Classes) (p q : Drawing) (m : Matching) → MatchingHolds s p q m → AreChanges p q m m
@@ -86,10 +86,10 @@ total_marked p q m marks are total j h =
 
 -- ---- the text
 
-pub text_by : (s : Classes) (first second : LocatedSheet) (m became : Matching) (parts : List Parts) (form : Form) (text : List ℕ)
+pub text_by : (s : Classes) (first second : LocatedSheet) (m became : Matching) (parts : List Parts) (form : TextForm) (text : List ℕ)
     (unchanged went : List (Option ℕ)) (reported_parts : List Parts) → AreChanges first.accepted second.accepted m became → ArePartsOfEach s first.accepted second.accepted m became parts
     → unchanged ≡ m.to → went ≡ became.to → reported_parts ≡ parts
-    → text ≡ text_in s form (record { first = first; second = second; unchanged = unchanged; became = went; parts = reported_parts })
+    → text ≡ text_of_form s form (record { first = first; second = second; unchanged = unchanged; became = went; parts = reported_parts })
     → (x : IsDifferenceText s first second m form text) × (x.became ≡ became)
 text_by s first second m became parts form text unchanged went reported_parts are are_parts is_kept is_went is_parts reporter = (
   record {
@@ -97,9 +97,9 @@ text_by s first second m became parts form text unchanged went reported_parts ar
     parts = parts;
     changes = are;
     are_parts = are_parts;
-    is_text = reporter ∙ (ap (λ to. text_in s form (record { first = first; second = second; unchanged = to; became = went; parts = reported_parts })) is_kept
-        ∙ (ap (λ to. text_in s form (record { first = first; second = second; unchanged = m.to; became = to; parts = reported_parts })) is_went
-        ∙ ap (λ ps. text_in s form (record { first = first; second = second; unchanged = m.to; became = became.to; parts = ps })) is_parts));
+    is_text = reporter ∙ (ap (λ to. text_of_form s form (record { first = first; second = second; unchanged = to; became = went; parts = reported_parts })) is_kept
+        ∙ (ap (λ to. text_of_form s form (record { first = first; second = second; unchanged = m.to; became = to; parts = reported_parts })) is_went
+        ∙ ap (λ ps. text_of_form s form (record { first = first; second = second; unchanged = m.to; became = became.to; parts = ps })) is_parts));
   },
   refl,
 )

@@ -11,22 +11,22 @@ use Rattle.edi_report.specs.declared.sheet.LocatedSheet.{LocatedSheet}
 use Rattle.edi_diff.specs.Changes.{AreChanges, ArePartsOfEach}
 use Rattle.edi_diff.specs.declared.differing.Difference.{Difference}
 use Rattle.edi_diff.specs.declared.differing.Findings.{Findings}
-use Rattle.edi_diff.specs.declared.form.Form.{Form}
-use Rattle.edi_diff.specs.Forms.{text_in}
+use Rattle.edi_diff.specs.declared.form.TextForm.{TextForm}
+use Rattle.edi_diff.specs.Forms.{text_of_form}
 
 -- The text of what differs, all of it or without the lines of records, by a matching of the records that are the same: of the other records some
 -- became others, and the text names the parts in which these differ.
-pub record IsDifferenceText (s : Classes) (first second : LocatedSheet) (unchanged : Matching) (form : Form) (text : List ℕ) : Type 0 where
+pub record IsDifferenceText (s : Classes) (first second : LocatedSheet) (unchanged : Matching) (form : TextForm) (text : List ℕ) : Type 0 where
   pub became : Matching
   pub parts : List Parts
   pub changes : AreChanges first.accepted second.accepted unchanged became
   pub are_parts : ArePartsOfEach s first.accepted second.accepted unchanged became parts
-  pub is_text : text ≡ text_in s form (record { first = first; second = second; unchanged = unchanged.to; became = became.to; parts = parts })
+  pub is_text : text ≡ text_of_form s form (record { first = first; second = second; unchanged = unchanged.to; became = became.to; parts = parts })
 
 -- What differs between two files: the text, by a matching that holds between their plans, that leaves nothing out, of one character set, exactly
 -- if these are the same, and leaves out no node and no arc that has a partner, no face together with that on the
 -- same side of a matched arc, and no link, each together with one that it is carried onto; and whether the plans are the same.
-pub record IsDifference (s : Classes) (a b : List ℕ) (form : Form) (difference : Difference) : Type 0 where
+pub record IsDifference (s : Classes) (a b : List ℕ) (form : TextForm) (difference : Difference) : Type 0 where
   pub first : LocatedSheet
   pub second : LocatedSheet
   pub is_first : IsLocated s a first
@@ -41,7 +41,7 @@ pub record IsDifference (s : Classes) (a b : List ℕ) (form : Form) (difference
   pub same : IsTrue difference.same ↔ Same s first.accepted second.accepted
 
 -- what differs between two files, with the sheets, the matching and the changes that its text is made from
-pub record AreFindings (s : Classes) (a b : List ℕ) (form : Form) (found : Findings) : Type 0 where
+pub record AreFindings (s : Classes) (a b : List ℕ) (form : TextForm) (found : Findings) : Type 0 where
   pub differs : IsDifference s a b form found.difference
   pub by_first : differs.first ≡ found.first
   pub by_second : differs.second ≡ found.second

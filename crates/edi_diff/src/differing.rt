@@ -13,7 +13,7 @@ ghost use Rattle.edi_diff.specs.Differences.{AreFindings, IsDifference, IsDiffer
 ghost use Rattle.edi_diff.specs.inner.Compared.{AreCompared};
 
 use crate::changes::{Changes, changes_between};
-use crate::form::{Form, text_in};
+use crate::form::{TextForm, text_of_form};
 use crate::parting::parts_of;
 use crate::totals::is_same;
 use edi_compare::CompareFault;
@@ -67,7 +67,7 @@ fn changes_with_text(
     first: &LocatedSheet,
     second: &LocatedSheet,
     matching: &Matching,
-    form: Form,
+    form: TextForm,
 ) -> Result<ChangesWithText, AllocError>
     requires classes { HasClasses schema.now first.now.accepted }
     requires first_agrees { Agrees schema.now first.now.accepted }
@@ -97,7 +97,7 @@ fn changes_with_text(
         parts: &parts,
         reached: &reached,
     };
-    let text = text_in(alloc, schema, &reporter, form)?;
+    let text = text_of_form(alloc, schema, &reporter, form)?;
     Ok(ChangesWithText { became, text })
 }
 
@@ -109,7 +109,7 @@ pub fn diff(
     schema: &Schema,
     a: &[u8],
     b: &[u8],
-    form: Form,
+    form: TextForm,
 ) -> Result<Difference, CompareFault>
     ensures first { OnOk result (IsAccepted schema.now a.now) }
     ensures second { OnOk result (IsAccepted schema.now b.now) }
@@ -131,7 +131,7 @@ pub(crate) fn diff_from(
     schema: &Schema,
     a: FileBytes<'_>,
     b: FileBytes<'_>,
-    form: Form,
+    form: TextForm,
 ) -> Result<Difference, CompareFault>
     ensures first { OnOk result (IsAccepted schema.now (file_bytes a.entry)) }
     ensures second { OnOk result (IsAccepted schema.now (file_bytes b.entry)) }
@@ -149,7 +149,7 @@ pub fn find_differences(
     schema: &Schema,
     a: FileBytes<'_>,
     b: FileBytes<'_>,
-    form: Form,
+    form: TextForm,
 ) -> Result<Findings, CompareFault>
     ensures first { OnOk result (IsAccepted schema.now (file_bytes a.entry)) }
     ensures second { OnOk result (IsAccepted schema.now (file_bytes b.entry)) }
@@ -179,7 +179,7 @@ fn compare_sheets(
     schema: &Schema,
     first: &LocatedSheet,
     second: &LocatedSheet,
-    form: Form,
+    form: TextForm,
 ) -> Result<ComparedSheets, AllocError>
     requires first { IsAcceptedPlan schema.now first.now.accepted }
     requires second { IsAcceptedPlan schema.now second.now.accepted }

@@ -2,8 +2,8 @@
 
 ghost use Rattle.std.specs.Prelude.{◌≡◌, IfOk};
 ghost use Rattle.edi_plan.specs.Agreeing.{Agrees};
-ghost use Rattle.edi_diff.specs.Forms.{text_in};
-ghost use Rattle.edi_diff.specs.declared.form.Form.TheVariants.{Objects};
+ghost use Rattle.edi_diff.specs.Forms.{text_of_form};
+ghost use Rattle.edi_diff.specs.declared.form.TextForm.TheVariants.{Objects};
 
 use edi_objects::{Namer, account_text};
 use edi_report::Reporter;
@@ -12,7 +12,7 @@ use std::alloc::{AllocError, Global};
 
 /// In which form what differs between two sheets is told (docs/FORMAT.md, "Differences").
 #[derive(Clone, Copy, PartialEq, Eq)]
-pub enum Form {
+pub enum TextForm {
     /// Object by object, by the attributes that people know.
     Objects,
     /// Record by record.
@@ -22,20 +22,20 @@ pub enum Form {
 }
 
 /// The text in a form.
-pub(crate) fn text_in(
+pub(crate) fn text_of_form(
     alloc: Global,
     schema: &Schema,
     report: &Reporter<'_>,
-    form: Form,
+    form: TextForm,
 ) -> Result<Vec<u8>, AllocError>
     requires first { Agrees schema.now report.now.first.accepted }
     requires second { Agrees schema.now report.now.second.accepted }
-    ensures { IfOk result (λ text. text.items ≡ text_in schema.now form report.now) }
+    ensures { IfOk result (λ text. text.items ≡ text_of_form schema.now form report.now) }
 {
     match form {
-        Form::Objects => text_by_objects(alloc, schema, report),
-        Form::Records => report.text(alloc, false),
-        Form::Brief => report.text(alloc, true),
+        TextForm::Objects => text_by_objects(alloc, schema, report),
+        TextForm::Records => report.text(alloc, false),
+        TextForm::Brief => report.text(alloc, true),
     }
 }
 
@@ -47,7 +47,7 @@ fn text_by_objects(
 ) -> Result<Vec<u8>, AllocError>
     requires first { Agrees schema.now report.now.first.accepted }
     requires second { Agrees schema.now report.now.second.accepted }
-    ensures { IfOk result (λ text. text.items ≡ text_in schema.now Objects report.now) }
+    ensures { IfOk result (λ text. text.items ≡ text_of_form schema.now Objects report.now) }
 {
     let identifiers: [&[u8]; 5] = [b"IDU_id", b"TEX_id", b"TEX2_id", b"NUM_id", b"NOM_id"];
     let namer = Namer {

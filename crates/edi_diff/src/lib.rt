@@ -11,5 +11,5 @@ pub mod runs;
 mod totals;
 
 pub use differing::{Difference, Findings, diff, find_differences};
-pub use form::Form;
+pub use form::TextForm;
 pub use runs::run_diff;

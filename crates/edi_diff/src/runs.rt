@@ -6,7 +6,7 @@ ghost use Rattle.edi_compare.specs.inner.Runs.{PairFault};
 ghost use Rattle.edi_diff.specs.Runs.{IsDifferenceUnder};
 
 use crate::differing::{Difference, diff_from};
-use crate::form::Form;
+use crate::form::TextForm;
 use edi_compare::{RunFault, load_or_fault, read_input, read_input_pieces};
 use edi_line::{ByteIn, FileBytes};
 use edi_schema::Kinds;
@@ -22,7 +22,7 @@ pub fn run_diff<S: ByteIn, D: ByteIn, A: ByteIn, B: ByteIn>(
     dic: &mut D,
     first: &mut A,
     second: &mut B,
-    form: Form,
+    form: TextForm,
 ) -> Result<Difference, RunFault>
     ensures ok { IfOk result (λ difference. IfFourKnown (S.contents scd.old) (D.contents dic.old) (A.contents first.old) (B.contents second.old)
         (λ s d a b. IsDifferenceUnder kinds.now s d a b form difference)) }
@@ -56,7 +56,7 @@ fn diff_or_fault(
     dic: &[u8],
     first: FileBytes<'_>,
     second: FileBytes<'_>,
-    form: Form,
+    form: TextForm,
 ) -> Result<Difference, RunFault>
     ensures ok { IfOk result (IsDifferenceUnder kinds.now scd.now dic.now (file_bytes first.entry) (file_bytes second.entry) form) }
     ensures err { IfErr result (PairFault kinds.now scd.now dic.now (file_bytes first.entry) (file_bytes second.entry)) }

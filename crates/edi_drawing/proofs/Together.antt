@@ -8,9 +8,9 @@ use Rattle.edi_picture.specs.Pictures.{IsPicture}
 use Rattle.edi_picture.specs.Sheets.{Sheet}
 use Rattle.edi_drawing.specs.Drawn.{IsDrawnDifference}
 use Rattle.edi_drawing.specs.Marked.{marked_sheets}
-use Rattle.edi_diff.specs.declared.form.Form.{Form}
+use Rattle.edi_diff.specs.declared.form.TextForm.{TextForm}
 
-pub drawn_by : (s : Classes) (a b : List ℕ) (form : Form) (found : Findings) (picture : Vec ℕ) → AreFindings s a b form found
+pub drawn_by : (s : Classes) (a b : List ℕ) (form : TextForm) (found : Findings) (picture : Vec ℕ) → AreFindings s a b form found
     → IsPicture s (marked_sheets found.first found.second found.unchanged found.became) picture.items
     → IsDrawnDifference s a b form (record { difference = found.difference; picture = picture })
 drawn_by s a b form found picture are drawn = record {

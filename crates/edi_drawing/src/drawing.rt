@@ -9,7 +9,7 @@ ghost use Rattle.edi_drawing.specs.Drawn.{IsDrawnDifference, IsPictureOfFile};
 use crate::drawn::DrawnDifference;
 use crate::pictures::{picture_of, picture_of_both};
 use edi_compare::{CompareFault, Fault};
-use edi_diff::{Form, find_differences};
+use edi_diff::{TextForm, find_differences};
 use edi_line::FileBytes;
 use edi_report::locate_from;
 use edi_schema::Schema;
@@ -38,7 +38,7 @@ pub(crate) fn draw_difference_from(
     schema: &Schema,
     a: FileBytes<'_>,
     b: FileBytes<'_>,
-    form: Form,
+    form: TextForm,
 ) -> Result<DrawnDifference, CompareFault>
     ensures first { OnOk result (IsAccepted schema.now (file_bytes a.entry)) }
     ensures second { OnOk result (IsAccepted schema.now (file_bytes b.entry)) }

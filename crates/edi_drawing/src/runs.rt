@@ -7,8 +7,8 @@ ghost use Rattle.edi_drawing.specs.Runs.{IsDrawnDifferenceUnder, IsPictureUnder}
 
 use crate::drawing::{draw_difference_from, draw_from};
 use crate::drawn::DrawnDifference;
-use edi_diff::Form;
 use edi_compare::{Fault, RunFault, load_or_fault, read_input, read_input_pieces};
+use edi_diff::TextForm;
 use edi_line::{ByteIn, FileBytes};
 use edi_schema::Kinds;
 use std::alloc::Global;
@@ -46,7 +46,7 @@ pub fn run_draw_difference<S: ByteIn, D: ByteIn, A: ByteIn, B: ByteIn>(
     dic: &mut D,
     first: &mut A,
     second: &mut B,
-    form: Form,
+    form: TextForm,
 ) -> Result<DrawnDifference, RunFault>
     ensures ok { IfOk result (λ drawn. IfFourKnown (S.contents scd.old) (D.contents dic.old)
         (A.contents first.old) (B.contents second.old)
@@ -102,7 +102,7 @@ fn draw_difference_or_fault(
     dic: &[u8],
     first: FileBytes<'_>,
     second: FileBytes<'_>,
-    form: Form,
+    form: TextForm,
 ) -> Result<DrawnDifference, RunFault>
     ensures ok { IfOk result (IsDrawnDifferenceUnder kinds.now scd.now dic.now
         (file_bytes first.entry) (file_bytes second.entry) form) }

@@ -10,7 +10,7 @@ use Rattle.std.proofs.lemmas.List.FromFn.{get_or-map-range_with_len, length-map-
 use Rattle.edi_report.specs.Lines.{is_reached, went_to}
 use Rattle.edi_report.specs.Reports.{Report}
 use Rattle.edi_report.specs.Tables.{AreMarks}
-use Rattle.edi_objects.specs.Differing.{arrives, differs, moved_to, outline_differs}
+use Rattle.edi_objects.specs.Differing.{arrives, is_differing, moved_to, outline_differs}
 use Rattle.edi_objects.specs.LinksOf.{index_of}
 use Rattle.edi_plan.specs.Plans.{Drawing}
 use Rattle.edi_objects.specs.inner.Marks.{is_moved_onto}
@@ -78,8 +78,8 @@ tested_mapped test n none marks is = record {
     each i true less = get_or-map-range_with_len test 0 n i i false (ltb-true i n less) (omega arith)
     each i false more = get_or_past (map test (range_with_len 0 n)) i false (omega (arith, ltb-false i n more, length-map-range_with_len test 0 n)) ∙ sym (none i (ltb-false i n more))
 
-pub tested_differing : (r : Report) (marks : List Bool) → marks ≡ map (differs r) (range_with_len 0 (length r.first.accepted.list)) → AreTested (differs r) (length r.first.accepted.list) marks
-tested_differing r marks is = tested_mapped (differs r) (length r.first.accepted.list) (λ i h. guarded _ i (length r.first.accepted.list) h) marks is
+pub tested_differing : (r : Report) (marks : List Bool) → marks ≡ map (is_differing r) (range_with_len 0 (length r.first.accepted.list)) → AreTested (is_differing r) (length r.first.accepted.list) marks
+tested_differing r marks is = tested_mapped (is_differing r) (length r.first.accepted.list) (λ i h. guarded _ i (length r.first.accepted.list) h) marks is
 
 -- marks of those that none became, and of those onto which one moved
 pub tested_arriving : (r : Report) (reached free marks : List Bool) → AreMarks r.became (length r.second.accepted.list) reached → free ≡ map not reached → length marks ≡ length free

@@ -9,8 +9,8 @@ use Rattle.edi_plan.specs.Sides.{targets}
 use Rattle.edi_report.specs.Lines.{both_lines, charsets_line, is_reached, totals_line, words_text}
 use Rattle.edi_report.specs.Reports.{Report, parts_at, site_at}
 use Rattle.edi_report.specs.declared.sheet.LocatedSheet.{LocatedSheet}
-use Rattle.edi_objects.specs.Differing.{arrives, became_of, differs}
-use Rattle.edi_objects.specs.Elements.{elements_of, name_at, others_text}
+use Rattle.edi_objects.specs.Differing.{arrives, became_of, is_differing}
+use Rattle.edi_objects.specs.Elements.{elements_of, name_of_record, others_text}
 use Rattle.edi_objects.specs.Names.{Naming}
 use Rattle.edi_objects.specs.Objects.{first_object, second_object}
 
@@ -25,10 +25,10 @@ is_told_beside test p link = list_any (λ k. is_object (record_at p k).kind || t
 
 -- NAME: and what the link names
 abbrev pub bare_link : Naming → LocatedSheet → ℕ → List ℕ
-bare_link n sheet link = name_at n sheet link ++ codes ":" ++ others_text n sheet None (record_at sheet.accepted link)
+bare_link n sheet link = name_of_record n sheet link ++ codes ":" ++ others_text n sheet None (record_at sheet.accepted link)
 
-abbrev pub at_line : LocatedSheet → ℕ → List ℕ
-at_line sheet k = codes " (line " ++ decimal (site_at sheet k).line ++ codes ")" ++ line_feed ∷ []
+abbrev pub record_line_text : LocatedSheet → ℕ → List ℕ
+record_line_text sheet k = codes " (line " ++ decimal (site_at sheet k).line ++ codes ")" ++ line_feed ∷ []
 
 -- (lines LINE and LINE): and the parts that differ
 abbrev pub changed_parts : Report → ℕ → ℕ → List ℕ
@@ -39,17 +39,17 @@ abbrev pub changed_link : Naming → Report → ℕ → ℕ → List ℕ
 changed_link n r i j = codes "~ " ++ bare_link n r.first i ++ changed_parts r i j
 
 abbrev pub bare_link_by : Naming → Report → ℕ → Option ℕ → List ℕ
-bare_link_by n r i None = codes "- " ++ bare_link n r.first i ++ at_line r.first i
+bare_link_by n r i None = codes "- " ++ bare_link n r.first i ++ record_line_text r.first i
 bare_link_by n r i (Some j) = changed_link n r i j
 
 -- a link of the first sheet that differs, and one of the second that is new, if they aren't told elsewhere
 abbrev pub first_bare_link : Naming → Report → ℕ → List ℕ
-first_bare_link n r i = if differs r i then (if is_told_beside (differs r) r.first.accepted i then [] else bare_link_by n r i (became_of r i)) else []
+first_bare_link n r i = if is_differing r i then (if is_told_beside (is_differing r) r.first.accepted i then [] else bare_link_by n r i (became_of r i)) else []
 
 abbrev pub second_bare_link : Naming → Report → ℕ → List ℕ
 second_bare_link n r j =
     if is_reached r.became j || is_told_beside (arrives r) r.second.accepted j then []
-    else codes "+ " ++ bare_link n r.second j ++ at_line r.second j
+    else codes "+ " ++ bare_link n r.second j ++ record_line_text r.second j
 
 abbrev pub bare_links : Naming → Report → List ℕ
 bare_links n r = flat_map (first_bare_link n r) (places_of Lnk r.first.accepted) ++ flat_map (second_bare_link n r) (places_of Lnk r.second.accepted)

@@ -26,8 +26,8 @@ differs_by None None parts = true
 differs_by None (Some j) parts = some_differ parts
 
 -- the record of the first sheet at this place differs
-abbrev pub differs : Report → ℕ → Bool
-differs r i = nat_lt i (length r.first.accepted.list) && differs_by (same_of r i) (became_of r i) (parts_at r.parts i)
+abbrev pub is_differing : Report → ℕ → Bool
+is_differing r i = nat_lt i (length r.first.accepted.list) && differs_by (same_of r i) (became_of r i) (parts_at r.parts i)
 
 -- the record of the second sheet that one of the first became, if it had other ends
 abbrev pub moved_by : Option ℕ → Option ℕ → Parts → Option ℕ
@@ -56,16 +56,16 @@ is_initial_or_final Left = false
 is_initial_or_final Right = false
 is_initial_or_final Plain = false
 
-abbrev pub bounds : Role → Kind → Bool
-bounds role Pno = false
-bounds role Par = is_initial_or_final role
-bounds role Pfe = is_left_or_right role
-bounds role Fea = false
-bounds role Lnk = false
+abbrev pub bounds_type : Role → Kind → Bool
+bounds_type role Pno = false
+bounds_type role Par = is_initial_or_final role
+bounds_type role Pfe = is_left_or_right role
+bounds_type role Fea = false
+bounds_type role Lnk = false
 
 -- a link bounds the record at a place, and the test holds of the link or of a record that it names
 abbrev pub bounds_anew : (ℕ → Bool) → Drawing → ℕ → ℕ → Bool
-bounds_anew test p place link = bounds (record_at p link).role (record_at p place).kind && (test link || list_any test (targets (record_at p link)))
+bounds_anew test p place link = bounds_type (record_at p link).role (record_at p place).kind && (test link || list_any test (targets (record_at p link)))
 
 -- the outline of the record at a place differs: the record itself, a link that bounds it, or what such a link names
 abbrev pub outline_differs : (ℕ → Bool) → Drawing → ℕ → Bool

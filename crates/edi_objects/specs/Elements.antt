@@ -16,30 +16,30 @@ use Rattle.edi_report.specs.Lines.{both_lines, is_reached, words_text}
 use Rattle.edi_report.specs.Reports.{Report, parts_at, site_at}
 use Rattle.edi_report.specs.declared.parts.Parts.{Parts}
 use Rattle.edi_report.specs.declared.sheet.LocatedSheet.{LocatedSheet}
-use Rattle.edi_objects.specs.Differing.{became_of, differs, same_of}
-use Rattle.edi_objects.specs.Names.{Naming, class_text, object_name}
+use Rattle.edi_objects.specs.Differing.{became_of, is_differing, same_of}
+use Rattle.edi_objects.specs.Names.{Naming, shown_class, object_name}
 
 -- ---- names
 
 -- the third coordinate, where there is one
-abbrev pub third_text : Option ℤ → List ℕ
-third_text None = []
-third_text (Some z) = codes ";" ++ plain_text z
+abbrev pub third_coordinate_text : Option ℤ → List ℕ
+third_coordinate_text None = []
+third_coordinate_text (Some z) = codes ";" ++ plain_text z
 
 -- X;Y or X;Y;Z
-abbrev pub position_text : Point → List ℕ
-position_text p = plain_text p.x ++ codes ";" ++ plain_text p.y ++ third_text p.z
+abbrev pub coordinates_text : Point → List ℕ
+coordinates_text p = plain_text p.x ++ codes ";" ++ plain_text p.y ++ third_coordinate_text p.z
 
 abbrev pub first_position : List Point → List ℕ
 first_position [] = []
-first_position (p ∷ points) = codes " " ++ position_text p
+first_position (p ∷ points) = codes " " ++ coordinates_text p
 
 abbrev pub origin_point : Point
 origin_point = record { x = pos 0; y = pos 0; z = None }
 
 -- the last of two points or more
 abbrev pub last_position : List Point → List ℕ
-last_position points = if nat_lt 1 (length points) then codes " .. " ++ position_text (slice_index_or points (length points - 1) origin_point) else []
+last_position points = if nat_lt 1 (length points) then codes " .. " ++ coordinates_text (slice_index_or points (length points - 1) origin_point) else []
 
 -- an object by its class and naming attributes, a link by its class, a node by its position, an arc by its first and its last
 abbrev pub name_by : Naming → Kind → PlanRecord → List ℕ
@@ -47,14 +47,14 @@ name_by n Pno r = codes "node" ++ first_position r.points
 name_by n Par r = codes "arc" ++ first_position r.points ++ last_position r.points
 name_by n Pfe r = codes "face"
 name_by n Fea r = object_name n r
-name_by n Lnk r = codes "link " ++ class_text n.classes r.class
+name_by n Lnk r = codes "link " ++ shown_class n.classes r.class
 
-abbrev pub name_at : Naming → LocatedSheet → ℕ → List ℕ
-name_at n sheet k = name_by n (record_at sheet.accepted k).kind (record_at sheet.accepted k)
+abbrev pub name_of_record : Naming → LocatedSheet → ℕ → List ℕ
+name_of_record n sheet k = name_by n (record_at sheet.accepted k).kind (record_at sheet.accepted k)
 
 -- NAME (line LINE)
 unfoldable pub element_text : Naming → LocatedSheet → ℕ → List ℕ
-element_text n sheet k = name_at n sheet k ++ codes " (line " ++ decimal (site_at sheet k).line ++ codes ")"
+element_text n sheet k = name_of_record n sheet k ++ codes " (line " ++ decimal (site_at sheet k).line ++ codes ")"
 
 -- of how many of the records that a link names the text says which
 abbrev pub most_named : ℕ
@@ -103,7 +103,7 @@ change_text parts a b = words_text (record parts { points = false })
 
 -- ~ NAME (lines LINE and LINE): and how it differs
 abbrev pub changed_element : Naming → Report → ℕ → ℕ → List ℕ
-changed_element n r i j = codes "~ " ++ name_at n r.first i ++ both_lines (site_at r.first i).line (site_at r.second j).line
+changed_element n r i j = codes "~ " ++ name_of_record n r.first i ++ both_lines (site_at r.first i).line (site_at r.second j).line
     ++ change_text (parts_at r.parts i) (record_at r.first.accepted i) (record_at r.second.accepted j) ++ line_feed ∷ []
 
 -- a sign, NAME (line LINE)
@@ -116,7 +116,7 @@ line_of_element n r i (Some j) = changed_element n r i j
 
 -- the line of a node, an arc or a face of the first sheet, if it differs, and of one of the second, if it is new
 abbrev pub first_element : Naming → Report → ℕ → List ℕ
-first_element n r i = if differs r i then line_of_element n r i (became_of r i) else []
+first_element n r i = if is_differing r i then line_of_element n r i (became_of r i) else []
 
 abbrev pub second_element : Naming → Report → ℕ → List ℕ
 second_element n r j = if is_reached r.became j then [] else lone_element (codes "+ ") n r.second j

@@ -27,19 +27,19 @@ parcel number = record {
 }
 
 -- a node at this x, in millionths
-abbrev pub node : ℕ → PlanRecord
-node x = record { kind = Pno; class = 1; role = Plain; points = record { x = pos x; y = pos 0; z = None } ∷ []; attributes = []; extras = []; ends = [] }
+abbrev pub node_over : ℕ → PlanRecord
+node_over x = record { kind = Pno; class = 1; role = Plain; points = record { x = pos x; y = pos 0; z = None } ∷ []; attributes = []; extras = []; ends = [] }
 
 -- a sheet of a node and two parcels, with these lines
 abbrev pub sheet_of : ℕ → List ℕ → List ℕ → LocatedSheet
 sheet_of x one other = record {
-  accepted = record { cse = None; list = node x ∷ parcel one ∷ parcel other ∷ [] };
+  accepted = record { cse = None; list = node_over x ∷ parcel one ∷ parcel other ∷ [] };
   sites = record { line = 2; rid = codes "N1" } ∷ record { line = 6; rid = codes "O1" } ∷ record { line = 9; rid = codes "O2" } ∷ [];
 }
 
 -- The node moved, the first parcel got another number, and the second is gone for one that is new.
-abbrev pub known_report : Report
-known_report = record {
+abbrev pub known_account : Report
+known_account = record {
   first = sheet_of 10000000 (codes "A 12") (codes "A 13");
   second = sheet_of 11000000 (codes "A 14") (codes "A 15");
   unchanged = None ∷ None ∷ None ∷ [];

@@ -25,13 +25,13 @@ usual_naming s = record {
 abbrev pub class_identifier : Classes → ℕ → List ℕ
 class_identifier s class = unwrap_or (option_map (λ name. name.rid) (class_name_at s class)) []
 
-unfoldable pub class_text : Classes → ℕ → List ℕ
-class_text s class = shown_bytes (class_identifier s class)
+unfoldable pub shown_class : Classes → ℕ → List ℕ
+shown_class s class = shown_bytes (class_identifier s class)
 
 -- a value: a number in its plain spelling, or the bytes
-abbrev pub value_text : Value → List ℕ
-value_text (Number n) = plain_text n
-value_text (Bytes bytes) = shown_bytes bytes
+abbrev pub shown_value : Value → List ℕ
+shown_value (Number n) = plain_text n
+shown_value (Bytes bytes) = shown_bytes bytes
 
 -- of how many of its attributes those that name an object are sought, and how many bytes of each are shown
 abbrev pub most_sought : ℕ
@@ -49,9 +49,9 @@ short_text (Bytes bytes) = shown_bytes (take most_shown bytes)
 abbrev pub naming_text : Naming → PlanAttribute → List ℕ
 naming_text n a =
     if list_any (bytes_eq (class_identifier n.classes a.atp)) n.identifiers
-    then codes " " ++ class_text n.classes a.atp ++ codes " " ++ short_text a.value
+    then codes " " ++ shown_class n.classes a.atp ++ codes " " ++ short_text a.value
     else []
 
 -- the class of an object, and the attributes by which people know it
 abbrev pub object_name : Naming → PlanRecord → List ℕ
-object_name n r = class_text n.classes r.class ++ flat_map (naming_text n) (take most_sought r.attributes)
+object_name n r = shown_class n.classes r.class ++ flat_map (naming_text n) (take most_sought r.attributes)

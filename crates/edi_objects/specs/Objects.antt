@@ -9,15 +9,15 @@ use Rattle.edi_report.specs.Lines.{both_lines, is_reached, words_text}
 use Rattle.edi_report.specs.Reports.{Report, parts_at, site_at}
 use Rattle.edi_report.specs.declared.parts.Parts.{Parts}
 use Rattle.edi_objects.specs.Attributes.{attribute_lines}
-use Rattle.edi_objects.specs.Differing.{arrives, became_of, differs, outline_differs, same_of}
-use Rattle.edi_objects.specs.Elements.{element_text, lone_element, most_named, name_at, others_text}
+use Rattle.edi_objects.specs.Differing.{arrives, became_of, is_differing, outline_differs, same_of}
+use Rattle.edi_objects.specs.Elements.{element_text, lone_element, most_named, name_of_record, others_text}
 use Rattle.edi_objects.specs.LinksOf.{links_of}
-use Rattle.edi_objects.specs.Names.{Naming, class_text}
+use Rattle.edi_objects.specs.Names.{Naming, shown_class}
 
 -- ---- its own parts
 
 unfoldable pub class_change : Naming → Bool → PlanRecord → PlanRecord → List ℕ
-class_change n said a b = if said then codes "    class: " ++ class_text n.classes a.class ++ codes " -> " ++ class_text n.classes b.class ++ line_feed ∷ [] else []
+class_change n said a b = if said then codes "    class: " ++ shown_class n.classes a.class ++ codes " -> " ++ shown_class n.classes b.class ++ line_feed ∷ [] else []
 
 unfoldable pub attributes_change : Naming → Bool → PlanRecord → PlanRecord → List ℕ
 attributes_change n said a b = if said then attribute_lines n.classes a.attributes b.attributes else []
@@ -37,7 +37,7 @@ own_lines n r i j None = own_changes n (parts_at r.parts i) (record_at r.first.a
 
 -- a sign, CLASS: and what a link names beside the object
 abbrev pub link_text : List ℕ → Naming → Report → ℕ → ℕ → List ℕ
-link_text sign n r i link = sign ++ class_text n.classes (record_at r.first.accepted link).class ++ codes ":" ++ others_text n r.first (Some i) (record_at r.first.accepted link)
+link_text sign n r i link = sign ++ shown_class n.classes (record_at r.first.accepted link).class ++ codes ":" ++ others_text n r.first (Some i) (record_at r.first.accepted link)
 
 -- a link of the first sheet, by the one that it became and the parts in which they differ: with other ends it is another link
 abbrev pub differing_link : Naming → Report → ℕ → ℕ → Option ℕ → Parts → List ℕ
@@ -53,7 +53,7 @@ outline_there r (Some j) = outline_differs (arrives r) r.second.accepted j
 
 -- a node, an arc or a face whose outline differs in either sheet
 unfoldable pub has_other_outline : Report → ℕ → Bool
-has_other_outline r k = not (is_object (record_at r.first.accepted k).kind) && (outline_differs (differs r) r.first.accepted k || outline_there r (became_of r k))
+has_other_outline r k = not (is_object (record_at r.first.accepted k).kind) && (outline_differs (is_differing r) r.first.accepted k || outline_there r (became_of r k))
 
 abbrev pub outline_line : Naming → Report → ℕ → List ℕ
 outline_line n r k = if has_other_outline r k then lone_element (codes "    outline of ") n r.first k else []
@@ -61,14 +61,14 @@ outline_line n r k = if has_other_outline r k then lone_element (codes "    outl
 -- the lines of a link of the first sheet that names an object
 abbrev pub first_link : Naming → Report → ℕ → ℕ → List ℕ
 first_link n r i link =
-    if differs r link then differing_link n r i link (became_of r link) (parts_at r.parts link)
+    if is_differing r link then differing_link n r i link (became_of r link) (parts_at r.parts link)
     else flat_map (outline_line n r) (take most_named (targets (record_at r.first.accepted link)))
 
 -- the line of a link of the second sheet that names an object, if the link is new there
 abbrev pub second_link : Naming → Report → ℕ → ℕ → List ℕ
 second_link n r j link =
     if arrives r link
-    then codes "    + " ++ class_text n.classes (record_at r.second.accepted link).class ++ codes ":" ++ others_text n r.second (Some j) (record_at r.second.accepted link) ++ line_feed ∷ []
+    then codes "    + " ++ shown_class n.classes (record_at r.second.accepted link).class ++ codes ":" ++ others_text n r.second (Some j) (record_at r.second.accepted link) ++ line_feed ∷ []
     else []
 
 -- ---- objects
@@ -80,7 +80,7 @@ object_lines n r i j = own_lines n r i j (same_of r i)
 
 -- ~ NAME (lines LINE and LINE):
 abbrev pub object_header : Naming → Report → ℕ → ℕ → List ℕ
-object_header n r i j = codes "~ " ++ name_at n r.first i ++ both_lines (site_at r.first i).line (site_at r.second j).line ++ line_feed ∷ []
+object_header n r i j = codes "~ " ++ name_of_record n r.first i ++ both_lines (site_at r.first i).line (site_at r.second j).line ++ line_feed ∷ []
 
 -- that, and below it what differs, if anything does
 abbrev pub object_block : Naming → Report → ℕ → ℕ → List ℕ → List ℕ

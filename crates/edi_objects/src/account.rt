@@ -7,13 +7,13 @@ ghost use Rattle.edi_plan.specs.Agreeing.{Agrees};
 ghost use Rattle.edi_objects.specs.LinksOf.{index_of};
 ghost use Rattle.edi_plan.specs.Plans.{IsPlace, record_at};
 ghost use Rattle.edi_objects.specs.Accounts.{account_text, objects_of, shapes_of};
-ghost use Rattle.edi_objects.specs.Differing.{arrives, became_of, differs, outline_differs, same_of};
+ghost use Rattle.edi_objects.specs.Differing.{arrives, became_of, is_differing, outline_differs, same_of};
 ghost use Rattle.edi_objects.specs.Elements.{change_text, changed_element, elements_of, first_element, second_element};
 ghost use Rattle.edi_objects.specs.inner.Sheets.{test_of};
 ghost use Rattle.edi_report.specs.Lines.{is_reached};
 ghost use Rattle.edi_report.specs.Reports.{HasSites, parts_at};
 
-use crate::elements::{NamedSheet, push_points_change};
+use crate::elements::{SheetNamer, push_points_change};
 use crate::index::index_of;
 use crate::marks::{arriving, became_of, differing, parts_at, same_of};
 use crate::names::Namer;
@@ -55,25 +55,25 @@ impl Notes {
 
 /// Two sheets, what became of the records of the first in the second, and how objects are named.
 #[derive(Drop)]
-pub struct Account<'a> {
+pub struct ObjectReporter<'a> {
     pub(crate) namer: &'a Namer<'a>,
     pub(crate) report: &'a Reporter<'a>,
     pub(crate) here: Notes,
     pub(crate) there: Notes,
 }
 
-impl<'a> Model for Account<'a> {
+impl<'a> Model for ObjectReporter<'a> {
     ghost use Rattle.std.specs.Prelude.{length};
     ghost use Rattle.edi_plan.specs.Agreeing.{Agrees};
     ghost use Rattle.edi_objects.specs.Accounts.{Told};
-    ghost use Rattle.edi_objects.specs.Differing.{arrives, differs};
+    ghost use Rattle.edi_objects.specs.Differing.{arrives, is_differing};
     ghost use Rattle.edi_objects.specs.inner.Sheets.{AreNotes};
 
     ghost Value = { Told };
 
     ghost view = { λ a. record { naming = a.namer.now; report = a.report.now } };
 
-    ghost invariant = { λ a. AreNotes (differs a.report.now) a.report.now.first.accepted a.here.index.items a.here.marks.items a.here.outlines.items
+    ghost invariant = { λ a. AreNotes (is_differing a.report.now) a.report.now.first.accepted a.here.index.items a.here.marks.items a.here.outlines.items
         × AreNotes (arrives a.report.now) a.report.now.second.accepted a.there.index.items a.there.marks.items a.there.outlines.items
         × Agrees a.namer.now.classes a.report.now.first.accepted × Agrees a.namer.now.classes a.report.now.second.accepted };
 }
@@ -88,17 +88,17 @@ pub fn account_text(
     requires second { Agrees namer.now.classes report.now.second.accepted }
     ensures { IfOk result (λ text. text.items ≡ account_text namer.now report.now) }
 {
-    let account = Account::new(alloc, namer, report)?;
+    let account = ObjectReporter::new(alloc, namer, report)?;
     account.text(alloc)
 }
 
-impl<'a> Account<'a> {
+impl<'a> ObjectReporter<'a> {
     /// What is noted of two sheets.
     fn new(
         alloc: Global,
         namer: &'a Namer<'a>,
         report: &'a Reporter<'a>,
-    ) -> Result<Account<'a>, AllocError>
+    ) -> Result<ObjectReporter<'a>, AllocError>
         requires first { Agrees namer.now.classes report.now.first.accepted }
         requires second { Agrees namer.now.classes report.now.second.accepted }
         ensures { IfOk result (λ account. account ≡ record { naming = namer.now; report = report.now }) }
@@ -107,7 +107,7 @@ impl<'a> Account<'a> {
         let arriving = arriving(alloc, report)?;
         let here = Notes::of(alloc, report.first.accepted.sound().plan(), differing)?;
         let there = Notes::of(alloc, report.second.accepted.sound().plan(), arriving)?;
-        Ok(Account {
+        Ok(ObjectReporter {
             namer,
             report,
             here,
@@ -116,36 +116,36 @@ impl<'a> Account<'a> {
     }
 
     /// The first sheet.
-    pub(crate) fn first(&self) -> NamedSheet<'a>
+    pub(crate) fn first(&self) -> SheetNamer<'a>
         ensures namer { result.namer.now ≡ self.now.naming }
         ensures sheet { result.sheet.now ≡ self.now.report.first }
         ensures agrees { Agrees result.namer.now.classes result.sheet.now.accepted }
         ensures sites { HasSites result.sheet.now }
     {
         let report = self.report;
-        NamedSheet {
+        SheetNamer {
             namer: self.namer,
             sheet: report.first,
         }
     }
 
     /// The second sheet.
-    pub(crate) fn second(&self) -> NamedSheet<'a>
+    pub(crate) fn second(&self) -> SheetNamer<'a>
         ensures namer { result.namer.now ≡ self.now.naming }
         ensures sheet { result.sheet.now ≡ self.now.report.second }
         ensures agrees { Agrees result.namer.now.classes result.sheet.now.accepted }
         ensures sites { HasSites result.sheet.now }
     {
         let report = self.report;
-        NamedSheet {
+        SheetNamer {
             namer: self.namer,
             sheet: report.second,
         }
     }
 
     /// Whether a record of the first sheet differs.
-    pub(crate) fn differs(&self, place: u32) -> bool
-        ensures { result ≡ differs self.now.report place }
+    pub(crate) fn is_differing(&self, place: u32) -> bool
+        ensures { result ≡ is_differing self.now.report place }
     {
         is_marked(&self.here.marks, place)
     }
@@ -160,7 +160,7 @@ impl<'a> Account<'a> {
     /// Whether the outline of a record of the first sheet differs.
     pub(crate) fn outline_differs(&self, place: u32) -> bool
         requires { IsPlace self.now.report.first.accepted place }
-        ensures { result ≡ outline_differs (differs self.now.report) self.now.report.first.accepted place }
+        ensures { result ≡ outline_differs (is_differing self.now.report) self.now.report.first.accepted place }
     {
         is_marked(&self.here.outlines, place)
     }
@@ -267,7 +267,7 @@ impl<'a> Account<'a> {
         requires { IsPlace self.now.report.first.accepted place }
         ensures { OnOk result (text.new.items ≡ text.old.items ++ first_element self.now.naming self.now.report place) }
     {
-        if !self.differs(place) {
+        if !self.is_differing(place) {
             return Ok(());
         }
         match self.became_of(place) {

@@ -6,8 +6,8 @@ ghost use Rattle.std.specs.List.Sorted.{IsNonDecreasingBy};
 ghost use Rattle.std.specs.Ordering.{nat_cmp};
 ghost use Rattle.edi_schema.specs.Sorted.{sort_by};
 ghost use Rattle.edi_plan.specs.Orders.{attribute_cmp};
-ghost use Rattle.edi_objects.specs.Attributes.{are_alike, attribute_lines, class_values, classes_of_both, is_repeated, line_at, of_class, values_text};
-ghost use Rattle.edi_objects.specs.Names.{value_text};
+ghost use Rattle.edi_objects.specs.Attributes.{are_alike, attribute_lines, class_values, classes_of_both, is_repeated, class_line_at, of_class, shown_values};
+ghost use Rattle.edi_objects.specs.Names.{shown_value};
 ghost use Rattle.edi_objects.specs.inner.Attributes.{AreOfSchema};
 
 use crate::names::{Namer, push_value};
@@ -74,7 +74,7 @@ fn push_line_at(
     requires there { IsNonDecreasingBy (λ a. a.now.atp) there.now }
     requires at { at < length classes.now }
     requires class { slice_index_or classes.now at 0 < length namer.now.classes }
-    ensures { OnOk result (text.new.items ≡ text.old.items ++ line_at namer.now.classes (map (λ a. a.now) here.now) (map (λ a. a.now) there.now) classes.now at) }
+    ensures { OnOk result (text.new.items ≡ text.old.items ++ class_line_at namer.now.classes (map (λ a. a.now) here.now) (map (λ a. a.now) there.now) classes.now at) }
 {
     if at > 0 && classes[at - 1] == classes[at] {
         return Ok(());
@@ -133,7 +133,7 @@ fn of_class<'a, 'b>(attributes: &'b [&'a PlanAttribute], class: ClassRef) -> &'b
 
 /// Appends the values of attributes, or that there is none.
 fn push_values(text: &mut Vec<u8>, attributes: &[&PlanAttribute]) -> Result<(), AllocError>
-    ensures { OnOk result (text.new.items ≡ text.old.items ++ values_text (map (λ a. a.now) attributes.now)) }
+    ensures { OnOk result (text.new.items ≡ text.old.items ++ shown_values (map (λ a. a.now) attributes.now)) }
 {
     match attributes.split_first() {
         Some((first, more)) => {
@@ -147,7 +147,7 @@ fn push_values(text: &mut Vec<u8>, attributes: &[&PlanAttribute]) -> Result<(), 
 
 /// Appends further values, each behind a comma.
 fn push_more_values(text: &mut Vec<u8>, attributes: &[&PlanAttribute]) -> Result<(), AllocError>
-    ensures { OnOk result (text.new.items ≡ text.old.items ++ flat_map (λ b. codes ", " ++ value_text b.value) (map (λ a. a.now) attributes.now)) }
+    ensures { OnOk result (text.new.items ≡ text.old.items ++ flat_map (λ b. codes ", " ++ shown_value b.value) (map (λ a. a.now) attributes.now)) }
 {
     for attribute in attributes {
         text.extend_from_slice(b", ")?;

@@ -6,12 +6,12 @@ ghost use Rattle.edi_report.specs.Reports.{HasSites};
 ghost use Rattle.edi_record.specs.declared.record.Kind.TheVariants.{Lnk};
 ghost use Rattle.edi_plan.specs.Places.{places_of};
 ghost use Rattle.edi_plan.specs.Plans.{IsPlace};
-ghost use Rattle.edi_objects.specs.Accounts.{at_line, bare_link, bare_links, changed_link, changed_parts, first_bare_link, is_told_beside, second_bare_link};
-ghost use Rattle.edi_objects.specs.Differing.{arrives, differs};
+ghost use Rattle.edi_objects.specs.Accounts.{record_line_text, bare_link, bare_links, changed_link, changed_parts, first_bare_link, is_told_beside, second_bare_link};
+ghost use Rattle.edi_objects.specs.Differing.{arrives, is_differing};
 ghost use Rattle.edi_objects.specs.inner.Sheets.{test_of};
 
-use crate::account::Account;
-use crate::elements::NamedSheet;
+use crate::account::ObjectReporter;
+use crate::elements::SheetNamer;
 use crate::objects::is_object;
 use crate::outlines::is_marked;
 use edi_line::push_number;
@@ -35,7 +35,7 @@ fn is_told_beside(plan: &Plan, marks: &[bool], link: u32) -> bool
     false
 }
 
-impl<'a> NamedSheet<'a> {
+impl<'a> SheetNamer<'a> {
     /// Appends what the text calls a link, and what it names.
     fn push_bare_link(&self, text: &mut Vec<u8>, link: u32) -> Result<(), AllocError>
         requires agrees { Agrees self.now.namer.now.classes self.now.sheet.now.accepted }
@@ -52,7 +52,7 @@ impl<'a> NamedSheet<'a> {
     fn push_at_line(&self, text: &mut Vec<u8>, place: u32) -> Result<(), AllocError>
         requires sites { HasSites self.now.sheet.now }
         requires place { IsPlace self.now.sheet.now.accepted place }
-        ensures { OnOk result (text.new.items ≡ text.old.items ++ at_line self.now.sheet.now place) }
+        ensures { OnOk result (text.new.items ≡ text.old.items ++ record_line_text self.now.sheet.now place) }
     {
         text.extend_from_slice(b" (line ")?;
         push_number(text, self.line(place))?;
@@ -64,7 +64,7 @@ impl<'a> NamedSheet<'a> {
         requires agrees { Agrees self.now.namer.now.classes self.now.sheet.now.accepted }
         requires sites { HasSites self.now.sheet.now }
         requires link { IsPlace self.now.sheet.now.accepted link }
-        ensures { OnOk result (text.new.items ≡ text.old.items ++ (sign.now ++ bare_link self.now.namer.now self.now.sheet.now link ++ at_line self.now.sheet.now link)) }
+        ensures { OnOk result (text.new.items ≡ text.old.items ++ (sign.now ++ bare_link self.now.namer.now self.now.sheet.now link ++ record_line_text self.now.sheet.now link)) }
     {
         text.extend_from_slice(sign)?;
         self.push_bare_link(text, link)?;
@@ -72,7 +72,7 @@ impl<'a> NamedSheet<'a> {
     }
 }
 
-impl<'a> Account<'a> {
+impl<'a> ObjectReporter<'a> {
     /// Appends the links that differ and are told nowhere else.
     pub(crate) fn push_bare_links(&self, text: &mut Vec<u8>) -> Result<(), AllocError>
         ensures { OnOk result (text.new.items ≡ text.old.items ++ bare_links self.now.naming self.now.report) }
@@ -106,7 +106,7 @@ impl<'a> Account<'a> {
         requires { IsPlace self.now.report.first.accepted link }
         ensures { OnOk result (text.new.items ≡ text.old.items ++ first_bare_link self.now.naming self.now.report link) }
     {
-        if !self.differs(link) || self.is_first_told(link) {
+        if !self.is_differing(link) || self.is_first_told(link) {
             return Ok(());
         }
         match self.became_of(link) {
@@ -150,7 +150,7 @@ impl<'a> Account<'a> {
     /// Whether a link of the first sheet is told where a record stands that it names.
     fn is_first_told(&self, link: u32) -> bool
         requires { IsPlace self.now.report.first.accepted link }
-        ensures { result ≡ is_told_beside (differs self.now.report) self.now.report.first.accepted link }
+        ensures { result ≡ is_told_beside (is_differing self.now.report) self.now.report.first.accepted link }
     {
         is_told_beside(self.first().plan(), &self.here.marks, link)
     }

@@ -4,8 +4,8 @@ ghost use Rattle.std.specs.Prelude.{◌≡◌, ◌++◌, ◌<◌, OnOk, codes, c
 ghost use Rattle.edi_plan.specs.Agreeing.{Agrees};
 ghost use Rattle.edi_plan.specs.Plans.{IsPlace, record_at};
 ghost use Rattle.edi_report.specs.Reports.{HasSites, site_at};
-ghost use Rattle.edi_objects.specs.Elements.{arc_change, element_text, first_position, last_position, lone_element, more_text, moved_count, name_at, other_text, others_text, points_change, position_text, third_text, unlike};
-ghost use Rattle.edi_objects.specs.Names.{class_text};
+ghost use Rattle.edi_objects.specs.Elements.{arc_change, element_text, first_position, last_position, lone_element, more_text, moved_count, name_of_record, other_text, others_text, points_change, coordinates_text, third_coordinate_text, unlike};
+ghost use Rattle.edi_objects.specs.Names.{shown_class};
 
 use crate::names::{Namer, first_few};
 use edi_line::{Num, push_number};
@@ -19,12 +19,12 @@ pub(crate) const MOST_NAMED: usize = 4;
 
 /// A sheet whose records the text names.
 #[derive(Clone, Copy)]
-pub(crate) struct NamedSheet<'a> {
+pub(crate) struct SheetNamer<'a> {
     pub(crate) namer: &'a Namer<'a>,
     pub(crate) sheet: &'a LocatedSheet,
 }
 
-impl<'a> NamedSheet<'a> {
+impl<'a> SheetNamer<'a> {
     /// The plan of the sheet.
     pub(crate) fn plan(&self) -> &'a Plan
         ensures { result.now ≡ self.now.sheet.now.accepted }
@@ -45,7 +45,7 @@ impl<'a> NamedSheet<'a> {
     pub(crate) fn push_name(&self, text: &mut Vec<u8>, place: u32) -> Result<(), AllocError>
         requires agrees { Agrees self.now.namer.now.classes self.now.sheet.now.accepted }
         requires place { IsPlace self.now.sheet.now.accepted place }
-        ensures { OnOk result (text.new.items ≡ text.old.items ++ name_at self.now.namer.now self.now.sheet.now place) }
+        ensures { OnOk result (text.new.items ≡ text.old.items ++ name_of_record self.now.namer.now self.now.sheet.now place) }
     {
         let plan = self.plan();
         match plan.kind(place) {
@@ -64,7 +64,7 @@ impl<'a> NamedSheet<'a> {
     fn push_link(&self, text: &mut Vec<u8>, place: u32) -> Result<(), AllocError>
         requires agrees { Agrees self.now.namer.now.classes self.now.sheet.now.accepted }
         requires place { IsPlace self.now.sheet.now.accepted place }
-        ensures { OnOk result (text.new.items ≡ text.old.items ++ (codes "link " ++ class_text self.now.namer.now.classes (record_at self.now.sheet.now.accepted place).class)) }
+        ensures { OnOk result (text.new.items ≡ text.old.items ++ (codes "link " ++ shown_class self.now.namer.now.classes (record_at self.now.sheet.now.accepted place).class)) }
     {
         text.extend_from_slice(b"link ")?;
         self.namer.push_class(text, self.plan().scp(place))
@@ -155,7 +155,7 @@ fn push_more(text: &mut Vec<u8>, count: usize) -> Result<(), AllocError>
 
 /// Appends a position.
 fn push_position(text: &mut Vec<u8>, point: &Point) -> Result<(), AllocError>
-    ensures { OnOk result (text.new.items ≡ text.old.items ++ position_text point.now) }
+    ensures { OnOk result (text.new.items ≡ text.old.items ++ coordinates_text point.now) }
 {
     point.x.push_plain(text)?;
     text.push(b';')?;
@@ -165,7 +165,7 @@ fn push_position(text: &mut Vec<u8>, point: &Point) -> Result<(), AllocError>
 
 /// Appends the third coordinate, where there is one.
 fn push_third(text: &mut Vec<u8>, third: Option<Num>) -> Result<(), AllocError>
-    ensures { OnOk result (text.new.items ≡ text.old.items ++ third_text third) }
+    ensures { OnOk result (text.new.items ≡ text.old.items ++ third_coordinate_text third) }
 {
     match third {
         Some(z) => {

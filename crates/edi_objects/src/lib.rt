@@ -12,5 +12,5 @@ mod names;
 mod objects;
 mod outlines;
 
-pub use account::{Account, account_text};
+pub use account::{ObjectReporter, account_text};
 pub use names::Namer;

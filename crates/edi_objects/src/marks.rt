@@ -2,7 +2,7 @@
 
 ghost use Rattle.std.specs.Prelude.{◌≡◌, ◌<◌, ◌||◌, ℕ, IfOk, IfSome, None, false, length, map, not, slice_index_or};
 ghost use Rattle.edi_plan.specs.Plans.{IsPlace};
-ghost use Rattle.edi_objects.specs.Differing.{arrives, became_of, differs, moved_to, same_of};
+ghost use Rattle.edi_objects.specs.Differing.{arrives, became_of, is_differing, moved_to, same_of};
 ghost use Rattle.edi_objects.specs.inner.Marks.{is_moved_onto};
 ghost use Rattle.edi_objects.specs.inner.Sheets.{AreTested};
 ghost use Rattle.edi_report.specs.Lines.{some_differ, went_to};
@@ -13,11 +13,11 @@ use std::alloc::{AllocError, Global};
 
 /// Of each record of the first sheet, whether it differs.
 pub(crate) fn differing(alloc: Global, report: &Reporter<'_>) -> Result<Vec<bool>, AllocError>
-    ensures { IfOk result (λ marks. AreTested (differs report.now) (length report.now.first.accepted.list) marks.items) }
+    ensures { IfOk result (λ marks. AreTested (is_differing report.now) (length report.now.first.accepted.list) marks.items) }
 {
     let mut marks = Vec::new(alloc);
     for place in 0..record_count(report.first) {
-        marks.push(differs(report, place))?;
+        marks.push(is_differing(report, place))?;
     }
     Ok(marks)
 }
@@ -30,9 +30,9 @@ fn record_count(sheet: &LocatedSheet) -> u32
 }
 
 /// Whether a record of the first sheet differs.
-fn differs(report: &Reporter<'_>, place: u32) -> bool
+fn is_differing(report: &Reporter<'_>, place: u32) -> bool
     requires { place < length report.now.first.accepted.list }
-    ensures { result ≡ differs report.now place }
+    ensures { result ≡ is_differing report.now place }
 {
     match (same_of(report, place), became_of(report, place)) {
         (Some(_), _) => false,

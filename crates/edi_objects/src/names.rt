@@ -2,7 +2,7 @@
 
 ghost use Rattle.std.specs.Prelude.{◌≡◌, ◌++◌, ◌<◌, OnOk, bytes_eq, length, take};
 ghost use Rattle.std.specs.List.{AllByRecursion, flat_map, list_any};
-ghost use Rattle.edi_objects.specs.Names.{class_identifier, class_text, naming_text, object_name, short_text, value_text};
+ghost use Rattle.edi_objects.specs.Names.{class_identifier, shown_class, naming_text, object_name, short_text, shown_value};
 
 use edi_plan::{Plan, PlanAttribute};
 use edi_record::Value;
@@ -35,10 +35,10 @@ impl<'a> Model for Namer<'a> {
 
 impl<'a> Namer<'a> {
     /// Appends the identifier of a class.
-    #[tactic(auto, unfolding(crate::specs::Names::class_text))]
+    #[tactic(auto, unfolding(crate::specs::Names::shown_class))]
     pub(crate) fn push_class(&self, text: &mut Vec<u8>, class: ClassRef) -> Result<(), AllocError>
         requires { class < length self.now.classes }
-        ensures { OnOk result (text.new.items ≡ text.old.items ++ class_text self.now.classes class) }
+        ensures { OnOk result (text.new.items ≡ text.old.items ++ shown_class self.now.classes class) }
     {
         push_shown(text, self.schema.name(class).rid.as_slice())
     }
@@ -52,7 +52,7 @@ impl<'a> Namer<'a> {
     ) -> Result<(), AllocError>
         requires class { class < length self.now.classes }
         requires attributes { AllByRecursion (λ a. a.atp < length self.now.classes) attributes.now }
-        ensures { OnOk result (text.new.items ≡ text.old.items ++ class_text self.now.classes class ++ flat_map (naming_text self.now) (take 32 attributes.now)) }
+        ensures { OnOk result (text.new.items ≡ text.old.items ++ shown_class self.now.classes class ++ flat_map (naming_text self.now) (take 32 attributes.now)) }
     {
         self.push_class(text, class)?;
         for attribute in first_few(attributes, MOST_SOUGHT) {
@@ -92,7 +92,7 @@ impl<'a> Namer<'a> {
 
 /// Appends a value: a number in its plain spelling, or the bytes.
 pub(crate) fn push_value(text: &mut Vec<u8>, value: &Value) -> Result<(), AllocError>
-    ensures { OnOk result (text.new.items ≡ text.old.items ++ value_text value.now) }
+    ensures { OnOk result (text.new.items ≡ text.old.items ++ shown_value value.now) }
 {
     match value {
         Value::Number(number) => number.push_plain(text),

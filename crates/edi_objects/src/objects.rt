@@ -10,7 +10,7 @@ ghost use Rattle.edi_objects.specs.LinksOf.{links_of};
 ghost use Rattle.edi_objects.specs.Objects.{attributes_change, class_change, differing_link, extras_change, first_link, first_object, has_other_outline, link_text, object_block, object_header, object_lines, outline_line, outline_there, own_changes, own_lines, second_link, second_object};
 ghost use Rattle.edi_report.specs.Reports.{parts_at};
 
-use crate::account::Account;
+use crate::account::ObjectReporter;
 use crate::attributes::push_attribute_lines;
 use crate::elements::MOST_NAMED;
 use crate::index::entries_of;
@@ -42,7 +42,7 @@ fn push_extras_change(lines: &mut Vec<u8>, differ: bool) -> Result<(), AllocErro
     }
 }
 
-impl<'a> Account<'a> {
+impl<'a> ObjectReporter<'a> {
     /// Appends the objects of the first sheet that differ.
     pub(crate) fn push_first_objects(
         &self,
@@ -247,7 +247,7 @@ impl<'a> Account<'a> {
         requires { IsPlace self.now.report.first.accepted link }
         ensures { OnOk result (lines.new.items ≡ lines.old.items ++ first_link self.now.naming self.now.report place link) }
     {
-        if self.differs(link) {
+        if self.is_differing(link) {
             return self.push_differing_link(lines, place, link);
         }
         self.push_outlines(lines, link)

@@ -3,7 +3,7 @@
 ghost use Rattle.std.specs.Prelude.{◌≡◌, IfOk, length, map};
 ghost use Rattle.std.specs.List.{list_any, range_with_len};
 ghost use Rattle.edi_plan.specs.Plans.{IsPlace, record_at};
-ghost use Rattle.edi_objects.specs.Differing.{bounds, bounds_anew, is_initial_or_final, is_left_or_right, outline_differs};
+ghost use Rattle.edi_objects.specs.Differing.{bounds_type, bounds_anew, is_initial_or_final, is_left_or_right, outline_differs};
 ghost use Rattle.edi_objects.specs.LinksOf.{entries_of, index_of};
 ghost use Rattle.edi_objects.specs.inner.Sheets.{test_of};
 
@@ -53,7 +53,7 @@ fn bounds_anew(plan: &Plan, marks: &[bool], place: u32, link: u32) -> bool
     ensures { result ≡ bounds_anew (test_of marks.now) plan.now place link }
 {
     link < plan.len()
-        && bounds(plan.role(link), plan.kind(place))
+        && bounds_type(plan.role(link), plan.kind(place))
         && (is_marked(marks, link) || some_marked(marks, plan.ends(link)))
 }
 
@@ -80,8 +80,8 @@ pub(crate) fn is_marked(marks: &[bool], place: u32) -> bool
 }
 
 /// Whether a link of this kind bounds a record of this type.
-fn bounds(role: Role, kind: Kind) -> bool
-    ensures { result ≡ bounds role kind }
+fn bounds_type(role: Role, kind: Kind) -> bool
+    ensures { result ≡ bounds_type role kind }
 {
     match kind {
         Kind::Par => matches!(role, Role::Initial | Role::Final),

@@ -19,7 +19,7 @@ use Rattle.edi_outcome.specs.declared.outcome.Outcome.TheVariants as outcome
 use Rattle.edi_answers.proofs.Refusals.{fault_status, means_fault, not_one, pair_refused, pair_tried, known_fault}
 use Rattle.edi_answers.proofs.Made.{pair_map, were_four}
 use Rattle.edi_answers.proofs.Pairings.{put_pair_refused, put_pair_tried}
-use Rattle.edi_diff.specs.declared.form.Form.{Form}
+use Rattle.edi_diff.specs.declared.form.TextForm.{TextForm}
 
 -- the status of a difference whose text is put
 abbrev pub IsPutAs : Bool → ℕ → Type 0
@@ -45,7 +45,7 @@ never_five b s (inl four) five = absurd (omega (arith, four, five))
 never_five true s (inr h) five = absurd (omega (arith, h, five))
 never_five false s (inr h) five = absurd (omega (arith, h, five))
 
-module _ (run : Effects) (out err : Stream) (kinds : KindCodes) (files : PairFiles) (form : Form) (s : ℕ) where
+module _ (run : Effects) (out err : Stream) (kinds : KindCodes) (files : PairFiles) (form : TextForm) (s : ℕ) where
   pub put_status : (difference : Difference) → OfPair run.inputs files (λ scd dic a b. IsDifferenceUnder kinds scd dic a b form difference)
       → IsPutAs difference.same s → (s < 3 → Answers out err difference.text.items) → (s ≡ 4 → IsUnsaid out err) → IsDiffStatus run out err kinds files form s
   put_status difference h status written unsaid = record {
@@ -69,17 +69,17 @@ module _ (run : Effects) (out err : Stream) (kinds : KindCodes) (files : PairFil
   }
 
 -- a picture that was drawn shows what differs
-pub shown : (inputs : Inputs) (kinds : KindCodes) (files : PairFiles) (form : Form) (drawn : DrawnDifference)
+pub shown : (inputs : Inputs) (kinds : KindCodes) (files : PairFiles) (form : TextForm) (drawn : DrawnDifference)
     → OfPair inputs files (λ s d a b. IsDrawnDifferenceUnder kinds s d a b form drawn)
     → OfPair inputs files (λ s d a b. ShowsDifference kinds form drawn.difference s d a b drawn.picture.items)
 shown inputs kinds files form drawn h = pair_map inputs files _ _ (λ s d a b under. (drawn, under, refl, refl)) h
 
-pub shown_of_some : (inputs : Inputs) (kinds : KindCodes) (files : PairFiles) (form : Form) (difference : Difference) (bytes : List ℕ)
+pub shown_of_some : (inputs : Inputs) (kinds : KindCodes) (files : PairFiles) (form : TextForm) (difference : Difference) (bytes : List ℕ)
     → OfPair inputs files (λ s d a b. ShowsDifference kinds form difference s d a b bytes) → OfPair inputs files (λ s d a b. IsPictureOfPair kinds form s d a b bytes)
 shown_of_some inputs kinds files form difference bytes h = pair_map inputs files _ _ (λ s d a b shows. (difference, shows)) h
 
 -- the same with a picture that is put
-module _ (run : Effects) (out err : Stream) (kinds : KindCodes) (files : PairFiles) (form : Form) (path : List ℕ) (s : ℕ)
+module _ (run : Effects) (out err : Stream) (kinds : KindCodes) (files : PairFiles) (form : TextForm) (path : List ℕ) (s : ℕ)
     (replaced : IsPairReplaced run (IsPictureOfPair kinds form) files path) where
   pub drawn_status : (difference : Difference) → IsPairPut run (ShowsDifference kinds form difference) files path
       → IsPutAs difference.same s → (s < 3 → Answers out err difference.text.items) → (s ≡ 4 → IsUnsaid out err) → IsPictureStatus run out err kinds files form path s

@@ -12,7 +12,7 @@ use Rattle.edi_files.specs.declared.product.Product.{Product}
 use Rattle.edi_files.specs.declared.product.Product.TheVariants.{Canonical, Picture}
 use Rattle.edi_answers.specs.Effects.{Effects, Inputs}
 use Rattle.edi_answers.specs.SheetRuns.{FileFault, IsApart, Meets, OfFiles}
-use Rattle.edi_diff.specs.declared.form.Form.{Form}
+use Rattle.edi_diff.specs.declared.form.TextForm.{TextForm}
 
 -- the bytes are what is made of a sheet: its canonical file, or its picture
 abbrev pub IsMadeOf : Product → KindCodes → List ℕ → List ℕ → List ℕ → List ℕ → Type 0
@@ -47,10 +47,10 @@ abbrev pub IsReplaced : Effects → Product → KindCodes → SheetFiles → Lis
 IsReplaced run product kinds files out = run.Replaces out (λ bytes. OfFiles run.inputs files (λ s d v. IsMadeOf product kinds s d v bytes))
 
 -- this differs between the two sheets, and the bytes are a picture that shows it
-abbrev pub ShowsDifference : KindCodes → Form → Difference → List ℕ → List ℕ → List ℕ → List ℕ → List ℕ → Type 0
+abbrev pub ShowsDifference : KindCodes → TextForm → Difference → List ℕ → List ℕ → List ℕ → List ℕ → List ℕ → Type 0
 ShowsDifference kinds form difference s d a b bytes =
     (drawn : DrawnDifference) × IsDrawnDifferenceUnder kinds s d a b form drawn × (drawn.difference ≡ difference) × (drawn.picture.items ≡ bytes)
 
 -- the bytes are a picture that shows what differs between the two sheets
-abbrev pub IsPictureOfPair : KindCodes → Form → List ℕ → List ℕ → List ℕ → List ℕ → List ℕ → Type 0
+abbrev pub IsPictureOfPair : KindCodes → TextForm → List ℕ → List ℕ → List ℕ → List ℕ → List ℕ → Type 0
 IsPictureOfPair kinds form s d a b bytes = (difference : Difference) × ShowsDifference kinds form difference s d a b bytes

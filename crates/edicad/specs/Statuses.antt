@@ -17,7 +17,7 @@ use Rattle.edi_words.specs.declared.words.SheetFiles.{SheetFiles}
 use Rattle.edi_words.specs.declared.words.Request.{Request}
 use Rattle.edi_words.specs.declared.words.Request.TheVariants.{Bundle, Check, Canon, Compare, Hash, Explain, Rule, Verify, Diff, Draw, Misused, Answered}
 use Rattle.edi_answers.specs.Statuses.{Answers, AreFourTried, AreTried, Complains, IsPageStatus, IsPairStatus, IsSheetStatus, MeansStatus, Prints, PrintsFirst, SaysPairRefusal, SaysRefusal, pair_paths_of, paths_of}
-use Rattle.edi_diff.specs.declared.form.Form.{Form}
+use Rattle.edi_diff.specs.declared.form.TextForm.{TextForm}
 
 -- of what was asked for, whatever the files hold
 abbrev pub IsStatusOf : Request → ℕ → Type 0
@@ -61,14 +61,14 @@ pub record IsSendStatus (run : Effects) (out err : Stream) (product : Product) (
       run.why (paths_of files (codes "-")) out err s
 
 -- this differs between the two sheets, the plans are the same or not, and the text of the difference went out
-abbrev pub TellsDifference : Inputs → Stream → Stream → KindCodes → PairFiles → Form → Bool → Type 0
+abbrev pub TellsDifference : Inputs → Stream → Stream → KindCodes → PairFiles → TextForm → Bool → Type 0
 TellsDifference inputs out err kinds files form same =
     (difference : Difference) × OfPair inputs files (λ scd dic a b. IsDifferenceUnder kinds scd dic a b form difference) × (difference.same ≡ same)
     × Answers out err difference.text.items
 
 -- The status of a run that reports what differs between two sheets: 0 only where the plans are the same, 1 only where they are
 -- not, and the output gets the text of the difference; 2 only where a sheet is refused, which is said.
-pub record IsDiffStatus (run : Effects) (out err : Stream) (kinds : KindCodes) (files : PairFiles) (form : Form) (s : ℕ) : Type 0 where
+pub record IsDiffStatus (run : Effects) (out err : Stream) (kinds : KindCodes) (files : PairFiles) (form : TextForm) (s : ℕ) : Type 0 where
   pub tried : AreFourTried run.inputs files
   pub different : s ≡ 1 → TellsDifference run.inputs out err kinds files form false
   pub means : MeansStatus (TellsDifference run.inputs out err kinds files form true) (OfPair run.inputs files (SaysPairRefusal (Answers out err) kinds))
@@ -76,13 +76,13 @@ pub record IsDiffStatus (run : Effects) (out err : Stream) (kinds : KindCodes) (
 
 -- this differs between the two sheets, the plans are the same or not, a picture that shows it was put, and the text of the
 -- difference went out
-abbrev pub TellsDrawnDifference : Effects → Stream → Stream → KindCodes → PairFiles → Form → List ℕ → Bool → Type 0
+abbrev pub TellsDrawnDifference : Effects → Stream → Stream → KindCodes → PairFiles → TextForm → List ℕ → Bool → Type 0
 TellsDrawnDifference run out err kinds files form path same =
     (difference : Difference) × IsPairPut run (ShowsDifference kinds form difference) files path × (difference.same ≡ same) × Answers out err difference.text.items
 
 -- The same of a run that also puts a picture of what differs at a path. On a refusal nothing in the folder has changed; and whatever the
 -- status is, the picture is there, or such a fault says what became of the path.
-pub record IsPictureStatus (run : Effects) (out err : Stream) (kinds : KindCodes) (files : PairFiles) (form : Form) (path : List ℕ) (s : ℕ) : Type 0 where
+pub record IsPictureStatus (run : Effects) (out err : Stream) (kinds : KindCodes) (files : PairFiles) (form : TextForm) (path : List ℕ) (s : ℕ) : Type 0 where
   pub tried : IsPairInput run.is_one files path ⊎ AreFourTried run.inputs files
   pub different : s ≡ 1 → TellsDrawnDifference run out err kinds files form path false
   pub means : MeansStatus (TellsDrawnDifference run out err kinds files form path true)

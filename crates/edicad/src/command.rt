@@ -14,7 +14,7 @@ use edi_answers::commands::{bundle, check, compare_or_pair, verify};
 use edi_answers::explains::{explain, explain_rule};
 use edi_answers::hashes::hash;
 use edi_answers::{notes, report};
-use edi_diff::{Difference, Form};
+use edi_diff::{Difference, TextForm};
 use edi_files::Product::{self, Canonical, Picture};
 use edi_files::{CommandLine, Disk, Errors, Folder, Words};
 use edi_line::{ByteOut, ToWrite};
@@ -151,9 +151,7 @@ fn replied<F: Folder, O: ByteOut, E: ByteOut>(
             picture,
         } => {
             let form = form_asked(brief, records);
-            diff_or_draw(
-                alloc, folder, &kinds, &files, form, picture, out, err, note,
-            )
+            diff_or_draw(alloc, folder, &kinds, &files, form, picture, out, err, note)
         }
         Request::Draw {
             kinds,
@@ -237,13 +235,13 @@ fn send<F: Folder, O: ByteOut, E: ByteOut>(
 }
 
 /// In which form the words ask for what differs.
-fn form_asked(brief: bool, records: bool) -> Form
+fn form_asked(brief: bool, records: bool) -> TextForm
     ensures { result ≡ form_asked brief records }
 {
     match (brief, records) {
-        (true, _) => Form::Brief,
-        (false, true) => Form::Records,
-        (false, false) => Form::Objects,
+        (true, _) => TextForm::Brief,
+        (false, true) => TextForm::Records,
+        (false, false) => TextForm::Objects,
     }
 }
 
@@ -253,7 +251,7 @@ fn diff_or_draw<F: Folder, O: ByteOut, E: ByteOut>(
     folder: &mut F,
     kinds: &GivenKinds<'_>,
     files: &PairFiles<'_>,
-    form: Form,
+    form: TextForm,
     picture: Option<&str>,
     out: &mut O,
     err: &mut E,
@@ -279,7 +277,7 @@ fn diff<F: Folder, O: ByteOut, E: ByteOut>(
     folder: &F,
     kinds: &GivenKinds<'_>,
     files: &PairFiles<'_>,
-    form: Form,
+    form: TextForm,
     out: &mut O,
     err: &mut E,
     note: &mut Vec<u8>,
@@ -302,7 +300,7 @@ fn draw_difference<F: Folder, O: ByteOut, E: ByteOut>(
     folder: &mut F,
     kinds: &GivenKinds<'_>,
     files: &PairFiles<'_>,
-    form: Form,
+    form: TextForm,
     path: &str,
     out: &mut O,
     err: &mut E,

@@ -16,7 +16,7 @@ use edi_answers::classes::{Kept, read_classes};
 use edi_answers::pair_inputs::{PairInputs, open_pair};
 use edi_answers::sheets::{is_pair_input, meets, opened};
 use edi_compare::{RunFault, canon_of};
-use edi_diff::{Difference, Form, run_diff};
+use edi_diff::{Difference, TextForm, run_diff};
 use edi_drawing::{DrawnDifference, run_draw, run_draw_difference};
 use edi_files::{Folder, Product, output};
 use edi_line::{ByteIn, ByteOut};
@@ -90,7 +90,7 @@ pub fn diff<F: Folder>(
     folder: &F,
     kinds: &GivenKinds<'_>,
     files: &PairFiles<'_>,
-    form: Form,
+    form: TextForm,
     note: &mut Vec<u8>,
 ) -> Result<Difference, RunFault>
     ensures ok { IfOk result (λ difference. OfPair (inputs F.Folder F.Reader.ByteIn folder.now) files.now
@@ -127,7 +127,7 @@ pub fn draw_difference<F: Folder>(
     folder: &mut F,
     kinds: &GivenKinds<'_>,
     files: &PairFiles<'_>,
-    form: Form,
+    form: TextForm,
     out: &str,
     note: &mut Vec<u8>,
 ) -> Result<Difference, RunFault>
@@ -165,7 +165,7 @@ fn drawn_difference<F: Folder>(
     folder: &F,
     kinds: &GivenKinds<'_>,
     files: &PairFiles<'_>,
-    form: Form,
+    form: TextForm,
     note: &mut Vec<u8>,
 ) -> Result<DrawnDifference, RunFault>
     ensures ok { IfOk result (λ drawn. OfPair (inputs F.Folder F.Reader.ByteIn folder.now) files.now

@@ -9,11 +9,11 @@ use Rattle.edicad_c.specs.declared.content.Content.{Content}
 use Rattle.edicad_c.specs.Answers.{difference_answer}
 use Rattle.edicad_c.specs.Held.{IsGiven}
 use Rattle.edicad_c.specs.Comparisons.{RefusesPair}
-use Rattle.edi_diff.specs.declared.form.Form.{Form}
-use Rattle.edi_diff.specs.declared.form.Form.TheVariants.{Brief, Records}
+use Rattle.edi_diff.specs.declared.form.TextForm.{TextForm}
+use Rattle.edi_diff.specs.declared.form.TextForm.TheVariants.{Brief, Records}
 
 -- in which form the text is given: how many records differ, or record by record
-abbrev pub form_given : Bool → Form
+abbrev pub form_given : Bool → TextForm
 form_given true = Brief
 form_given false = Records
 

@@ -8,7 +8,7 @@ use crate::answer::Answer;
 use crate::content::Content;
 use crate::given::Given;
 use crate::handle::Handle;
-use edi_diff::{Form, diff};
+use edi_diff::{TextForm, diff};
 use std::alloc::Global;
 
 /// What differs between two sheets, record by record, or with `brief` how many records do.
@@ -35,10 +35,14 @@ pub extern "C" fn edicad_diff(
 }
 
 // Record by record, or how many records differ.
-fn form_given(brief: bool) -> Form
+fn form_given(brief: bool) -> TextForm
     ensures { result ≡ form_given brief }
 {
-    if brief { Form::Brief } else { Form::Records }
+    if brief {
+        TextForm::Brief
+    } else {
+        TextForm::Records
+    }
 }
 
 // The same under the schema that a handle holds.

@@ -7,10 +7,10 @@ use Rattle.edi_matching.specs.Matchings.{MatchingHolds}
 use Rattle.edi_report.specs.declared.sheet.LocatedSheet.{LocatedSheet}
 use Rattle.edi_diff.specs.Differences.{IsDifferenceText}
 use Rattle.edi_diff.specs.declared.differing.ComparedSheets.{ComparedSheets}
-use Rattle.edi_diff.specs.declared.form.Form.{Form}
+use Rattle.edi_diff.specs.declared.form.TextForm.{TextForm}
 
 -- the matching of two sheets, what became of the records that it leaves out, and the text and the answer by these
-pub record AreCompared (s : Classes) (first second : LocatedSheet) (form : Form) (compared : ComparedSheets) : Type 0 where
+pub record AreCompared (s : Classes) (first second : LocatedSheet) (form : TextForm) (compared : ComparedSheets) : Type 0 where
   pub holds : MatchingHolds s first.accepted second.accepted compared.unchanged
   pub total : IsTotalIfSame s first.accepted second.accepted compared.unchanged
   pub partners : MatchesPartners first.accepted second.accepted compared.unchanged

@@ -6,7 +6,7 @@ use Rattle.edi_plan.specs.declared.record.PlanAttribute.{PlanAttribute}
 use Rattle.edi_rank.proofs.ArrangedUnder.{all_along}
 use Rattle.edi_schema.specs.Sorted.{sort_by}
 use Rattle.edi_schema.proofs.SortedLists.{IsPermutation-sort_by}
-use Rattle.edi_objects.specs.Attributes.{line_at}
+use Rattle.edi_objects.specs.Attributes.{class_line_at}
 use Rattle.edi_objects.proofs.Marked.{lines_more}
 use Rattle.edi_objects.proofs.AttributeLists.{all_appended, all_mapped, one_of_all, sorted_rise}
 use Rattle.edi_objects.proofs.attributes.push_attribute_lines.Goals as goal
@@ -36,8 +36,8 @@ loop-at-preserved c =
     let there = map now c.in_ok-there.there.items in
     let classes = c.in_ok-classes.classes.items in
     let k = c.loop-at.at in
-    let same = ap (λ (xs : List (Bor PlanAttribute)). line_at s (map now xs) (map now c.deref-in-loop-at.result.now) c.deref-in-loop-at-2.result.now k) c.deref.ensures.value
-    ∙ (ap (λ (xs : List (Bor PlanAttribute)). line_at s here (map now xs) c.deref-in-loop-at-2.result.now k) c.deref-in-loop-at.ensures.value
-    ∙ ap (λ (xs : List ℕ). line_at s here there xs k) c.deref-in-loop-at-2.ensures.value) in
-    lines_more (line_at s here there classes) k c.args.text.now.items c.loop-at.text.items c.push_line_at.new.text.items c.loop-at.invariant
+    let same = ap (λ (xs : List (Bor PlanAttribute)). class_line_at s (map now xs) (map now c.deref-in-loop-at.result.now) c.deref-in-loop-at-2.result.now k) c.deref.ensures.value
+    ∙ (ap (λ (xs : List (Bor PlanAttribute)). class_line_at s here (map now xs) c.deref-in-loop-at-2.result.now k) c.deref-in-loop-at.ensures.value
+    ∙ ap (λ (xs : List ℕ). class_line_at s here there xs k) c.deref-in-loop-at-2.ensures.value) in
+    lines_more (class_line_at s here there classes) k c.args.text.now.items c.loop-at.text.items c.push_line_at.new.text.items c.loop-at.invariant
     (c.in_ok-push_line_at.ensures ∙ ap (λ (ys : List ℕ). c.loop-at.text.items ++ ys) same)

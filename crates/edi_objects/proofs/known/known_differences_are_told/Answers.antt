@@ -5,10 +5,10 @@ use Rattle.std.specs.Str.{chars, is_utf8}
 use Rattle.edi_line.specs.Number.{size_text}
 use Rattle.edi_objects.specs.Elements.{element_text}
 use Rattle.edi_objects.specs.LinksOf.{index_of}
-use Rattle.edi_objects.specs.Names.{class_text}
+use Rattle.edi_objects.specs.Names.{shown_class}
 use Rattle.edi_objects.specs.Objects.{attributes_change, class_change, extras_change, has_other_outline}
 use Rattle.edi_objects.proofs.known.known_differences_are_told.Goals as goal
 
 pub returns : goal.returns
-unfolding attributes_change class_change class_text element_text extras_change has_other_outline index_of digits chars encode_utf8 is_utf8 size_text
+unfolding attributes_change class_change shown_class element_text extras_change has_other_outline index_of digits chars encode_utf8 is_utf8 size_text
 returns c = refl

@@ -4,7 +4,7 @@ use Rattle.edicad_c.proofs.HeldSteps.{match_some}
 use Rattle.edicad_c.specs.declared.answer.Answer.{Answer}
 use Rattle.edicad_c.specs.Differences.{IsDifferenceGiven}
 use Rattle.edi_diff.specs.Differences.{IsDifference}
-use Rattle.edi_diff.specs.declared.form.Form.{Form}
+use Rattle.edi_diff.specs.declared.form.TextForm.{TextForm}
 use Rattle.edicad_c.specs.Held.{IsGiven, IsWrongCall, in_box}
 use Rattle.edicad_c.proofs.differences.difference.Goals as goal
 
@@ -16,6 +16,6 @@ returns-in-Ok c =
       w.difference,
       w.ensures.first,
       w.ensures.second,
-      subst (λ (f : Form). IsDifference c.in-Some.schema.now c.args.first.now c.args.second.now f w.difference) c.form_given.ensures w.ensures.difference,
+      subst (λ (f : TextForm). IsDifference c.in-Some.schema.now c.args.first.now c.args.second.now f w.difference) c.form_given.ensures w.ensures.difference,
       subst (λ (a : Answer). IsGiven a w.difference.text.items held answer) c.of_difference-answer.ensures g.ensures,
     ))
