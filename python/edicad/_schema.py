@@ -178,7 +178,7 @@ class Schema:
         return Verification(answer.status == DONE, reason)
 
     def diff(self, first: Source, second: Source, brief: bool = False) -> Difference:
-        """What differs between two sheets: a line for each record, and how many differ; with `brief` the last alone."""
+        """What differs between two sheets: a line for each record, and how many differ; with `brief` no lines of records."""
         with Input(_bytes_of(first)) as a, Input(_bytes_of(second)) as b, self._lent() as schema, _given() as given:
             answer = _ended(_edicad.edicad_diff(schema, *a, *b, brief, given), DONE, DIFFERENT)
             return Difference(answer.status == DONE, _taken(given).decode("utf-8"))
