@@ -8,9 +8,9 @@ import os
 import weakref
 from typing import Any, Iterator, Sequence, Union
 
-from edicad import _library
-from edicad._library import DIFFERENT, DONE, INPUTS, NO_MEMORY, REFUSED, UNITS, Answer, Handle, Input, RecordPair
-from edicad._values import Comparison, Difference, Explanation, Pairing, Refused, Verification
+from . import _library
+from ._library import DIFFERENT, DONE, INPUTS, NO_MEMORY, REFUSED, UNITS, Answer, Handle, Input, RecordPair
+from ._values import Comparison, Difference, Explanation, Pairing, Refused, Verification
 
 _edicad = _library.load()
 
