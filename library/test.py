@@ -132,6 +132,13 @@ def wheel(folder):
     said = run([sys.executable, TOP / "python" / "examples" / "hash_folder.py", *SCHEMA, PARCEL], env=env)
     if said != "".join(f"{DIGEST}  {PARCEL / it}\n" for it in ("canonical.vec", "same_plan.vec", "sheet.vec")):
         fail(f"hash_folder.py: {said}")
+    # as a plug-in has it: a part of its own package
+    shutil.copytree(folder / "wheel" / "edicad", folder / "plug_in" / "edicad")
+    (folder / "plug_in" / "__init__.py").write_text("from . import edicad\n")
+    words = "import plug_in, sys; print(plug_in.edicad.Schema(*sys.argv[1:3]).digest(sys.argv[3]).hex())"
+    said = run([sys.executable, "-c", words, *SCHEMA, PARCEL / "sheet.vec"], env={**bare, "PYTHONPATH": str(folder)})
+    if said.strip() != DIGEST:
+        fail(f"the package in a plug-in: {said}")
     bad = folder / "sheets"
     bad.mkdir()
     shutil.copy(PARCEL / "sheet.vec", bad / "good.vec")

@@ -5,7 +5,7 @@ import glob
 import os
 import re
 
-HEAD = re.compile(r"( *)(?:pub(?:\([a-z]+\))? )?(?:const )?fn (\w+)")
+HEAD = re.compile(r'( *)(?:pub(?:\([a-z]+\))? )?(?:const )?(?:extern "C" )?fn (\w+)')
 BLOCK = re.compile(r"^(?:pub(?:\([a-z]+\))? )?(?:impl|trait)\b([^{;]*)", re.M)
 GENERICS = re.compile(r"<[^<>]*>")
 IMPORT = re.compile(r"\s*(?:ghost |pub )?use ")

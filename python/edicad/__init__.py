@@ -6,7 +6,7 @@
 A file is given by its path, or as an object that holds its bytes (bytes, bytearray, memoryview, mmap ..), which is not copied. Where a file
 breaks a rule, `Refused` says which and where; where memory runs out, `MemoryError` is raised. Calls from several threads run side by side, also those of one schema.
 """
-from edicad._schema import Schema
-from edicad._values import Comparison, Difference, Explanation, Pair, Pairing, Refused, Verification
+from ._schema import Schema
+from ._values import Comparison, Difference, Explanation, Pair, Pairing, Refused, Verification
 
 __all__ = ["Comparison", "Difference", "Explanation", "Pair", "Pairing", "Refused", "Schema", "Verification"]

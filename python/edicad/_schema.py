@@ -8,9 +8,9 @@ import os
 import weakref
 from typing import Any, Iterator, Sequence, Union
 
-from edicad import _library
-from edicad._library import DIFFERENT, DONE, INPUTS, NO_MEMORY, REFUSED, UNITS, Answer, Handle, Input, RecordPair
-from edicad._values import Comparison, Difference, Explanation, Pairing, Refused, Verification
+from . import _library
+from ._library import DIFFERENT, DONE, INPUTS, NO_MEMORY, REFUSED, UNITS, Answer, Handle, Input, RecordPair
+from ._values import Comparison, Difference, Explanation, Pairing, Refused, Verification
 
 _edicad = _library.load()
 
@@ -178,7 +178,7 @@ class Schema:
         return Verification(answer.status == DONE, reason)
 
     def diff(self, first: Source, second: Source, brief: bool = False) -> Difference:
-        """What differs between two sheets: a line for each record, and how many differ; with `brief` the last alone."""
+        """What differs between two sheets: a line for each record, and how many differ; with `brief` no lines of records."""
         with Input(_bytes_of(first)) as a, Input(_bytes_of(second)) as b, self._lent() as schema, _given() as given:
             answer = _ended(_edicad.edicad_diff(schema, *a, *b, brief, given), DONE, DIFFERENT)
             return Difference(answer.status == DONE, _taken(given).decode("utf-8"))

@@ -24,6 +24,9 @@ impl Model for Handle {
     ghost also_owns = { λ handle. Owns handle.alloc handle.at handle.held };
 }
 
+// It may go from one thread to another, with what it owns.
+unsafe impl Send for Handle {}
+
 impl Handle {
     // A handle that holds nothing.
     fn empty(alloc: Global) -> Handle
