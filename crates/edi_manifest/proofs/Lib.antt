@@ -1,0 +1,3 @@
+pub mod ByteOrder
+pub mod LineTexts
+pub mod SameLines

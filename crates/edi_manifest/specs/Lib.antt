@@ -1,0 +1,2 @@
+pub mod ManifestText
+pub mod Laws
