@@ -1,17 +1,17 @@
 -- Texts, and the lines that they are of.
-use Rattle.std.proofs.Common.{◌≡◌, ◌≢◌, ℕ, zero, suc, ◌+◌, ◌<◌, ◌≤◌, inl, List, [], ◌∷◌, ◌++◌, length, map, get_or, take, IsPermutation, All, codes, set, refl, sym, ap, ◌∙◌, subst, arith}
+use Rattle.std.proofs.Common.{◌≡◌, ℕ, zero, suc, ◌+◌, ◌<◌, inl, List, [], ◌∷◌, ◌++◌, length, map, get_or, take, IsPermutation, codes, set, refl, sym, ap, ◌∙◌, subst, arith}
 use Rattle.std.specs.List.{AllByRecursion, concat, swap}
 use Rattle.std.specs.List.Sorted.{apply_swaps, SwapsInRange, IsSorted}
-use Rattle.std.proofs.lemmas.List.{append_assoc, append-nil, take_all, length-map, take_more}
+use Rattle.std.proofs.lemmas.List.{append_assoc, append-nil, length-map, take_more}
 use Rattle.std.proofs.lemmas.List.Elements.{recursion_from_All, All-from_recursion}
 use Rattle.std.proofs.lemmas.List.Folds.{concat-append}
 use Rattle.std.proofs.lemmas.List.Sorted.{IsPermutation-map, IsPermutation-sym, IsPermutation-trans, All-permutation}
-use Rattle.edi_line.specs.Lines.{HasNoFeed, IsEnded, AreLines, IsLinesOf}
+use Rattle.edi_line.specs.Lines.{IsEnded, AreLines, IsLinesOf}
 use Rattle.edi_line.specs.inner.Lines.{lines_of}
 use Rattle.edi_line.proofs.Cut.{lines_unique}
 use Rattle.edi_record.specs.Orders.{bytes_cmp}
 use Rattle.edi_schema.specs.Sorted.{sort_by}
-use Rattle.edi_schema.proofs.SortedLists.{SameCounts, counts_from_permutation, IsPermutation-sort_by, sort_by-same, sorted_is}
+use Rattle.edi_schema.proofs.SortedLists.{counts_from_permutation, IsPermutation-sort_by, sort_by-same, sorted_is}
 use Rattle.edi_manifest.specs.ManifestText.{IsManifestLine, manifest_line, manifest_lines, manifest_head, manifest_body, last_line, manifest_text}
 use Rattle.edi_manifest.specs.declared.line.ManifestLine.{ManifestLine}
 use Rattle.edi_manifest.proofs.ByteOrder.{bytes_total, bytes_exact}
@@ -36,7 +36,7 @@ map_ended : (lines : List ManifestLine) → AllByRecursion IsManifestLine lines 
 map_ended [] h = tt
 map_ended (l ∷ ls) h = (line_ended l h.0, map_ended ls h.1)
 
-moved_all : (P : List ℕ → Type 0) (xs ys : List (List ℕ)) → IsPermutation xs ys → AllByRecursion P xs → AllByRecursion P ys
+pub moved_all : (P : List ℕ → Type 0) (xs ys : List (List ℕ)) → IsPermutation xs ys → AllByRecursion P xs → AllByRecursion P ys
 moved_all P xs ys moved h = recursion_from_All P ys (All-permutation P xs ys moved (All-from_recursion P xs h))
 
 all_push : (P : List ℕ → Type 0) (xs : List (List ℕ)) (x : List ℕ) → AllByRecursion P xs → P x → AllByRecursion P (xs ++ x ∷ [])
@@ -62,7 +62,7 @@ text_lines lines h = record {
   each = all_ended (all_lines lines) (head_ended, all_push IsEnded (manifest_lines lines) (last_line (manifest_body lines)) (sorted_ended lines h) (last_ended (manifest_body lines)));
 }
 
-push_same : (xs ys : List (List ℕ)) (x y : List ℕ) → xs ++ x ∷ [] ≡ ys ++ y ∷ [] → xs ≡ ys
+pub push_same : {X : Type 0} (xs ys : List X) (x y : X) → xs ++ x ∷ [] ≡ ys ++ y ∷ [] → xs ≡ ys
 push_same [] [] x y e = refl
 push_same [] (z ∷ []) x y e = absurd cc
 push_same [] (z ∷ w ∷ ys) x y e = absurd cc

@@ -1,9 +1,9 @@
 -- The text of a manifest.
-use Rattle.std.specs.Prelude.{◌≡◌, ℕ, true, List, [], ◌∷◌, ◌++◌, map, codes}
-use Rattle.std.specs.List.{concat}
+use Rattle.std.specs.Prelude.{◌≡◌, ℕ, true, List, [], ◌∷◌, ◌++◌, length, map, codes}
+use Rattle.std.specs.List.{AllByRecursion, concat}
 use Rattle.hex.specs.Hex.{encode_lower, IsBytes}
 use Rattle.sha2.specs.Sha256.{sha256}
-use Rattle.edi_line.specs.Bytes.{line_feed}
+use Rattle.edi_line.specs.Bytes.{line_feed, space}
 use Rattle.edi_record.specs.Orders.{bytes_cmp}
 use Rattle.edi_schema.specs.Sorted.{sort_by}
 use Rattle.edi_delivery.specs.NameParts.{is_file_name}
@@ -11,20 +11,22 @@ use Rattle.edi_manifest.specs.declared.line.Digested.{Digested}
 use Rattle.edi_manifest.specs.declared.line.Digested.TheVariants.{Schema, Sheet, Coordinates}
 use Rattle.edi_manifest.specs.declared.line.ManifestLine.{ManifestLine}
 
--- what each line of the program keeps: its name is that of a file, and its digest is bytes
+-- what each line of the program keeps: its name is that of a file, and its digest is 32 bytes
 pub record IsManifestLine (line : ManifestLine) : Type 0 where
   pub name : is_file_name line.name ≡ true
+  pub long : length line.digest ≡ 32
   pub digest : IsBytes line.digest
 
--- what the digest is of, with a space on either side
+-- what the digest is of, and a space
 abbrev pub digested_text : Digested → List ℕ
-digested_text Schema = codes " schema "
-digested_text Sheet = codes " sheet "
-digested_text Coordinates = codes " coordinates "
+digested_text Schema = codes "schema "
+digested_text Sheet = codes "sheet "
+digested_text Coordinates = codes "coordinates "
 
 -- the name, what the digest is of, and its digits
 abbrev pub manifest_line : ManifestLine → List ℕ
-manifest_line line = line.name ++ (digested_text line.digested ++ (encode_lower line.digest ++ line_feed ∷ []))
+manifest_line line =
+    line.name ++ space ∷ (digested_text line.digested ++ (encode_lower line.digest ++ line_feed ∷ []))
 
 -- the form's name and its version
 abbrev pub manifest_head : List ℕ
@@ -44,3 +46,8 @@ last_line body = codes "digest " ++ (encode_lower (sha256 body) ++ line_feed ∷
 
 abbrev pub manifest_text : List ManifestLine → List ℕ
 manifest_text lines = manifest_body lines ++ last_line (manifest_body lines)
+
+-- no lines have this text
+abbrev pub IsNoManifest : List ℕ → Type 0
+IsNoManifest text = (lines : List ManifestLine) → AllByRecursion IsManifestLine lines
+    → ¬ (manifest_text lines ≡ text)

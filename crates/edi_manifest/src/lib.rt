@@ -3,7 +3,9 @@
 
 pub mod laws;
 pub mod line;
+pub mod reading;
 pub mod writing;
 
 pub use line::{Digested, ManifestLine};
+pub use reading::read_manifest;
 pub use writing::manifest;

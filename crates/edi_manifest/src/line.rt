@@ -19,14 +19,14 @@ pub enum Digested {
 }
 
 impl Digested {
-    /// Its word in a line, with a space on either side.
+    /// Its word in a line, and a space.
     pub fn text(self) -> &'static [u8]
         ensures { result.now ≡ digested_text self }
     {
         match self {
-            Digested::Schema => b" schema ",
-            Digested::Sheet => b" sheet ",
-            Digested::Coordinates => b" coordinates ",
+            Digested::Schema => b"schema ",
+            Digested::Sheet => b"sheet ",
+            Digested::Coordinates => b"coordinates ",
         }
     }
 }
@@ -53,6 +53,7 @@ pub(crate) fn text_of(alloc: Global, line: &ManifestLine) -> Result<Text, AllocE
     ensures { IfOk result (λ text. text ≡ manifest_line line.now) }
 {
     let mut text = Vec::from_slice(alloc, line.name.as_slice())?;
+    text.push(b' ')?;
     text.extend_from_slice(line.digested.text())?;
     text.extend_from_slice(hex::encode(alloc, line.digest.as_slice())?.as_bytes())?;
     text.push(b'\n')?;

@@ -9,7 +9,7 @@ use sha2::{Digest, Sha256};
 use std::alloc::{AllocError, Global};
 
 /// The form's name and its version.
-const HEAD: &[u8] = b"edicad manifest 1\n";
+pub(crate) const HEAD: &[u8] = b"edicad manifest 1\n";
 
 /// The lines as they are written, in the order of their bytes.
 fn sorted_lines(alloc: Global, lines: &[ManifestLine]) -> Result<Vec<Text>, AllocError>
