@@ -1,0 +1,4 @@
+pub mod ByteOrder
+pub mod LineTexts
+pub mod SameLines
+pub mod ReadBack

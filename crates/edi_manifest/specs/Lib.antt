@@ -1,0 +1,3 @@
+pub mod ManifestText
+pub mod Laws
+pub mod inner

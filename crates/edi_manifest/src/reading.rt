@@ -1,0 +1,129 @@
+//! Reading a manifest.
+
+ghost use Rattle.std.specs.Prelude.{◌≡◌, ℕ, ◌<◌, ◌==◌, List, ◌∷◌, ◌++◌, length, position};
+ghost use Rattle.std.specs.Prelude.{Some, option_map, IfOk, IfSome, MatchOption};
+ghost use Rattle.hex.specs.Hex.{encode_lower, IsBytes};
+ghost use Rattle.edi_manifest.specs.ManifestText.{digested_text, manifest_text, IsNoManifest};
+ghost use Rattle.edi_manifest.specs.inner.Reading.{Lacks, FindsWord, FindsLine, FindsBody, FindsLines};
+
+use crate::line::{Digested, ManifestLine};
+use crate::writing::{HEAD, manifest};
+use edi_delivery::FileName;
+use hex::FromHex;
+use std::alloc::{AllocError, Global};
+
+/// How many bytes the last line has.
+const LAST_LEN: usize = 72;
+
+/// What the word in front of a text says, and the text behind it.
+fn word_in(text: &[u8]) -> Option<(Digested, &[u8])>
+    ensures { FindsWord text.now result }
+{
+    if let Some(behind) = text.strip_prefix(b"schema ") {
+        return Some((Digested::Schema, behind));
+    }
+    if let Some(behind) = text.strip_prefix(b"sheet ") {
+        return Some((Digested::Sheet, behind));
+    }
+    let behind = text.strip_prefix(b"coordinates ")?;
+    Some((Digested::Coordinates, behind))
+}
+
+/// The digest that these digits say.
+fn digest_in(digits: &[u8]) -> Option<[u8; 32]>
+    ensures { (bytes : List ℕ) → length bytes ≡ 32 → IsBytes bytes → digits.now ≡ encode_lower bytes
+        → result ≡ Some bytes }
+{
+    <[u8; 32] as FromHex>::from_hex(digits).ok()
+}
+
+/// Where a byte comes first.
+fn place_of(bytes: &[u8], byte: u8) -> Option<usize>
+    ensures { result ≡ position (λ c. c == byte) bytes.now }
+{
+    bytes.iter().position(|other| *other == byte)
+}
+
+/// What stands in front of the first such byte, and what behind it.
+fn cut_at(bytes: &[u8], byte: u8) -> Option<(&[u8], &[u8])>
+    ensures cut { MatchOption result (Lacks byte bytes.now)
+        (λ p. (bytes.now ≡ p.0.now ++ byte ∷ p.1.now) × Lacks byte p.0.now) }
+    ensures shorter { IfSome result (λ p. length p.1.now < length bytes.now) }
+{
+    let Some(place) = place_of(bytes, byte) else {
+        return None;
+    };
+    let (front, rest) = bytes.split_at(place);
+    match rest {
+        [_, behind @ ..] => Some((front, behind)),
+        [] => None,
+    }
+}
+
+/// The line with this content, which has no line feed.
+fn line_in(alloc: Global, content: &[u8]) -> Result<Option<ManifestLine>, AllocError>
+    ensures { IfOk result (FindsLine content.now) }
+{
+    let Some((name, behind)) = cut_at(content, b' ') else {
+        return Ok(None);
+    };
+    let Some((digested, digits)) = word_in(behind) else {
+        return Ok(None);
+    };
+    let Some(digest) = digest_in(digits) else {
+        return Ok(None);
+    };
+    let Some(name) = FileName::new(alloc, name)? else {
+        return Ok(None);
+    };
+    Ok(Some(ManifestLine {
+        name,
+        digested,
+        digest,
+    }))
+}
+
+/// The bytes between the first line and the last.
+fn body_in(text: &[u8]) -> Option<&[u8]>
+    ensures { FindsBody text.now result }
+{
+    let behind = text.strip_prefix(HEAD)?;
+    if behind.len() < LAST_LEN {
+        return None;
+    }
+    Some(&behind[..behind.len() - LAST_LEN])
+}
+
+/// The lines of these bytes, or none where one of them isn't in form.
+fn lines_in(alloc: Global, body: &[u8]) -> Result<Option<Vec<ManifestLine>>, AllocError>
+    ensures { IfOk result (λ found. FindsLines body.now (option_map (λ lines. lines.items) found)) }
+{
+    let mut found = Vec::new(alloc);
+    let mut rest = body;
+    while let Some((content, behind)) = cut_at(rest, b'\n') {
+        match line_in(alloc, content)? {
+            Some(line) => found.push(line)?,
+            None => return Ok(None),
+        }
+        rest = behind;
+    }
+    Ok(Some(found))
+}
+
+/// The lines of a manifest in the order of its text, or none where the text is that of no manifest.
+pub fn read_manifest(alloc: Global, text: &[u8]) -> Result<Option<Vec<ManifestLine>>, AllocError>
+    ensures { IfOk result (λ found.
+        MatchOption found (IsNoManifest text.now) (λ lines. manifest_text lines.items ≡ text.now)) }
+{
+    let Some(body) = body_in(text) else {
+        return Ok(None);
+    };
+    let Some(lines) = lines_in(alloc, body)? else {
+        return Ok(None);
+    };
+    if manifest(alloc, &lines)?.as_slice() == text {
+        Ok(Some(lines))
+    } else {
+        Ok(None)
+    }
+}
