@@ -1,12 +1,14 @@
 -- Two schemas have one text exactly if they mean the same.
-use Rattle.std.proofs.Common.{◌≡◌, Bool, true, false, [], ◌∷◌, ◌++◌, map, filter, codes, bytes_eq, refl, sym, ap, ◌∙◌}
+use Rattle.std.proofs.Common.{◌≡◌, ◌≢◌, ◌⊎◌, inl, inr, Bool, true, false, true≢false, [], ◌∷◌, ◌++◌, map, filter, codes, bytes_eq, refl, sym, ap, ◌∙◌}
 use Rattle.std.specs.List.{AllByRecursion, flat_map, list_any}
 use Rattle.std.proofs.lemmas.List.{append_cancel_left}
+use Rattle.std.proofs.lemmas.Slice.Eq.{bytes_eq-Decides}
+use Rattle.sha2.specs.Sha256.{sha256}
 use Rattle.edi_record.specs.Texts.{is_semicolon}
 use Rattle.edi_record.specs.declared.name.Name.{Name}
 use Rattle.edi_schema.specs.Classes.{Classes, IsLetter, IsReadName, IsSchema}
 use Rattle.edi_schema.specs.declared.class.Class.{Class}
-use Rattle.edi_schema_text.specs.Laws.{TextsTellSchemas}
+use Rattle.edi_schema_text.specs.Laws.{OneDigestOneMeaning, OneMeaningOneDigest, TextsTellSchemas}
 use Rattle.edi_schema_text.specs.SchemaText.{MeanSame, class_lines, is_nameable, line_of_class, schema_head, text_of_schema}
 use Rattle.edi_schema_text.proofs.Fields.{IsSayable, lines_apart}
 use Rattle.edi_schema_text.proofs.Meaning.{meaning, meaning_of}
@@ -48,3 +50,15 @@ text_made s t e = ap (λ l. schema_head ++ l) (sym (lines_settled (filter is_nam
 
 pub texts_tell : TextsTellSchemas
 texts_tell s t hs ht = (λ e. mean_same s t (text_told s t hs ht e), λ same. text_made s t (meaning_one s t hs ht same))
+
+-- ---- digests
+
+pub one_digest : OneMeaningOneDigest
+one_digest s t hs ht same = ap sha256 (text_made s t (meaning_one s t hs ht same))
+
+pub one_meaning_of : OneDigestOneMeaning
+one_meaning_of s t hs ht digest = go (bytes_eq (text_of_schema s) (text_of_schema t)) refl
+  where
+    go : (b : Bool) → bytes_eq (text_of_schema s) (text_of_schema t) ≡ b → MeanSame s t ⊎ (text_of_schema s ≢ text_of_schema t)
+    go true e = inl (mean_same s t (text_told s t hs ht ((bytes_eq-Decides (text_of_schema s) (text_of_schema t)).0 e)))
+    go false e = inr (λ same. true≢false (sym ((bytes_eq-Decides (text_of_schema s) (text_of_schema t)).1 same) ∙ e))

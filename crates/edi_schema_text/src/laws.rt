@@ -1,6 +1,6 @@
 //! Laws of the texts of schemas.
 
-ghost use Rattle.edi_schema_text.specs.Laws.{OneStatementOneText, TextsTellSchemas};
+ghost use Rattle.edi_schema_text.specs.Laws.{OneDigestOneMeaning, OneMeaningOneDigest, OneStatementOneText, TextsTellSchemas};
 
 /// Two schemas have one text exactly if they mean the same.
 pub fn texts_tell_schemas()
@@ -11,4 +11,11 @@ pub fn texts_tell_schemas()
 /// remarks.
 pub fn one_statement_one_text()
     ensures { OneStatementOneText }
+{}
+
+/// Two schemas that mean the same have one digest, and two with one digest mean the same, unless their texts are two
+/// with one SHA-256.
+pub fn digests_tell_schemas()
+    ensures one { OneMeaningOneDigest }
+    ensures back { OneDigestOneMeaning }
 {}
