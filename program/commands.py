@@ -430,10 +430,10 @@ def as_compare(room, words, status, **how):
 
 
 def by_objects(room):
-    """What differs, object by object: the parcel of the example with another attribute, with a node moved, gone, and with a label."""
+    """What differs, object by object: the parcel of the example with another attribute and one more, with a node moved and an arc bent, gone, and with another object on its face."""
     first = room.read("a")
     label = (b"RTYSA03:FEA\nRIDSA05:Label\nSCPCP27:EDAB01;SeSD;OBJ;PARCELLE_id\nATCSN02:01\nATPCP22:EDAB01;SeSD;ATT;NOM_id\nATVSA01:B\n"
-             b"RTYSA03:LNK\nRIDSA06:Lien_8\nSCPCP22:EDAB01;SeSD;REL;CMP_id\nFTCSN02:02\nFTPCP19:EDAB01;SeT1;FEA;Label\nFTPCP22:EDAB01;SeT1;PFE;Face_1\nATCSN02:00\n")
+             b"RTYSA03:LNK\nRIDSA06:Lien_8\nSCPCP22:EDAB01;SeSD;REL;CMP_id\nFTCSN02:02\nFTPCP21:EDAB01;SeT1;FEA;Label\nFTPCP22:EDAB01;SeT1;PFE;Face_1\nATCSN02:00\n")
     at, end = first.index(b"RTYSA03:FEA\n"), first.index(b"EOMT")
     gone = first[:at] + first[first.index(b"RTYSA03:LNK\n"):first.index(b"RTYSA03:LNK\nRIDSA06:Lien_7\n")] + first[end:]
     changes = {
@@ -443,9 +443,12 @@ def by_objects(room):
                               b"~ PARCELLE_id NOM_id A 12 (lines 39 and 39):\n    SUP_id: 25 -> 25, 26.5\n"),
         "a node moved": (first.replace(b"+10.00;+0.00;", b"+11.00;+0.00;"),
                          b"~ PARCELLE_id NOM_id A 12 (lines 39 and 39):\n    outline of face (line 34)\n"
-                         b"~ arc 0;0 .. 10;0 (lines 15 and 15): points (1 of 2)\n~ arc 10;0 .. 0;0 (lines 24 and 24): points (1 of 3)\n~ node 10;0 (lines 9 and 9): points (to 11;0)\n"),
+                         b"- arc 0;0 .. 10;0 (line 15)\n- arc 10;0 .. 0;0 (line 24)\n+ arc 0;0 .. 11;0 (line 15)\n+ arc 11;0 .. 0;0 (line 24)\n"
+                         b"~ node 10;0 (lines 9 and 9): points (to 11;0)\n"),
+        "an arc bent": (first.replace(b"+5.00;+5.00;", b"+5.00;+6.00;"),
+                        b"~ PARCELLE_id NOM_id A 12 (lines 39 and 39):\n    outline of face (line 34)\n~ arc 10;0 .. 0;0 (lines 24 and 24): points (1 of 3)\n"),
         "the parcel gone": (gone, b"- PARCELLE_id NOM_id A 12 (line 39)\n"),
-        "a parcel on the same face": (first[:end] + label + first[end:], b"+ PARCELLE_id NOM_id B (line 108)\n"),
+        "a parcel on the same face": (first[:end] + label + first[end:], b"+ PARCELLE_id NOM_id B (line 106)\n"),
     }
     for name, (second, told) in changes.items():
         room.write("b", second)
