@@ -398,7 +398,7 @@ def kinds_noted(room, sheet, canonical):
     room.expect("a pairing to be verified", ["compare", "--pairing", "p", "s", "d", "v", "w"], (0, b"same\n", b""))
     answers = ((["check"], ["v"], b"accepted\n"), (["canon"], ["v", "o"], b"accepted\n"), (["canon"], ["v", "-"], canonical),
                (["draw"], ["v", "o"], b"accepted\n"), (["compare"], ["v", "w"], b"same\n"), (["compare", "--pairing", "q"], ["v", "w"], b"same\n"),
-               (["verify"], ["v", "w", "p"], b"pairs\n"), (["diff"], ["v", "w"], b"0 only in A, 0 only in B, 0 changed\n"),
+               (["verify"], ["v", "w", "p"], b"pairs\n"), (["diff"], ["v", "w"], b"records: 0 only in A, 0 only in B, 0 changed\n"),
                (["diff", "--brief", "--picture", "q"], ["v", "w"], b"0 only in A, 0 only in B, 0 changed\n"))
     for command, names, answer in answers:
         room.expect(f"codes that no class has, {command}", [*command, *other, "s", "d", *names], (0, answer, note))
@@ -430,31 +430,33 @@ def as_compare(room, words, status, **how):
 
 
 def by_objects(room):
-    """What differs, object by object: the parcel of the example with another attribute and one more, with a node moved and an arc bent, gone, and with another object on its face."""
+    """What differs, object by object: the parcel of the example with another attribute and one more, with a node moved and an arc bent, gone, and with
+    another object on its face; each text with its count by class."""
     first = room.read("a")
     label = (b"RTYSA03:FEA\nRIDSA05:Label\nSCPCP27:EDAB01;SeSD;OBJ;PARCELLE_id\nATCSN02:01\nATPCP22:EDAB01;SeSD;ATT;NOM_id\nATVSA01:B\n"
              b"RTYSA03:LNK\nRIDSA06:Lien_8\nSCPCP22:EDAB01;SeSD;REL;CMP_id\nFTCSN02:02\nFTPCP21:EDAB01;SeT1;FEA;Label\nFTPCP22:EDAB01;SeT1;PFE;Face_1\nATCSN02:00\n")
     at, end = first.index(b"RTYSA03:FEA\n"), first.index(b"EOMT")
     gone = first[:at] + first[first.index(b"RTYSA03:LNK\n"):first.index(b"RTYSA03:LNK\nRIDSA06:Lien_7\n")] + first[end:]
+    one_changed, one_gone, one_new = ((b"PARCELLE_id: %d only in A, %d only in B, %d changed\n" % counts) for counts in ((0, 0, 1), (1, 0, 0), (0, 1, 0)))
     changes = {
         "another attribute": (first.replace(b"ATVSA04:A 12", b"ATVSA04:A 13"),
-                              b"~ PARCELLE_id NOM_id A 12 (lines 39 and 39):\n    NOM_id: A 12 -> A 13\n"),
+                              b"~ PARCELLE_id NOM_id A 12 (lines 39 and 39):\n    NOM_id: A 12 -> A 13\n" + one_changed),
         "an attribute more": (first.replace(b"ATCSN02:02\nATPCP22:EDAB01;SeSD;ATT;SUP_id\nATVSR05:25.00", b"ATCSN02:03\nATPCP22:EDAB01;SeSD;ATT;SUP_id\nATVSR05:25.00\nATPCP22:EDAB01;SeSD;ATT;SUP_id\nATVSR05:26.50"),
-                              b"~ PARCELLE_id NOM_id A 12 (lines 39 and 39):\n    SUP_id: 25 -> 25, 26.5\n"),
+                              b"~ PARCELLE_id NOM_id A 12 (lines 39 and 39):\n    SUP_id: 25 -> 25, 26.5\n" + one_changed),
         "a node moved": (first.replace(b"+10.00;+0.00;", b"+11.00;+0.00;"),
                          b"~ PARCELLE_id NOM_id A 12 (lines 39 and 39):\n    outline of face (line 34)\n"
                          b"- arc 0;0 .. 10;0 (line 15)\n- arc 10;0 .. 0;0 (line 24)\n+ arc 0;0 .. 11;0 (line 15)\n+ arc 11;0 .. 0;0 (line 24)\n"
-                         b"~ node 10;0 (lines 9 and 9): points (to 11;0)\n"),
+                         b"~ node 10;0 (lines 9 and 9): points (to 11;0, by 1)\n" + one_changed),
         "an arc bent": (first.replace(b"+5.00;+5.00;", b"+5.00;+6.00;"),
-                        b"~ PARCELLE_id NOM_id A 12 (lines 39 and 39):\n    outline of face (line 34)\n~ arc 10;0 .. 0;0 (lines 24 and 24): points (1 of 3)\n"),
-        "the parcel gone": (gone, b"- PARCELLE_id NOM_id A 12 (line 39)\n"),
-        "a parcel on the same face": (first[:end] + label + first[end:], b"+ PARCELLE_id NOM_id B (line 106)\n"),
+                        b"~ PARCELLE_id NOM_id A 12 (lines 39 and 39):\n    outline of face (line 34)\n~ arc 10;0 .. 0;0 (lines 24 and 24): points (1 of 3, by at most 1)\n" + one_changed),
+        "the parcel gone": (gone, b"- PARCELLE_id NOM_id A 12 (line 39)\n" + one_gone),
+        "a parcel on the same face": (first[:end] + label + first[end:], b"+ PARCELLE_id NOM_id B (line 106)\n" + one_new),
     }
     for name, (second, told) in changes.items():
         room.write("b", second)
         status, brief, _ = room.run(["diff", "--brief", "s", "d", "a", "b"])
         room.report.check(f"{name}: brief", status, 1)
-        room.expect(f"{name}, by objects", ["diff", "s", "d", "a", "b"], (1, told + brief, b""))
+        room.expect(f"{name}, by objects", ["diff", "s", "d", "a", "b"], (1, told + b"records: " + brief, b""))
         room.expect(f"{name}, in brief where records are asked for too", ["diff", "--records", "--brief", "s", "d", "a", "b"], (1, brief, b""))
     room.write("b", first.replace(b"ATVSA04:A 12", b"ATVSA04:A 13"))
 
@@ -468,19 +470,20 @@ def differences(room):
     room.write("b", room.read("a").replace(b"ATVSA04:A 12", b"ATVSA04:A 13"))
     room.write("bad", "")
     sheets = ["s", "d", "a", "b"]
-    nothing = (0, b"0 only in A, 0 only in B, 0 changed\n", b"")
+    none = b"0 only in A, 0 only in B, 0 changed\n"
+    nothing = (0, b"records: " + none, b"")
     counts = b"0 only in A, 0 only in B, 2 changed\n"
     found = (1, b"~ FEA Objet_1 Objet_1 (lines 39 and 39): attributes\n~ LNK Lien_7 Lien_7 (lines 98 and 98): linked records\n" + counts, b"")
     room.expect("no difference", ["diff", "s", "d", "a", "a"], nothing)
     room.expect("no difference between two exports", ["diff", "s", "d", "a", "same"], nothing)
-    room.expect("no difference, in brief", ["diff", "--brief", "s", "d", "a", "same"], nothing)
+    room.expect("no difference, in brief", ["diff", "--brief", "s", "d", "a", "same"], (0, none, b""))
     room.expect("another value", ["diff", "--records", *sheets], found)
     room.expect("another value, in brief", ["diff", *sheets, "--brief"], (1, counts, b""))
     room.expect("another value, with the usual kinds", ["diff", "--kinds", "IND,FND,LPO,RPO", *sheets, "--records"], found)
     by_objects(room)
     room.write("set", room.read("a").replace(b"CSET 03:IRV\n", b""))
     room.expect("another character set", ["diff", "s", "d", "a", "set"], (1, b"~ CSE IRV none\n" + nothing[1], b""))
-    room.expect("another character set, in brief", ["diff", "--brief", "s", "d", "a", "set"], (1, b"~ CSE IRV none\n" + nothing[1], b""))
+    room.expect("another character set, in brief", ["diff", "--brief", "s", "d", "a", "set"], (1, b"~ CSE IRV none\n" + none, b""))
     for at, name in enumerate(sheets):
         words = list(sheets)
         words[at] = "-"

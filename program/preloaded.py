@@ -14,7 +14,7 @@ MAKERS = {
     "canon": (lambda out: ["canon", "s", "d", "v", out], b"accepted\n"),
     "draw": (lambda out: ["draw", "s", "d", "v", out], b"accepted\n"),
     "compare --pairing": (lambda out: ["compare", "--pairing", out, "s", "d", "v", "v"], b"same\n"),
-    "diff --picture": (lambda out: ["diff", "--picture", out, "s", "d", "v", "v"], b"0 only in A, 0 only in B, 0 changed\n"),
+    "diff --picture": (lambda out: ["diff", "--picture", out, "s", "d", "v", "v"], b"records: 0 only in A, 0 only in B, 0 changed\n"),
 }
 # more growths of memory than a run that explains a rule makes
 MOST_GROWTHS = 1000

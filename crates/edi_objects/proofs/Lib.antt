@@ -3,3 +3,4 @@ pub mod Indexed
 pub mod AttributeLists
 pub mod Marked
 pub mod Placed
+pub mod Roots

@@ -13,7 +13,7 @@ use Rattle.edi_rank.proofs.ArrangedUnder.{all_along}
 use Rattle.edi_schema.proofs.SortedLists.{IsPermutation-sort_by}
 use Rattle.edi_objects.specs.LinksOf.{entries_of, index_of, naming_cmp, named_by}
 use Rattle.edi_objects.specs.inner.Indices.{all_named}
-use Rattle.edi_objects.proofs.AttributeLists.{all_appended, all_mapped, one_of_all, one_of_few}
+use Rattle.edi_objects.proofs.AttributeLists.{all_appended, one_of_all, one_of_few}
 use Rattle.edi_objects.proofs.Indexed.{naming_total}
 
 -- one of the first few ends of a link is a record

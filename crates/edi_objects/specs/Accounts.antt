@@ -9,6 +9,7 @@ use Rattle.edi_plan.specs.Sides.{targets}
 use Rattle.edi_report.specs.Lines.{both_lines, charsets_line, is_reached, totals_line, words_text}
 use Rattle.edi_report.specs.Reports.{Report, parts_at, site_at}
 use Rattle.edi_report.specs.declared.sheet.LocatedSheet.{LocatedSheet}
+use Rattle.edi_objects.specs.Counts.{class_totals}
 use Rattle.edi_objects.specs.Differing.{arrives, became_of, is_differing}
 use Rattle.edi_objects.specs.Elements.{elements_of, name_of_record, others_text}
 use Rattle.edi_objects.specs.Names.{Naming}
@@ -62,6 +63,6 @@ abbrev pub shapes_of : Naming → Report → List ℕ
 shapes_of n r = elements_of n r Pfe ++ elements_of n r Par ++ elements_of n r Pno
 
 -- The text: the character sets, the objects, each with what differs of it and of what it is linked with; then the faces, the arcs and the
--- nodes that differ, and the links that are told nowhere else; and how many records differ.
+-- nodes that differ, and the links that are told nowhere else; how many objects of each class differ, and how many records.
 abbrev pub account_text : Naming → Report → List ℕ
-account_text n r = charsets_line r ++ objects_of n r ++ shapes_of n r ++ bare_links n r ++ totals_line r
+account_text n r = charsets_line r ++ objects_of n r ++ shapes_of n r ++ bare_links n r ++ class_totals n r ++ codes "records: " ++ totals_line r

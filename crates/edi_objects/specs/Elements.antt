@@ -1,10 +1,8 @@
 -- What the text calls records, and how it tells that a node, an arc or a face differs.
-use Rattle.std.specs.Prelude.{ℕ, ◌-◌, ◌==◌, nat_lt, Bool, false, List, [], ◌∷◌, ◌++◌, Option, Some, None, codes, decimal, length, min, count_by, reverse, take, zip, slice_index_or, if◌then◌else◌, ℤ, pos}
+use Rattle.std.specs.Prelude.{ℕ, ◌-◌, ◌==◌, nat_lt, false, List, [], ◌∷◌, ◌++◌, Option, Some, None, codes, decimal, length, take, slice_index_or, if◌then◌else◌, ℤ, pos}
 use Rattle.std.specs.List.{flat_map}
-use Rattle.std.specs.Ordering.{is_ne}
 use Rattle.edi_line.specs.Bytes.{line_feed}
-use Rattle.edi_line.specs.Number.{plain_text}
-use Rattle.edi_record.specs.Orders.{point_cmp}
+use Rattle.edi_line.specs.Number.{plain_text, size_text}
 use Rattle.edi_record.specs.declared.record.Kind.{Kind}
 use Rattle.edi_record.specs.declared.record.Kind.TheVariants.{Pno, Par, Pfe, Fea, Lnk}
 use Rattle.edi_record.specs.declared.record.Point.{Point}
@@ -16,7 +14,8 @@ use Rattle.edi_report.specs.Lines.{both_lines, is_reached, words_text}
 use Rattle.edi_report.specs.Reports.{Report, parts_at, site_at}
 use Rattle.edi_report.specs.declared.parts.Parts.{Parts}
 use Rattle.edi_report.specs.declared.sheet.LocatedSheet.{LocatedSheet}
-use Rattle.edi_objects.specs.Differing.{became_of, is_differing, same_of}
+use Rattle.edi_objects.specs.Differing.{became_of, is_differing}
+use Rattle.edi_objects.specs.Distances.{distance_of_first, farthest, side_by_side, unlike_count}
 use Rattle.edi_objects.specs.Names.{Naming, shown_class, object_name}
 
 -- ---- names
@@ -74,23 +73,21 @@ others_text n sheet place r = flat_map (other_text n sheet place) (take most_nam
 
 -- ---- how they differ
 
--- how many points of two lists of one length differ
-abbrev pub unlike : Point × Point → Bool
-unlike pair = is_ne (point_cmp pair.0 pair.1)
-
--- the same in the direction in which fewer do
-abbrev pub moved_count : List Point → List Point → ℕ
-moved_count a b = min (count_by unlike (zip a b)) (count_by unlike (zip a (reverse b)))
-
+-- how many points of an arc differ, of how many, and by how much at most; or how many there were, and how many there are
 abbrev pub arc_change : List Point → List Point → List ℕ
 arc_change a b =
     if length a == length b
-    then codes " points (" ++ decimal (moved_count a b) ++ codes " of " ++ decimal (length a) ++ codes ")"
+    then codes " points (" ++ decimal (unlike_count (side_by_side a b)) ++ codes " of " ++ decimal (length a)
+    ++ codes ", by at most " ++ size_text (farthest (side_by_side a b)) ++ codes ")"
     else codes " points (" ++ decimal (length a) ++ codes ", then " ++ decimal (length b) ++ codes ")"
+
+-- where a node went, and how far
+abbrev pub node_change : List Point → List Point → List ℕ
+node_change a b = codes " points (to" ++ first_position b ++ codes ", by " ++ size_text (distance_of_first a b) ++ codes ")"
 
 -- how the points of a record became those of another
 abbrev pub points_change : Kind → List Point → List Point → List ℕ
-points_change Pno a b = codes " points (to" ++ first_position b ++ codes ")"
+points_change Pno a b = node_change a b
 points_change Par a b = arc_change a b
 points_change Pfe a b = []
 points_change Fea a b = []

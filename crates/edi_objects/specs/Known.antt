@@ -41,7 +41,7 @@ sheet_of x one other = record {
 abbrev pub known_account : Report
 known_account = record {
   first = sheet_of 10000000 (codes "A 12") (codes "A 13");
-  second = sheet_of 11000000 (codes "A 14") (codes "A 15");
+  second = sheet_of 10000003 (codes "A 14") (codes "A 15");
   unchanged = None ∷ None ∷ None ∷ [];
   became = Some 0 ∷ Some 1 ∷ None ∷ [];
   parts = record no_parts { points = true } ∷ record no_parts { attributes = true } ∷ no_parts ∷ [];

@@ -1,9 +1,11 @@
 pub mod LinksOf
 pub mod Differing
 pub mod Names
+pub mod Distances
 pub mod Elements
 pub mod Attributes
 pub mod Objects
+pub mod Counts
 pub mod Accounts
 pub mod Known
 pub mod inner

@@ -1,5 +1,5 @@
 -- What the text calls classes and objects.
-use Rattle.std.specs.Prelude.{ℕ, Bool, List, [], ◌∷◌, ◌++◌, take, codes, bytes_eq, if◌then◌else◌, unwrap_or, option_map}
+use Rattle.std.specs.Prelude.{ℕ, List, [], ◌∷◌, ◌++◌, take, codes, bytes_eq, if◌then◌else◌, unwrap_or, option_map}
 use Rattle.std.specs.List.{flat_map, list_any}
 use Rattle.edi_line.specs.Number.{plain_text}
 use Rattle.edi_record.specs.declared.record.Value.{Value}

@@ -1,6 +1,6 @@
 -- How the text tells that an object differs.
-use Rattle.std.specs.Prelude.{ℕ, ◌==◌, ◌&&◌, ◌||◌, Bool, true, false, not, List, [], ◌∷◌, ◌++◌, Option, Some, None, codes, length, take, if◌then◌else◌}
-use Rattle.std.specs.List.{flat_map, list_any}
+use Rattle.std.specs.Prelude.{ℕ, ◌==◌, ◌&&◌, ◌||◌, Bool, false, not, List, [], ◌∷◌, ◌++◌, Option, Some, None, codes, length, take, if◌then◌else◌}
+use Rattle.std.specs.List.{flat_map}
 use Rattle.edi_line.specs.Bytes.{line_feed}
 use Rattle.edi_plan.specs.Plans.{is_object, record_at}
 use Rattle.edi_plan.specs.Sides.{targets}

@@ -7,6 +7,7 @@ ghost use Rattle.edi_plan.specs.Agreeing.{Agrees};
 ghost use Rattle.edi_objects.specs.LinksOf.{index_of};
 ghost use Rattle.edi_plan.specs.Plans.{IsPlace, record_at};
 ghost use Rattle.edi_objects.specs.Accounts.{account_text, objects_of, shapes_of};
+ghost use Rattle.edi_objects.specs.Counts.{changed_classes};
 ghost use Rattle.edi_objects.specs.Differing.{arrives, became_of, is_differing, outline_differs, same_of};
 ghost use Rattle.edi_objects.specs.Elements.{change_text, changed_element, elements_of, first_element, second_element};
 ghost use Rattle.edi_objects.specs.inner.Sheets.{test_of};
@@ -22,6 +23,7 @@ use edi_plan::Plan;
 use edi_record::Kind;
 use edi_report::lines::{push_both_lines, push_words};
 use edi_report::{Parts, Reporter};
+use edi_schema::ClassRef;
 use std::alloc::{AllocError, Global};
 use std::marker::Model;
 
@@ -209,19 +211,28 @@ impl<'a> ObjectReporter<'a> {
         ensures { IfOk result (λ text. text.items ≡ account_text self.now.naming self.now.report) }
     {
         let mut text = Vec::new(alloc);
+        let mut changed = Vec::new(alloc);
         self.report.push_charsets(&mut text)?;
-        self.push_objects(alloc, &mut text)?;
+        self.push_objects(alloc, &mut text, &mut changed)?;
         self.push_shapes(&mut text)?;
         self.push_bare_links(&mut text)?;
+        self.push_class_totals(alloc, &mut text, changed)?;
+        text.extend_from_slice(b"records: ")?;
         self.report.push_counts(&mut text)?;
         Ok(text)
     }
 
-    /// Appends the objects that differ.
-    fn push_objects(&self, alloc: Global, text: &mut Vec<u8>) -> Result<(), AllocError>
-        ensures { OnOk result (text.new.items ≡ text.old.items ++ objects_of self.now.naming self.now.report) }
+    /// Appends the objects that differ, and the classes of those that changed.
+    fn push_objects(
+        &self,
+        alloc: Global,
+        text: &mut Vec<u8>,
+        changed: &mut Vec<ClassRef>,
+    ) -> Result<(), AllocError>
+        ensures text { OnOk result (text.new.items ≡ text.old.items ++ objects_of self.now.naming self.now.report) }
+        ensures classes { OnOk result (changed.new.items ≡ changed.old.items ++ changed_classes self.now.naming self.now.report) }
     {
-        self.push_first_objects(alloc, text)?;
+        self.push_first_objects(alloc, text, changed)?;
         self.push_second_objects(text)
     }
 

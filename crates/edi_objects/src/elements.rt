@@ -1,14 +1,15 @@
 //! Nodes, arcs, faces and other records, as the text calls them, and how it tells that they differ.
 
-ghost use Rattle.std.specs.Prelude.{◌≡◌, ◌++◌, ◌<◌, OnOk, codes, count_by, reverse, zip};
+ghost use Rattle.std.specs.Prelude.{◌≡◌, ◌++◌, ◌<◌, OnOk, codes};
 ghost use Rattle.edi_plan.specs.Agreeing.{Agrees};
 ghost use Rattle.edi_plan.specs.Plans.{IsPlace, record_at};
 ghost use Rattle.edi_report.specs.Reports.{HasSites, site_at};
-ghost use Rattle.edi_objects.specs.Elements.{arc_change, element_text, first_position, last_position, lone_element, more_text, moved_count, name_of_record, other_text, others_text, points_change, coordinates_text, third_coordinate_text, unlike};
+ghost use Rattle.edi_objects.specs.Elements.{arc_change, element_text, first_position, last_position, lone_element, more_text, name_of_record, node_change, other_text, others_text, points_change, coordinates_text, third_coordinate_text};
 ghost use Rattle.edi_objects.specs.Names.{shown_class};
 
+use crate::distances::{distance_of_first, moves_between};
 use crate::names::{Namer, first_few};
-use edi_line::{Num, push_number};
+use edi_line::{Num, push_millionths, push_number};
 use edi_plan::Plan;
 use edi_record::{Kind, Point};
 use edi_report::LocatedSheet;
@@ -217,49 +218,38 @@ fn push_arc(text: &mut Vec<u8>, points: &[Point]) -> Result<(), AllocError>
     push_last(text, points)
 }
 
-/// How many points of two lists of one length differ, in the direction in which fewer do.
-fn moved_count(points: &[Point], others: &[Point]) -> usize
-    ensures { result ≡ moved_count points.now others.now }
-{
-    unlike_ahead(points, others).min(unlike_back(points, others))
-}
-
-/// How many points differ, one by one.
-fn unlike_ahead(points: &[Point], others: &[Point]) -> usize
-    ensures { result ≡ count_by unlike (zip points.now others.now) }
-{
-    points
-        .iter()
-        .zip(others)
-        .filter(|(point, other)| point.cmp(other).is_ne())
-        .count()
-}
-
-/// The same, where the others are gone over backwards.
-fn unlike_back(points: &[Point], others: &[Point]) -> usize
-    ensures { result ≡ count_by unlike (zip points.now (reverse others.now)) }
-{
-    points
-        .iter()
-        .zip(others.iter().rev())
-        .filter(|(point, other)| point.cmp(other).is_ne())
-        .count()
-}
-
 /// Appends how the points of an arc became those of another.
 fn push_arc_change(text: &mut Vec<u8>, points: &[Point], others: &[Point]) -> Result<(), AllocError>
     ensures { OnOk result (text.new.items ≡ text.old.items ++ arc_change points.now others.now) }
 {
     text.extend_from_slice(b" points (")?;
     if points.len() == others.len() {
-        push_number(text, moved_count(points, others) as u64)?;
+        let moves = moves_between(points, others);
+        push_number(text, moves.count as u64)?;
         text.extend_from_slice(b" of ")?;
         push_number(text, points.len() as u64)?;
+        text.extend_from_slice(b", by at most ")?;
+        push_millionths(text, moves.farthest)?;
     } else {
         push_number(text, points.len() as u64)?;
         text.extend_from_slice(b", then ")?;
         push_number(text, others.len() as u64)?;
     }
+    text.extend_from_slice(b")")
+}
+
+/// Appends where a node went, and how far.
+fn push_node_change(
+    text: &mut Vec<u8>,
+    points: &[Point],
+    others: &[Point],
+) -> Result<(), AllocError>
+    ensures { OnOk result (text.new.items ≡ text.old.items ++ node_change points.now others.now) }
+{
+    text.extend_from_slice(b" points (to")?;
+    push_first(text, others)?;
+    text.extend_from_slice(b", by ")?;
+    push_millionths(text, distance_of_first(points, others))?;
     text.extend_from_slice(b")")
 }
 
@@ -273,11 +263,7 @@ pub(crate) fn push_points_change(
     ensures { OnOk result (text.new.items ≡ text.old.items ++ points_change kind points.now others.now) }
 {
     match kind {
-        Kind::Pno => {
-            text.extend_from_slice(b" points (to")?;
-            push_first(text, others)?;
-            text.extend_from_slice(b")")
-        }
+        Kind::Pno => push_node_change(text, points, others),
         Kind::Par => push_arc_change(text, points, others),
         Kind::Pfe | Kind::Fea | Kind::Lnk => Ok(()),
     }

@@ -4,6 +4,8 @@
 mod account;
 mod attributes;
 mod bare_links;
+mod counts;
+mod distances;
 mod elements;
 mod index;
 pub mod known;

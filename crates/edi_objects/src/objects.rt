@@ -1,10 +1,11 @@
 //! How the text tells that an object differs.
 
-ghost use Rattle.std.specs.Prelude.{◌≡◌, ◌++◌, IfOk, IfSome, OnOk, flat_map, take};
+ghost use Rattle.std.specs.Prelude.{◌≡◌, ◌++◌, IfOk, IfSome, OnOk, Some, flat_map, take};
 ghost use Rattle.edi_plan.specs.Places.{places_of};
 ghost use Rattle.edi_plan.specs.Plans.{IsPlace, is_object, record_at};
 ghost use Rattle.edi_plan.specs.Sides.{targets};
 ghost use Rattle.edi_record.specs.declared.record.Kind.TheVariants.{Fea};
+ghost use Rattle.edi_objects.specs.Counts.{changed_class, changed_classes, is_told_changed};
 ghost use Rattle.edi_objects.specs.Differing.{became_of, same_of};
 ghost use Rattle.edi_objects.specs.LinksOf.{links_of};
 ghost use Rattle.edi_objects.specs.Objects.{attributes_change, class_change, differing_link, extras_change, first_link, first_object, has_other_outline, link_text, object_block, object_header, object_lines, outline_line, outline_there, own_changes, own_lines, second_link, second_object};
@@ -12,12 +13,14 @@ ghost use Rattle.edi_report.specs.Reports.{parts_at};
 
 use crate::account::ObjectReporter;
 use crate::attributes::push_attribute_lines;
+use crate::counts::push_class_if;
 use crate::elements::MOST_NAMED;
 use crate::index::entries_of;
 use crate::names::first_few;
 use edi_record::Kind;
 use edi_report::Parts;
 use edi_report::lines::{push_both_lines, push_words};
+use edi_schema::ClassRef;
 use std::alloc::{AllocError, Global};
 
 /// Whether records of this type are objects.
@@ -43,16 +46,19 @@ fn push_extras_change(lines: &mut Vec<u8>, differ: bool) -> Result<(), AllocErro
 }
 
 impl<'a> ObjectReporter<'a> {
-    /// Appends the objects of the first sheet that differ.
+    /// Appends the objects of the first sheet that differ, and the classes of those that changed.
     pub(crate) fn push_first_objects(
         &self,
         alloc: Global,
         text: &mut Vec<u8>,
+        changed: &mut Vec<ClassRef>,
     ) -> Result<(), AllocError>
-        ensures { OnOk result (text.new.items ≡ text.old.items ++ flat_map (first_object self.now.naming self.now.report) (places_of Fea self.now.report.first.accepted)) }
+        ensures text { OnOk result (text.new.items
+            ≡ text.old.items ++ flat_map (first_object self.now.naming self.now.report) (places_of Fea self.now.report.first.accepted)) }
+        ensures classes { OnOk result (changed.new.items ≡ changed.old.items ++ changed_classes self.now.naming self.now.report) }
     {
         for place in self.first().plan().places(Kind::Fea) {
-            self.push_first_object(alloc, text, *place)?;
+            self.push_first_object(alloc, text, changed, *place)?;
         }
         Ok(())
     }
@@ -67,18 +73,24 @@ impl<'a> ObjectReporter<'a> {
         Ok(())
     }
 
-    /// Appends an object of the first sheet, if it is gone or differs.
+    /// Appends an object of the first sheet, if it is gone or differs, and its class if it changed.
     fn push_first_object(
         &self,
         alloc: Global,
         text: &mut Vec<u8>,
+        changed: &mut Vec<ClassRef>,
         place: u32,
     ) -> Result<(), AllocError>
         requires { IsPlace self.now.report.first.accepted place }
-        ensures { OnOk result (text.new.items ≡ text.old.items ++ first_object self.now.naming self.now.report place) }
+        ensures text { OnOk result (text.new.items ≡ text.old.items ++ first_object self.now.naming self.now.report place) }
+        ensures classes { OnOk result (changed.new.items
+            ≡ changed.old.items ++ changed_class self.now.naming self.now.report place) }
     {
         match self.became_of(place) {
-            Some(target) => self.push_block(alloc, text, place, target),
+            Some(target) => {
+                let is_told = self.push_block(alloc, text, place, target)?;
+                push_class_if(changed, is_told, self.first().plan(), place)
+            }
             None => self.first().push_lone(text, b"- ", place),
         }
     }
@@ -94,24 +106,27 @@ impl<'a> ObjectReporter<'a> {
         self.second().push_lone(text, b"+ ", place)
     }
 
-    /// Appends an object that is or became one of the second sheet, and below it what differs, if anything does.
+    /// Appends an object that is or became one of the second sheet, and below it what differs; says whether anything does.
     fn push_block(
         &self,
         alloc: Global,
         text: &mut Vec<u8>,
         place: u32,
         target: u32,
-    ) -> Result<(), AllocError>
+    ) -> Result<bool, AllocError>
         requires place { IsPlace self.now.report.first.accepted place }
         requires target { IsPlace self.now.report.second.accepted target }
-        ensures { OnOk result (text.new.items ≡ text.old.items ++ object_block self.now.naming self.now.report place target (object_lines self.now.naming self.now.report place target)) }
+        ensures text { OnOk result (text.new.items ≡ text.old.items
+            ++ object_block self.now.naming self.now.report place target (object_lines self.now.naming self.now.report place target)) }
+        ensures told { IfOk result (λ told. told ≡ is_told_changed self.now.naming self.now.report place (Some target)) }
     {
         let lines = self.lines(alloc, place, target)?;
         if lines.len() == 0 {
-            return Ok(());
+            return Ok(false);
         }
         self.push_header(text, place, target)?;
-        text.extend_from_slice(&lines)
+        text.extend_from_slice(&lines)?;
+        Ok(true)
     }
 
     /// Appends the names of an object and its lines in both files.

@@ -1,4 +1,4 @@
-use Rattle.std.proofs.Common.{◌≡◌, ◌∙◌, ℕ, List, ap, drop, eqb, leb, ltb, map, rules, subst, sym, Bor}
+use Rattle.std.proofs.Common.{◌∙◌, List, ap, eqb, leb, ltb, map, rules, subst, sym, Bor}
 use Rattle.std.specs.List.Sorted.{IsNonDecreasingBy}
 use Rattle.std.proofs.lemmas.List.Sorted.{IsNonDecreasingBy-drop, IsPartitionPoint-from_clause, IsPartitionedBy-leb, IsPartitionedBy-ltb}
 use Rattle.edi_plan.specs.declared.record.PlanAttribute.{PlanAttribute}

@@ -1,4 +1,4 @@
-use Rattle.std.proofs.Common.{◌∙◌, ◌≡◌, ◌++◌, ◌<◌, ℕ, List, ap, get_or, length, map, nat_cmp, subst, sym, Bor}
+use Rattle.std.proofs.Common.{◌∙◌, ◌++◌, ◌<◌, ℕ, List, ap, length, map, nat_cmp, subst, sym, Bor}
 use Rattle.std.specs.List.{AllByRecursion}
 use Rattle.std.proofs.lemmas.Cmp.{nat_cmp_total}
 use Rattle.std.proofs.lemmas.List.Sorted.{IsPermutation-sym}

@@ -1,4 +1,4 @@
-use Rattle.std.proofs.Common.{◌∙◌, ◌++◌, ap, subst, sym, List, ℕ, IsPermutation}
+use Rattle.std.proofs.Common.{◌∙◌, ◌++◌, ap, subst, List, ℕ, IsPermutation}
 use Rattle.edi_schema.proofs.SortedLists.{sorted_is}
 use Rattle.edi_objects.specs.LinksOf.{index_of, naming_cmp}
 use Rattle.edi_objects.specs.inner.Indices.{all_named}

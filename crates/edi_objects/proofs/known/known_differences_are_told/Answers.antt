@@ -2,7 +2,8 @@ use Rattle.std.proofs.Common.{refl}
 use Rattle.std.specs.Char.{encode_utf8}
 use Rattle.std.specs.Fmt.{digits}
 use Rattle.std.specs.Str.{chars, is_utf8}
-use Rattle.edi_line.specs.Number.{size_text}
+use Rattle.edi_line.specs.Number.{fraction_digits, size_text}
+use Rattle.edi_objects.specs.Distances.{root}
 use Rattle.edi_objects.specs.Elements.{element_text}
 use Rattle.edi_objects.specs.LinksOf.{index_of}
 use Rattle.edi_objects.specs.Names.{shown_class}
@@ -10,5 +11,5 @@ use Rattle.edi_objects.specs.Objects.{attributes_change, class_change, extras_ch
 use Rattle.edi_objects.proofs.known.known_differences_are_told.Goals as goal
 
 pub returns : goal.returns
-unfolding attributes_change class_change shown_class element_text extras_change has_other_outline index_of digits chars encode_utf8 is_utf8 size_text
+unfolding attributes_change class_change shown_class element_text extras_change has_other_outline index_of digits chars encode_utf8 is_utf8 size_text fraction_digits root
 returns c = refl

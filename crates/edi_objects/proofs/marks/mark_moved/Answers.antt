@@ -1,4 +1,4 @@
-use Rattle.std.proofs.Common.{◌∙◌, ◌<◌, length, subst, sym}
+use Rattle.std.proofs.Common.{◌∙◌, ◌<◌, subst, sym}
 use Rattle.edi_objects.proofs.Marked.{onto_more}
 use Rattle.edi_objects.proofs.marks.mark_moved.Goals as goal
 

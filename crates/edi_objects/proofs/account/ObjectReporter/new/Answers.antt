@@ -1,4 +1,4 @@
-use Rattle.std.proofs.Common.{◌∙◌, Bool, List, ap, length, subst, sym}
+use Rattle.std.proofs.Common.{◌∙◌, ap, length, subst, sym}
 use Rattle.edi_plan.specs.Plans.{Drawing}
 use Rattle.edi_report.specs.Reports.{Report}
 use Rattle.edi_objects.specs.Differing.{arrives, is_differing}

@@ -1,4 +1,4 @@
-use Rattle.std.proofs.Common.{◌∙◌, ap, subst, sym}
+use Rattle.std.proofs.Common.{subst, sym}
 use Rattle.edi_plan.specs.Plans.{Drawing, IsPlace}
 use Rattle.edi_objects.proofs.Placed.{end_there}
 use Rattle.edi_objects.proofs.elements.SheetNamer.push_others.Goals as goal

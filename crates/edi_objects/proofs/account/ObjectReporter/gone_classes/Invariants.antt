@@ -1,0 +1,7 @@
+use Rattle.std.proofs.Common.{◌≡◌, take}
+use Rattle.std.specs.List.{flat_map}
+use Rattle.edi_objects.specs.Counts.{gone_class}
+use Rattle.edi_objects.proofs.account.ObjectReporter.gone_classes.Given as goal
+
+abbrev pub invariant-loop-place : goal.invariant-loop-place
+invariant-loop-place l = l.classes.items ≡ flat_map (gone_class l.self.report) (take l.place-index l.place-items)
