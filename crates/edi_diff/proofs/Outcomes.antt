@@ -95,7 +95,7 @@ pub text_by : (s : Classes) (first second : LocatedSheet) (m became : Matching) 
 text_by s first second m became parts form text unchanged went reported_parts are are_parts is_kept is_went is_parts reporter read =
     let told : List (Option ℕ) → List (Option ℕ) → List Parts → Report = λ kept to ps. record { first = first; second = second; unchanged = kept; became = to; parts = ps } in
     let same : told unchanged went reported_parts ≡ report_by first second m became parts =
-        ap (λ to. told to went reported_parts) is_kept ∙ (ap (λ to. told m.to to reported_parts) is_went ∙ ap (λ ps. told m.to became.to ps) is_parts) in (
+    ap (λ to. told to went reported_parts) is_kept ∙ (ap (λ to. told m.to to reported_parts) is_went ∙ ap (λ ps. told m.to became.to ps) is_parts) in (
       record {
         became = became;
         parts = parts;

@@ -7,13 +7,14 @@ use Rattle.edi_plan.specs.Places.{places_of}
 use Rattle.edi_report.specs.Lines.{changed_line, is_reached, lone_line}
 use Rattle.edi_report.specs.Reports.{Report}
 
--- A record that is listed: one of the first sheet that is gone; one, and that of the second which it became; or one of the second that is new.
+-- A record that is listed: one of the first sheet that is gone; one, and that of the second which it became; or one of
+-- the second that is new.
 pub data Listed : Type 0 where
   gone : ℕ → Listed
   changed : ℕ → ℕ → Listed
   added : ℕ → Listed
 
--- a record of the first sheet is listed unless it is one of the second: by the one that it is and the one that it became
+-- a record of the first sheet is listed unless it is one of the second: by that, and by the one that it became
 abbrev pub listed_by : ℕ → Option ℕ → Option ℕ → List Listed
 listed_by i (Some k) became = []
 listed_by i None (Some j) = changed i j ∷ []
@@ -29,7 +30,8 @@ second_listed r j = if is_reached r.became j then [] else added j ∷ []
 -- the records of a type: those of the first sheet, and those of the second
 abbrev pub listed_of : Report → Kind → List Listed
 listed_of r kind =
-    flat_map (first_listed r) (places_of kind r.first.accepted) ++ flat_map (second_listed r) (places_of kind r.second.accepted)
+    flat_map (first_listed r) (places_of kind r.first.accepted)
+    ++ flat_map (second_listed r) (places_of kind r.second.accepted)
 
 -- the objects, the faces, the arcs, the nodes and the links
 abbrev pub listed : Report → List Listed

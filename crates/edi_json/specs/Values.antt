@@ -31,8 +31,8 @@ line_value what told = object (member (codes "version") (number_value 1) (member
 
 -- where a record stands: its identifier, and the line of its RTY
 abbrev pub site_value : Site → Json
-site_value site =
-    object (member (codes "identifier") (text_value site.rid) (member (codes "line") (number_value site.line) no_members))
+site_value site = object (member (codes "identifier") (text_value site.rid)
+    (member (codes "line") (number_value site.line) no_members))
 
 -- a name, if it is said, in front of others
 abbrev pub name_if : Bool → List ℕ → Items → Items
@@ -41,9 +41,11 @@ name_if said name names = if said then item (string name) names else names
 -- the names of the parts that differ
 abbrev pub part_names : Parts → Items
 part_names parts = name_if parts.class (codes "class") (name_if parts.attributes (codes "attributes")
-    (name_if parts.extras (codes "extras") (name_if parts.points (codes "points") (name_if parts.ends (codes "ends") no_items))))
+    (name_if parts.extras (codes "extras") (name_if parts.points (codes "points")
+    (name_if parts.ends (codes "ends") no_items))))
 
--- a record: in which sheet it stands or that it changed, its type, where it stands in A and in B, and the parts that differ
+-- a record: in which sheet it stands or that it changed, its type, where it stands in A and in B, and the parts that
+-- differ
 abbrev pub record_value : List ℕ → Kind → Json → Json → Items → Json
 record_value mark kind a b parts = line_value (codes "record") (member (codes "mark") (string mark)
     (member (codes "type") (text_value (kind_code kind)) (member (codes "a") a (member (codes "b") b
@@ -70,7 +72,8 @@ listed_values r records = map (listed_value r) records
 
 -- two character sets
 abbrev pub charsets_value : Option (List ℕ) → Option (List ℕ) → Json
-charsets_value a b = line_value (codes "charsets") (member (codes "a") (text_or_null a) (member (codes "b") (text_or_null b) no_members))
+charsets_value a b = line_value (codes "charsets") (member (codes "a") (text_or_null a)
+    (member (codes "b") (text_or_null b) no_members))
 
 -- the same, where they differ
 abbrev pub charsets_values : Option (List ℕ) → Option (List ℕ) → List Json
@@ -84,7 +87,7 @@ abbrev pub counts_value : ℕ → ℕ → ℕ → Json
 counts_value in_a in_b in_both = line_value (codes "counts") (member (codes "only_in_a") (number_value in_a)
     (member (codes "only_in_b") (number_value in_b) (member (codes "changed") (number_value in_both) no_members)))
 
--- What differs: the character sets, where they do; the records that the text lists, in its order; and how many they are.
+-- What differs: the character sets, where they do; the records that the text lists, in its order; and their counts.
 abbrev pub difference_values : Report → List Json
 difference_values r = charsets_values r.first.accepted.cse r.second.accepted.cse ++ listed_values r (listed r)
     ++ counts_value (gone_count r) (added_count r) (changed_count r) ∷ []

@@ -46,7 +46,8 @@ fn push_unlike(
     a: Option<&[u8]>,
     b: Option<&[u8]>,
 ) -> Result<(), AllocError>
-    ensures { OnOk result (HasLines text.old.items text.new.items (charsets_values (option_copied a.entry) (option_copied b.entry))) }
+    ensures { OnOk result (HasLines text.old.items text.new.items
+        (charsets_values (option_copied a.entry) (option_copied b.entry))) }
 {
     match (a, b) {
         (None, None) => Ok(()),
@@ -88,7 +89,8 @@ fn push_type(
     report: &Reporter<'_>,
     kind: Kind,
 ) -> Result<(), AllocError>
-    ensures { OnOk result (HasLines text.old.items text.new.items (listed_values report.now (listed_of report.now kind))) }
+    ensures { OnOk result (HasLines text.old.items text.new.items
+        (listed_values report.now (listed_of report.now kind))) }
 {
     push_firsts(alloc, text, report, kind)?;
     push_seconds(alloc, text, report, kind)
@@ -134,7 +136,8 @@ fn push_first(
     place: u32,
 ) -> Result<(), AllocError>
     requires { IsPlace report.now.first.accepted place }
-    ensures { OnOk result (HasLines text.old.items text.new.items (listed_values report.now (first_listed report.now place))) }
+    ensures { OnOk result (HasLines text.old.items text.new.items
+        (listed_values report.now (first_listed report.now place))) }
 {
     if report.unchanged[place as usize].is_some() {
         return Ok(());
@@ -169,7 +172,8 @@ fn push_changed(
 ) -> Result<(), AllocError>
     requires place { IsPlace report.now.first.accepted place }
     requires target { IsPlace report.now.second.accepted target }
-    ensures { OnOk result (HasLines text.old.items text.new.items (listed_values report.now (changed place target ∷ []))) }
+    ensures { OnOk result (HasLines text.old.items text.new.items
+        (listed_values report.now (changed place target ∷ []))) }
 {
     let kind = plan_of(report.first).kind(place);
     let here = site_of(report.first, place);
@@ -186,7 +190,8 @@ fn push_second(
     place: u32,
 ) -> Result<(), AllocError>
     requires { IsPlace report.now.second.accepted place }
-    ensures { OnOk result (HasLines text.old.items text.new.items (listed_values report.now (second_listed report.now place))) }
+    ensures { OnOk result (HasLines text.old.items text.new.items
+        (listed_values report.now (second_listed report.now place))) }
 {
     if report.reached[place as usize] {
         Ok(())

@@ -9,8 +9,8 @@ ghost use Rattle.edi_json.specs.Listed.{listed, listed_line};
 ghost use Rattle.edi_json.specs.Texts.{differences_json};
 ghost use Rattle.edi_json.specs.Values.{characters};
 
-/// The text, record by record, has a line for each record that is listed here, in the same order, and no other but those of
-/// the character sets and of the counts.
+/// The text, record by record, has a line for each record that is listed here, in the same order, and no other but
+/// those of the character sets and of the counts.
 pub fn text_lists_the_same()
     ensures { (r : Report) → report_text r ≡ charsets_line r ++ flat_map (listed_line r) (listed r) ++ totals_line r }
 {}

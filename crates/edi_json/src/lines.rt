@@ -114,7 +114,8 @@ fn write_changed(
     parts: &Parts,
 ) -> Result<(), AllocError>
     ensures before { writer.new.before ≡ writer.old.before }
-    ensures tokens { OnOk result (writer.new.tokens ≡ writer.old.tokens ++ json_tokens (changed_value kind a.now b.now parts.now)) }
+    ensures tokens { OnOk result (writer.new.tokens
+        ≡ writer.old.tokens ++ json_tokens (changed_value kind a.now b.now parts.now)) }
 {
     begin_record(alloc, writer, "changed", kind)?;
     put_site(alloc, writer, "a", a)?;
@@ -129,7 +130,8 @@ pub(crate) fn push_charsets(
     a: Option<&[u8]>,
     b: Option<&[u8]>,
 ) -> Result<(), AllocError>
-    ensures { OnOk result (HasLines text.old.items text.new.items (charsets_value (option_copied a.entry) (option_copied b.entry) ∷ [])) }
+    ensures { OnOk result (HasLines text.old.items text.new.items
+        (charsets_value (option_copied a.entry) (option_copied b.entry) ∷ [])) }
 {
     let mut writer = begin_line(alloc, text);
     write_charsets(alloc, &mut writer, a, b)?;
@@ -143,7 +145,8 @@ fn write_charsets(
     b: Option<&[u8]>,
 ) -> Result<(), AllocError>
     ensures before { writer.new.before ≡ writer.old.before }
-    ensures tokens { OnOk result (writer.new.tokens ≡ writer.old.tokens ++ json_tokens (charsets_value (option_copied a.entry) (option_copied b.entry))) }
+    ensures tokens { OnOk result (writer.new.tokens
+        ≡ writer.old.tokens ++ json_tokens (charsets_value (option_copied a.entry) (option_copied b.entry))) }
 {
     begin(writer, "charsets")?;
     put_bytes_or_null(alloc, writer, "a", a)?;
@@ -157,7 +160,8 @@ pub(crate) fn push_counts(
     text: &mut Vec<u8>,
     counts: &Counts,
 ) -> Result<(), AllocError>
-    ensures { OnOk result (HasLines text.old.items text.new.items (counts_value counts.now.gone counts.now.added counts.now.changed ∷ [])) }
+    ensures { OnOk result (HasLines text.old.items text.new.items
+        (counts_value counts.now.gone counts.now.added counts.now.changed ∷ [])) }
 {
     let mut writer = begin_line(alloc, text);
     write_counts(&mut writer, counts)?;
@@ -166,7 +170,8 @@ pub(crate) fn push_counts(
 
 fn write_counts(writer: &mut Writer, counts: &Counts) -> Result<(), AllocError>
     ensures before { writer.new.before ≡ writer.old.before }
-    ensures tokens { OnOk result (writer.new.tokens ≡ writer.old.tokens ++ json_tokens (counts_value counts.now.gone counts.now.added counts.now.changed)) }
+    ensures tokens { OnOk result (writer.new.tokens
+        ≡ writer.old.tokens ++ json_tokens (counts_value counts.now.gone counts.now.added counts.now.changed)) }
 {
     begin(writer, "counts")?;
     put_number(writer, "only_in_a", counts.gone as u64)?;

@@ -29,7 +29,8 @@ fn characters(alloc: Global, bytes: &[u8]) -> Result<String, AllocError>
 /// Appends a name and its value, a number.
 pub(crate) fn put_number(writer: &mut Writer, name: &str, value: u64) -> Result<(), AllocError>
     ensures before { writer.new.before ≡ writer.old.before }
-    ensures tokens { OnOk result (writer.new.tokens ≡ writer.old.tokens ++ member_tokens name.now (number_value value)) }
+    ensures tokens { OnOk result (writer.new.tokens
+        ≡ writer.old.tokens ++ member_tokens name.now (number_value value)) }
 {
     writer.key(name)?;
     writer.u64(value)
@@ -47,7 +48,8 @@ fn put_text(writer: &mut Writer, name: &str, text: &str) -> Result<(), AllocErro
 /// Appends a name, and bytes as text.
 fn put_bytes(alloc: Global, writer: &mut Writer, name: &str, bytes: &[u8]) -> Result<(), AllocError>
     ensures before { writer.new.before ≡ writer.old.before }
-    ensures tokens { OnOk result (writer.new.tokens ≡ writer.old.tokens ++ member_tokens name.now (text_value bytes.now)) }
+    ensures tokens { OnOk result (writer.new.tokens
+        ≡ writer.old.tokens ++ member_tokens name.now (text_value bytes.now)) }
 {
     let text = characters(alloc, bytes)?;
     put_text(writer, name, text.as_str())
@@ -70,7 +72,8 @@ pub(crate) fn put_bytes_or_null(
     bytes: Option<&[u8]>,
 ) -> Result<(), AllocError>
     ensures before { writer.new.before ≡ writer.old.before }
-    ensures tokens { OnOk result (writer.new.tokens ≡ writer.old.tokens ++ member_tokens name.now (text_or_null (option_copied bytes.entry))) }
+    ensures tokens { OnOk result (writer.new.tokens
+        ≡ writer.old.tokens ++ member_tokens name.now (text_or_null (option_copied bytes.entry))) }
 {
     match bytes {
         Some(bytes) => put_bytes(alloc, writer, name, bytes),
@@ -81,7 +84,8 @@ pub(crate) fn put_bytes_or_null(
 /// Appends the identifier of a record.
 fn put_identifier(alloc: Global, writer: &mut Writer, site: &Site) -> Result<(), AllocError>
     ensures before { writer.new.before ≡ writer.old.before }
-    ensures tokens { OnOk result (writer.new.tokens ≡ writer.old.tokens ++ member_tokens (codes "identifier") (text_value site.now.rid)) }
+    ensures tokens { OnOk result (writer.new.tokens
+        ≡ writer.old.tokens ++ member_tokens (codes "identifier") (text_value site.now.rid)) }
 {
     put_bytes(alloc, writer, "identifier", site.rid.as_slice())
 }
@@ -89,7 +93,8 @@ fn put_identifier(alloc: Global, writer: &mut Writer, site: &Site) -> Result<(),
 /// Appends the type of a record.
 fn put_type(alloc: Global, writer: &mut Writer, kind: Kind) -> Result<(), AllocError>
     ensures before { writer.new.before ≡ writer.old.before }
-    ensures tokens { OnOk result (writer.new.tokens ≡ writer.old.tokens ++ member_tokens (codes "type") (text_value (kind_code kind))) }
+    ensures tokens { OnOk result (writer.new.tokens
+        ≡ writer.old.tokens ++ member_tokens (codes "type") (text_value (kind_code kind))) }
 {
     put_bytes(alloc, writer, "type", kind.code())
 }
@@ -102,7 +107,8 @@ pub(crate) fn put_site(
     site: &Site,
 ) -> Result<(), AllocError>
     ensures before { writer.new.before ≡ writer.old.before }
-    ensures tokens { OnOk result (writer.new.tokens ≡ writer.old.tokens ++ member_tokens name.now (site_value site.now)) }
+    ensures tokens { OnOk result (writer.new.tokens
+        ≡ writer.old.tokens ++ member_tokens name.now (site_value site.now)) }
 {
     writer.key(name)?;
     writer.begin_object()?;

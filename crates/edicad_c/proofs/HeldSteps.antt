@@ -1,5 +1,5 @@
 -- What a handle's schema is, and what is handed out.
-use Rattle.std.proofs.Common.{◌≡◌, None, Option, Some, subst, sym}
+use Rattle.std.proofs.Common.{◌≡◌, Option, Some, subst, sym}
 use Rattle.edi_schema.specs.Classes.{Classes}
 use Rattle.edicad_c.specs.declared.answer.Answer.{Answer}
 use Rattle.edicad_c.specs.declared.content.Content.{Content}
@@ -22,10 +22,3 @@ handed_out P held value seen given out answer result is_held is_seen is_out is_r
     let held' : Of held given answer = subst (λ (h : Option Content). Of h given answer) is_held seen' in
     let out' : Of held out answer = subst (λ (g : Option Content). Of held g answer) (sym is_out) held' in
     subst (λ (a : Answer). Of held out a) (sym is_result) out'
-
--- what holds of each schema, and where there is none, is said of any handle
-pub match_any : (held : Option Content) (P : Classes → Type 0) (Q : Type 0) → ((s : Classes) → P s) → Q → MatchSchema held P Q
-match_any (Some (Schema s)) P Q each other = each s
-match_any (Some (Bytes v)) P Q each other = other
-match_any (Some (Pairs v)) P Q each other = other
-match_any None P Q each other = other

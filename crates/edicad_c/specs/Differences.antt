@@ -15,7 +15,8 @@ use Rattle.edi_diff.specs.declared.form.TextForm.TheVariants.{Brief, Json, Objec
 -- the form with this number: record by record, how many records differ, object by object, or lines of JSON
 abbrev pub form_numbered : ℕ → Option TextForm
 form_numbered n =
-    if n == 0 then Some Records else (if n == 1 then Some Brief else (if n == 2 then Some Objects else (if n == 3 then Some Json else None)))
+    if n == 0 then Some Records
+    else (if n == 1 then Some Brief else (if n == 2 then Some Objects else (if n == 3 then Some Json else None)))
 
 -- Both sheets are accepted, the answer is whether they state the same plan, and the handle holds the text of what
 -- differs in this form; or the answer is the refusal, and the handle is empty.

@@ -14,7 +14,8 @@ member_tokens name value = Token.key name ∷ json_tokens value
 -- what each line begins with
 abbrev pub opening_tokens : List ℕ → List Token
 opening_tokens what =
-    Token.begin_object ∷ (member_tokens (codes "version") (number_value 1) ++ member_tokens (codes "what") (string what))
+    Token.begin_object
+    ∷ (member_tokens (codes "version") (number_value 1) ++ member_tokens (codes "what") (string what))
 
 -- what the line of a record begins with
 abbrev pub record_tokens : List ℕ → Kind → List Token
