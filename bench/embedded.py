@@ -5,10 +5,11 @@
     library/build.sh                             builds library/out/libedicad.so.1
     python3 bench/embedded.py [COUNT [ROUNDS]]   from the top; COUNT is how many sheets (5000), ROUNDS how often (3)
 
-The sheets have 0.1 MB each; twenty differ, and the others are links to them, so that what is measured is no disk. In turn, best of ROUNDS,
-by the clock: one run of `hash` over all of them; four runs of it side by side, over a quarter each, which is the most that this machine gives
-four at a time; and python/examples/hash_folder.py, the start of Python included. All have to write the same digests. Printed: the three times, and
-of the last two how many times a quarter of the first they take. Nothing else may run meanwhile.
+The sheets have 0.1 MB each; twenty differ, and the others are links to them, so that what is measured is no disk. In turn, best of ROUNDS:
+one run of `hash` over all of them; four runs of it side by side, over a quarter each, which is the most that this machine gives
+four at a time; and python/examples/hash_folder.py, the start of Python included. All have to write the same digests. Printed: the seconds of each
+by the clock, and how many times a quarter of the first's that is; and its seconds of a processor, and how many times the first's. The clock means
+something only where nothing else runs.
 """
 import io
 import os
@@ -53,16 +54,17 @@ def make(folder, count):
     return [str(folder / "schema.scd"), str(folder / "schema.dic")], [str(it) for it in paths]
 
 
-def by_the_clock(many, **named):
-    """Runs these commands side by side: their seconds, and what they wrote, in order."""
+def timed(many, **named):
+    """Runs these commands side by side: their seconds by the clock and of processors, and what they wrote, in order."""
     outputs = [tempfile.TemporaryFile() for _ in many]
     start = time.monotonic()
     running = [subprocess.Popen(words, stdout=output, **named) for words, output in zip(many, outputs)]
-    statuses = [it.wait() for it in running]
+    ended = [os.wait4(it.pid, 0) for it in running]
     taken = time.monotonic() - start
-    if any(statuses):
-        sys.exit(f"{many[0][:3]}: status {statuses}")
-    return taken, b"".join(written(output) for output in outputs)
+    if any(status for _, status, _ in ended):
+        sys.exit(f"{many[0][:3]}: status {[status for _, status, _ in ended]}")
+    used = sum(usage.ru_utime + usage.ru_stime for _, _, usage in ended)
+    return taken, used, b"".join(written(output) for output in outputs)
 
 
 def written(output):
@@ -90,17 +92,17 @@ def main():
         quarter = -(-count // THREADS)
         parts = [paths[at : at + quarter] for at in range(0, count, quarter)]
         ways = {
-            "one run of hash": lambda: by_the_clock([[PROGRAM, "hash", *schema, *paths]]),
-            "four runs of hash": lambda: by_the_clock([[PROGRAM, "hash", *schema, *part] for part in parts]),
-            "four threads of Python": lambda: by_the_clock([[sys.executable, EXAMPLE, *schema, folder / "sheets"]], env=env),
+            "one run of hash": lambda: timed([[PROGRAM, "hash", *schema, *paths]]),
+            "four runs of hash": lambda: timed([[PROGRAM, "hash", *schema, *part] for part in parts]),
+            "four threads of Python": lambda: timed([[sys.executable, EXAMPLE, *schema, folder / "sheets"]], env=env),
         }
         runs = in_turn(ways, rounds)
-    if len({lines for run in runs.values() for _, lines in run}) != 1:
+    if len({lines for run in runs.values() for _, _, lines in run}) != 1:
         sys.exit("the digests differ")
-    best = {name: min(seconds for seconds, _ in run) for name, run in runs.items()}
-    first = best["one run of hash"]
-    for name, seconds in best.items():
-        print(f"{name}: {seconds:.2f} s, {seconds / first * THREADS:.2f} times a quarter of the first")
+    best = {name: [min(it[part] for it in run) for part in (0, 1)] for name, run in runs.items()}
+    clock, processor = best["one run of hash"]
+    for name, (seconds, used) in best.items():
+        print(f"{name}: {seconds:.2f} s by the clock, {seconds / clock * THREADS:.2f} quarters; {used:.2f} s of a processor, {used / processor:.2f}")
 
 
 if __name__ == "__main__":
