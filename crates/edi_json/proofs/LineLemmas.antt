@@ -1,5 +1,5 @@
 -- Lines that are appended, and what a reader finds in them.
-use Rattle.std.proofs.Common.{◌≡◌, ◌∙◌, ℕ, ◌+◌, ◌-◌, ◌<◌, ◌≤◌, Bool, true, false, cond, ◌==◌, List, [], ◌∷◌, ◌++◌, Some, Ok, Err, OnOk, Result, append_assoc, append-nil, arith, ap, ap₂, get_or, length, map, option_and_then, refl, slice_index, subst, sym, take}
+use Rattle.std.proofs.Common.{◌≡◌, ◌∙◌, ℕ, ◌+◌, ◌-◌, ◌<◌, ◌≤◌, cond, ◌==◌, List, [], ◌∷◌, ◌++◌, Some, Ok, Err, OnOk, Result, append_assoc, append-nil, arith, ap, ap₂, get_or, length, map, option_and_then, refl, subst, sym, take}
 use Rattle.std.specs.List.{AllByRecursion, flat_map, slice_split}
 use Rattle.std.specs.Str.Lines.{lines, lines_of_parts, strip_carriage_return}
 use Rattle.std.proofs.lemmas.Grind.{flat_map-append}

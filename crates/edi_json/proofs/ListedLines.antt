@@ -7,7 +7,7 @@ use Rattle.edi_record.specs.declared.record.Kind.TheVariants.{Pno, Par, Pfe, Fea
 use Rattle.edi_plan.specs.Places.{places_of}
 use Rattle.edi_report.specs.Lines.{charsets_line, first_line, is_reached, line_by, lines_of, lone_line, report_text, second_line, totals_line}
 use Rattle.edi_report.specs.Reports.{Report}
-use Rattle.edi_json.specs.Listed.{Listed, added, first_listed, listed, listed_by, listed_line, listed_of, second_listed}
+use Rattle.edi_json.specs.Listed.{added, first_listed, listed, listed_by, listed_line, listed_of, second_listed}
 
 one_by : (r : Report) (i : ℕ) (kept went : Option ℕ) → line_by r i kept went ≡ flat_map (listed_line r) (listed_by i kept went)
 one_by r i (Some k) went = refl

@@ -1,7 +1,7 @@
 -- The values of lines: they are shallow, and their numbers are printed.
-use Rattle.std.proofs.Common.{◌≡◌, ◌∙◌, ℕ, ◌<◌, ◌≤◌, Bool, true, false, List, [], ◌∷◌, ◌++◌, Option, Some, None, append_assoc, arith, ap, codes, max, refl, sym, if◌then◌else◌}
+use Rattle.std.proofs.Common.{◌≡◌, ℕ, ◌≤◌, Bool, true, false, List, [], ◌∷◌, ◌++◌, Option, Some, None, append_assoc, arith, codes, refl}
 use Rattle.std.specs.List.{AllByRecursion}
-use Rattle.json.specs.Json.{Items, Json, array, item, max_depth, no_items, null, string}
+use Rattle.json.specs.Json.{Items, Json, max_depth, no_items, null}
 use Rattle.json.specs.Token.{Token}
 use Rattle.json.specs.Tree.{depth, items_depth, items_tokens, json_tokens}
 use Rattle.edi_record.specs.declared.record.Kind.{Kind}

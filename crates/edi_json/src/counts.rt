@@ -6,7 +6,7 @@ ghost use Rattle.edi_report.specs.Lines.{added_count, changed_count, gone_count}
 use edi_report::Reporter;
 
 /// How many records differ.
-#[derive(Clone, Copy, PartialEq, Eq)]
+#[derive(Clone, Copy)]
 pub struct Counts {
     /// Of the first sheet alone.
     pub gone: usize,

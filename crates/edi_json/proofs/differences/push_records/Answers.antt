@@ -1,4 +1,3 @@
-use Rattle.std.proofs.Common.{List}
 use Rattle.edi_record.specs.declared.record.Kind.TheVariants.{Pno, Par, Pfe, Fea, Lnk}
 use Rattle.edi_json.specs.Listed.{listed_of}
 use Rattle.edi_json.proofs.LineLemmas.{ended, more_listed}

@@ -1,4 +1,4 @@
-use Rattle.std.proofs.Common.{◌≡◌, ◌∙◌, ℕ, ◌<◌, All, Bool, true, ◌&&◌, List, [], ◌∷◌, ◌++◌, ap, ap₂, arith, chars, encode_utf8, encode_utf8_all, refl, sym}
+use Rattle.std.proofs.Common.{◌≡◌, ◌∙◌, ℕ, ◌<◌, All, true, ◌&&◌, List, [], ◌∷◌, ◌++◌, ap, ap₂, arith, chars, encode_utf8, encode_utf8_all, refl}
 use Rattle.std.specs.Str.{all_scalars}
 use Rattle.std.proofs.lemmas.List.Elements.{All-head, All-tail}
 use Rattle.std.proofs.lemmas.Str.{chars-encodes}
