@@ -31,7 +31,6 @@
 #ifndef EDICAD_H
 #define EDICAD_H
 
-#include <stdbool.h>
 #include <stddef.h>
 #include <stdint.h>
 
@@ -185,11 +184,20 @@ edicad_answer edicad_verify(edicad_schema *schema, const uint8_t *first, size_t 
                             const uint8_t *pairing, size_t pairing_length,
                             const uint8_t *name, size_t name_length, edicad_bytes *reason);
 
-/* What differs between two sheets (docs/FORMAT.md, "Differences"): EDICAD_DONE if they state the
- * same plan, EDICAD_DIFFERENT if not, and text tells it record by record, and how many records
- * differ; that alone if brief. EDICAD_REFUSED as of edicad_compare. Else text is empty. */
+/* The forms in which edicad_diff tells what differs between two sheets, all by one matching of their
+ * records (docs/FORMAT.md, "Differences"). */
+enum {
+    EDICAD_BY_RECORD = 0, /* a line for each record that differs, and one that counts them */
+    EDICAD_BRIEF = 1,     /* the line that counts them, and that of the character sets where they differ */
+    EDICAD_BY_OBJECT = 2, /* object by object, by the attributes that people know */
+    EDICAD_JSON = 3       /* record by record, as lines of JSON (docs/JSON.md) */
+};
+
+/* What differs between two sheets: EDICAD_DONE if they state the same plan, EDICAD_DIFFERENT if not,
+ * and text tells it in this form, in UTF-8. EDICAD_REFUSED as of edicad_compare; EDICAD_WRONG_CALL
+ * also where form is none of the above. Else text is empty. */
 edicad_answer edicad_diff(edicad_schema *schema, const uint8_t *first, size_t first_length,
-                          const uint8_t *second, size_t second_length, bool brief,
+                          const uint8_t *second, size_t second_length, uint8_t form,
                           edicad_bytes *text);
 
 /* ---- bytes that a call gave ---- */

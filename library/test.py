@@ -3,12 +3,13 @@
 
 --after-ci, for the gate, builds over the libraries that `rt ci` has just proved in this checkout; --built takes what library/build.sh made
 before. Each step has a line; the first that fails ends the run. Where a tool is lacking the run fails, unless it is told to go without:
-valgrind, c++ or pkg-config.
+valgrind, tsan (a compiler that builds with -fsanitize=thread and runs what it built: cc, or else clang), c++ or pkg-config.
 """
 import argparse
 import json
 import os
 import pathlib
+import platform
 import re
 import shutil
 import subprocess
@@ -25,7 +26,7 @@ NODE = TOP / "examples" / "node"
 SCHEMA = [PARCEL / "schema.scd", PARCEL / "dictionary.dic"]
 DIGEST = "49ad51db2118438b80ddf0dae14893f4486718dc86d934d87cde61a93d0a2352"
 WARNINGS = ["-Wall", "-Wextra", "-Werror", "-pedantic"]
-TOOLS = ("valgrind", "c++", "pkg-config")
+TOOLS = ("valgrind", "tsan", "c++", "pkg-config")
 MEMCHECK = ["valgrind", "-q", "--leak-check=full", "--show-leak-kinds=all", "--errors-for-leak-kinds=all", "--error-exitcode=9"]
 HELGRIND = ["valgrind", "-q", "--tool=helgrind", "--error-exitcode=9"]
 
@@ -94,9 +95,55 @@ def memory():
 
 
 def threads(without):
+    """Threads that share inputs and nothing else: under helgrind, which watches the library's own code too; and built with the compiler's
+    thread sanitizer, which watches the caller, and of the library what it does through the C library: its memory and its copies."""
     program = compile_c("threads.c", "threads", "-pthread")
     under = [] if "valgrind" in without else HELGRIND
-    return run([*under, program, *SCHEMA, PARCEL / "sheet.vec"]).strip()
+    words = [*SCHEMA, PARCEL / "sheet.vec", NODE / "sheet.vec"]
+    said = run([*under, program, *words]).strip()
+    if "tsan" not in without:
+        said += ", also by " + sanitized(*sanitizing(), words)
+    return said
+
+
+# A race on purpose, by which it is seen that the sanitizer finds one.
+RACE = """
+#include <pthread.h>
+static int shared;
+static void *work(void *of) { for (int i = 0; i < 100000; i++) shared++; return of; }
+int main(void) {
+    pthread_t one, other;
+    pthread_create(&one, 0, work, 0);
+    pthread_create(&other, 0, work, 0);
+    pthread_join(one, 0);
+    pthread_join(other, 0);
+    return 0;
+}
+"""
+
+
+def sanitizing():
+    """The compiler whose thread sanitizer finds a race that is there, and the words before a program that it built: with older sanitizers on
+    newer kernels, those that lay it out at addresses which don't change."""
+    for compiler in ("cc", "clang"):
+        words = [compiler, "-xc", "-fsanitize=thread", "-g", "-O1", "-pthread", "-", "-o", str(TESTS / "race")]
+        if not shutil.which(compiler) or subprocess.run(words, input=RACE, stderr=subprocess.DEVNULL, text=True).returncode:
+            continue
+        for under in ([], ["setarch", platform.machine(), "-R"]):
+            if under and not shutil.which(under[0]):
+                continue
+            found = subprocess.run([*under, TESTS / "race"], stdout=subprocess.PIPE, stderr=subprocess.STDOUT, text=True)
+            if found.returncode and "data race" in found.stdout:
+                return compiler, under
+    fail("no thread sanitizer: neither cc nor clang builds with -fsanitize=thread what finds a race here (--without tsan goes without)")
+
+
+def sanitized(compiler, under, words):
+    program = TESTS / "threads_sanitized"
+    options = ["-std=c11", "-D_GNU_SOURCE", "-g", "-O1", "-fsanitize=thread", "-pthread", *WARNINGS, f"-I{HERE}"]
+    run([compiler, *options, HERE / "tests" / "threads.c", OUT / "libedicad.a", "-o", program])
+    run([*under, program, *words], env={**os.environ, "TSAN_OPTIONS": "halt_on_error=1 exitcode=9"})
+    return f"{compiler} -fsanitize=thread"
 
 
 def installed(folder, without):
@@ -165,7 +212,8 @@ def main():
     parser.add_argument("--built", action="store_true")
     parser.add_argument("--without", action="append", default=[], choices=TOOLS)
     given = parser.parse_args()
-    lacking = [it for it in ("cc", "nm", "ar", "ld", "objcopy", *TOOLS) if it not in given.without and not shutil.which(it)]
+    needed = ["cc", "nm", "ar", "ld", "objcopy", *(it for it in TOOLS if it != "tsan")]
+    lacking = [it for it in needed if it not in given.without and not shutil.which(it)]
     if lacking:
         fail(f"lacking: {', '.join(lacking)}")
     if given.after_ci:

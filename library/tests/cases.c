@@ -246,7 +246,7 @@ static void compare_case(edicad_schema *schema, const block *it) {
     edicad_bytes held = EDICAD_EMPTY, text = EDICAD_EMPTY;
     edicad_answer compared = edicad_compare(schema, a.at, a.length, b.at, b.length);
     edicad_answer paired = edicad_pairing(schema, a.at, a.length, b.at, b.length, &held);
-    edicad_answer differs = edicad_diff(schema, a.at, a.length, b.at, b.length, true, &text);
+    edicad_answer differs = edicad_diff(schema, a.at, a.length, b.at, b.length, EDICAD_BRIEF, &text);
     expect(compared, 1, it, "compared");
     check(same_answer(compared, paired), it, "compared with a pairing");
     check(compared.status == differs.status, it, "compared for differences");
@@ -265,11 +265,36 @@ static void compare_case(edicad_schema *schema, const block *it) {
     free(said.at);
 }
 
+static size_t count_lines(bytes text) {
+    size_t count = 0;
+    for (size_t i = 0; i < text.length; i++) count += text.at[i] == '\n';
+    return count;
+}
+
+/* The other forms of what differs: the same answer, and as JSON a line for each that the text has; no form has the number 4. */
+static void forms_case(edicad_schema *schema, const block *it, edicad_answer answer, bytes told) {
+    bytes a = it->inputs[0], b = it->inputs[1];
+    edicad_bytes text = EDICAD_EMPTY;
+    edicad_answer objects = edicad_diff(schema, a.at, a.length, b.at, b.length, EDICAD_BY_OBJECT, &text);
+    check(same_answer(objects, answer), it, "object by object");
+    edicad_answer json = edicad_diff(schema, a.at, a.length, b.at, b.length, EDICAD_JSON, &text);
+    bytes lines = taken(&text);
+    check(same_answer(json, answer) && count_lines(lines) == count_lines(told), it, "lines of JSON");
+    const char *counts = "{\"version\":1,\"what\":\"counts\",";
+    size_t last = lines.length ? lines.length - 1 : 0;
+    while (last > 0 && lines.at[last - 1] != '\n') last--;
+    check(lines.length == 0 || (lines.length - last > strlen(counts) && memcmp(lines.at + last, counts, strlen(counts)) == 0), it, "the last line of JSON");
+    edicad_answer none = edicad_diff(schema, a.at, a.length, b.at, b.length, 4, &text);
+    check(none.status == EDICAD_WRONG_CALL && edicad_bytes_length(&text) == 0, it, "a form that there isn't");
+    free(lines.at);
+}
+
 static void diff_case(edicad_schema *schema, const block *it) {
     bytes a = it->inputs[0], b = it->inputs[1];
     edicad_bytes text = EDICAD_EMPTY;
-    edicad_answer answer = edicad_diff(schema, a.at, a.length, b.at, b.length, false, &text);
+    edicad_answer answer = edicad_diff(schema, a.at, a.length, b.at, b.length, EDICAD_BY_RECORD, &text);
     bytes said = taken(&text);
+    forms_case(schema, it, answer, said);
     if (is_refused(it)) {
         expect(answer, 1, it, "refused");
         check(said.length == 0, it, "no text");

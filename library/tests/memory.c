@@ -68,11 +68,11 @@ static bytes read_file(const char *path) {
     return all;
 }
 
-enum { SHEETS = 5, CALLS = 10 };
+enum { SHEETS = 5, CALLS = 12 };
 
 static bytes scd, dic, none, sheets[SHEETS], pairing;
 
-static const char *const names[CALLS] = {"load", "check", "canonical", "digest", "explain", "compare", "pairing", "verify", "diff", "pair_records"};
+static const char *const names[CALLS] = {"load", "check", "canonical", "digest", "explain", "compare", "pairing", "verify", "diff", "pair_records", "diff by object", "diff as JSON"};
 
 /* The records paired, and their pairs let go. */
 static edicad_answer paired(edicad_schema *schema, bytes a, bytes b) {
@@ -97,7 +97,9 @@ static edicad_answer make(int call, edicad_schema *schema, bytes a, bytes b, edi
     case 6: return edicad_pairing(schema, a.at, a.length, b.at, b.length, given);
     case 7: return edicad_verify(schema, a.at, a.length, b.at, b.length, pairing.at, pairing.length, name, 4, given);
     case 9: return paired(schema, a, b);
-    default: return edicad_diff(schema, a.at, a.length, b.at, b.length, false, given);
+    case 10: return edicad_diff(schema, a.at, a.length, b.at, b.length, EDICAD_BY_OBJECT, given);
+    case 11: return edicad_diff(schema, a.at, a.length, b.at, b.length, EDICAD_JSON, given);
+    default: return edicad_diff(schema, a.at, a.length, b.at, b.length, EDICAD_BY_RECORD, given);
     }
 }
 
@@ -203,6 +205,7 @@ int main(int count, char **words) {
     edicad_bytes_copy(&given, pairing.at, pairing.length);
     edicad_bytes_free(&given);
     for (int call = 0; call < CALLS; call++) sweep(call, &schema, sheets[0], sheets[1]);
+    for (int call = 8; call < CALLS; call++) sweep(call, &schema, sheets[0], sheets[4]);
     edicad_schema_free(&schema);
     check(held == 0, "memory that is held", 0);
     at_random(1000000);

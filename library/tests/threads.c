@@ -1,4 +1,4 @@
-/* Four threads, each with a schema of its own, over the same inputs; then one handle that goes from thread to thread: threads SCD DIC SHEET. */
+/* Four threads, each with a schema of its own, over the same inputs; then one handle that goes from thread to thread: threads SCD DIC SHEET OTHER. */
 #include <pthread.h>
 #include <stdio.h>
 #include <stdlib.h>
@@ -19,7 +19,7 @@ typedef struct {
     int wrong;
 } worker;
 
-static bytes scd, dic, sheet;
+static bytes scd, dic, sheet, other;
 
 static bytes read_file(const char *path) {
     FILE *file = fopen(path, "rb");
@@ -36,22 +36,25 @@ static bytes read_file(const char *path) {
 static void *work(void *of) {
     worker *own = of;
     for (int i = 0; i < ROUNDS; i++) {
-        edicad_bytes canonical = EDICAD_EMPTY;
+        edicad_bytes given = EDICAD_EMPTY;
         if (!own->schema.inner && edicad_schema_load(scd.at, scd.length, dic.at, dic.length, &own->schema).status != EDICAD_DONE) own->wrong = 1;
         if (edicad_digest(&own->schema, sheet.at, sheet.length, own->digest).status != EDICAD_DONE) own->wrong = 1;
-        if (edicad_canonical(&own->schema, sheet.at, sheet.length, &canonical).status != EDICAD_DONE) own->wrong = 1;
+        if (edicad_canonical(&own->schema, sheet.at, sheet.length, &given).status != EDICAD_DONE) own->wrong = 1;
         if (edicad_compare(&own->schema, sheet.at, sheet.length, sheet.at, sheet.length).status != EDICAD_DONE) own->wrong = 1;
-        if (edicad_bytes_length(&canonical) == 0) own->wrong = 1;
-        edicad_bytes_free(&canonical);
+        if (edicad_bytes_length(&given) == 0) own->wrong = 1;
+        if (edicad_diff(&own->schema, sheet.at, sheet.length, other.at, other.length, EDICAD_JSON, &given).status != EDICAD_DIFFERENT) own->wrong = 1;
+        if (edicad_explain(&own->schema, sheet.at, sheet.length, NULL, 0, &given).status != EDICAD_DONE) own->wrong = 1;
+        edicad_bytes_free(&given);
     }
     return NULL;
 }
 
 int main(int count, char **words) {
-    if (count != 4) return 3;
+    if (count != 5) return 3;
     scd = read_file(words[1]);
     dic = read_file(words[2]);
     sheet = read_file(words[3]);
+    other = read_file(words[4]);
     static worker workers[THREADS];
     pthread_t threads[THREADS];
     for (int i = 0; i < THREADS; i++) pthread_create(&threads[i], NULL, work, &workers[i]);
@@ -67,6 +70,7 @@ int main(int count, char **words) {
     free(scd.at);
     free(dic.at);
     free(sheet.at);
+    free(other.at);
     printf("%s\n", wrong ? "failed" : "threads: the same digest in each");
     return wrong;
 }

@@ -7,6 +7,18 @@ A file is given by its path, or as an object that holds its bytes (bytes, bytear
 breaks a rule, `Refused` says which and where; where memory runs out, `MemoryError` is raised. Calls from several threads run side by side, also those of one schema.
 """
 from ._schema import Schema
-from ._values import Comparison, Difference, Explanation, Pair, Pairing, Refused, Verification
+from ._values import Comparison, Difference, Differences, Explanation, Pair, Pairing, RecordDifference, Refused, Site, Verification
 
-__all__ = ["Comparison", "Difference", "Explanation", "Pair", "Pairing", "Refused", "Schema", "Verification"]
+__all__ = [
+    "Comparison",
+    "Difference",
+    "Differences",
+    "Explanation",
+    "Pair",
+    "Pairing",
+    "RecordDifference",
+    "Refused",
+    "Schema",
+    "Site",
+    "Verification",
+]

@@ -10,6 +10,7 @@ VERSION = 1
 DONE, DIFFERENT, REFUSED, WRONG_CALL, NO_MEMORY = 0, 1, 2, 3, 5
 INPUTS = {1: "scd", 2: "dic", 3: "first", 4: "second", 5: "pairing"}
 UNITS = {1: "line", 2: "record"}
+FORMS = {"records": 0, "brief": 1, "objects": 2, "json": 3}
 
 
 class Answer(ctypes.Structure):
@@ -53,7 +54,7 @@ FUNCTIONS = {
     "edicad_pairing": (Answer, HANDLE + BYTES * 2 + HANDLE),
     "edicad_pair_records": (Answer, HANDLE + BYTES * 2 + HANDLE),
     "edicad_verify": (Answer, HANDLE + BYTES * 4 + HANDLE),
-    "edicad_diff": (Answer, HANDLE + BYTES * 2 + (ctypes.c_bool,) + HANDLE),
+    "edicad_diff": (Answer, HANDLE + BYTES * 2 + (ctypes.c_uint8,) + HANDLE),
     "edicad_bytes_length": (ctypes.c_size_t, HANDLE),
     "edicad_bytes_copy": (Answer, HANDLE + BYTES),
     "edicad_bytes_free": (None, HANDLE),

@@ -6,16 +6,19 @@ import contextlib
 import ctypes
 import os
 import weakref
-from typing import Any, Iterator, Sequence, Union
+from typing import Any, Iterator, Literal, Sequence, Union
 
 from . import _library
-from ._library import DIFFERENT, DONE, INPUTS, NO_MEMORY, REFUSED, UNITS, Answer, Handle, Input, RecordPair
-from ._values import Comparison, Difference, Explanation, Pairing, Refused, Verification
+from ._library import DIFFERENT, DONE, FORMS, INPUTS, NO_MEMORY, REFUSED, UNITS, Answer, Handle, Input, RecordPair
+from ._values import Comparison, Difference, Differences, Explanation, Pairing, Refused, Verification
 
 _edicad = _library.load()
 
 # a path, or an object that holds the bytes of a file
 Source = Union[str, "os.PathLike[str]", Any]
+
+# how what differs is told
+Form = Literal["records", "objects", "brief", "json"]
 
 
 def _bytes_of(source: Source) -> Any:
@@ -82,7 +85,7 @@ class Schema:
 
     `kinds` are the codes of links to an arc's initial and final node and to the faces on its left and its right, where they are not IND,
     FND, LPO and RPO. It serves any number of sheets, in any number of threads: where it is asked for while another thread uses it, the
-    files are loaded once more.
+    files are loaded once more, from copies that it holds.
 
     Raises `Refused` where a file breaks a rule, and `ValueError` where a code is empty or two are equal.
     """
@@ -177,8 +180,22 @@ class Schema:
         _ended(answer, DONE, DIFFERENT)
         return Verification(answer.status == DONE, reason)
 
-    def diff(self, first: Source, second: Source, brief: bool = False) -> Difference:
-        """What differs between two sheets: a line for each record, and how many differ; with `brief` no lines of records."""
+    def diff(self, first: Source, second: Source, form: Form = "records") -> Difference:
+        """What differs between two sheets, as text.
+
+        `form` is "records" (a line for each record that differs, and how many do), "objects" (object by object, by the attributes that people
+        know), "brief" (how many records differ) or "json" (record by record, as lines of JSON, which `differences` reads).
+        """
+        same, text = self._told(first, second, form)
+        return Difference(same, text.decode("utf-8"))
+
+    def differences(self, first: Source, second: Source) -> Differences:
+        """What differs between two sheets, record by record, as lists."""
+        return Differences.of_json(*self._told(first, second, "json"))
+
+    def _told(self, first: Source, second: Source, form: Form) -> tuple[bool, bytes]:
+        if form not in FORMS:
+            raise ValueError(f"no form is called {form!r}: {', '.join(FORMS)}")
         with Input(_bytes_of(first)) as a, Input(_bytes_of(second)) as b, self._lent() as schema, _given() as given:
-            answer = _ended(_edicad.edicad_diff(schema, *a, *b, brief, given), DONE, DIFFERENT)
-            return Difference(answer.status == DONE, _taken(given).decode("utf-8"))
+            answer = _ended(_edicad.edicad_diff(schema, *a, *b, FORMS[form], given), DONE, DIFFERENT)
+            return answer.status == DONE, _taken(given)

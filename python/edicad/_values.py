@@ -1,7 +1,8 @@
 """What calls give."""
 from __future__ import annotations
 
-from typing import NamedTuple
+import json
+from typing import Any, NamedTuple
 
 
 class Refused(Exception):
@@ -78,3 +79,68 @@ class Difference(NamedTuple):
 
     same: bool
     text: str
+
+
+class Site(NamedTuple):
+    """Where a record stands in its file: its identifier, and the line of its RTY, from 1."""
+
+    identifier: bytes
+    line: int
+
+
+class RecordDifference(NamedTuple):
+    """A record that differs.
+
+    `mark`   "only_in_a", "only_in_b" or "changed"
+    `type`   "PNO", "PAR", "PFE", "FEA" or "LNK"
+    `a`      where it stands in the first sheet; None of one that is only in the second
+    `b`      where it stands in the second; None of one that is only in the first
+    `parts`  the parts that differ, of "class", "attributes", "extras", "points" and "ends"; none of a record that is in one sheet only, and of one
+             that changed only because a record did that a link joins with it
+    """
+
+    mark: str
+    type: str
+    a: Site | None
+    b: Site | None
+    parts: tuple[str, ...]
+
+
+class Differences(NamedTuple):
+    """What differs between two sheets.
+
+    `same`      whether they state the same plan
+    `charsets`  the character sets of both, where they differ (None of a sheet that states none); else None
+    `records`   the records that differ: objects, faces, arcs, nodes and links, of each type those of the first sheet before those of the second
+    `counts`    how many records have each mark
+    """
+
+    same: bool
+    charsets: tuple[bytes | None, bytes | None] | None
+    records: list[RecordDifference]
+    counts: dict[str, int]
+
+    @classmethod
+    def of_json(cls, same: bool, text: bytes) -> Differences:
+        """What the lines of JSON say that a call gave."""
+        charsets, records, counts = None, [], {}
+        for line in text.splitlines():
+            told = json.loads(line)
+            if told["version"] != 1:
+                raise ValueError(f"edicad: version {told['version']} of the form of what differs")
+            if told["what"] == "record":
+                records.append(RecordDifference(told["mark"], told["type"], _site(told["a"]), _site(told["b"]), tuple(told["parts"])))
+            elif told["what"] == "charsets":
+                charsets = _bytes(told["a"]), _bytes(told["b"])
+            else:
+                counts = {mark: told[mark] for mark in ("only_in_a", "only_in_b", "changed")}
+        return cls(same, charsets, records, counts)
+
+
+def _bytes(text: str | None) -> bytes | None:
+    # Each character is the byte of the same number.
+    return None if text is None else text.encode("latin-1")
+
+
+def _site(told: dict[str, Any] | None) -> Site | None:
+    return None if told is None else Site(told["identifier"].encode("latin-1"), told["line"])

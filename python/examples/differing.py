@@ -6,13 +6,9 @@ changed; of one that changed the geometry is B's. Coordinates are those of the s
 """
 import json
 import pathlib
-import re
 import sys
 
 import edicad
-
-MARKS = {"-": "only in A", "+": "only in B", "~": "changed"}
-ROW = re.compile(r"([-+~]) (PNO|PAR|PFE|FEA|LNK) (.*) \(lines? (\d+)(?: and (\d+))?\)(?:: (.*))?")
 
 
 def zones_at(lines, number):
@@ -36,24 +32,24 @@ def geometry_of(kind, zones):
     return {"type": "LineString", "coordinates": points} if kind == "PAR" else None
 
 
-def features(text, first, second):
-    """A feature for each line of the text of what differs."""
-    for row in text.splitlines():
-        found = ROW.fullmatch(row)
-        if not found:
-            continue
-        mark, kind, name, line, other, parts = found.groups()
-        lines, number = (first, line) if mark == "-" else (second, other or line)
-        properties = {"mark": MARKS[mark], "type": kind, "record": name}
-        if parts:
-            properties["parts"] = parts
-        yield {"type": "Feature", "properties": properties, "geometry": geometry_of(kind, zones_at(lines, int(number)))}
+def features(records, first, second):
+    """A feature for each record that differs."""
+    for record in records:
+        lines, site = (second, record.b) if record.b else (first, record.a)
+        properties = {
+            "mark": record.mark,
+            "type": record.type,
+            "a": record.a and record.a.identifier.decode("latin-1"),
+            "b": record.b and record.b.identifier.decode("latin-1"),
+            "parts": list(record.parts),
+        }
+        yield {"type": "Feature", "properties": properties, "geometry": geometry_of(record.type, zones_at(lines, site.line))}
 
 
 def main(scd, dic, first, second):
     first, second = pathlib.Path(first).read_bytes(), pathlib.Path(second).read_bytes()
-    text = edicad.Schema(scd, dic).diff(first, second).text
-    found = list(features(text, first.split(b"\n"), second.split(b"\n")))
+    records = edicad.Schema(scd, dic).differences(first, second).records
+    found = list(features(records, first.split(b"\n"), second.split(b"\n")))
     json.dump({"type": "FeatureCollection", "features": found}, sys.stdout, indent=1)
     print()
 

@@ -2,6 +2,7 @@
 import hashlib
 import pathlib
 import sys
+import unicodedata
 import unittest
 
 TOP = pathlib.Path(__file__).resolve().parents[2]
@@ -32,6 +33,34 @@ def schema_of(case, scd=None, dic=None):
         if not scd:
             scd, dic = PARCEL / "schema.scd", PARCEL / "dictionary.dic"
     return edicad.Schema(scd, dic, kinds)
+
+
+def shown(data):
+    """Bytes as a line of the text shows them."""
+    try:
+        text = data.decode("utf-8")
+    except UnicodeDecodeError:
+        return "".join("\\\\" if it == 92 else chr(it) if 32 <= it <= 126 else f"\\x{it:02x}" for it in data)
+    escaped = ("".join(f"\\x{byte:02x}" for byte in it.encode("utf-8")) for it in text)
+    return "".join("\\\\" if it == "\\" else byte if unicodedata.category(it) == "Cc" else it for it, byte in zip(text, escaped))
+
+
+def row_of(record):
+    """The line that the text has of a record that differs."""
+    names = " ".join([record.type, *(shown(it.identifier) for it in (record.a, record.b) if it)])
+    if record.mark != "changed":
+        return f"{'-' if record.mark == 'only_in_a' else '+'} {names} (line {(record.a or record.b).line})"
+    return f"~ {names} (lines {record.a.line} and {record.b.line}): {' '.join(record.parts) or 'linked records'}"
+
+
+def text_of(found):
+    """The text, record by record, of what the lines of JSON say."""
+    rows = [row_of(it) for it in found.records]
+    if found.charsets:
+        rows.insert(0, "~ CSE " + " ".join("none" if it is None else shown(it) for it in found.charsets))
+    counts = found.counts
+    rows.append(f"{counts['only_in_a']} only in A, {counts['only_in_b']} only in B, {counts['changed']} changed")
+    return "".join(f"{it}\n" for it in rows)
 
 
 def words_of(refused, pair=False):
@@ -113,7 +142,12 @@ class Cases(unittest.TestCase):
                     same, text = schema.diff(first, second)
                     return ("same\n" if same else "different\n") + text
 
+                def listed():
+                    found = schema.differences(first, second)
+                    return ("same\n" if found.same else "different\n") + text_of(found)
+
                 self.assertEqual(self.answers(case, said, True), case.wanted)
+                self.assertEqual(self.answers(case, listed, True), case.wanted)
         self.assertGreater(count, 5)
 
     def test_verifications(self):

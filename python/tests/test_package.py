@@ -1,11 +1,16 @@
 """What the package adds to the library: kinds of inputs, exceptions, threads and memory."""
 import array
 import concurrent.futures
+import contextlib
 import gc
 import hashlib
+import io
 import mmap
+import os
 import pathlib
+import re
 import sys
+import textwrap
 import unittest
 
 TOP = pathlib.Path(__file__).resolve().parents[2]
@@ -107,11 +112,49 @@ class Answers(unittest.TestCase):
         self.assertIsNone(self.schema.pairing(SHEET, TOP / "examples" / "node" / "sheet.vec"))
 
     def test_differences(self):
+        node = TOP / "examples" / "node" / "sheet.vec"
         self.assertEqual(self.schema.diff(SHEET, OTHER), (True, "0 only in A, 0 only in B, 0 changed\n"))
-        whole = self.schema.diff(SHEET, TOP / "examples" / "node" / "sheet.vec")
-        brief = self.schema.diff(SHEET, TOP / "examples" / "node" / "sheet.vec", brief=True)
-        self.assertFalse(whole.same or brief.same)
-        self.assertEqual(brief.text, whole.text.splitlines(keepends=True)[-1])
+        texts = {form: self.schema.diff(SHEET, node, form) for form in ("records", "brief", "objects", "json")}
+        self.assertFalse(any(it.same for it in texts.values()))
+        self.assertEqual(texts["brief"].text, texts["records"].text.splitlines(keepends=True)[-1])
+        self.assertEqual(texts["records"].text.count("\n"), texts["json"].text.count("\n"))
+        with self.assertRaises(ValueError):
+            self.schema.diff(SHEET, node, "yaml")
+        with self.assertRaises(edicad.Refused) as caught:
+            self.schema.differences(SHEET, b"")
+        self.assertEqual(caught.exception.input, "second")
+
+    def test_differences_as_lists(self):
+        first = SHEET.read_bytes()
+        second = first.replace(b"A 12", b"A 13").replace(b"Objet_1", b"Obj \xe9\"\\")
+        found = self.schema.differences(first, second)
+        self.assertEqual(found.counts, {"only_in_a": 0, "only_in_b": 0, "changed": 2})
+        self.assertEqual((found.same, found.charsets), (False, None))
+        lone = edicad.RecordDifference("changed", "FEA", edicad.Site(b"Objet_1", 39), edicad.Site(b"Obj \xe9\"\\", 39), ("attributes",))
+        self.assertEqual(found.records[0], lone)
+        self.assertEqual(found.records[1].parts, ())
+        other = self.schema.differences(first, first.replace(b"CSET 03:IRV\n", b"CSET 02:\xe9\"\n"))
+        self.assertEqual((other.charsets, other.records), ((b"IRV", b"\xe9\""), []))
+        none = self.schema.differences(first.replace(b"CSET 03:IRV\n", b""), first)
+        self.assertEqual(none.charsets, (None, b"IRV"))
+        same = self.schema.differences(SHEET, OTHER)
+        self.assertEqual(same, (True, None, [], {"only_in_a": 0, "only_in_b": 0, "changed": 0}))
+
+
+class Page(unittest.TestCase):
+    """The example of docs/JSON.md."""
+
+    def test_example(self):
+        page = (TOP / "docs" / "JSON.md").read_text(encoding="utf-8")
+        code, lines = (textwrap.dedent(it) for it in re.search(r"## An example\n\n((?: {4}.*\n)+)\nwrites\n\n((?: {4}.*\n)+)", page).groups())
+        written, here = io.StringIO(), os.getcwd()
+        os.chdir(TOP)
+        try:
+            with contextlib.redirect_stdout(written):
+                exec(code, {})
+        finally:
+            os.chdir(here)
+        self.assertEqual(written.getvalue(), lines)
 
 
 class Threads(unittest.TestCase):

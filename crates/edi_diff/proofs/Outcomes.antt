@@ -7,14 +7,14 @@ use Rattle.edi_plan.specs.Plans.{Drawing}
 use Rattle.edi_matching.specs.Matchings.{GoesTo, IsMatched, IsTotal, MatchingHolds}
 use Rattle.edi_matching.specs.declared.matching.Matching.{Matching}
 use Rattle.edi_report.specs.Lines.{is_reached, text_of_report, went_to}
-use Rattle.edi_report.specs.Reports.{HasSites}
+use Rattle.edi_report.specs.Reports.{HasSites, Report}
 use Rattle.edi_report.specs.declared.parts.Parts.{Parts}
 use Rattle.edi_report.specs.declared.sheet.LocatedSheet.{LocatedSheet}
 use Rattle.edi_report.specs.Tables.{AreMarks, IsFitting}
 use Rattle.edi_diff.specs.Changes.{AreChanges, ArePartsOfEach}
-use Rattle.edi_diff.specs.Differences.{IsDifferenceText}
+use Rattle.edi_diff.specs.Differences.{IsDifferenceText, report_by}
 use Rattle.edi_diff.specs.declared.form.TextForm.{TextForm}
-use Rattle.edi_diff.specs.Forms.{text_of_form}
+use Rattle.edi_diff.specs.Forms.{IsReadByForm, text_of_form}
 
 -- nothing but the records that are the same
 pub no_changes : (s : Classes) (p q : Drawing) (m : Matching) → MatchingHolds s p q m → AreChanges p q m m
@@ -90,19 +90,22 @@ pub text_by : (s : Classes) (first second : LocatedSheet) (m became : Matching) 
     (unchanged went : List (Option ℕ)) (reported_parts : List Parts) → AreChanges first.accepted second.accepted m became → ArePartsOfEach s first.accepted second.accepted m became parts
     → unchanged ≡ m.to → went ≡ became.to → reported_parts ≡ parts
     → text ≡ text_of_form s form (record { first = first; second = second; unchanged = unchanged; became = went; parts = reported_parts })
+    → IsReadByForm form (record { first = first; second = second; unchanged = unchanged; became = went; parts = reported_parts }) text
     → (x : IsDifferenceText s first second m form text) × (x.became ≡ became)
-text_by s first second m became parts form text unchanged went reported_parts are are_parts is_kept is_went is_parts reporter = (
-  record {
-    became = became;
-    parts = parts;
-    changes = are;
-    are_parts = are_parts;
-    is_text = reporter ∙ (ap (λ to. text_of_form s form (record { first = first; second = second; unchanged = to; became = went; parts = reported_parts })) is_kept
-        ∙ (ap (λ to. text_of_form s form (record { first = first; second = second; unchanged = m.to; became = to; parts = reported_parts })) is_went
-        ∙ ap (λ ps. text_of_form s form (record { first = first; second = second; unchanged = m.to; became = became.to; parts = ps })) is_parts));
-  },
-  refl,
-)
+text_by s first second m became parts form text unchanged went reported_parts are are_parts is_kept is_went is_parts reporter read =
+    let told : List (Option ℕ) → List (Option ℕ) → List Parts → Report = λ kept to ps. record { first = first; second = second; unchanged = kept; became = to; parts = ps } in
+    let same : told unchanged went reported_parts ≡ report_by first second m became parts =
+    ap (λ to. told to went reported_parts) is_kept ∙ (ap (λ to. told m.to to reported_parts) is_went ∙ ap (λ ps. told m.to became.to ps) is_parts) in (
+      record {
+        became = became;
+        parts = parts;
+        changes = are;
+        are_parts = are_parts;
+        is_text = reporter ∙ ap (text_of_form s form) same;
+        is_read = subst (λ (r : Report). IsReadByForm form r text) same read;
+      },
+      refl,
+    )
 
 pub some_there : (o : Option ℕ) → is_some o ≡ true → (j : ℕ) × (o ≡ Some j)
 some_there None none = cc

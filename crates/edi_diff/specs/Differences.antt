@@ -6,22 +6,29 @@ use Rattle.edi_matching.specs.Differences.{IsTotalIfSame, MatchesFaces, MatchesL
 use Rattle.edi_matching.specs.Matchings.{MatchingHolds}
 use Rattle.edi_matching.specs.declared.matching.Matching.{Matching}
 use Rattle.edi_report.specs.Located.{IsLocated}
+use Rattle.edi_report.specs.Reports.{Report}
 use Rattle.edi_report.specs.declared.parts.Parts.{Parts}
 use Rattle.edi_report.specs.declared.sheet.LocatedSheet.{LocatedSheet}
 use Rattle.edi_diff.specs.Changes.{AreChanges, ArePartsOfEach}
 use Rattle.edi_diff.specs.declared.differing.Difference.{Difference}
 use Rattle.edi_diff.specs.declared.differing.Findings.{Findings}
 use Rattle.edi_diff.specs.declared.form.TextForm.{TextForm}
-use Rattle.edi_diff.specs.Forms.{text_of_form}
+use Rattle.edi_diff.specs.Forms.{IsReadByForm, text_of_form}
 
--- The text of what differs, all of it or without the lines of records, by a matching of the records that are the same: of the other records some
--- became others, and the text names the parts in which these differ.
+-- two sheets by their matchings, and the parts in which records that became others differ
+abbrev pub report_by : LocatedSheet → LocatedSheet → Matching → Matching → List Parts → Report
+report_by first second unchanged became parts =
+    record { first = first; second = second; unchanged = unchanged.to; became = became.to; parts = parts }
+
+-- The text of what differs in a form, by a matching of the records that are the same: of the other records some became others, and the text
+-- names the parts in which these differ. Where it is JSON, a reader finds in it the values of this form.
 pub record IsDifferenceText (s : Classes) (first second : LocatedSheet) (unchanged : Matching) (form : TextForm) (text : List ℕ) : Type 0 where
   pub became : Matching
   pub parts : List Parts
   pub changes : AreChanges first.accepted second.accepted unchanged became
   pub are_parts : ArePartsOfEach s first.accepted second.accepted unchanged became parts
-  pub is_text : text ≡ text_of_form s form (record { first = first; second = second; unchanged = unchanged.to; became = became.to; parts = parts })
+  pub is_text : text ≡ text_of_form s form (report_by first second unchanged became parts)
+  pub is_read : IsReadByForm form (report_by first second unchanged became parts) text
 
 -- What differs between two files: the text, by a matching that holds between their plans, that leaves nothing out, of one character set, exactly
 -- if these are the same, and leaves out no node and no arc that has a partner, no face together with that on the

@@ -2,9 +2,10 @@
 
 ghost use Rattle.std.specs.Prelude.{◌≡◌, IfOk};
 ghost use Rattle.edi_plan.specs.Agreeing.{Agrees};
-ghost use Rattle.edi_diff.specs.Forms.{text_of_form};
+ghost use Rattle.edi_diff.specs.Forms.{IsReadByForm, text_of_form};
 ghost use Rattle.edi_diff.specs.declared.form.TextForm.TheVariants.{Objects};
 
+use edi_json::differences_json;
 use edi_objects::{Namer, account_text};
 use edi_report::Reporter;
 use edi_schema::Schema;
@@ -19,6 +20,8 @@ pub enum TextForm {
     Records,
     /// How many records differ.
     Brief,
+    /// Record by record, as lines of JSON (docs/JSON.md).
+    Json,
 }
 
 /// The text in a form.
@@ -30,12 +33,14 @@ pub(crate) fn text_of_form(
 ) -> Result<Vec<u8>, AllocError>
     requires first { Agrees schema.now report.now.first.accepted }
     requires second { Agrees schema.now report.now.second.accepted }
-    ensures { IfOk result (λ text. text.items ≡ text_of_form schema.now form report.now) }
+    ensures text { IfOk result (λ text. text.items ≡ text_of_form schema.now form report.now) }
+    ensures read { IfOk result (λ text. IsReadByForm form report.now text.items) }
 {
     match form {
         TextForm::Objects => text_by_objects(alloc, schema, report),
         TextForm::Records => report.text(alloc, false),
         TextForm::Brief => report.text(alloc, true),
+        TextForm::Json => differences_json(alloc, report),
     }
 }
 

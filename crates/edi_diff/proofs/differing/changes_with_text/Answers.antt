@@ -21,4 +21,4 @@ returns c =
     let parts = subst (λ (q : Drawing). ArePartsOfEach s c.args.first.now.accepted q m became c.in_ok-parts.parts.items) there
     (subst (λ (p : Drawing). ArePartsOfEach s p c.plan-other.result.now m became c.in_ok-parts.parts.items) here c.in_ok-parts.ensures) in
     text_by s c.args.first.now c.args.second.now m became c.in_ok-parts.parts.items c.args.form c.in_ok-text.text.items
-    c.as_slice.result.now c.as_slice-2.result.now c.deref.result.now are parts c.as_slice.ensures c.as_slice-2.ensures c.deref.ensures.value c.in_ok-text.ensures
+    c.as_slice.result.now c.as_slice-2.result.now c.deref.result.now are parts c.as_slice.ensures c.as_slice-2.ensures c.deref.ensures.value c.in_ok-text.ensures.text c.in_ok-text.ensures.read

@@ -1,0 +1,4 @@
+pub mod ListedLines
+pub mod PlainTexts
+pub mod LineLemmas
+pub mod Values

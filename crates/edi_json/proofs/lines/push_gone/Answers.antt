@@ -1,0 +1,18 @@
+use Rattle.std.proofs.Common.{◌∙◌, ◌++◌, List, ap}
+use Rattle.json.specs.Token.{Token}
+use Rattle.json.specs.Tree.{json_tokens}
+use Rattle.edi_json.specs.Values.{gone_value}
+use Rattle.edi_json.proofs.LineLemmas.{ended, one_line}
+use Rattle.edi_json.proofs.Values.{gone_plain, gone_shallow}
+use Rattle.edi_json.proofs.lines.push_gone.Goals as goal
+
+pub returns : goal.returns
+returns c =
+    let value = gone_value c.args.kind c.args.site.now in
+    ended c.end_line.result _ _
+    (one_line value (gone_shallow c.args.kind c.args.site.now) (gone_plain c.args.kind c.args.site.now)
+    c.args.text.now.items c.write_gone.new.writer.before c.end_line.new.text.items c.write_gone.new.writer.tokens
+    (c.in_ok-write_gone.ensures.before ∙ c.begin_line-writer.ensures.before)
+    (c.in_ok-write_gone.ensures.tokens ∙ ap (λ (ts : List Token). ts ++ json_tokens value) c.begin_line-writer.ensures.tokens)
+    c.end_line.ensures.read)
+    c.end_line.ensures.text

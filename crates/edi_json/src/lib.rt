@@ -1,0 +1,10 @@
+//! What differs between two sheets, as lines of JSON (docs/JSON.md).
+#![tactic(auto)]
+
+pub mod counts;
+pub mod differences;
+pub mod known;
+mod lines;
+mod members;
+
+pub use differences::differences_json;
