@@ -128,6 +128,7 @@ def main():
         sweep("diff, with a picture", ["diff", "--picture", out, *schema, sheet, other], library, out)
         sweep("draw", ["draw", *schema, sheet, out], library, out)
         sweep("hash", ["hash", *schema, sheet, again], library, out, lacks_lines)
+        sweep("hash, with the schema", ["hash", "--schema", *schema, sheet, again], library, out, lacks_lines)
         sweep("hash, a refused schema", ["hash", *reversed(schema), sheet], library, out, lacks_lines)
         sweep("explain", ["explain", *schema, sheet], library, out)
         sweep("explain, refused", ["explain", *schema, refused], library, out)

@@ -22,7 +22,7 @@ def words(room):
     """Commands with good and bad words."""
     report = room.report
     for bad in (["paint"], ["check"], ["check", "s"], ["check", "s", "d"], ["canon", "s", "d", "v"], ["compare", "s", "d", "v"],
-                ["hash", "s", "d"], ["explain"], ["explain", "s", "d", "v", "v"], ["verify", "s", "d", "v", "v"], ["verify", "s", "d", "v", "v", "p", "p"], ["compare", "--pairing", "s", "d", "v", "v"],
+                ["hash", "s"], ["explain"], ["explain", "s", "d", "v", "v"], ["verify", "s", "d", "v", "v"], ["verify", "s", "d", "v", "v", "p", "p"], ["compare", "--pairing", "s", "d", "v", "v"],
                 ["verify", "--pairing", "p", "s", "d", "v", "v", "p"], ["diff", "s", "d", "v"], ["diff", "--brief=yes", "s", "d", "v", "v"], ["diff", "--brief", "--brief", "s", "d", "v", "v"], ["compare", "--brief", "s", "d", "v", "v"], ["check", "s", "d", "v", "v"], ["draw", "s", "d", "v"], ["draw", "s", "d", "v", "o", "o"], ["draw", "--picture", "o", "s", "d", "v"],
                 ["diff", "--picture", "s", "d", "v", "v"], ["diff", "--picture", "p", "--picture", "q", "s", "d", "v", "v"], ["compare", "--picture", "p", "s", "d", "v", "v"], ["--paint"], ["check", "--paint", "s", "d", "v"], ["check", "--kinds"], ["help", "paint"]):
         status, out, err = room.run(bad)
@@ -284,6 +284,46 @@ def hashes(room, sheet, canonical):
         report.check("faults to a full stream", room.run(["hash", "s", "d", "bad", "v"], stderr=full)[:2], (2, one + b"  v\n"))
         room.expect("a refused schema beside a full output", ["hash", "bad", "d", "v"], (2, None, b"bad: refused scd 106 line 1\n"), stdout=full)
     room.expect("a closed output", ["hash", "s", "d", "v"], (4, b"", b"cannot write standard output\n"), preexec_fn=lambda: os.close(1))
+    schema_digests(room, one)
+
+
+# The text of the schema of most cases, as FORMAT.md has it.
+SCHEMA_TEXT = """edicad schema 1
+ATT;NOM_id;A;bytes;-
+ATT;SUP_id;R;number;-
+OBJ;PARCELLE_id;-;-;-
+PGE;ARC_id;-;-;-
+PGE;FAC_id;-;-;-
+PGE;NOD_id;-;-;-
+REL;CMP_id;-;-;-
+REL;DRT_id;-;-;right face
+REL;FIN_id;-;-;final node
+REL;GCH_id;-;-;left face
+REL;INI_id;-;-;initial node
+"""
+
+
+def schema_digests(room, one):
+    """Digests of sheets below that of their schema, which may stand alone."""
+    schema = b"schema " + digest_of(SCHEMA_TEXT) + b"  "
+    room.expect("the digest of the schema first", ["hash", "--schema", "s", "d", "v", "w"], (0, schema + b"s\n" + one + b"  v\n" + one + b"  w\n", b""))
+    room.expect("the same, asked for at the end", ["hash", "s", "d", "v", "--schema"], (0, schema + b"s\n" + one + b"  v\n", b""))
+    room.expect("the digest of the schema alone", ["hash", "--schema", "s", "d"], (0, schema + b"s\n", b""))
+    room.expect("neither a sheet nor the schema", ["hash", "s", "d"], (3, b"", b"hash takes SCD, DIC and a VEC, or --schema\n"))
+    room.expect("a refused sheet below the schema", ["hash", "--schema", "s", "d", "bad", "v"], (2, schema + b"s\n" + one + b"  v\n", b"bad: refused 106 line 1\n"))
+    room.expect("a refused schema has no digest", ["hash", "--schema", "bad", "d", "v"], (2, b"", b"bad: refused scd 106 line 1\n"))
+    room.expect("a schema on standard input", ["hash", "--schema", "-", "d"], (0, schema + b"-\n", b""), room.read("s"))
+    room.write("a\nb", room.read("s").replace(b"EDAB01", b"EDAB02"))
+    room.expect("another lot, and a name with escapes", ["hash", "--schema", "a\nb", "d"], (0, schema.replace(b"schema ", b"schema \\") + b"a\\nb\n", b""))
+    os.remove(room.path("a\nb"))
+    exchanged = room.read("s").replace(b"LPO", b"XPO").replace(b"RPO", b"LPO").replace(b"XPO", b"RPO")
+    room.write("x", exchanged)
+    other = digest_of(SCHEMA_TEXT.replace("left", "X").replace("right", "left").replace("X", "right"))
+    room.expect("left and right exchanged", ["hash", "--schema", "x", "d"], (0, b"schema " + other + b"  x\n", b""))
+    os.remove(room.path("x"))
+    with open("/dev/full", "wb") as full:
+        room.expect("the digest of the schema to a full output", ["hash", "--schema", "s", "d", "x", "v"], (4, None, b"cannot write standard output\n"), stdout=full)
+    room.expect("the same to a closed one", ["hash", "--schema", "s", "d"], (4, b"", b"cannot write standard output\n"), preexec_fn=lambda: os.close(1))
 
 
 def pairings(room, sheet):

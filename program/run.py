@@ -43,7 +43,7 @@ PARTS = {
     "files": 79,
     "standard streams": 51,
     "shown": 8,
-    "hashes": 23,
+    "hashes": 34,
     "kinds noted": 31,
     "explains": 65,
     "explains kinds": 16,

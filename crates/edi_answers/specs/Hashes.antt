@@ -1,5 +1,6 @@
 -- The digests of sheets.
 use Rattle.std.specs.Prelude.{◌≡◌, ◌≢◌, ◌⊎◌, ◌≤◌, ◌++◌, ◌==◌, ◌||◌, ℕ, Bool, max, List, [], ◌∷◌, Option, IfSome, IsTrue, codes, flat_map, map, take, if◌then◌else◌}
+use Rattle.std.specs.Bool.{MatchBool}
 use Rattle.std.specs.List.{AllZip, fold, list_any}
 use Rattle.std.proofs.Common.{Result, Ok, Err}
 use Rattle.hex.specs.Hex.{encode_lower}
@@ -11,6 +12,7 @@ use Rattle.edi_schema.specs.SchemaRefusal.{IsGoodSchema}
 use Rattle.edi_schema.specs.declared.fault.SchemaFault.{SchemaFault as SchemaRefusal}
 use Rattle.edi_schema.specs.declared.fault.SchemaFault.TheVariants as schema
 use Rattle.edi_schema.specs.declared.fault.Source.TheVariants.{Scd, Dic}
+use Rattle.edi_schema_text.specs.SchemaText.{text_of_schema}
 use Rattle.edi_compare.specs.Headline.{IsFormOf}
 use Rattle.edi_compare.specs.PlanOfFile.{StateSame}
 use Rattle.edi_compare.specs.Refused.{IsProper, IsRefusal}
@@ -27,7 +29,7 @@ use Rattle.edi_answers.specs.Reasons.{IsReasonOf}
 use Rattle.edi_answers.specs.Effects.{Effects, Inputs, Stream}
 use Rattle.edi_answers.specs.Notes.{InTurn, IsNote, NamesSomeKinds, Notes}
 use Rattle.edi_answers.specs.SheetRuns.{Gives, HasFailedAt, HoldsTooMuch, IsMissing, IsThere}
-use Rattle.edi_answers.specs.Statuses.{LacksMemory, Prints, Warns}
+use Rattle.edi_answers.specs.Statuses.{IsUnsaid, LacksMemory, OnlyLacksMemory, Prints, PrintsFirst, Warns}
 use Rattle.edi_words.specs.declared.words.ManyFiles.{ManyFiles}
 
 -- the digest of the canonical file of the sheet b
@@ -135,6 +137,29 @@ IsCutOff inputs why s out err paths status =
 abbrev pub AnswersAll : Inputs → Why → Classes → Stream → Stream → List (List ℕ) → ℕ → Type 0
 AnswersAll inputs why s out err paths status = AreAnswered inputs why s out err paths status ⊎ IsCutOff inputs why s out err paths status
 
+-- the line of a schema: `schema `, and then as that of a sheet its digest, and the name of its file of classes
+abbrev pub schema_line : Classes → List ℕ → List ℕ
+schema_line s name = codes "schema " ++ digest_line (sha256 (text_of_schema s)) name
+
+-- each sheet of the files was answered
+abbrev pub AnswersSheets : Inputs → Why → Classes → Stream → Stream → ManyFiles → ℕ → Type 0
+AnswersSheets inputs why s out err files status =
+    AnswersAll inputs why s out err (map (λ p. p.now) files.sheets.items) status
+
+-- The output got the line of the schema, and then each sheet was answered; or the output failed in that line, or there
+-- was no memory for it.
+abbrev pub AnswersHeaded : Inputs → Why → Classes → Stream → Stream → ManyFiles → ℕ → Type 0
+AnswersHeaded inputs why s out err files status =
+    InTurn out (λ o. Prints o (schema_line s files.scd.now)) (λ o. AnswersSheets inputs why s o err files status)
+    ⊎ (((count : ℕ) × PrintsFirst out count (schema_line s files.scd.now) × IsUnsaid out err × (status ≡ 4))
+    ⊎ (OnlyLacksMemory out err × (status ≡ 5)))
+
+-- each sheet was answered, behind the line of the schema where it is asked for
+abbrev pub AnswersUnder : Inputs → Why → Classes → Stream → Stream → ManyFiles → Bool → ℕ → Type 0
+AnswersUnder inputs why s out err files with_schema status =
+    MatchBool with_schema (AnswersHeaded inputs why s out err files status)
+    (AnswersSheets inputs why s out err files status)
+
 -- The schema of the two files, where their contents are known; and the note on its kinds: that on the file of classes,
 -- where its contents are known, and where they are not, one that names some of the four kinds, or none.
 abbrev pub GivesSchema : Inputs → KindCodes → ManyFiles → Classes → List ℕ → Type 0
@@ -188,10 +213,11 @@ TellsFault why err e path s =
     ((s ≡ status_of_fault e) × ((reason : Option Reason) × IsReasonOf why e path reason × Warns err (fault_line e path ++ reason_line (escaped_name path) reason)))
     ⊎ ((s ≡ 5) × LacksMemory err)
 
--- The status of a run over many sheets. The schema is loaded, the errors got the note on its kinds first, and each sheet was answered under
--- it or the output failed; or there is none, which is said of its file, and the output got nothing.
-abbrev pub IsHashStatus : Effects → Stream → Stream → KindCodes → ManyFiles → ℕ → Type 0
-IsHashStatus run out err kinds files status =
+-- The status of a run over many sheets. The schema is loaded, the errors got the note on its kinds first, and each sheet
+-- was answered under it, behind its line where that is asked for, or the output failed; or there is none, which is said of
+-- its file, and the output got nothing.
+abbrev pub IsHashStatus : Effects → Stream → Stream → KindCodes → ManyFiles → Bool → ℕ → Type 0
+IsHashStatus run out err kinds files with_schema status =
     ((s : Classes) × (note : List ℕ) × GivesSchema run.inputs kinds files s note
-    × InTurn err (λ e. Notes e note) (λ e. AnswersAll run.inputs run.why s out e (map (λ p. p.now) files.sheets.items) status))
+    × InTurn err (λ e. Notes e note) (λ e. AnswersUnder run.inputs run.why s out e files with_schema status))
     ⊎ ((e : RunFault) × LoadFault run.inputs kinds files e × TellsFault run.why err e (schema_fault_path files e) status × Prints out [])

@@ -2,7 +2,7 @@
 ghost use Rattle.std.specs.Prelude.{◌≡◌, ◌++◌, IfErr, IfOk, IsTrue, Option, map};
 ghost use Rattle.std.specs.List.{list_any};
 ghost use Rattle.edi_answers.specs.Effects.{effects, inputs, written};
-ghost use Rattle.edi_answers.specs.Hashes.{AnswersAll, GivesSchema, IsAnswerOf, IsHashStatus, LoadFault, TellsFault, digest_line, escaped_name, fault_line, is_escaped, mark_of, refused_path, schema_fault_path};
+ghost use Rattle.edi_answers.specs.Hashes.{AnswersAll, AnswersHeaded, AnswersUnder, GivesSchema, IsAnswerOf, IsHashStatus, LoadFault, TellsFault, digest_line, escaped_name, fault_line, is_escaped, mark_of, refused_path, schema_fault_path, schema_line};
 ghost use Rattle.edi_schema.specs.SchemaRefusal.{IsGoodSchema};
 ghost use Rattle.edi_compare.specs.Runs.{MatchFault, RefusesSchema};
 ghost use Rattle.edi_answers.specs.Notes.{IsNote, IsNoteOn};
@@ -21,31 +21,35 @@ use edi_files::Folder;
 use edi_line::ByteOut;
 use edi_outcome::{line_of_sheet, status_of_fault};
 use edi_schema::{Schema, SchemaFault, Source};
+use edi_schema_text::schema_digest;
 use edi_words::{GivenKinds, ManyFiles};
 use edi_write::{Written, put_all};
 use sha2::{Digest, Sha256};
 use std::alloc::{AllocError, Global};
 
 /// Writes a line for each sheet, in order: the digest of its canonical file and its name to `out`, or its name and why
-/// it has none to `err`. Gives the greatest of their statuses, or 4 as soon as `out` fails. The schema is loaded once, before
-/// any sheet is opened; where there is none, `err` says why by the name of its file, and where a kind of link has no class, `err`
-/// says so first.
+/// it has none to `err`; and above these that of the schema, where it is asked for. Gives the greatest of their
+/// statuses, or 4 as soon as `out` fails. The schema is loaded once, before any sheet is opened; where there is none,
+/// `err` says why by the name of its file, and where a kind of link has no class, `err` says so first.
 pub fn hash<F: Folder, O: ByteOut, E: ByteOut>(
     alloc: Global,
     folder: &F,
     kinds: &GivenKinds<'_>,
     files: &ManyFiles<'_>,
+    with_schema: bool,
     out: &mut O,
     err: &mut E,
 ) -> u8
     ensures status { IsSheetStatus result }
     ensures answer { IsHashStatus (effects F.Folder F.Reader.ByteIn F.Sink.ByteOut F.NewFile.ByteOut folder.now folder.now)
-        (written O.ByteOut out.old out.new) (written E.ByteOut err.old err.new) kinds.now files.now result }
+        (written O.ByteOut out.old out.new) (written E.ByteOut err.old err.new) kinds.now files.now with_schema result }
+    ensures out_stays { IsTrue (O.has_failed out.old) → IsTrue (O.has_failed out.new) }
+    ensures stays { IsTrue (E.has_failed err.old) → IsTrue (E.has_failed err.new) }
 {
     match loaded(alloc, folder, kinds, files) {
         Ok(loaded) => {
             notes::say(err, &loaded.note);
-            answer_all(alloc, folder, &loaded.schema, &files.sheets, out, err)
+            answer_under(alloc, folder, &loaded.schema, files, with_schema, out, err)
         }
         Err(fault) => tell_fault(alloc, folder, &fault, path_of_schema(files, &fault), err),
     }
@@ -117,6 +121,53 @@ fn note_on(
     note_of(alloc, kinds.codes(), scd, &name)
 }
 
+// Writes the line of the schema, where it is asked for, and answers each sheet.
+fn answer_under<F: Folder, O: ByteOut, E: ByteOut>(
+    alloc: Global,
+    folder: &F,
+    schema: &Schema,
+    files: &ManyFiles<'_>,
+    with_schema: bool,
+    out: &mut O,
+    err: &mut E,
+) -> u8
+    ensures status { IsSheetStatus result }
+    ensures answer { AnswersUnder (inputs F.Folder F.Reader.ByteIn folder.now) (F.why folder.now) schema.now
+        (written O.ByteOut out.old out.new) (written E.ByteOut err.old err.new) files.now with_schema result }
+    ensures out_stays { IsTrue (O.has_failed out.old) → IsTrue (O.has_failed out.new) }
+    ensures stays { IsTrue (E.has_failed err.old) → IsTrue (E.has_failed err.new) }
+{
+    if with_schema {
+        answer_headed(alloc, folder, schema, files, out, err)
+    } else {
+        answer_all(alloc, folder, schema, &files.sheets, out, err)
+    }
+}
+
+// Writes the line of the schema, and answers each sheet.
+fn answer_headed<F: Folder, O: ByteOut, E: ByteOut>(
+    alloc: Global,
+    folder: &F,
+    schema: &Schema,
+    files: &ManyFiles<'_>,
+    out: &mut O,
+    err: &mut E,
+) -> u8
+    ensures status { IsSheetStatus result }
+    ensures answer { AnswersHeaded (inputs F.Folder F.Reader.ByteIn folder.now) (F.why folder.now) schema.now
+        (written O.ByteOut out.old out.new) (written E.ByteOut err.old err.new) files.now result }
+    ensures out_stays { IsTrue (O.has_failed out.old) → IsTrue (O.has_failed out.new) }
+    ensures stays { IsTrue (E.has_failed err.old) → IsTrue (E.has_failed err.new) }
+{
+    let Ok(line) = line_of_schema(alloc, schema, files.scd.as_bytes()) else {
+        return report::out_of_memory(err);
+    };
+    match put_all(out, &line) {
+        Ok(()) => answer_all(alloc, folder, schema, &files.sheets, out, err),
+        Err(_) => report::unwritten(err),
+    }
+}
+
 // Answers each sheet in order, and gives the greatest status.
 fn answer_all<F: Folder, O: ByteOut, E: ByteOut>(
     alloc: Global,
@@ -129,6 +180,7 @@ fn answer_all<F: Folder, O: ByteOut, E: ByteOut>(
     ensures status { IsSheetStatus result }
     ensures answer { AnswersAll (inputs F.Folder F.Reader.ByteIn folder.now) (F.why folder.now) schema.now
         (written O.ByteOut out.old out.new) (written E.ByteOut err.old err.new) (map (λ p. p.now) sheets.now) result }
+    ensures out_stays { IsTrue (O.has_failed out.old) → IsTrue (O.has_failed out.new) }
     ensures stays { IsTrue (E.has_failed err.old) → IsTrue (E.has_failed err.new) }
 {
     let mut worst = 0;
@@ -155,6 +207,7 @@ fn answer<F: Folder, O: ByteOut, E: ByteOut>(
         (written O.ByteOut out.old out.new) (written E.ByteOut err.old err.new)) }
     ensures err { IfErr result (λ w. StopsAt (inputs F.Folder F.Reader.ByteIn folder.now) schema.now path.now
         (written O.ByteOut out.old out.new) × (err.new ≡ err.old)) }
+    ensures out_stays { IsTrue (O.has_failed out.old) → IsTrue (O.has_failed out.new) }
     ensures stays { IsTrue (E.has_failed err.old) → IsTrue (E.has_failed err.new) }
 {
     match digest_of(alloc, folder, schema, path) {
@@ -244,6 +297,16 @@ fn digest_of<F: Folder>(
     let mut sheet = opened(folder, path, 3)?;
     let canonical = canon_under(alloc, schema, &mut sheet)?;
     Ok(Sha256::digest(&canonical))
+}
+
+// The line of a schema, by the name of its file of classes.
+fn line_of_schema(alloc: Global, schema: &Schema, name: &[u8]) -> Result<Vec<u8>, AllocError>
+    ensures { IfOk result (λ line. line.items ≡ schema_line schema.now name.now) }
+{
+    let digest = schema_digest(alloc, schema)?;
+    let mut line = Vec::from_slice(alloc, b"schema ")?;
+    line.extend_from_slice(&line_of_digest(alloc, &digest, name)?)?;
+    Ok(line)
 }
 
 // The line of a digest: a backslash where the name has an escape, the digits, two spaces and the name.

@@ -173,6 +173,9 @@ pub fn misused<E: ByteOut>(alloc: Global, err: &mut E, misuse: Misuse<'_>) -> u8
         Misuse::BadKinds(bad) => bad_kinds(alloc, err, bad),
         Misuse::TwoStandard => wrong_words(err, b"only one input can be -\n"),
         Misuse::NoSheet => wrong_words(err, b"explain takes RULE, or SCD, DIC and VEC\n"),
+        Misuse::NothingHashed => {
+            wrong_words(err, b"hash takes SCD, DIC and a VEC, or --schema\n")
+        }
         Misuse::StandardPairing => wrong_words(err, b"--pairing takes a file, and not -\n"),
         Misuse::StandardPicture => wrong_words(err, b"--picture takes a file, and not -\n"),
     }

@@ -36,6 +36,10 @@ brief_of line = option_map (λ met. one_of (codes "brief") met.1) (subcommand_of
 abbrev pub records_of : Text → Option (Option Text)
 records_of line = option_map (λ met. one_of (codes "records") met.1) (subcommand_of edicad (words_in line))
 
+-- and that for the digest of the schema
+abbrev pub with_schema_of : Text → Option (Option Text)
+with_schema_of line = option_map (λ met. one_of (codes "schema") met.1) (subcommand_of edicad (words_in line))
+
 -- the subcommand of a line, with the values of its last argument VEC
 abbrev pub sheets_of : Text → Option (Text × List Text)
 sheets_of line = option_map (λ met. (met.0, values_at (codes "VEC") met.1)) (subcommand_of edicad (words_in line))

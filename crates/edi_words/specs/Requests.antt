@@ -1,5 +1,5 @@
 -- What the words of the command line ask for.
-use Rattle.std.specs.Prelude.{◌≡◌, ◌≢◌, ◌⊎◌, ◌<◌, ◌≤◌, ◌+◌, ◌==◌, ℕ, Bool, true, false, if◌then◌else◌, List, [], ◌∷◌, Option, Some, None, codes, is_some, length, map, option_map, unwrap_or, IfSome}
+use Rattle.std.specs.Prelude.{◌≡◌, ◌≢◌, ◌⊎◌, ◌<◌, ◌≤◌, ◌+◌, ◌==◌, ◌||◌, ℕ, Bool, true, false, if◌then◌else◌, List, [], ◌∷◌, Option, Some, None, codes, is_some, length, map, option_map, unwrap_or, IfSome}
 use Rattle.std.specs.List.{list_any, slice_split}
 use Rattle.std.specs.Str.{bytes_eq}
 use Rattle.std.proofs.Common.{Bor}
@@ -13,7 +13,7 @@ use Rattle.edi_words.specs.declared.words.Request.{Request}
 use Rattle.edi_words.specs.declared.words.Request.TheVariants.{Bundle, Check, Canon, Compare, Hash, Explain, Verify, Diff, Draw, Misused, Answered}
 use Rattle.edi_words.specs.declared.words.Request.TheVariants as asks
 use Rattle.edi_words.specs.declared.words.Misuse.{Misuse}
-use Rattle.edi_words.specs.declared.words.Misuse.TheVariants.{BadKinds, TwoStandard, NoSheet, StandardPairing, StandardPicture}
+use Rattle.edi_words.specs.declared.words.Misuse.TheVariants.{BadKinds, TwoStandard, NoSheet, NothingHashed, StandardPairing, StandardPicture}
 use Rattle.edi_words.specs.declared.words.BadKinds.{BadKinds as BadCodes}
 use Rattle.edi_words.specs.declared.words.KindsFault.{KindsFault}
 use Rattle.edi_words.specs.declared.words.KindsFault.TheVariants.{Count, Empty, Twice}
@@ -48,9 +48,14 @@ records_rule = record (new_rule (codes "records")) { long = Some (codes "records
 abbrev pub file_rule : Text → Rule
 file_rule id = record (new_rule id) { required = true }
 
--- files of which at least one has to be named
-abbrev pub files_rule : Text → Rule
-files_rule id = record (file_rule id) { range = Some (record { start_inclusive = 1; end_inclusive = usize_max }) }
+-- files, as many as are named
+abbrev pub optional_files_rule : Text → Rule
+optional_files_rule id =
+    record (new_rule id) { range = Some (record { start_inclusive = 1; end_inclusive = usize_max }) }
+
+-- the flag for the digest of the schema
+abbrev pub schema_flag_rule : Rule
+schema_flag_rule = record (new_rule (codes "schema")) { long = Some (codes "schema"); action = Some SetTrue }
 
 -- a subcommand over the files of a schema
 abbrev pub schema_command : Text → App
@@ -71,7 +76,8 @@ abbrev pub compare_command : App
 compare_command = with_rule (with_rule (with_rule (schema_command (codes "compare")) (file_rule (codes "A"))) (file_rule (codes "B"))) pairing_rule
 
 abbrev pub hash_command : App
-hash_command = with_rule (schema_command (codes "hash")) (files_rule (codes "VEC"))
+hash_command =
+    with_rule (with_rule (schema_command (codes "hash")) (optional_files_rule (codes "VEC"))) schema_flag_rule
 
 -- a rule's number, or the first file of a schema
 abbrev pub subject_rule : Rule
@@ -204,11 +210,14 @@ abbrev pub is_option_standard : Text → List Row → Bool
 is_option_standard id rows = is_standard_path (value_at id rows)
 
 -- The arguments of a subcommand can't be meant: the codes are no codes, standard input is to be read twice, explain is
--- given two files of three, or the pairing of a comparison or the picture of a difference is to go to standard output.
+-- given two files of three, hash is given no sheet and isn't asked for the digest of the schema, or the pairing of a
+-- comparison or the picture of a difference is to go to standard output.
 abbrev pub IsMisuse : Text → List Row → Misuse → Type 0
 IsMisuse name rows (BadKinds bad) = HasBadKinds rows × AreBadKinds (first_of (codes "kinds") rows) bad
 IsMisuse name rows TwoStandard = 1 < standard_count rows
 IsMisuse name rows NoSheet = (name ≡ codes "explain") × (is_given (codes "DIC") rows ≡ true) × (is_given (codes "VEC") rows ≡ false)
+IsMisuse name rows NothingHashed =
+    (name ≡ codes "hash") × IsFlag (one_of (codes "schema") rows) false × (is_given (codes "VEC") rows ≡ false)
 IsMisuse name rows StandardPairing = (name ≡ codes "compare") × (is_option_standard (codes "pairing") rows ≡ true)
 IsMisuse name rows StandardPicture = (name ≡ codes "diff") × (is_option_standard (codes "picture") rows ≡ true)
 
@@ -217,6 +226,7 @@ abbrev pub misuse_text : Misuse → List ℕ
 misuse_text (BadKinds bad) = codes "bad kinds"
 misuse_text TwoStandard = codes "only one input can be -"
 misuse_text NoSheet = codes "explain takes RULE, or SCD, DIC and VEC"
+misuse_text NothingHashed = codes "hash takes SCD, DIC and a VEC, or --schema"
 misuse_text StandardPairing = codes "--pairing takes a file, and not -"
 misuse_text StandardPicture = codes "--picture takes a file, and not -"
 
@@ -232,7 +242,9 @@ Means met (Canon kinds files out) = (rows : List Row) × (met ≡ Some (codes "c
     × (out.now ≡ value_at (codes "OUT") rows)
 Means met (Compare kinds files pairing) = (rows : List Row) × (met ≡ Some (codes "compare", rows)) × GiveKinds rows kinds × ArePairFiles rows files
     × IsOptionFile (codes "pairing") rows pairing
-Means met (Hash kinds files) = (rows : List Row) × (met ≡ Some (codes "hash", rows)) × GiveKinds rows kinds × AreManyFiles rows files
+Means met (Hash kinds files with_schema) =
+    (rows : List Row) × (met ≡ Some (codes "hash", rows)) × GiveKinds rows kinds × AreManyFiles rows files
+    × IsFlag (one_of (codes "schema") rows) with_schema × ((with_schema || is_given (codes "VEC") rows) ≡ true)
 Means met (Explain kinds files) = (rows : List Row) × (met ≡ Some (codes "explain", rows)) × GiveKinds rows kinds × AreSheetFiles rows files
     × (is_given (codes "DIC") rows ≡ true) × (is_given (codes "VEC") rows ≡ true)
 Means met (asks.Rule word) = (rows : List Row) × (met ≡ Some (codes "explain", rows)) × (word.now ≡ value_at (codes "SCD") rows)

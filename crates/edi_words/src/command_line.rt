@@ -1,7 +1,7 @@
 //! The command line, as clap takes it.
 ghost use Rattle.std.specs.Prelude.{◌≡◌, IfOk, IsOkAnd, codes};
 ghost use Rattle.clap.specs.Words.{AddsArg, AddsSubcommand, app_of, new_app, new_rule, rule_of, with_rule};
-ghost use Rattle.edi_words.specs.Requests.{brief_rule, canon_command, check_command, compare_command, diff_command, draw_command, edicad, explain_command, file_option_rule, file_rule, files_rule, hash_command, kinds_rule, pairing_rule, picture_rule, records_rule, schema_command, subject_rule, verify_command};
+ghost use Rattle.edi_words.specs.Requests.{brief_rule, canon_command, check_command, compare_command, diff_command, draw_command, edicad, explain_command, file_option_rule, file_rule, hash_command, kinds_rule, optional_files_rule, pairing_rule, picture_rule, records_rule, schema_command, schema_flag_rule, subject_rule, verify_command};
 
 use clap::{Arg, ArgAction, Command};
 use std::alloc::{AllocError, Global};
@@ -124,7 +124,8 @@ fn hash<'a>(alloc: Global) -> Result<Command<'a>, AllocError>
         "hash",
         "Gives the SHA-256 digest of each sheet's canonical file",
     );
-    with_argument(over_schema, sheets_argument(alloc))
+    let with_sheets = with_argument(over_schema, sheets_argument(alloc));
+    with_argument(with_sheets, schema_flag(alloc))
 }
 
 // The subcommand that explains a rule or a sheet.
@@ -227,11 +228,21 @@ fn file<'a>(alloc: Global, id: &'a str, help: &'a str) -> Arg<'a>
     Arg::new(alloc, id).required(true).help(help)
 }
 
-// Sheets, of which at least one has to be named.
+// Sheets, as many as are named.
 fn sheets_argument<'a>(alloc: Global) -> Arg<'a>
-    ensures { rule_of result ≡ files_rule (codes "VEC") }
+    ensures { rule_of result ≡ optional_files_rule (codes "VEC") }
 {
-    file(alloc, "VEC", "The sheets, files of type VEC").num_args(1..)
+    optional_file(alloc, "VEC", "The sheets, files of type VEC").num_args(1..)
+}
+
+// The flag that asks for the digest of the schema.
+fn schema_flag<'a>(alloc: Global) -> Arg<'a>
+    ensures { rule_of result ≡ schema_flag_rule }
+{
+    Arg::new(alloc, "schema")
+        .long("schema")
+        .action(ArgAction::SetTrue)
+        .help("Gives the digest of the schema first")
 }
 
 // The option with the codes of the kinds.

@@ -2,7 +2,7 @@
 ghost use Rattle.std.specs.Prelude.{◌≡◌, [], ◌∷◌, None, Some, codes};
 ghost use Rattle.clap.specs.Words.{fault_of, subcommand_of};
 ghost use Rattle.clap.specs.declared.error.ErrorKind.TheVariants.{DisplayHelp, DisplayVersion, InvalidSubcommand, MissingRequiredArgument, UnknownArgument};
-ghost use Rattle.edi_words.specs.Known.{brief_of, pairing_files_of, picture_of, records_of, sheets_of, values_of, words_in};
+ghost use Rattle.edi_words.specs.Known.{brief_of, pairing_files_of, picture_of, records_of, sheets_of, values_of, with_schema_of, words_in};
 ghost use Rattle.edi_words.specs.Requests.{edicad};
 
 /// Known words ask for what they should.
@@ -15,6 +15,9 @@ pub fn known_words_are_asked()
     ensures compare { values_of (codes "edicad compare s d a b")
         ≡ Some (codes "compare", None ∷ Some (codes "s") ∷ Some (codes "d") ∷ None ∷ None ∷ Some (codes "a") ∷ Some (codes "b") ∷ []) }
     ensures hash { sheets_of (codes "edicad hash s d a b c") ≡ Some (codes "hash", codes "a" ∷ codes "b" ∷ codes "c" ∷ []) }
+    ensures no_sheets { sheets_of (codes "edicad hash --schema s d") ≡ Some (codes "hash", []) }
+    ensures with_schema { with_schema_of (codes "edicad hash --schema s d") ≡ Some (Some (codes "true")) }
+    ensures without_schema { with_schema_of (codes "edicad hash s d a") ≡ Some (Some (codes "false")) }
     ensures explain { values_of (codes "edicad explain s d v")
         ≡ Some (codes "explain", None ∷ Some (codes "s") ∷ Some (codes "d") ∷ Some (codes "v") ∷ None ∷ None ∷ None ∷ []) }
     ensures rule { values_of (codes "edicad explain 403")
@@ -48,7 +51,9 @@ pub fn known_words_are_asked()
     ensures no_draw_fault { fault_of edicad (words_in (codes "edicad draw s d v o")) ≡ [] }
     ensures no_picture_fault { fault_of edicad (words_in (codes "edicad diff --brief --picture f s d a b")) ≡ [] }
     ensures no_drawing { fault_of edicad (words_in (codes "edicad draw s d v")) ≡ MissingRequiredArgument ∷ [] }
-    ensures no_sheet { fault_of edicad (words_in (codes "edicad hash s d")) ≡ MissingRequiredArgument ∷ [] }
+    ensures no_schema_fault { fault_of edicad (words_in (codes "edicad hash s d a --schema")) ≡ [] }
+    ensures no_sheet { fault_of edicad (words_in (codes "edicad hash s d")) ≡ [] }
+    ensures no_dictionary { fault_of edicad (words_in (codes "edicad hash --schema s")) ≡ MissingRequiredArgument ∷ [] }
     ensures help { fault_of edicad (words_in (codes "edicad --help")) ≡ DisplayHelp ∷ [] }
     ensures version { fault_of edicad (words_in (codes "edicad --version")) ≡ DisplayVersion ∷ [] }
     ensures lacking { fault_of edicad (words_in (codes "edicad canon s d v")) ≡ MissingRequiredArgument ∷ [] }

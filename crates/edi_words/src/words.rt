@@ -1,5 +1,5 @@
 //! What the words of the command line ask for.
-ghost use Rattle.std.specs.Prelude.{◌≡◌, ◌≢◌, ◌↔◌, ◌<◌, ◌≤◌, ◌^◌, ◌∷◌, IsTrue, IfErr, IfOk, MatchOption, MatchResult, OnOk, Some, [], codes, length, map};
+ghost use Rattle.std.specs.Prelude.{◌≡◌, ◌≢◌, ◌↔◌, ◌<◌, ◌≤◌, ◌^◌, ◌||◌, ◌∷◌, IsTrue, IfErr, IfOk, MatchOption, MatchResult, OnOk, Some, [], codes, length, map};
 ghost use Rattle.std.specs.Prelude.{option_map, string_bytes};
 ghost use Rattle.clap.specs.Words.{HasKind, fault_of, found_of, kind_of, one_of, rows_of, subcommand_of, subcommand_rows_of};
 ghost use Rattle.edi_schema.specs.Roles.{AreKindCodes, KindCodes};
@@ -66,10 +66,11 @@ pub enum Request<'a> {
         files: PairFiles<'a>,
         pairing: Option<&'a str>,
     },
-    /// The digests of the canonical files of sheets.
+    /// The digests of the canonical files of sheets, and that of the schema first.
     Hash {
         kinds: GivenKinds<'a>,
         files: ManyFiles<'a>,
+        with_schema: bool,
     },
     /// Where and why a sheet is refused, or what is in it.
     Explain {
@@ -116,6 +117,8 @@ pub enum Misuse<'a> {
     TwoStandard,
     /// A schema is named, and no sheet.
     NoSheet,
+    /// No sheet is named, nor is the digest of the schema asked for.
+    NothingHashed,
     /// A pairing is to go to standard output, which gets the answer.
     StandardPairing,
     /// A picture is to go to standard output, which gets what differs.
@@ -199,10 +202,7 @@ fn subcommand_meant<'a, R: Eprint + AllocGlobal>(
             out: path(given, "OUT"),
         },
         "compare" => compared(given, kinds),
-        "hash" => match many_files(rt.alloc(), given) {
-            Ok(files) => Request::Hash { kinds, files },
-            Err(_) => Request::Answered(out_of_memory(rt)),
-        },
+        "hash" => hashed(rt, given, kinds),
         "verify" => Request::Verify {
             kinds,
             files: pair_files(given),
@@ -230,6 +230,35 @@ fn compared<'a>(given: &ArgMatches<'a>, kinds: GivenKinds<'a>) -> Request<'a>
         files: pair_files(given),
         pairing: given.get_str("pairing"),
     }
+}
+
+// What the arguments of `hash` ask for.
+fn hashed<'a, R: Eprint + AllocGlobal>(
+    rt: &R,
+    given: &ArgMatches<'a>,
+    kinds: GivenKinds<'a>,
+) -> Request<'a>
+    ensures { GiveKinds (rows_of (found_of given.now)) kinds.entry → Means (Some (codes "hash", rows_of (found_of given.now))) result }
+{
+    let with_schema = flag(given, "schema");
+    if !asks_for_digests(given, with_schema) {
+        return Request::Misused(Misuse::NothingHashed);
+    }
+    match many_files(rt.alloc(), given) {
+        Ok(files) => Request::Hash {
+            kinds,
+            files,
+            with_schema,
+        },
+        Err(_) => Request::Answered(out_of_memory(rt)),
+    }
+}
+
+// Whether there is something to hash: a sheet, or the schema.
+fn asks_for_digests(given: &ArgMatches<'_>, with_schema: bool) -> bool
+    ensures { result ≡ (with_schema || is_given (codes "VEC") (rows_of (found_of given.now))) }
+{
+    with_schema || is_given(given, "VEC")
 }
 
 // What the arguments of `diff` ask for.

@@ -36,7 +36,8 @@ IsReplied run out err (Check kinds files) s = run.untouched × IsFileStatus run 
 IsReplied run out err (Canon kinds files path) s = IsMadeStatus run out err Canonical kinds files path.now s
 IsReplied run out err (Compare kinds files pairing) s = MatchOption pairing (run.untouched × IsCompareStatus run out err kinds files s)
     (λ path. IsPairingStatus run out err kinds files path.now s)
-IsReplied run out err (Hash kinds files) s = run.untouched × IsHashStatus run out err kinds files s
+IsReplied run out err (Hash kinds files with_schema) s =
+    run.untouched × IsHashStatus run out err kinds files with_schema s
 IsReplied run out err (Explain kinds files) s = run.untouched × IsExplainStatus run out err kinds files s
 IsReplied run out err (Rule word) s = run.untouched × IsRuleStatus out err word.now s
 IsReplied run out err (Verify kinds files pairing) s = run.untouched × IsVerifyStatus run out err kinds files pairing.now s

@@ -135,7 +135,11 @@ fn replied<F: Folder, O: ByteOut, E: ByteOut>(
             files,
             pairing,
         } => compare_or_pair(alloc, folder, &kinds, &files, pairing, out, err, note),
-        Request::Hash { kinds, files } => hash(alloc, folder, &kinds, &files, out, err),
+        Request::Hash {
+            kinds,
+            files,
+            with_schema,
+        } => hash(alloc, folder, &kinds, &files, with_schema, out, err),
         Request::Explain { kinds, files } => explain(alloc, folder, &kinds, &files, out, err),
         Request::Rule { word } => explain_rule(alloc, word, out, err),
         Request::Verify {

@@ -12,7 +12,7 @@ loop-path-init g c =
     let o = g.O.ByteOut.contents c.args.out.now in
     let e = g.E.ByteOut.contents c.args.err.now in
     let inputs = inputs g.F.Folder g.F.Reader.ByteIn c.args.folder.now in
-    (none_answered inputs (g.F.Folder.why c.args.folder.now) c.args.schema.now o (g.O.ByteOut.has_failed c.args.out.now) e (g.E.ByteOut.has_failed c.args.err.now), inl refl, λ t. t)
+    (none_answered inputs (g.F.Folder.why c.args.folder.now) c.args.schema.now o (g.O.ByteOut.has_failed c.args.out.now) e (g.E.ByteOut.has_failed c.args.err.now), inl refl, λ t. t, λ t. t)
 
 pub loop-path-preserved : goal.loop-path-preserved
 loop-path-preserved g c =
@@ -31,6 +31,7 @@ loop-path-preserved g c =
           (subst (AreAnswered inputs why s out err _) (sym worst) more),
       subst IsSheetStatus (sym worst) (max_status c.loop-path.worst c.in-Ok.status c.loop-path.invariant.1 c.in-Ok.ensures.status),
       λ t. c.in-Ok.ensures.stays (c.loop-path.invariant.2 t),
+      λ t. c.in-Ok.ensures.out_stays (c.loop-path.invariant.3 t),
     )
 
 pub returns-in-Err-clause-answer : goal.returns-in-Err-clause-answer
@@ -59,3 +60,9 @@ returns-in-Err-clause-stays g c = λ t. c.unwritten.ensures.stays (c.in-Err.ensu
 
 pub returns-clause-stays : goal.returns-clause-stays
 returns-clause-stays g c = c.loop-path.invariant.2
+
+pub returns-in-Err-clause-out_stays : goal.returns-in-Err-clause-out_stays
+returns-in-Err-clause-out_stays g c = λ t. c.in-Err.ensures.out_stays (c.loop-path.invariant.3 t)
+
+pub returns-clause-out_stays : goal.returns-clause-out_stays
+returns-clause-out_stays g c = c.loop-path.invariant.3

@@ -12,3 +12,4 @@ invariant-loop-path g l =
     (written g.E.ByteOut l.initial.err l.err) (paths_of (take l.path-index l.sheets)) l.worst
     × IsSheetStatus l.worst
     × (IsTrue (g.E.ByteOut.has_failed l.initial.err) → IsTrue (g.E.ByteOut.has_failed l.err))
+    × (IsTrue (g.O.ByteOut.has_failed l.initial.out) → IsTrue (g.O.ByteOut.has_failed l.out))

@@ -1,16 +1,13 @@
-use Rattle.std.proofs.Common.{ℕ, List, inl, inr, subst, map, Bor}
+use Rattle.std.proofs.Common.{inl, inr, subst}
 use Rattle.edi_answers.specs.Effects.{effects, written}
-use Rattle.edi_answers.specs.Hashes.{AnswersAll, TellsFault}
+use Rattle.edi_answers.specs.Hashes.{TellsFault}
 use Rattle.edi_answers.specs.Notes.{Notes}
 use Rattle.edi_answers.proofs.Answering.{appends_nothing}
 use Rattle.edi_answers.proofs.hashes.hash.Goals as goal
 
 pub returns-in-Ok-clause-answer : goal.returns-in-Ok-clause-answer
 returns-in-Ok-clause-answer g c =
-    let run = effects g.F.Folder g.F.Reader.ByteIn g.F.Sink.ByteOut g.F.NewFile.ByteOut c.args.folder.now c.args.folder.now in
-    let out = written g.O.ByteOut c.args.out.now c.answer_all.new.out in
     let first = written g.E.ByteOut c.args.err.now c.say.new.err in
-    let rest = written g.E.ByteOut c.say.new.err c.answer_all.new.err in
     inl (
       c.in-Ok.loaded.schema,
       c.in-Ok.loaded.note.items,
@@ -18,10 +15,9 @@ returns-in-Ok-clause-answer g c =
       (
         g.E.ByteOut.contents c.say.new.err,
         g.E.ByteOut.has_failed c.say.new.err,
-        c.answer_all.ensures.stays,
+        c.answer_under.ensures.stays,
         subst (Notes first) c.deref.ensures.value c.say.ensures.text,
-        subst (λ (sheets : List (Bor (List ℕ))). AnswersAll run.inputs run.why c.in-Ok.loaded.schema out rest (map (λ (p : Bor (List ℕ)). p.now) sheets) c.answer_all.result)
-            c.deref-in-Ok.ensures.value c.answer_all.ensures.answer,
+        c.answer_under.ensures.answer,
       ),
     )
 

@@ -1,8 +1,9 @@
 use Rattle.std.proofs.Common.{codes, refl}
-use Rattle.edi_words.specs.Requests.{files_rule}
+use Rattle.edi_words.specs.Requests.{optional_files_rule, schema_flag_rule}
 use Rattle.edi_words.proofs.Plain.{rule_added}
 use Rattle.edi_words.proofs.command_line.hash.Goals as goal
 
 pub returns : goal.returns
 returns c =
-    rule_added c.over_schema-over_schema.result c.with_argument.result c.sheets_argument.result _ (files_rule (codes "VEC")) refl c.over_schema-over_schema.ensures c.sheets_argument.ensures c.with_argument.ensures
+    let with_sheets = rule_added c.over_schema-over_schema.result c.with_argument-with_sheets.result c.sheets_argument.result _ (optional_files_rule (codes "VEC")) refl c.over_schema-over_schema.ensures c.sheets_argument.ensures c.with_argument-with_sheets.ensures in
+    rule_added c.with_argument-with_sheets.result c.with_argument.result c.schema_flag.result _ schema_flag_rule refl with_sheets c.schema_flag.ensures c.with_argument.ensures

@@ -21,11 +21,8 @@ returns-in-diff g c = λ own give. subst (λ name. Means (Some (name, rows_of (f
 pub returns-in-draw : goal.returns-in-draw
 returns-in-draw g c = λ own give. (rows_of (found_of c.args.given.now), ap (λ name. Some (name, rows_of (found_of c.args.given.now))) c.in-draw.is, give, c.sheet_files-in-draw.ensures, c.path-in-draw.ensures)
 
-pub returns-in-Ok : goal.returns-in-Ok
-returns-in-Ok g c = λ own give. (rows_of (found_of c.args.given.now), ap (λ name. Some (name, rows_of (found_of c.args.given.now))) c.in-hash.is, give, c.in-Ok.ensures)
-
-pub returns-in-Err : goal.returns-in-Err
-returns-in-Err g c = λ own give. (rows_of (found_of c.args.given.now), ap (λ name. Some (name, rows_of (found_of c.args.given.now))) c.in-hash.is, c.out_of_memory.ensures)
+pub returns-in-hash : goal.returns-in-hash
+returns-in-hash g c = λ own give. subst (λ name. Means (Some (name, rows_of (found_of c.args.given.now))) c.hashed.result) (sym c.in-hash.is) (c.hashed.ensures give)
 
 pub returns-in_default : goal.returns-in_default
 returns-in_default g c = λ own give.
