@@ -36,6 +36,10 @@ brief_of line = option_map (λ met. one_of (codes "brief") met.1) (subcommand_of
 abbrev pub records_of : Text → Option (Option Text)
 records_of line = option_map (λ met. one_of (codes "records") met.1) (subcommand_of edicad (words_in line))
 
+-- and that for lines of JSON
+abbrev pub json_of : Text → Option (Option Text)
+json_of line = option_map (λ met. one_of (codes "json") met.1) (subcommand_of edicad (words_in line))
+
 -- and that for the digest of the schema
 abbrev pub with_schema_of : Text → Option (Option Text)
 with_schema_of line = option_map (λ met. one_of (codes "schema") met.1) (subcommand_of edicad (words_in line))

@@ -44,6 +44,10 @@ brief_rule = record (new_rule (codes "brief")) { long = Some (codes "brief"); ac
 abbrev pub records_rule : Rule
 records_rule = record (new_rule (codes "records")) { long = Some (codes "records"); action = Some SetTrue }
 
+-- the flag for what differs as lines of JSON
+abbrev pub json_rule : Rule
+json_rule = record (new_rule (codes "json")) { long = Some (codes "json"); action = Some SetTrue }
+
 -- a file that has to be named
 abbrev pub file_rule : Text → Rule
 file_rule id = record (new_rule id) { required = true }
@@ -93,7 +97,8 @@ verify_command = with_rule (with_rule (with_rule (schema_command (codes "verify"
 
 -- the subcommand that reports what differs between two sheets
 abbrev pub diff_command : App
-diff_command = with_rule (with_rule (with_rule (with_rule (with_rule (schema_command (codes "diff")) (file_rule (codes "A"))) (file_rule (codes "B"))) brief_rule) records_rule) picture_rule
+diff_command = with_rule (with_rule (with_rule (with_rule (with_rule (with_rule (schema_command (codes "diff")) (file_rule (codes "A")))
+    (file_rule (codes "B"))) brief_rule) records_rule) json_rule) picture_rule
 
 -- the subcommand over a sheet and where its picture goes
 abbrev pub draw_command : App
@@ -251,8 +256,10 @@ Means met (asks.Rule word) = (rows : List Row) × (met ≡ Some (codes "explain"
     × (is_given (codes "DIC") rows ≡ false)
 Means met (Verify kinds files pairing) = (rows : List Row) × (met ≡ Some (codes "verify", rows)) × GiveKinds rows kinds × ArePairFiles rows files
     × (pairing.now ≡ value_at (codes "FILE") rows)
-Means met (Diff kinds files brief records picture) = (rows : List Row) × (met ≡ Some (codes "diff", rows)) × GiveKinds rows kinds × ArePairFiles rows files
-    × IsFlag (one_of (codes "brief") rows) brief × IsFlag (one_of (codes "records") rows) records × IsOptionFile (codes "picture") rows picture
+Means met (Diff kinds files brief records json picture) =
+    (rows : List Row) × (met ≡ Some (codes "diff", rows)) × GiveKinds rows kinds × ArePairFiles rows files
+    × IsFlag (one_of (codes "brief") rows) brief × IsFlag (one_of (codes "records") rows) records
+    × IsFlag (one_of (codes "json") rows) json × IsOptionFile (codes "picture") rows picture
 Means met (Draw kinds files out) = (rows : List Row) × (met ≡ Some (codes "draw", rows)) × GiveKinds rows kinds × AreSheetFiles rows files
     × (out.now ≡ value_at (codes "OUT") rows)
 Means met (Misused misuse) = (name : Text) × (rows : List Row) × (met ≡ Some (name, rows)) × IsMisuse name rows misuse

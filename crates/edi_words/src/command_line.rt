@@ -1,7 +1,7 @@
 //! The command line, as clap takes it.
 ghost use Rattle.std.specs.Prelude.{◌≡◌, IfOk, IsOkAnd, codes};
 ghost use Rattle.clap.specs.Words.{AddsArg, AddsSubcommand, app_of, new_app, new_rule, rule_of, with_rule};
-ghost use Rattle.edi_words.specs.Requests.{brief_rule, canon_command, check_command, compare_command, diff_command, draw_command, edicad, explain_command, file_option_rule, file_rule, hash_command, kinds_rule, optional_files_rule, pairing_rule, picture_rule, records_rule, schema_command, schema_flag_rule, subject_rule, verify_command};
+ghost use Rattle.edi_words.specs.Requests.{brief_rule, canon_command, check_command, compare_command, diff_command, draw_command, edicad, explain_command, file_option_rule, file_rule, hash_command, json_rule, kinds_rule, optional_files_rule, pairing_rule, picture_rule, records_rule, schema_command, schema_flag_rule, subject_rule, verify_command};
 
 use clap::{Arg, ArgAction, Command};
 use std::alloc::{AllocError, Global};
@@ -162,7 +162,8 @@ fn diff<'a>(alloc: Global) -> Result<Command<'a>, AllocError>
     let over_pair = over_pair(alloc, "diff", "Says what differs between two sheets");
     let with_brief = with_argument(over_pair, brief_flag(alloc));
     let with_records = with_argument(with_brief, records_flag(alloc));
-    with_argument(with_records, picture_option(alloc))
+    let with_json = with_argument(with_records, json_flag(alloc));
+    with_argument(with_json, picture_option(alloc))
 }
 
 // A subcommand over a sheet.
@@ -302,4 +303,14 @@ fn records_flag<'a>(alloc: Global) -> Arg<'a>
         .long("records")
         .action(ArgAction::SetTrue)
         .help("Lists each record that differs, and not the objects")
+}
+
+// The flag that asks for lines of JSON.
+fn json_flag<'a>(alloc: Global) -> Arg<'a>
+    ensures { rule_of result ≡ json_rule }
+{
+    Arg::new(alloc, "json")
+        .long("json")
+        .action(ArgAction::SetTrue)
+        .help("Lists each record that differs as a line of JSON")
 }

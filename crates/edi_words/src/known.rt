@@ -2,7 +2,7 @@
 ghost use Rattle.std.specs.Prelude.{◌≡◌, [], ◌∷◌, None, Some, codes};
 ghost use Rattle.clap.specs.Words.{fault_of, subcommand_of};
 ghost use Rattle.clap.specs.declared.error.ErrorKind.TheVariants.{DisplayHelp, DisplayVersion, InvalidSubcommand, MissingRequiredArgument, UnknownArgument};
-ghost use Rattle.edi_words.specs.Known.{brief_of, pairing_files_of, picture_of, records_of, sheets_of, values_of, with_schema_of, words_in};
+ghost use Rattle.edi_words.specs.Known.{brief_of, json_of, pairing_files_of, picture_of, records_of, sheets_of, values_of, with_schema_of, words_in};
 ghost use Rattle.edi_words.specs.Requests.{edicad};
 
 /// Known words ask for what they should.
@@ -32,6 +32,8 @@ pub fn known_words_are_asked()
     ensures brief { brief_of (codes "edicad diff --brief s d a b") ≡ Some (Some (codes "true")) }
     ensures by_objects { records_of (codes "edicad diff s d a b") ≡ Some (Some (codes "false")) }
     ensures by_records { records_of (codes "edicad diff --records s d a b") ≡ Some (Some (codes "true")) }
+    ensures as_json { json_of (codes "edicad diff --json s d a b") ≡ Some (Some (codes "true")) }
+    ensures as_text { json_of (codes "edicad diff --records s d a b") ≡ Some (Some (codes "false")) }
     ensures drawn { values_of (codes "edicad draw s d v o")
         ≡ Some (codes "draw", None ∷ Some (codes "s") ∷ Some (codes "d") ∷ Some (codes "v") ∷ Some (codes "o") ∷ None ∷ None ∷ []) }
     ensures picture { picture_of (codes "edicad diff --brief --picture f s d a b") ≡ Some (Some (codes "f")) }
@@ -47,6 +49,7 @@ pub fn known_words_are_asked()
     ensures no_pairing_fault { fault_of edicad (words_in (codes "edicad compare --pairing f s d a b")) ≡ [] }
     ensures no_diff_fault { fault_of edicad (words_in (codes "edicad diff s d a b")) ≡ [] }
     ensures no_brief_fault { fault_of edicad (words_in (codes "edicad diff --brief s d a b")) ≡ [] }
+    ensures no_json_fault { fault_of edicad (words_in (codes "edicad diff s d a b --json")) ≡ [] }
     ensures no_records_fault { fault_of edicad (words_in (codes "edicad diff --records s d a b")) ≡ [] }
     ensures no_draw_fault { fault_of edicad (words_in (codes "edicad draw s d v o")) ≡ [] }
     ensures no_picture_fault { fault_of edicad (words_in (codes "edicad diff --brief --picture f s d a b")) ≡ [] }

@@ -87,13 +87,14 @@ pub enum Request<'a> {
         files: PairFiles<'a>,
         pairing: &'a str,
     },
-    /// What differs between two sheets, object by object or record by record, or only how many records differ, and where a picture of
+    /// What differs between two sheets, object by object, record by record or as lines of JSON, or only how many records differ, and where a picture of
     /// that goes.
     Diff {
         kinds: GivenKinds<'a>,
         files: PairFiles<'a>,
         brief: bool,
         records: bool,
+        json: bool,
         picture: Option<&'a str>,
     },
     /// The picture of a sheet.
@@ -273,6 +274,7 @@ fn differing<'a>(given: &ArgMatches<'a>, kinds: GivenKinds<'a>) -> Request<'a>
         files: pair_files(given),
         brief: flag(given, "brief"),
         records: flag(given, "records"),
+        json: flag(given, "json"),
         picture: given.get_str("picture"),
     }
 }

@@ -41,8 +41,9 @@ IsReplied run out err (Hash kinds files with_schema) s =
 IsReplied run out err (Explain kinds files) s = run.untouched × IsExplainStatus run out err kinds files s
 IsReplied run out err (Rule word) s = run.untouched × IsRuleStatus out err word.now s
 IsReplied run out err (Verify kinds files pairing) s = run.untouched × IsVerifyStatus run out err kinds files pairing.now s
-IsReplied run out err (Diff kinds files brief records picture) s = MatchOption picture (run.untouched × IsDiffStatus run out err kinds files (form_asked brief records) s)
-    (λ path. IsPictureStatus run out err kinds files (form_asked brief records) path.now s)
+IsReplied run out err (Diff kinds files brief records json picture) s =
+    MatchOption picture (run.untouched × IsDiffStatus run out err kinds files (form_asked brief records json) s)
+    (λ path. IsPictureStatus run out err kinds files (form_asked brief records json) path.now s)
 IsReplied run out err (Draw kinds files path) s = IsMadeStatus run out err Picture kinds files path.now s
 IsReplied run out err (Misused misuse) s = run.untouched × IsMisusedStatus out err misuse s
 IsReplied run out err (Answered status) s = run.untouched × (s ≡ status) × Prints out [] × Prints err []

@@ -152,9 +152,10 @@ fn replied<F: Folder, O: ByteOut, E: ByteOut>(
             files,
             brief,
             records,
+            json,
             picture,
         } => {
-            let form = form_asked(brief, records);
+            let form = form_asked(brief, records, json);
             diff_or_draw(alloc, folder, &kinds, &files, form, picture, out, err, note)
         }
         Request::Draw {
@@ -239,13 +240,14 @@ fn send<F: Folder, O: ByteOut, E: ByteOut>(
 }
 
 /// In which form the words ask for what differs.
-fn form_asked(brief: bool, records: bool) -> TextForm
-    ensures { result ≡ form_asked brief records }
+fn form_asked(brief: bool, records: bool, json: bool) -> TextForm
+    ensures { result ≡ form_asked brief records json }
 {
-    match (brief, records) {
-        (true, _) => TextForm::Brief,
-        (false, true) => TextForm::Records,
-        (false, false) => TextForm::Objects,
+    match (brief, records, json) {
+        (true, _, _) => TextForm::Brief,
+        (false, _, true) => TextForm::Json,
+        (false, true, false) => TextForm::Records,
+        (false, false, false) => TextForm::Objects,
     }
 }
 

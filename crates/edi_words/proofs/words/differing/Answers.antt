@@ -12,6 +12,7 @@ returns c = λ give. (
   c.pair_files.ensures,
   c.flag.ensures,
   c.flag-2.ensures,
+  c.flag-3.ensures,
   (
     c.get_str.ensures ∙ first_value-rows (found_of c.args.given.now) _,
     ap is_standard_path (sym c.path.ensures) ∙ (sym c.is_standard.ensures ∙ c.if-is_standard.false),
