@@ -125,6 +125,7 @@ def main():
         sweep("diff, the same", ["diff", *schema, sheet, again], library, out)
         sweep("diff", ["diff", *schema, sheet, other], library, out)
         sweep("diff, in brief", ["diff", "--brief", *schema, sheet, other], library, out)
+        sweep("diff, as JSON", ["diff", "--json", *schema, sheet, other], library, out)
         sweep("diff, with a picture", ["diff", "--picture", out, *schema, sheet, other], library, out)
         sweep("draw", ["draw", *schema, sheet, out], library, out)
         sweep("hash", ["hash", *schema, sheet, again], library, out, lacks_lines)

@@ -501,6 +501,20 @@ def by_objects(room):
     room.write("b", first.replace(b"ATVSA04:A 12", b"ATVSA04:A 13"))
 
 
+def as_json(room, sheets):
+    """What differs, as lines of JSON: the two records of the text, no record, another character set; and which form is meant where two are asked for."""
+    record = b'{"version":1,"what":"record","mark":"changed","type":"%s","a":{"identifier":"%s","line":%d},"b":{"identifier":"%s","line":%d},"parts":[%s]}\n'
+    counts = b'{"version":1,"what":"counts","only_in_a":0,"only_in_b":0,"changed":%d}\n'
+    found = (1, record % (b"FEA", b"Objet_1", 39, b"Objet_1", 39, b'"attributes"') + record % (b"LNK", b"Lien_7", 98, b"Lien_7", 98, b"") + counts % 2, b"")
+    room.write("set", room.read("a").replace(b"CSET 03:IRV\n", b""))
+    charsets = b'{"version":1,"what":"charsets","a":"IRV","b":null}\n'
+    room.expect("another value, as JSON", ["diff", "--json", *sheets], found)
+    room.expect("another value, as JSON where records are asked for too", ["diff", "--records", *sheets, "--json"], found)
+    room.expect("another value, in brief where JSON is asked for too", ["diff", "--json", "--brief", *sheets], (1, b"0 only in A, 0 only in B, 2 changed\n", b""))
+    room.expect("no difference, as JSON", ["diff", "--json", "s", "d", "a", "same"], (0, counts % 0, b""))
+    room.expect("another character set, as JSON", ["diff", "--json", "s", "d", "a", "set"], (1, charsets + counts % 0, b""))
+
+
 def differences(room):
     """What differs between two sheets: the lines, the statuses and what is missing or refused."""
     parcel = os.path.join(HERE, "..", "examples", "parcel")
@@ -521,6 +535,7 @@ def differences(room):
     room.expect("another value, in brief", ["diff", *sheets, "--brief"], (1, counts, b""))
     room.expect("another value, with the usual kinds", ["diff", "--kinds", "IND,FND,LPO,RPO", *sheets, "--records"], found)
     by_objects(room)
+    as_json(room, sheets)
     room.write("set", room.read("a").replace(b"CSET 03:IRV\n", b""))
     room.expect("another character set", ["diff", "s", "d", "a", "set"], (1, b"~ CSE IRV none\n" + nothing[1], b""))
     room.expect("another character set, in brief", ["diff", "--brief", "s", "d", "a", "set"], (1, b"~ CSE IRV none\n" + none, b""))

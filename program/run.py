@@ -49,7 +49,7 @@ PARTS = {
     "explains kinds": 16,
     "pairings": 115,
     "paired": 183,
-    "differences": 100,
+    "differences": 105,
     "presentations": 120,
     "pictures": 105,
     "explains partners": 5,
