@@ -9,7 +9,7 @@ The sheets have 0.1 MB each; twenty differ, and the others are links to them, so
 one run of `hash` over all of them; four runs of it side by side, over a quarter each, which is the most that this machine gives
 four at a time; and python/examples/hash_folder.py, the start of Python included. All have to write the same digests. Printed: the seconds of each
 by the clock, and how many times a quarter of the first's that is; and its seconds of a processor, and how many times the first's. The clock means
-something only where nothing else runs.
+something only where nothing else runs, or where this goes ahead of it (chrt -r 1 python3 bench/embedded.py, as root).
 """
 import io
 import os
