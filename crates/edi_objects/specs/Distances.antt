@@ -14,12 +14,12 @@ abbrev pub square_of : ℤ → ℕ
 square_of z = size_of z * size_of z
 
 -- the distance of two positions in the plane, in millionths and rounded down
-abbrev pub distance : Point → Point → ℕ
-distance a b = root (square_of (a.x -ℤ b.x) + square_of (a.y -ℤ b.y))
+abbrev pub distance_between : Point → Point → ℕ
+distance_between a b = root (square_of (a.x -ℤ b.x) + square_of (a.y -ℤ b.y))
 
 -- the greatest distance of two positions that stand side by side
 abbrev pub farthest : List (Point × Point) → ℕ
-farthest pairs = fold (λ d pair. max d (distance pair.0 pair.1)) 0 pairs
+farthest pairs = fold (λ d pair. max d (distance_between pair.0 pair.1)) 0 pairs
 
 -- how many of them differ
 abbrev pub unlike : Point × Point → Bool
@@ -38,4 +38,4 @@ side_by_side a b =
 abbrev pub distance_of_first : List Point → List Point → ℕ
 distance_of_first [] others = 0
 distance_of_first (p ∷ points) [] = 0
-distance_of_first (p ∷ points) (q ∷ others) = distance p q
+distance_of_first (p ∷ points) (q ∷ others) = distance_between p q

@@ -3,7 +3,7 @@
 ghost use Rattle.std.specs.Prelude.{◌≡◌, ◌++◌, ◌<◌, IfOk, OnOk, length};
 ghost use Rattle.std.specs.List.Sorted.{IsNonDecreasingBy};
 ghost use Rattle.edi_plan.specs.Plans.{IsPlace};
-ghost use Rattle.edi_objects.specs.Counts.{are_none, class_count, class_if, class_line, class_total, class_totals, changed_classes, counts_text, gone_classes, new_classes};
+ghost use Rattle.edi_objects.specs.Counts.{are_none, class_count, class_if, class_counts_line, class_total, class_totals, changed_classes, counts_text, gone_classes, new_classes};
 ghost use Rattle.edi_report.specs.Lines.{counted};
 ghost use Rattle.edi_objects.specs.inner.Counts.{AreCountsOf, AreToldClasses};
 
@@ -63,7 +63,7 @@ struct ToldClasses {
 
 /// How many objects of a class are only in the first sheet, how many only in the second, and how many changed.
 #[derive(Clone, Copy)]
-struct Counts {
+struct ClassCounts {
     gone: usize,
     new: usize,
     changed: usize,
@@ -71,12 +71,12 @@ struct Counts {
 
 impl ToldClasses {
     /// How many of them are of a class.
-    fn counts(&self, class: ClassRef) -> Counts
+    fn counts(&self, class: ClassRef) -> ClassCounts
         ensures gone { result.gone ≡ class_count class self.now.gone }
         ensures new { result.new ≡ class_count class self.now.new }
         ensures changed { result.changed ≡ class_count class self.now.changed }
     {
-        Counts {
+        ClassCounts {
             gone: self.gone.count(class),
             new: self.new.count(class),
             changed: self.changed.count(class),
@@ -84,7 +84,7 @@ impl ToldClasses {
     }
 }
 
-impl Counts {
+impl ClassCounts {
     /// Whether there are none.
     fn are_none(self) -> bool
         ensures { result ≡ are_none self.gone self.new self.changed }
@@ -133,11 +133,11 @@ impl<'a> Namer<'a> {
         &self,
         text: &mut Vec<u8>,
         class: ClassRef,
-        counts: Counts,
+        counts: ClassCounts,
     ) -> Result<(), AllocError>
         requires { class < length self.now.classes }
         ensures { OnOk result (text.new.items
-            ≡ text.old.items ++ class_line self.now class counts.gone counts.new counts.changed) }
+            ≡ text.old.items ++ class_counts_line self.now class counts.gone counts.new counts.changed) }
     {
         if counts.are_none() {
             return Ok(());

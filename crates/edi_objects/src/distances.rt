@@ -1,7 +1,7 @@
 //! How far two positions lie from each other.
 
 ghost use Rattle.std.specs.Prelude.{◌≡◌, ◌-ℤ◌, ◌<◌, ◌^◌, reverse, zip};
-ghost use Rattle.edi_objects.specs.Distances.{distance, distance_of_first, farthest, root, side_by_side, square_of, unlike_count};
+ghost use Rattle.edi_objects.specs.Distances.{distance_between, distance_of_first, farthest, root, side_by_side, square_of, unlike_count};
 
 use edi_line::Num;
 use edi_record::Point;
@@ -23,8 +23,8 @@ fn square_between(number: Num, other: Num) -> u128
 }
 
 /// The distance of two positions in the plane, in millionths of the file's unit and rounded down.
-fn distance(point: &Point, other: &Point) -> u64
-    ensures { result ≡ distance point.now other.now }
+fn distance_between(point: &Point, other: &Point) -> u64
+    ensures { result ≡ distance_between point.now other.now }
 {
     root(square_between(point.x, other.x) + square_between(point.y, other.y))
 }
@@ -64,20 +64,20 @@ fn unlike_back(points: &[Point], others: &[Point]) -> usize
 fn farthest_ahead(points: &[Point], others: &[Point]) -> u64
     ensures { result ≡ farthest (zip points.now others.now) }
 {
-    points
-        .iter()
-        .zip(others)
-        .fold(0, |most, (point, other)| most.max(distance(point, other)))
+    points.iter().zip(others).fold(
+        0,
+        |most, (point, other)| most.max(distance_between(point, other)),
+    )
 }
 
 /// The same, where the others are gone over backwards.
 fn farthest_back(points: &[Point], others: &[Point]) -> u64
     ensures { result ≡ farthest (zip points.now (reverse others.now)) }
 {
-    points
-        .iter()
-        .zip(others.iter().rev())
-        .fold(0, |most, (point, other)| most.max(distance(point, other)))
+    points.iter().zip(others.iter().rev()).fold(
+        0,
+        |most, (point, other)| most.max(distance_between(point, other)),
+    )
 }
 
 /// How the points of a list became those of another, in the direction in which fewer differ.
@@ -105,7 +105,7 @@ pub(crate) fn distance_of_first(points: &[Point], others: &[Point]) -> u64
     ensures { result ≡ distance_of_first points.now others.now }
 {
     match (points.first(), others.first()) {
-        (Some(point), Some(other)) => distance(point, other),
+        (Some(point), Some(other)) => distance_between(point, other),
         _ => 0,
     }
 }

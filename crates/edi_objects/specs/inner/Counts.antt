@@ -1,7 +1,7 @@
 -- Classes of objects that were put in order.
 use Rattle.std.specs.Prelude.{◌≡◌, ℕ, List}
 use Rattle.edi_report.specs.Reports.{Report}
-use Rattle.edi_objects.specs.Counts.{changed_classes, class_count, class_line, gone_classes, new_classes}
+use Rattle.edi_objects.specs.Counts.{changed_classes, class_count, class_counts_line, gone_classes, new_classes}
 use Rattle.edi_objects.specs.Names.{Naming}
 
 -- each class is as often in the one list as in the other
@@ -17,4 +17,4 @@ pub record AreToldClasses (n : Naming) (r : Report) (gone new changed : List ℕ
 -- the line of a class, by the classes of the objects that are told
 abbrev pub told_total : Naming → List ℕ → List ℕ → List ℕ → ℕ → List ℕ
 told_total n gone new changed class =
-    class_line n class (class_count class gone) (class_count class new) (class_count class changed)
+    class_counts_line n class (class_count class gone) (class_count class new) (class_count class changed)

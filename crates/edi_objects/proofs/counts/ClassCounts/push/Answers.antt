@@ -1,7 +1,7 @@
 use Rattle.std.proofs.Common.{◌∙◌, ◌++◌, ◌∷◌, [], List, codes, ℕ, ap, append_assoc}
 use Rattle.edi_line.specs.Bytes.{line_feed}
 use Rattle.edi_report.specs.Lines.{counted}
-use Rattle.edi_objects.proofs.counts.Counts.push.Goals as goal
+use Rattle.edi_objects.proofs.counts.ClassCounts.push.Goals as goal
 
 pub returns : goal.returns
 returns c =
