@@ -24,6 +24,7 @@ pub mod Printed
 pub mod PrintedRules
 pub mod KnownFiles
 pub mod FirstByte
+pub mod Lanes
 pub mod HeldZones
 pub mod BorrowedZones
 pub mod ZoneLists

@@ -1,10 +1,15 @@
 //! The lines of a file.
 
-ghost use Rattle.std.specs.Prelude.{◌≡◌, ℕ, List, ◌+◌, ◌<◌, ◌≤◌, [], ◌∷◌, ◌++◌, length, ◌==◌, take, drop, position, IfSome, IsNone};
+ghost use Rattle.std.specs.Prelude.{◌≡◌, ℕ, List, ◌+◌, ◌<◌, ◌≤◌, [], ◌∷◌, ◌++◌, length, ◌==◌, take, drop, map, position, IfSome, IsNone};
+ghost use Rattle.std.specs.Simd.Lanes.{mask_l};
 ghost use Rattle.edi_line.specs.Lines.{HasNoFeed, IsEnded, IsLinesOf, without_last, content_of};
 ghost use Rattle.edi_line.specs.inner.Lines.{lines_of};
 
 use memchr::memchr;
+use std::simd::prelude::*;
+
+// How many bytes are looked at at once. Most lines end among so many.
+const LANES: usize = 32;
 
 /// The first line, with its line feed if it has one, and the bytes behind it.
 pub(crate) fn first_line(bytes: &[u8]) -> (&[u8], &[u8])
@@ -38,10 +43,27 @@ fn first_end(bytes: &[u8]) -> usize
     }
 }
 
+/// The lanes that are line feeds, a bit each.
+fn feeds_among(lanes: u8x32) -> u64
+    ensures { result ≡ mask_l (map (λ c. c == 10) lanes) }
+{
+    lanes.simd_eq(u8x32::splat(b'\n')).to_bitmask()
+}
+
+/// Where the first line feed stands. It mostly stands near, and `memchr` has more to do before it looks there.
 fn feed_in(bytes: &[u8]) -> Option<usize>
     ensures { result ≡ position (λ c. c == 10) bytes.now }
 {
-    memchr(b'\n', bytes)
+    let mut seen = 0;
+    while bytes.len() - seen >= LANES {
+        let feeds = feeds_among(u8x32::from_slice(&bytes[seen..]));
+        if feeds != 0 {
+            return Some(seen + feeds.trailing_zeros() as usize);
+        }
+        seen += LANES;
+    }
+    let left = memchr(b'\n', &bytes[seen..])?;
+    Some(seen + left)
 }
 
 /// A line without its line feed, and then without one carriage return.

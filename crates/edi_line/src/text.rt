@@ -14,7 +14,7 @@ use std::cmp::Ordering;
 use std::hash::{Hash, Hasher};
 use std::marker::Model;
 
-/// How many bytes a short text has at most.
+// How many bytes a short text has at most.
 const SHORT: usize = 14;
 
 /// Where the bytes of a text lie. It has 16 bytes itself, since a sheet's records consist of texts for the most part.
@@ -57,16 +57,29 @@ impl Model for Text {
 }
 
 impl Text {
+    /// How many bytes a short text has at most.
+    pub const SHORT: usize = SHORT;
+
     /// A copy of these bytes.
     pub fn from_slice(alloc: Global, bytes: &[u8]) -> Result<Text, AllocError>
         ensures { IfOk result (λ t. t ≡ bytes.now) }
     {
-        let bytes = if bytes.len() <= SHORT {
-            short(bytes)
-        } else {
-            Bytes::Long(Box::new(alloc, Vec::from_slice(alloc, bytes)?)?)
-        };
+        if bytes.len() <= SHORT {
+            return Ok(Text::short(alloc, bytes));
+        }
+        let bytes = Bytes::Long(Box::new(alloc, Vec::from_slice(alloc, bytes)?)?);
         Ok(Text { alloc, bytes })
+    }
+
+    /// A copy of a short text, which takes no memory.
+    pub fn short(alloc: Global, bytes: &[u8]) -> Text
+        requires { length bytes.now ≤ 14 }
+        ensures { result ≡ bytes.now }
+    {
+        Text {
+            alloc,
+            bytes: short(bytes),
+        }
     }
 
     /// The bytes, borrowed.

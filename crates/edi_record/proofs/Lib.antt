@@ -1,3 +1,4 @@
+pub mod TextMarks
 pub mod TextParts
 pub mod Unique
 pub mod Stated

@@ -1,6 +1,6 @@
 //! The ends of a link.
 
-ghost use Rattle.std.specs.Prelude.{◌≡◌, ℕ, List, [], ◌++◌, codes, map, length, true, false, if◌then◌else◌, Some, None, option_map, IfOk, IfErr, OnOk};
+ghost use Rattle.std.specs.Prelude.{◌≡◌, ℕ, List, [], ◌++◌, ◌≤◌, codes, map, length, true, false, if◌then◌else◌, Some, None, option_map, IfOk, IfErr, OnOk};
 ghost use Rattle.edi_line.specs.Entry.{Entry};
 ghost use Rattle.edi_record.specs.Shapes.{may_have_ends};
 ghost use Rattle.edi_record.specs.Records.{is_link};
@@ -11,6 +11,7 @@ ghost use Rattle.edi_record.specs.inner.Stored.{Takes, StoresEnds, ended_with};
 
 use crate::attributes::copied;
 use crate::fault::GroupFault;
+use crate::name::Name;
 use crate::pointer::Pointer;
 use crate::record::{End, Kind};
 use edi_line::Text;
@@ -32,12 +33,36 @@ impl<'a> OpenEnd<'a> {
           sns = option_map (λ s. s.now) self.entry.sense;
         }) }
     {
+        if self.sense.is_none() && self.pointer.is_short() {
+            return Ok(self.pointer.short_end(alloc));
+        }
         Ok(End {
             lot: Text::from_slice(alloc, self.pointer.lot)?,
             subset: Text::from_slice(alloc, self.pointer.subset)?,
             target: self.pointer.name(alloc)?,
             sns: copied(alloc, self.sense)?,
         })
+    }
+}
+
+impl<'a> Pointer<'a> {
+    /// The end with this pointer and without SNS, which takes no memory. Nearly each end is such a one, and is made without a way out.
+    fn short_end(self, alloc: Global) -> End
+        requires lot { length self.lot.now ≤ 14 }
+        requires subset { length self.subset.now ≤ 14 }
+        requires rty { length self.rty.now ≤ 14 }
+        requires rid { length self.rid.now ≤ 14 }
+        ensures { result ≡ record { lot = self.entry.lot.now; subset = self.entry.subset.now; target = record { rty = self.entry.rty.now; rid = self.entry.rid.now }; sns = None } }
+    {
+        End {
+            lot: Text::short(alloc, self.lot),
+            subset: Text::short(alloc, self.subset),
+            target: Name {
+                rty: Text::short(alloc, self.rty),
+                rid: Text::short(alloc, self.rid),
+            },
+            sns: None,
+        }
     }
 }
 

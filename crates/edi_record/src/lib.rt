@@ -11,6 +11,7 @@ mod flat_lists;
 pub mod groups;
 pub mod laws;
 pub mod list;
+mod marked;
 pub mod name;
 mod only;
 pub mod pointer;

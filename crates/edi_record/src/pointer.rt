@@ -1,10 +1,10 @@
 //! Pointers.
 
-ghost use Rattle.std.specs.Prelude.{◌≡◌, IfOk, ℕ, List, Some, MatchOption, position, option_map, ◌==◌, ◌+◌};
+ghost use Rattle.std.specs.Prelude.{◌≡◌, ◌≤◌, IfOk, ℕ, List, MatchOption, length, true};
 ghost use Rattle.edi_record.specs.Texts.{PointerText, shown, IsPointer, IsPosition, IsCount};
-ghost use Rattle.edi_record.specs.inner.Texts.{AreCut};
 ghost use Rattle.edi_record.specs.declared.record.Point.{Point};
 
+use crate::marked::cut;
 use crate::name::Name;
 use edi_line::Text;
 use std::alloc::{AllocError, Global};
@@ -18,37 +18,36 @@ pub struct Pointer<'a> {
     pub rid: &'a [u8],
 }
 
-/// The bytes before the first semicolon, and those after it.
-pub(crate) fn cut(text: &[u8]) -> Option<(&[u8], &[u8])>
-    ensures { AreCut text.now (option_map (λ p. (p.0.now, p.1.now)) result) }
-{
-    let at = semicolon_in(text)?;
-    Some((&text[..at], &text[at + 1..]))
-}
-
-fn semicolon_in(text: &[u8]) -> Option<usize>
-    ensures { result ≡ position (λ c. c == 59) text.now }
-{
-    text.iter().position(|c| *c == b';')
-}
-
 impl<'a> Pointer<'a> {
     /// The parts of a text with exactly three semicolons.
     pub fn read(text: &'a [u8]) -> Option<Pointer<'a>>
         ensures { MatchOption result ((p : PointerText) → ¬ (IsPointer text.now p)) (λ p. IsPointer text.now (shown p)) }
     {
         let (lot, rest) = cut(text)?;
-        let (subset, rest) = cut(rest)?;
-        let (rty, rid) = cut(rest)?;
-        if cut(rid).is_some() {
+        let (subset, rest) = rest.cut()?;
+        let (rty, rid) = rest.cut()?;
+        if rid.cut().is_some() {
             return None;
         }
         Some(Pointer {
             lot,
             subset,
             rty,
-            rid,
+            rid: rid.text,
         })
+    }
+
+    /// Whether its parts are short texts, which take no memory.
+    pub(crate) fn is_short(&self) -> bool
+        ensures lot { result ≡ true → length self.now.lot.now ≤ 14 }
+        ensures subset { result ≡ true → length self.now.subset.now ≤ 14 }
+        ensures rty { result ≡ true → length self.now.rty.now ≤ 14 }
+        ensures rid { result ≡ true → length self.now.rid.now ≤ 14 }
+    {
+        self.lot.len() <= Text::SHORT
+            && self.subset.len() <= Text::SHORT
+            && self.rty.len() <= Text::SHORT
+            && self.rid.len() <= Text::SHORT
     }
 
     /// The name of what it points at.

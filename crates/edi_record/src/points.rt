@@ -11,7 +11,7 @@ ghost use Rattle.edi_record.specs.inner.RecordRefusal.{IsBreachOf};
 ghost use Rattle.edi_record.specs.inner.Stored.{Takes, StoresPoints};
 
 use crate::fault::GroupFault;
-use crate::pointer::cut;
+use crate::marked::cut;
 use crate::record::{Kind, Point};
 use edi_line::Num;
 use std::alloc::AllocError;
@@ -42,10 +42,13 @@ fn high(x: &[u8], y: &[u8], z: &[u8]) -> Option<Point>
 fn last(text: &[u8]) -> Option<&[u8]>
     ensures { option_map (λ s. s.now) result ≡ last_part (parts text.now) }
 {
-    match cut(text) {
-        None => Some(text),
-        Some((part, [])) => Some(part),
-        Some(_) => None,
+    let Some((part, rest)) = cut(text) else {
+        return Some(text);
+    };
+    if rest.text.is_empty() {
+        Some(part)
+    } else {
+        None
     }
 }
 
@@ -56,13 +59,13 @@ impl Point {
         ensures { result ≡ point text.now }
     {
         let (x, rest) = cut(text)?;
-        let Some((y, third)) = cut(rest) else {
-            return flat(x, rest);
+        let Some((y, third)) = rest.cut() else {
+            return flat(x, rest.text);
         };
-        if third.is_empty() {
+        if third.text.is_empty() {
             return flat(x, y);
         }
-        high(x, y, last(third)?)
+        high(x, y, last(third.text)?)
     }
 }
 

@@ -1,5 +1,6 @@
 -- Texts of pointers, of places and of counts, part by part: what reading finds.
-use Rattle.std.specs.Prelude.{◌≡◌, ℕ, ◌&&◌, nat_lt, List, [], ◌∷◌, length, if◌then◌else◌, Option, Some, None, option_map, ℤ}
+use Rattle.std.specs.Prelude.{◌≡◌, ℕ, ◌≤◌, ◌&&◌, nat_lt, List, [], ◌∷◌, length, map, if◌then◌else◌, Option, Some, None, option_map, ℤ}
+use Rattle.std.specs.Simd.Lanes.{mask_l}
 use Rattle.std.specs.List.{slice_split}
 use Rattle.std.specs.Str.{all_ascii_digits}
 use Rattle.std.specs.Str.Parse.{digits_value}
@@ -55,6 +56,14 @@ point text = point_of (parts text)
 -- one digit or more
 unfoldable pub count : List ℕ → Option ℕ
 count text = if nat_lt 0 (length text) && all_ascii_digits text then Some (digits_value 10 text) else None
+
+-- the semicolons of a text, a bit each
+abbrev pub semicolon_marks : List ℕ → ℕ
+semicolon_marks text = mask_l (map is_semicolon text)
+
+-- these are the semicolons of a text, which has 32 bytes at most
+abbrev pub AreMarks : List ℕ → ℕ → Type 0
+AreMarks text marks = (length text ≤ 32) × (marks ≡ semicolon_marks text)
 
 -- the text is cut at its first semicolon, or has none
 abbrev pub AreCut : List ℕ → Option (List ℕ × List ℕ) → Type 0
