@@ -61,6 +61,9 @@ pub(crate) fn append<T: Drop>(list: &mut Vec<T>, part: Sequence<T>) -> Vec<T>
     ensures emptied { result.items ≡ [] }
 {
     let mut items = part.into_vec();
+    if items.is_empty() {
+        return items;
+    }
     if list.is_empty() {
         return mem::replace(list, items);
     }
