@@ -22,13 +22,13 @@ def words(room):
     """Commands with good and bad words."""
     report = room.report
     for bad in (["paint"], ["check"], ["check", "s"], ["check", "s", "d"], ["canon", "s", "d", "v"], ["compare", "s", "d", "v"],
-                ["hash", "s"], ["explain"], ["explain", "s", "d", "v", "v"], ["verify", "s", "d", "v", "v"], ["verify", "s", "d", "v", "v", "p", "p"], ["compare", "--pairing", "s", "d", "v", "v"],
+                ["hash", "s"], ["delivery"], ["explain"], ["explain", "s", "d", "v", "v"], ["verify", "s", "d", "v", "v"], ["verify", "s", "d", "v", "v", "p", "p"], ["compare", "--pairing", "s", "d", "v", "v"],
                 ["verify", "--pairing", "p", "s", "d", "v", "v", "p"], ["diff", "s", "d", "v"], ["diff", "--brief=yes", "s", "d", "v", "v"], ["diff", "--brief", "--brief", "s", "d", "v", "v"], ["compare", "--brief", "s", "d", "v", "v"], ["check", "s", "d", "v", "v"], ["draw", "s", "d", "v"], ["draw", "s", "d", "v", "o", "o"], ["draw", "--picture", "o", "s", "d", "v"],
                 ["diff", "--picture", "s", "d", "v", "v"], ["diff", "--picture", "p", "--picture", "q", "s", "d", "v", "v"], ["compare", "--picture", "p", "s", "d", "v", "v"], ["--paint"], ["check", "--paint", "s", "d", "v"], ["check", "--kinds"], ["help", "paint"]):
         status, out, err = room.run(bad)
         report.check(f"{bad}: status and output", (status, out), (3, b""))
         report.holds(f"{bad}: says what is wrong", err.startswith(b"error: ") and err.endswith(b"\n"))
-    for asked in (["--help"], ["-h"], ["help"], ["help", "check"], ["check", "--help"], ["canon", "-h"], ["compare", "--help"], ["hash", "--help"], ["explain", "--help"], ["verify", "--help"], ["diff", "--help"], ["draw", "--help"], ["help", "draw"]):
+    for asked in (["--help"], ["-h"], ["help"], ["help", "check"], ["check", "--help"], ["canon", "-h"], ["compare", "--help"], ["hash", "--help"], ["explain", "--help"], ["verify", "--help"], ["diff", "--help"], ["draw", "--help"], ["delivery", "--help"], ["help", "draw"]):
         status, out, err = room.run(asked)
         report.check(f"{asked}: status and output", (status, out), (0, b""))
         report.holds(f"{asked}: has the usage", b"Usage: edicad" in err and err.endswith(b"\n"))

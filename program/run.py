@@ -22,6 +22,7 @@ import traceback
 sys.dont_write_bytecode = True
 
 from cases import all_cases, named, read_cases
+from delivered import deliveries
 from commands import differences, files, hashes, kinds_noted, manual, pairings, shown, standard_streams, terminal, words
 from explained import explains, explains_hints, explains_kinds, explains_lengths, explains_partners, explains_rules
 from hostile import full_disk, hostile_folders, kills, most_records
@@ -44,6 +45,7 @@ PARTS = {
     "standard streams": 51,
     "shown": 8,
     "hashes": 34,
+    "deliveries": 34,
     "kinds noted": 31,
     "explains": 65,
     "explains kinds": 16,
@@ -82,6 +84,7 @@ def works():
         "standard streams": lambda room: standard_streams(room, sheet, canonical),
         "shown": shown,
         "hashes": lambda room: hashes(room, sheet, canonical),
+        "deliveries": deliveries,
         "kinds noted": lambda room: kinds_noted(room, sheet, canonical),
         "explains": lambda room: explains(room, sheet),
         "explains kinds": lambda room: explains_kinds(room, sheet),

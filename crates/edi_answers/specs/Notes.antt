@@ -8,7 +8,7 @@ use Rattle.edi_explain.specs.KindLines.{NameLacking, lacking_words}
 use Rattle.edi_files.specs.Reasons.{ended}
 use Rattle.edi_shown.specs.Shown.{shown_bytes}
 use Rattle.edi_words.specs.declared.words.Request.{Request}
-use Rattle.edi_words.specs.declared.words.Request.TheVariants.{Bundle, Check, Canon, Compare, Hash, Explain, Rule, Verify, Diff, Draw, Misused, Answered}
+use Rattle.edi_words.specs.declared.words.Request.TheVariants.{Bundle, Check, Canon, Compare, Hash, Delivery, Explain, Rule, Verify, Diff, Draw, Misused, Answered}
 use Rattle.edi_answers.specs.Effects.{Inputs, Stream}
 use Rattle.edi_answers.specs.Paths.{input_name}
 use Rattle.edi_answers.specs.SheetRuns.{Gives}
@@ -50,14 +50,15 @@ HasNoteOf inputs kinds path status old new = GivesNote inputs kinds path new ⊎
 abbrev pub IsNotedAs : Inputs → KindCodes → List ℕ → ℕ → List ℕ → Type 0
 IsNotedAs inputs kinds path status note = GivesNote inputs kinds path note ⊎ ((2 < status) × (note ≡ []))
 
--- The note behind the answer to a request that ends with this status: on the file of classes of one or two sheets. `hash` says its own
--- first, and `explain` says the class of each kind.
+-- The note behind the answer to a request that ends with this status: on the file of classes of one or two sheets. `hash` and
+-- `delivery` say theirs first, and `explain` says the class of each kind.
 abbrev pub IsNoteOf : Inputs → Request → ℕ → List ℕ → Type 0
 IsNoteOf inputs Bundle status note = note ≡ []
 IsNoteOf inputs (Check kinds files) status note = IsNotedAs inputs kinds files.scd.now status note
 IsNoteOf inputs (Canon kinds files out) status note = IsNotedAs inputs kinds files.scd.now status note
 IsNoteOf inputs (Compare kinds files pairing) status note = IsNotedAs inputs kinds files.scd.now status note
 IsNoteOf inputs (Hash kinds files with_schema) status note = note ≡ []
+IsNoteOf inputs (Delivery kinds paths) status note = note ≡ []
 IsNoteOf inputs (Explain kinds files) status note = note ≡ []
 IsNoteOf inputs (Rule word) status note = note ≡ []
 IsNoteOf inputs (Verify kinds files pairing) status note = IsNotedAs inputs kinds files.scd.now status note

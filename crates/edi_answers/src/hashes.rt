@@ -222,8 +222,8 @@ fn answer<F: Folder, O: ByteOut, E: ByteOut>(
     }
 }
 
-// Says what is wrong with the file of a path, and gives the status.
-fn tell_fault<F: Folder, E: ByteOut>(
+/// Says what is wrong with the file of a path, and gives the status.
+pub fn tell_fault<F: Folder, E: ByteOut>(
     alloc: Global,
     folder: &F,
     fault: &RunFault,
@@ -332,8 +332,8 @@ fn line_of_fault(alloc: Global, fault: &RunFault, name: &[u8]) -> Result<Vec<u8>
     Ok(line)
 }
 
-// A backslash where the name has an escape, and else nothing.
-fn marked(alloc: Global, name: &[u8]) -> Result<Vec<u8>, AllocError>
+/// A backslash where the name has an escape, and else nothing.
+pub fn marked(alloc: Global, name: &[u8]) -> Result<Vec<u8>, AllocError>
     ensures { IfOk result (λ mark. mark.items ≡ mark_of name.now) }
 {
     if has_escape(name) {
@@ -362,8 +362,8 @@ fn is_escaped(byte: u8) -> bool
     matches!(byte, b'\\' | b'\n' | b'\r')
 }
 
-// A name with its escapes.
-fn escaped(alloc: Global, name: &[u8]) -> Result<Vec<u8>, AllocError>
+/// A name with its escapes.
+pub fn escaped(alloc: Global, name: &[u8]) -> Result<Vec<u8>, AllocError>
     ensures { IfOk result (λ text. text.items ≡ escaped_name name.now) }
 {
     let mut text = Vec::with_capacity(alloc, name.len())?;

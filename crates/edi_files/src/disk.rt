@@ -4,11 +4,12 @@
 ghost use Rattle.std.specs.Prelude.{◌≡◌, [], None, ⊤};
 
 use crate::folder::{Destination, FileDraft, Folder, OutFault};
+use crate::listing::Listing;
 use crate::reason::Reason;
 use edi_line::{ByteIn, ByteOut, FromRead};
-use std::alloc::AllocError;
+use std::alloc::{AllocError, Global};
 use std::cell::Cell;
-use std::fs::{File, Metadata, OpenFile, OpenOptions, TryLockError};
+use std::fs::{DirEntry, File, Metadata, OpenFile, OpenOptions, TryLockError};
 use std::io::{Input, Read, Write};
 use std::os::unix::fs::MetadataExt;
 use std::path::{Path, PathBuf};
@@ -295,6 +296,56 @@ impl<R: Files<File = File> + Input + AllocGlobal> Folder for Disk<'_, R, File> {
             (None, _) => None,
         }
     }
+}
+
+impl<R: Files<File = File> + AllocGlobal + Clone + Drop> Listing for Disk<'_, R, File> {
+    ghost lists = { λ _ _ _. ⊤ };
+
+    ghost unlisted = { λ _ _. ⊤ };
+
+    fn names(&self, alloc: Global, path: &str) -> Result<Option<Vec<String>>, AllocError> {
+        match listed(self.rt, alloc, path) {
+            Ok(mut names) => {
+                self.why.set(None);
+                names.sort_unstable();
+                Ok(Some(names))
+            }
+            Err(error) if error.kind() == io::ErrorKind::OutOfMemory => Err(AllocError),
+            Err(error) => {
+                self.why.set(reason_of(&error));
+                Ok(None)
+            }
+        }
+    }
+}
+
+// The names of what lies in the folder of a path, but for those of links and those that are not UTF-8.
+fn listed<R: Files + AllocGlobal + Clone + Drop>(
+    rt: &R,
+    alloc: Global,
+    path: &str,
+) -> io::Result<Vec<String>> {
+    let mut names = Vec::new(alloc);
+    for entry in fs::read_dir(rt, path)? {
+        match entry {
+            Ok(entry) => add_name(alloc, &mut names, &entry)?,
+            Err(error) if error.kind() == io::ErrorKind::InvalidFilename => {}
+            Err(error) => return Err(error),
+        }
+    }
+    Ok(names)
+}
+
+// Adds the name of what lies in a folder, unless it is a link, which may lead out of it.
+fn add_name<R: Files>(
+    alloc: Global,
+    names: &mut Vec<String>,
+    entry: &DirEntry<R, Global>,
+) -> io::Result<()> {
+    if !entry.file_type()?.is_symlink() {
+        names.push(String::from_str(alloc, entry.file_name())?)?;
+    }
+    Ok(())
 }
 
 // How long a file is, if it is one and no device.

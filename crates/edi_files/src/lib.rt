@@ -3,6 +3,7 @@
 
 pub mod disk;
 pub mod folder;
+pub mod listing;
 pub mod output;
 pub mod product;
 pub mod reason;
@@ -10,6 +11,7 @@ pub mod system;
 
 pub use disk::Disk;
 pub use folder::{Destination, FileDraft, Folder, OutFault};
+pub use listing::Listing;
 pub use product::Product;
 pub use reason::{Reason, push_reason, reason_text};
 pub use system::{CommandLine, Errors, Words};

@@ -44,6 +44,10 @@ json_of line = option_map (λ met. one_of (codes "json") met.1) (subcommand_of e
 abbrev pub with_schema_of : Text → Option (Option Text)
 with_schema_of line = option_map (λ met. one_of (codes "schema") met.1) (subcommand_of edicad (words_in line))
 
+-- the subcommand of a line, with the values of its last argument PATH
+abbrev pub paths_asked : Text → Option (Text × List Text)
+paths_asked line = option_map (λ met. (met.0, values_at (codes "PATH") met.1)) (subcommand_of edicad (words_in line))
+
 -- the subcommand of a line, with the values of its last argument VEC
 abbrev pub sheets_of : Text → Option (Text × List Text)
 sheets_of line = option_map (λ met. (met.0, values_at (codes "VEC") met.1)) (subcommand_of edicad (words_in line))

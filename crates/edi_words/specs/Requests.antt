@@ -10,7 +10,7 @@ use Rattle.clap.specs.declared.error.kind.ErrorKind.{ErrorKind}
 use Rattle.clap.specs.declared.error.kind.ErrorKind.TheVariants.{OutOfMemory, DisplayHelp, DisplayVersion}
 use Rattle.edi_schema.specs.Roles.{KindCodes, AreKindCodes}
 use Rattle.edi_words.specs.declared.words.Request.{Request}
-use Rattle.edi_words.specs.declared.words.Request.TheVariants.{Bundle, Check, Canon, Compare, Hash, Explain, Verify, Diff, Draw, Misused, Answered}
+use Rattle.edi_words.specs.declared.words.Request.TheVariants.{Bundle, Check, Canon, Compare, Hash, Delivery, Explain, Verify, Diff, Draw, Misused, Answered}
 use Rattle.edi_words.specs.declared.words.Request.TheVariants as asks
 use Rattle.edi_words.specs.declared.words.Misuse.{Misuse}
 use Rattle.edi_words.specs.declared.words.Misuse.TheVariants.{BadKinds, TwoStandard, NoSheet, NothingHashed, StandardPairing, StandardPicture}
@@ -51,6 +51,10 @@ json_rule = record (new_rule (codes "json")) { long = Some (codes "json"); actio
 -- a file that has to be named
 abbrev pub file_rule : Text → Rule
 file_rule id = record (new_rule id) { required = true }
+
+-- files of which at least one has to be named
+abbrev pub files_rule : Text → Rule
+files_rule id = record (file_rule id) { range = Some (record { start_inclusive = 1; end_inclusive = usize_max }) }
 
 -- files, as many as are named
 abbrev pub optional_files_rule : Text → Rule
@@ -104,12 +108,16 @@ diff_command = with_rule (with_rule (with_rule (with_rule (with_rule (with_rule 
 abbrev pub draw_command : App
 draw_command = output_command (codes "draw")
 
+-- the subcommand over deliveries
+abbrev pub delivery_command : App
+delivery_command = with_rule (with_rule (new_app (codes "delivery")) kinds_rule) (files_rule (codes "PATH"))
+
 -- a command that says its version
 abbrev pub versioned : App → App
 versioned a = record a { top = record a.top { has_version = true } }
 
 abbrev pub edicad : App
-edicad = with_subcommand (with_subcommand (with_subcommand (with_subcommand (with_subcommand (with_subcommand (with_subcommand (with_subcommand (versioned (new_app (codes "edicad"))) check_command.top) canon_command.top) compare_command.top) hash_command.top) explain_command.top) verify_command.top) diff_command.top) draw_command.top
+edicad = with_subcommand (with_subcommand (with_subcommand (with_subcommand (with_subcommand (with_subcommand (with_subcommand (with_subcommand (with_subcommand (versioned (new_app (codes "edicad"))) check_command.top) canon_command.top) compare_command.top) hash_command.top) explain_command.top) verify_command.top) diff_command.top) draw_command.top) delivery_command.top
 
 -- IND, FND, LPO and RPO
 abbrev pub usual_kinds : KindCodes
@@ -204,7 +212,7 @@ standard_at id rows = standard_in (values_at id rows)
 abbrev pub standard_count : List Row → ℕ
 standard_count rows =
     standard_at (codes "SCD") rows + standard_at (codes "DIC") rows + standard_at (codes "VEC") rows + standard_at (codes "A") rows + standard_at (codes "B") rows
-    + standard_at (codes "FILE") rows
+    + standard_at (codes "FILE") rows + standard_at (codes "PATH") rows
 
 -- an argument is given
 abbrev pub is_given : Text → List Row → Bool
@@ -239,7 +247,7 @@ misuse_text StandardPicture = codes "--picture takes a file, and not -"
 abbrev pub IsOptionFile : Text → List Row → Option (Bor (List ℕ)) → Type 0
 IsOptionFile id rows file = (option_map (λ (p : Bor (List ℕ)). p.now) file ≡ first_of id rows) × (is_option_standard id rows ≡ false)
 
--- what the subcommand and its arguments ask for, or want of memory for the sheets of `hash`, whose status is 5
+-- what the subcommand and its arguments ask for, or want of memory for the paths of `hash` or `delivery`, whose status is 5
 abbrev pub Means : Option (Text × List Row) → Request → Type 0
 Means met Bundle = met ≡ None
 Means met (Check kinds files) = (rows : List Row) × (met ≡ Some (codes "check", rows)) × GiveKinds rows kinds × AreSheetFiles rows files
@@ -250,6 +258,8 @@ Means met (Compare kinds files pairing) = (rows : List Row) × (met ≡ Some (co
 Means met (Hash kinds files with_schema) =
     (rows : List Row) × (met ≡ Some (codes "hash", rows)) × GiveKinds rows kinds × AreManyFiles rows files
     × IsFlag (one_of (codes "schema") rows) with_schema × ((with_schema || is_given (codes "VEC") rows) ≡ true)
+Means met (Delivery kinds paths) = (rows : List Row) × (met ≡ Some (codes "delivery", rows)) × GiveKinds rows kinds
+    × (map (λ p. p.now) paths.items ≡ values_at (codes "PATH") rows)
 Means met (Explain kinds files) = (rows : List Row) × (met ≡ Some (codes "explain", rows)) × GiveKinds rows kinds × AreSheetFiles rows files
     × (is_given (codes "DIC") rows ≡ true) × (is_given (codes "VEC") rows ≡ true)
 Means met (asks.Rule word) = (rows : List Row) × (met ≡ Some (codes "explain", rows)) × (word.now ≡ value_at (codes "SCD") rows)
@@ -263,7 +273,7 @@ Means met (Diff kinds files brief records json picture) =
 Means met (Draw kinds files out) = (rows : List Row) × (met ≡ Some (codes "draw", rows)) × GiveKinds rows kinds × AreSheetFiles rows files
     × (out.now ≡ value_at (codes "OUT") rows)
 Means met (Misused misuse) = (name : Text) × (rows : List Row) × (met ≡ Some (name, rows)) × IsMisuse name rows misuse
-Means met (Answered status) = (rows : List Row) × (met ≡ Some (codes "hash", rows)) × (status ≡ 5)
+Means met (Answered status) = (rows : List Row) × ((met ≡ Some (codes "hash", rows)) ⊎ (met ≡ Some (codes "delivery", rows))) × (status ≡ 5)
 
 -- whether words in good form can't be meant
 abbrev pub is_misused : Request → Bool

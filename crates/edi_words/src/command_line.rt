@@ -1,7 +1,7 @@
 //! The command line, as clap takes it.
 ghost use Rattle.std.specs.Prelude.{◌≡◌, IfOk, IsOkAnd, codes};
 ghost use Rattle.clap.specs.Words.{AddsArg, AddsSubcommand, app_of, new_app, new_rule, rule_of, with_rule};
-ghost use Rattle.edi_words.specs.Requests.{brief_rule, canon_command, check_command, compare_command, diff_command, draw_command, edicad, explain_command, file_option_rule, file_rule, hash_command, json_rule, kinds_rule, optional_files_rule, pairing_rule, picture_rule, records_rule, schema_command, schema_flag_rule, subject_rule, verify_command};
+ghost use Rattle.edi_words.specs.Requests.{brief_rule, canon_command, check_command, compare_command, delivery_command, diff_command, draw_command, edicad, explain_command, file_option_rule, file_rule, files_rule, hash_command, json_rule, kinds_rule, optional_files_rule, pairing_rule, picture_rule, records_rule, schema_command, schema_flag_rule, subject_rule, verify_command};
 
 use clap::{Arg, ArgAction, Command};
 use std::alloc::{AllocError, Global};
@@ -39,7 +39,8 @@ pub fn command<'a>(alloc: Global) -> Result<Command<'a>, AllocError>
     let with_explain = with_subcommand(with_hash, explain(alloc));
     let with_verify = with_subcommand(with_explain, verify(alloc));
     let with_diff = with_subcommand(with_verify, diff(alloc));
-    with_subcommand(with_diff, draw(alloc))
+    let with_draw = with_subcommand(with_diff, draw(alloc));
+    with_subcommand(with_draw, delivery(alloc))
 }
 
 // A command with one more subcommand, if there was memory for both.
@@ -126,6 +127,18 @@ fn hash<'a>(alloc: Global) -> Result<Command<'a>, AllocError>
     );
     let with_sheets = with_argument(over_schema, sheets_argument(alloc));
     with_argument(with_sheets, schema_flag(alloc))
+}
+
+// The subcommand that gives the digests of the sheets of deliveries.
+fn delivery<'a>(alloc: Global) -> Result<Command<'a>, AllocError>
+    ensures { IfOk result (λ c. app_of c ≡ delivery_command) }
+{
+    let with_kinds = with_kinds(
+        alloc,
+        "delivery",
+        "Gives the digests of the sheets of deliveries",
+    );
+    with_argument(with_kinds, paths_argument(alloc))
 }
 
 // The subcommand that explains a rule or a sheet.
@@ -234,6 +247,18 @@ fn sheets_argument<'a>(alloc: Global) -> Arg<'a>
     ensures { rule_of result ≡ optional_files_rule (codes "VEC") }
 {
     optional_file(alloc, "VEC", "The sheets, files of type VEC").num_args(1..)
+}
+
+// The paths of deliveries, of which at least one has to be named.
+fn paths_argument<'a>(alloc: Global) -> Arg<'a>
+    ensures { rule_of result ≡ files_rule (codes "PATH") }
+{
+    file(
+        alloc,
+        "PATH",
+        "The deliveries, files of type THF or their folders",
+    )
+    .num_args(1..)
 }
 
 // The flag that asks for the digest of the schema.

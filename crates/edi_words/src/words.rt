@@ -72,6 +72,11 @@ pub enum Request<'a> {
         files: ManyFiles<'a>,
         with_schema: bool,
     },
+    /// The digests of the canonical files of the sheets of deliveries.
+    Delivery {
+        kinds: GivenKinds<'a>,
+        paths: Vec<&'a str>,
+    },
     /// Where and why a sheet is refused, or what is in it.
     Explain {
         kinds: GivenKinds<'a>,
@@ -215,6 +220,7 @@ fn subcommand_meant<'a, R: Eprint + AllocGlobal>(
             files: sheet_files(given),
             out: path(given, "OUT"),
         },
+        "delivery" => delivered(rt, given, kinds),
         _ => explained(given, kinds),
     }
 }
@@ -251,6 +257,20 @@ fn hashed<'a, R: Eprint + AllocGlobal>(
             files,
             with_schema,
         },
+        Err(_) => Request::Answered(out_of_memory(rt)),
+    }
+}
+
+// What the arguments of `delivery` ask for.
+fn delivered<'a, R: Eprint + AllocGlobal>(
+    rt: &R,
+    given: &ArgMatches<'a>,
+    kinds: GivenKinds<'a>,
+) -> Request<'a>
+    ensures { GiveKinds (rows_of (found_of given.now)) kinds.entry → Means (Some (codes "delivery", rows_of (found_of given.now))) result }
+{
+    match paths(rt.alloc(), given, "PATH") {
+        Ok(paths) => Request::Delivery { kinds, paths },
         Err(_) => Request::Answered(out_of_memory(rt)),
     }
 }
@@ -319,6 +339,7 @@ fn reads_input_twice(given: &ArgMatches<'_>) -> bool
         + standard(given, "A")
         + standard(given, "B")
         + standard(given, "FILE")
+        + standard(given, "PATH")
         > 1
 }
 

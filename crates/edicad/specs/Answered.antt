@@ -1,6 +1,7 @@
 -- What each request is answered by.
 use Rattle.std.specs.Prelude.{◌≡◌, ◌⊎◌, ℕ, List, [], IsTrue, MatchOption}
 use Rattle.std.specs.Bool.{MatchBool}
+use Rattle.edi_deliveries.specs.Deliveries.{IsDeliveryStatus, Listings}
 use Rattle.edi_answers.specs.Explains.{IsExplainStatus, IsRuleStatus}
 use Rattle.edi_answers.specs.Hashes.{IsHashStatus}
 use Rattle.edi_files.specs.declared.product.Product.{Product}
@@ -16,7 +17,7 @@ use Rattle.edicad.specs.Statuses.{IsDiffStatus, IsPictureStatus, IsPutStatus, Is
 use Rattle.edi_schema.specs.Roles.{KindCodes}
 use Rattle.edi_words.specs.declared.words.SheetFiles.{SheetFiles}
 use Rattle.edi_words.specs.declared.words.Request.{Request}
-use Rattle.edi_words.specs.declared.words.Request.TheVariants.{Bundle, Check, Canon, Compare, Hash, Explain, Rule, Verify, Diff, Draw, Misused, Answered}
+use Rattle.edi_words.specs.declared.words.Request.TheVariants.{Bundle, Check, Canon, Compare, Hash, Delivery, Explain, Rule, Verify, Diff, Draw, Misused, Answered}
 
 -- The status of what is made of a sheet, which is sent to the output or put at a path.
 abbrev pub IsMadeStatus : Effects → Stream → Stream → Product → KindCodes → SheetFiles → List ℕ → ℕ → Type 0
@@ -30,29 +31,30 @@ IsMisusedStatus out err misuse s =
 
 -- The status of what was asked for but for the note on kinds, over what was found in the folder and left there, and what the two streams
 -- have before and after. Where no OUT or FILE is named, nothing in the folder has changed.
-abbrev pub IsReplied : Effects → Stream → Stream → Request → ℕ → Type 0
-IsReplied run out err Bundle s = run.untouched × IsBundleStatus run out err s
-IsReplied run out err (Check kinds files) s = run.untouched × IsFileStatus run out err kinds files s
-IsReplied run out err (Canon kinds files path) s = IsMadeStatus run out err Canonical kinds files path.now s
-IsReplied run out err (Compare kinds files pairing) s = MatchOption pairing (run.untouched × IsCompareStatus run out err kinds files s)
+abbrev pub IsReplied : Effects → Listings → Stream → Stream → Request → ℕ → Type 0
+IsReplied run listings out err Bundle s = run.untouched × IsBundleStatus run out err s
+IsReplied run listings out err (Check kinds files) s = run.untouched × IsFileStatus run out err kinds files s
+IsReplied run listings out err (Canon kinds files path) s = IsMadeStatus run out err Canonical kinds files path.now s
+IsReplied run listings out err (Compare kinds files pairing) s = MatchOption pairing (run.untouched × IsCompareStatus run out err kinds files s)
     (λ path. IsPairingStatus run out err kinds files path.now s)
-IsReplied run out err (Hash kinds files with_schema) s =
+IsReplied run listings out err (Hash kinds files with_schema) s =
     run.untouched × IsHashStatus run out err kinds files with_schema s
-IsReplied run out err (Explain kinds files) s = run.untouched × IsExplainStatus run out err kinds files s
-IsReplied run out err (Rule word) s = run.untouched × IsRuleStatus out err word.now s
-IsReplied run out err (Verify kinds files pairing) s = run.untouched × IsVerifyStatus run out err kinds files pairing.now s
-IsReplied run out err (Diff kinds files brief records json picture) s =
+IsReplied run listings out err (Delivery kinds paths) s = run.untouched × IsDeliveryStatus run listings kinds paths.items out err s
+IsReplied run listings out err (Explain kinds files) s = run.untouched × IsExplainStatus run out err kinds files s
+IsReplied run listings out err (Rule word) s = run.untouched × IsRuleStatus out err word.now s
+IsReplied run listings out err (Verify kinds files pairing) s = run.untouched × IsVerifyStatus run out err kinds files pairing.now s
+IsReplied run listings out err (Diff kinds files brief records json picture) s =
     MatchOption picture (run.untouched × IsDiffStatus run out err kinds files (form_asked brief records json) s)
     (λ path. IsPictureStatus run out err kinds files (form_asked brief records json) path.now s)
-IsReplied run out err (Draw kinds files path) s = IsMadeStatus run out err Picture kinds files path.now s
-IsReplied run out err (Misused misuse) s = run.untouched × IsMisusedStatus out err misuse s
-IsReplied run out err (Answered status) s = run.untouched × (s ≡ status) × Prints out [] × Prints err []
+IsReplied run listings out err (Draw kinds files path) s = IsMadeStatus run out err Picture kinds files path.now s
+IsReplied run listings out err (Misused misuse) s = run.untouched × IsMisusedStatus out err misuse s
+IsReplied run listings out err (Answered status) s = run.untouched × (s ≡ status) × Prints out [] × Prints err []
 
 -- The status of what was asked for: it was replied, and then the stream of errors got the note on the kinds that no class has, if there is
 -- one.
-abbrev pub IsAnswered : Effects → Stream → Stream → Request → ℕ → Type 0
-IsAnswered run out err request s = (note : List ℕ) × IsNoteOf run.inputs request s note
-    × InTurn err (λ e. IsReplied run out e request s) (λ e. Notes e note)
+abbrev pub IsAnswered : Effects → Listings → Stream → Stream → Request → ℕ → Type 0
+IsAnswered run listings out err request s = (note : List ℕ) × IsNoteOf run.inputs request s note
+    × InTurn err (λ e. IsReplied run listings out e request s) (λ e. Notes e note)
 
 -- the words could not be had: not all are UTF-8, or memory ran out
 abbrev pub IsUnread : Effects → Stream → Stream → ℕ → Type 0
@@ -60,5 +62,5 @@ IsUnread run out err s = run.untouched × Prints out []
     × (((s ≡ 3) × Warns err not_text_lines) ⊎ ((s ≡ 5) × LacksMemory err))
 
 -- the words ask for something, and this is its answer
-abbrev pub AnswersWords : Effects → Stream → Stream → List (List ℕ) → ℕ → Type 0
-AnswersWords run out err words s = (request : Request) × IsAsked words request × IsAnswered run out err request s
+abbrev pub AnswersWords : Effects → Listings → Stream → Stream → List (List ℕ) → ℕ → Type 0
+AnswersWords run listings out err words s = (request : Request) × IsAsked words request × IsAnswered run listings out err request s

@@ -6,6 +6,7 @@ ghost use Rattle.edi_answers.specs.Effects.{effects, inputs, written};
 ghost use Rattle.edi_answers.specs.Notes.{HasNoteOf};
 ghost use Rattle.edicad.specs.inner.Notes.{LeavesNoteOf};
 ghost use Rattle.edi_answers.specs.Statuses.{Answers, IsPairStatus, IsSheetStatus, IsUnsaid};
+ghost use Rattle.edi_deliveries.specs.Deliveries.{listings};
 ghost use Rattle.edicad.specs.Forms.{form_asked};
 ghost use Rattle.edicad.specs.Statuses.{HasStatus, IsDiffStatus, IsPictureStatus, IsPutStatus, IsSendStatus, IsStatus, IsStatusOf};
 
@@ -14,9 +15,10 @@ use edi_answers::commands::{bundle, check, compare_or_pair, verify};
 use edi_answers::explains::{explain, explain_rule};
 use edi_answers::hashes::hash;
 use edi_answers::{notes, report};
+use edi_deliveries::deliveries::answer_paths;
 use edi_diff::{Difference, TextForm};
 use edi_files::Product::{self, Canonical, Picture};
-use edi_files::{CommandLine, Disk, Errors, Folder, Words};
+use edi_files::{CommandLine, Disk, Errors, Folder, Listing, Words};
 use edi_line::{ByteOut, ToWrite};
 use edi_outcome::Outcome;
 use edi_words::{GivenKinds, PairFiles, Request, SheetFiles, asked, is_standard};
@@ -40,7 +42,7 @@ pub fn run<R: Runtime + Files<File = File> + AllocGlobal>(rt: &R) -> u8
 }
 
 /// Does what the words of a line ask for, over a folder and two streams, and gives the exit status.
-pub fn run_line<R: Eprint + AllocGlobal, W: Words, F: Folder, O: ByteOut, E: ByteOut>(
+pub fn run_line<R: Eprint + AllocGlobal, W: Words, F: Folder + Listing, O: ByteOut, E: ByteOut>(
     rt: &R,
     line: &W,
     folder: &mut F,
@@ -48,7 +50,7 @@ pub fn run_line<R: Eprint + AllocGlobal, W: Words, F: Folder, O: ByteOut, E: Byt
     err: &mut E,
 ) -> u8
     ensures { ((words : List (List ℕ)) × W.gives line.now words × HasStatus words result
-        × AnswersWords (effects F.Folder F.Reader.ByteIn F.Sink.ByteOut F.NewFile.ByteOut folder.old folder.new)
+        × AnswersWords (effects F.Folder F.Reader.ByteIn F.Sink.ByteOut F.NewFile.ByteOut folder.old folder.new) (listings F.Listing folder.old)
         (written O.ByteOut out.old out.new) (written E.ByteOut err.old err.new) words result)
         ⊎ IsUnread (effects F.Folder F.Reader.ByteIn F.Sink.ByteOut F.NewFile.ByteOut folder.old folder.new)
         (written O.ByteOut out.old out.new) (written E.ByteOut err.old err.new) result }
@@ -72,7 +74,7 @@ pub fn run_words<R: Runtime + Files<File = File> + AllocGlobal>(rt: &R, words: &
 
 /// Does what the words ask for, over a folder and two streams, and gives the exit status. What `clap` says of the
 /// words is said through `rt`.
-pub fn run_over<R: Eprint + AllocGlobal, F: Folder, O: ByteOut, E: ByteOut>(
+pub fn run_over<R: Eprint + AllocGlobal, F: Folder + Listing, O: ByteOut, E: ByteOut>(
     rt: &R,
     folder: &mut F,
     out: &mut O,
@@ -80,7 +82,7 @@ pub fn run_over<R: Eprint + AllocGlobal, F: Folder, O: ByteOut, E: ByteOut>(
     words: &[String],
 ) -> u8
     ensures status { HasStatus (map string_bytes words.now) result }
-    ensures answer { AnswersWords (effects F.Folder F.Reader.ByteIn F.Sink.ByteOut F.NewFile.ByteOut folder.old folder.new)
+    ensures answer { AnswersWords (effects F.Folder F.Reader.ByteIn F.Sink.ByteOut F.NewFile.ByteOut folder.old folder.new) (listings F.Listing folder.old)
         (written O.ByteOut out.old out.new) (written E.ByteOut err.old err.new) (map string_bytes words.now) result }
 {
     let request = asked(rt, words);
@@ -89,7 +91,7 @@ pub fn run_over<R: Eprint + AllocGlobal, F: Folder, O: ByteOut, E: ByteOut>(
 
 /// Does what is asked for, and gives the exit status. Behind the answer to a request over one or two sheets, the errors get a note on the
 /// kinds of links that no class has.
-pub fn answered<F: Folder, O: ByteOut, E: ByteOut>(
+pub fn answered<F: Folder + Listing, O: ByteOut, E: ByteOut>(
     alloc: Global,
     folder: &mut F,
     out: &mut O,
@@ -97,7 +99,7 @@ pub fn answered<F: Folder, O: ByteOut, E: ByteOut>(
     request: Request<'_>,
 ) -> u8
     ensures status { IsStatusOf request.entry result }
-    ensures answer { IsAnswered (effects F.Folder F.Reader.ByteIn F.Sink.ByteOut F.NewFile.ByteOut folder.old folder.new)
+    ensures answer { IsAnswered (effects F.Folder F.Reader.ByteIn F.Sink.ByteOut F.NewFile.ByteOut folder.old folder.new) (listings F.Listing folder.old)
         (written O.ByteOut out.old out.new) (written E.ByteOut err.old err.new) request.entry result }
 {
     let mut note = Vec::new(alloc);
@@ -107,7 +109,7 @@ pub fn answered<F: Folder, O: ByteOut, E: ByteOut>(
 }
 
 // Does what is asked for but for the note, which it hands on, and gives the exit status.
-fn replied<F: Folder, O: ByteOut, E: ByteOut>(
+fn replied<F: Folder + Listing, O: ByteOut, E: ByteOut>(
     alloc: Global,
     folder: &mut F,
     out: &mut O,
@@ -116,7 +118,7 @@ fn replied<F: Folder, O: ByteOut, E: ByteOut>(
     request: Request<'_>,
 ) -> u8
     ensures status { IsStatusOf request.entry result }
-    ensures answer { IsReplied (effects F.Folder F.Reader.ByteIn F.Sink.ByteOut F.NewFile.ByteOut folder.old folder.new)
+    ensures answer { IsReplied (effects F.Folder F.Reader.ByteIn F.Sink.ByteOut F.NewFile.ByteOut folder.old folder.new) (listings F.Listing folder.old)
         (written O.ByteOut out.old out.new) (written E.ByteOut err.old err.new) request.entry result }
     ensures note { LeavesNoteOf (inputs F.Folder F.Reader.ByteIn folder.old) request.entry result note.old.items note.new.items }
 {
@@ -140,6 +142,7 @@ fn replied<F: Folder, O: ByteOut, E: ByteOut>(
             files,
             with_schema,
         } => hash(alloc, folder, &kinds, &files, with_schema, out, err),
+        Request::Delivery { kinds, paths } => answer_paths(alloc, folder, &kinds, &paths, out, err),
         Request::Explain { kinds, files } => explain(alloc, folder, &kinds, &files, out, err),
         Request::Rule { word } => explain_rule(alloc, word, out, err),
         Request::Verify {

@@ -1,0 +1,234 @@
+-- What is answered of deliveries: of the lots that THF files state, and of the files that lie beside them.
+use Rattle.std.specs.Prelude.{◌≡◌, ◌⊎◌, ◌≤◌, ◌++◌, ◌&&◌, ℕ, Bool, false, true, not, max, List, [], ◌∷◌, Option, Some, None, IfSome, IsTrue, codes, filter, find, flat_map, is_none, length, map, option_map, option_to_list, unwrap_or}
+use Rattle.std.proofs.Common.{Bor}
+use Rattle.std.specs.Fmt.{decimal}
+use Rattle.std.specs.List.{list_any}
+use Rattle.std.specs.Option.{option_map_or}
+use Rattle.std.specs.Path.{path_extension, path_parent, with_separator}
+use Rattle.std.specs.Str.{bytes_eq}
+use Rattle.edi_schema.specs.Roles.{KindCodes}
+use Rattle.edi_line.specs.declared.fault.LineFault.TheVariants as line
+use Rattle.edi_record.specs.declared.fault.RecordFault.TheVariants as record_fault
+use Rattle.edi_delivery.specs.NameParts.{file_name, is_same_name}
+use Rattle.edi_delivery.specs.Lots.{files_of}
+use Rattle.edi_delivery.specs.DeliveryRefusal.{IsDeliveryOf, IsDeliveryRefusal}
+use Rattle.edi_delivery.specs.declared.fault.DeliveryFault.{DeliveryFault}
+use Rattle.edi_delivery.specs.declared.fault.DeliveryFault.TheVariants.{Line, Record}
+use Rattle.edi_delivery.specs.declared.file_name.Extension.TheVariants.{Scd, Dic, Vec}
+use Rattle.edi_delivery.specs.declared.lot.Lot.{Lot}
+use Rattle.edi_compare.specs.Runs.{MatchFault}
+use Rattle.edi_compare.specs.declared.fault.RunFault.{RunFault}
+use Rattle.edi_compare.specs.declared.fault.RunFault.TheVariants.{Read}
+use Rattle.edi_files.specs.Reasons.{ended, reason_line}
+use Rattle.edi_files.specs.declared.listing.Listing as listing
+use Rattle.edi_files.specs.declared.reason.Reason.TheVariants.{NoFile}
+use Rattle.edi_words.specs.Requests.{is_standard_path}
+use Rattle.edi_words.specs.declared.words.ManyFiles.{ManyFiles}
+use Rattle.edi_answers.specs.Effects.{Effects, Inputs, Stream}
+use Rattle.edi_answers.specs.Hashes.{IsHashStatus, TellsFault, escaped_name, mark_of}
+use Rattle.edi_answers.specs.Notes.{Notes}
+use Rattle.edi_answers.specs.SheetRuns.{Gives, HasFailedAt, HoldsTooMuch, IsMissing, IsThere}
+use Rattle.edi_answers.specs.Statuses.{LacksMemory, OnlyLacksMemory, Prints}
+
+-- ---- replies in turn
+
+-- what a reply adds to the output and to the errors, and its status
+abbrev pub Reply : Type 1
+Reply = Stream → Stream → ℕ → Type 0
+
+-- nothing is added
+abbrev pub AddsNothing : Reply
+AddsNothing out err s = (out.after ≡ out.before) × (err.after ≡ err.before) × (s ≡ 0)
+
+-- One reply, and behind it another: each stream got what the one adds and then the other, and the status is the greater.
+pub record OneThenOther (First Rest : Reply) (out err : Stream) (s : ℕ) : Type 0 where
+  pub between_out : Option (List ℕ)
+  pub between_err : Option (List ℕ)
+  pub out_failed : Bool
+  pub err_failed : Bool
+  pub out_stays : IsTrue out_failed → IsTrue out.failed
+  pub err_stays : IsTrue err_failed → IsTrue err.failed
+  pub first : ℕ
+  pub rest : ℕ
+  pub one : First (record { before = out.before; after = between_out; failed = out_failed })
+      (record { before = err.before; after = between_err; failed = err_failed }) first
+  pub other : Rest (record { before = between_out; after = out.after; failed = out.failed })
+      (record { before = between_err; after = err.after; failed = err.failed }) rest
+  pub greater : s ≡ max first rest
+
+-- the replies to each of these, in their order
+abbrev pub EachInTurn : {X : Type 0} → (X → Reply) → List X → Reply
+EachInTurn AnswerTo [] = AddsNothing
+EachInTurn AnswerTo (x ∷ xs) = OneThenOther (AnswerTo x) (EachInTurn AnswerTo xs)
+
+-- the errors got these lines, with this status; or there was no memory for them
+abbrev pub SaysLines : List ℕ → ℕ → Reply
+SaysLines lines status out err s = Prints out [] × (((s ≡ status) × Notes err lines) ⊎ ((s ≡ 5) × LacksMemory err))
+
+-- a name, as lines of digests show it, and words about it
+abbrev pub named_line : List ℕ → List ℕ → List ℕ
+named_line name words = mark_of name ++ escaped_name name ++ codes ": " ++ ended words
+
+-- ---- folders
+
+-- what is known of folders
+pub record Listings : Type 1 where
+  -- these may be the names of what lies in the folder of a path
+  pub lists : List ℕ → List (List ℕ) → Type 0
+  -- the path leads to no folder that can be listed
+  pub unlisted : List ℕ → Type 0
+
+abbrev pub listings : {F : Type 0} → listing.Ghosts F → F → Listings
+listings g folder = record { lists = g.lists folder; unlisted = g.unlisted folder }
+
+-- a name has this extension, in upper or lower case
+abbrev pub has_extension : List ℕ → List ℕ → Bool
+has_extension extension name = option_map_or (is_same_name extension) (path_extension name) false
+
+-- the path of the folder in which a file lies, and nothing where its path names none
+abbrev pub parent_of : List ℕ → List ℕ
+parent_of path = unwrap_or (path_parent path) []
+
+-- what is listed for it: the current folder where it is nothing
+abbrev pub listed_path : List ℕ → List ℕ
+listed_path [] = codes "."
+listed_path (c ∷ cs) = c ∷ cs
+
+-- the name of a file as it lies among these names: of those that are the same in upper and lower case the first
+abbrev pub found_name : List (List ℕ) → List ℕ → Option (List ℕ)
+found_name names file = find (is_same_name file) names
+
+-- ---- the files of lots, by the names in their folder and by what stands before these in paths
+
+-- the lines on a file that is missing, as of any that can't be read
+abbrev pub missing_line : List ℕ → List ℕ
+missing_line path = named_line path (codes "cannot read") ++ reason_line (escaped_name path) (Some NoFile)
+
+-- the line on a file that no lot names
+abbrev pub unnamed_line : List ℕ → List ℕ
+unnamed_line path = named_line path (codes "not named in the THF file")
+
+-- the path of a file that is there
+abbrev pub found_path : List ℕ → List (List ℕ) → List ℕ → Option (List ℕ)
+found_path before names file = option_map (λ name. before ++ name) (found_name names file)
+
+-- the lines on the files of a lot that are missing
+abbrev pub missing_lines : List ℕ → List (List ℕ) → Lot → List ℕ
+missing_lines before names lot = flat_map (λ file. missing_line (before ++ file)) (filter (λ file. is_none (found_name names file)) (files_of lot))
+
+-- the classes and the dictionary of a lot, and those of its VEC files that are there
+pub record AreLotFiles (before : List ℕ) (names : List (List ℕ)) (lot : Lot) (files : ManyFiles) : Type 0 where
+  pub scd : found_path before names (file_name lot.name Scd lot.scd) ≡ Some files.scd.now
+  pub dic : found_path before names (file_name lot.name Dic lot.dic) ≡ Some files.dic.now
+  pub sheets : map (λ p. p.now) files.sheets.items
+      ≡ flat_map (λ own. option_to_list (found_path before names (file_name lot.name Vec own))) lot.vecs
+
+-- the classes or the dictionary of a lot are missing
+abbrev pub LacksSchema : List (List ℕ) → Lot → Type 0
+LacksSchema names lot = (found_name names (file_name lot.name Scd lot.scd) ≡ None) ⊎ (found_name names (file_name lot.name Dic lot.dic) ≡ None)
+
+-- the names of all the files of lots, as they lie there
+abbrev pub found_names : List (List ℕ) → List Lot → List (List ℕ)
+found_names names lots = flat_map (λ lot. flat_map (λ file. option_to_list (found_name names file)) (files_of lot)) lots
+
+-- a VEC file that is there, and that no lot names
+abbrev pub is_unnamed : List (List ℕ) → List ℕ → Bool
+is_unnamed found name = has_extension (codes "VEC") name && not (list_any (bytes_eq name) found)
+
+-- the lines on these
+abbrev pub unnamed_lines : List ℕ → List (List ℕ) → List Lot → List ℕ
+unnamed_lines before names lots = flat_map (λ name. unnamed_line (before ++ name)) (filter (is_unnamed (found_names names lots)) names)
+
+-- 4 where there are lines on missing files
+abbrev pub status_of_missing : List ℕ → ℕ
+status_of_missing [] = 0
+status_of_missing (c ∷ cs) = 4
+
+-- ---- THF files
+
+-- the words of a refused THF file
+abbrev pub refusal_words : DeliveryFault → List ℕ
+refusal_words (Line (line.Memory e)) = codes "out of memory"
+refusal_words (Line (line.Broken rule at)) = codes "refused thf " ++ decimal rule ++ codes " line " ++ decimal at
+refusal_words (Record (record_fault.Memory e)) = codes "out of memory"
+refusal_words (Record (record_fault.Broken rule at)) = codes "refused thf " ++ decimal rule ++ codes " record " ++ decimal at
+
+abbrev pub status_of_refusal : DeliveryFault → ℕ
+status_of_refusal (Line (line.Memory e)) = 5
+status_of_refusal (Line (line.Broken rule at)) = 2
+status_of_refusal (Record (record_fault.Memory e)) = 5
+status_of_refusal (Record (record_fault.Broken rule at)) = 2
+
+-- the THF files among names
+abbrev pub thf_names : List (List ℕ) → List (List ℕ)
+thf_names names = filter (has_extension (codes "THF")) names
+
+-- what is wrong with a folder that hasn't just one
+abbrev pub LacksOneThf : List (List ℕ) → List ℕ → Type 0
+LacksOneThf names words =
+    ((thf_names names ≡ []) × (words ≡ codes "no THF file")) ⊎ ((2 ≤ length (thf_names names)) × (words ≡ codes "more than one THF file"))
+
+-- a fact of what the THF file holds, where it is known
+abbrev pub OfThf : Inputs → List ℕ → (List ℕ → Type 0) → Type 0
+OfThf inputs thf P = (contents : Option (List ℕ)) × Gives inputs thf contents × IfSome contents P
+
+-- Why a THF file can't be read: it is missing; or it was opened, and it failed or is too long, or memory ran out.
+abbrev pub ThfFault : Inputs → List ℕ → RunFault → Type 0
+ThfFault inputs thf e =
+    (IsMissing inputs thf × (e ≡ Read 1))
+    ⊎ (IsThere inputs thf × MatchFault e (λ n. (n ≡ 1) × HasFailedAt inputs thf) (λ n. (n ≡ 1) × HoldsTooMuch inputs thf)
+    (λ _. ⊥) (λ _. ⊥) (λ _. ⊥) (λ _. ⊥))
+
+-- a path is no folder that can be listed, or stands for standard input
+abbrev pub IsNoFolder : Listings → List ℕ → Type 0
+IsNoFolder listings path = (is_standard_path path ≡ true) ⊎ listings.unlisted path
+
+-- ---- what is replied
+
+module _ (run : Effects) (kinds : KindCodes) where
+  -- to the VEC files of a lot that are there, as by `hash`; where its classes or its dictionary are missing, nothing
+  abbrev pub IsLotHashed : List ℕ → List (List ℕ) → Lot → Reply
+  IsLotHashed before names lot out err s =
+      ((files : ManyFiles) × AreLotFiles before names lot files × IsHashStatus run out err kinds files false s)
+      ⊎ ((LacksSchema names lot × AddsNothing out err s) ⊎ (OnlyLacksMemory out err × (s ≡ 5)))
+
+  -- to a lot: the errors name the files that are missing, and the rest is answered
+  abbrev pub IsLotAnswered : List ℕ → List (List ℕ) → Lot → Reply
+  IsLotAnswered before names lot =
+      OneThenOther (SaysLines (missing_lines before names lot) (status_of_missing (missing_lines before names lot))) (IsLotHashed before names lot)
+
+  -- to the lots of a delivery: to each in its order, and then the errors name the VEC files that no lot names
+  abbrev pub AreLotsAnswered : List ℕ → List (List ℕ) → List Lot → Reply
+  AreLotsAnswered before names lots =
+      OneThenOther (EachInTurn (IsLotAnswered before names) lots) (SaysLines (unnamed_lines before names lots) 0)
+
+module _ (run : Effects) (listings : Listings) (kinds : KindCodes) where
+  -- to lots that lie in the folder of a path, which is listed; or it can't be, or there was no memory for the list
+  abbrev pub IsFolderAnswered : List ℕ → List Lot → Reply
+  IsFolderAnswered parent lots out err s =
+      ((names : List (List ℕ)) × listings.lists (listed_path parent) names × AreLotsAnswered run kinds (with_separator parent) names lots out err s)
+      ⊎ ((listings.unlisted (listed_path parent) × TellsFault run.why err (Read 1) (listed_path parent) s × Prints out [])
+      ⊎ (OnlyLacksMemory out err × (s ≡ 5)))
+
+  -- to a THF file: to its lots; or it is refused or can't be read, which the errors say
+  abbrev pub IsThfAnswered : List ℕ → Reply
+  IsThfAnswered thf out err s =
+      ((lots : List Lot) × OfThf run.inputs thf (λ b. IsDeliveryOf b lots) × IsFolderAnswered (parent_of thf) lots out err s)
+      ⊎ (((f : DeliveryFault) × OfThf run.inputs thf (λ b. IsDeliveryRefusal b f) × SaysLines (named_line thf (refusal_words f)) (status_of_refusal f) out err s)
+      ⊎ ((e : RunFault) × ThfFault run.inputs thf e × TellsFault run.why err e thf s × Prints out []))
+
+  -- to a folder with these names: to the only THF file in it; or the errors say that it has none or several, or that memory ran out
+  abbrev pub IsListAnswered : List ℕ → List (List ℕ) → Reply
+  IsListAnswered path names out err s =
+      ((name : List ℕ) × (thf_names names ≡ name ∷ []) × IsThfAnswered (with_separator path ++ name) out err s)
+      ⊎ (((words : List ℕ) × LacksOneThf names words × SaysLines (named_line path words) 4 out err s) ⊎ (OnlyLacksMemory out err × (s ≡ 5)))
+
+  -- to a path: where it is a folder, to that; where it is none, to the THF file that it is; or there was no memory for the paths
+  abbrev pub IsPathAnswered : List ℕ → Reply
+  IsPathAnswered path out err s =
+      (IsNoFolder listings path × IsThfAnswered path out err s)
+      ⊎ (((names : List (List ℕ)) × listings.lists path names × IsListAnswered path names out err s) ⊎ (OnlyLacksMemory out err × (s ≡ 5)))
+
+  -- to paths, each in its order
+  abbrev pub IsDeliveryStatus : List (Bor (List ℕ)) → Reply
+  IsDeliveryStatus paths = EachInTurn (λ path. IsPathAnswered path.now) paths

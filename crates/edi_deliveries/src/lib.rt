@@ -1,0 +1,9 @@
+//! What a command replies to deliveries: to the lots of THF files, and to the files that lie beside them.
+#![tactic(auto)]
+
+pub mod deliveries;
+mod found;
+mod lot_files;
+mod lots;
+mod said;
+mod thf;

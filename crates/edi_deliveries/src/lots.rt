@@ -1,0 +1,182 @@
+//! What is replied to the lots of a delivery.
+ghost use Rattle.std.specs.Prelude.{◌≡◌, ◌⊎◌, IfOk, IsTrue, false, map, string_bytes};
+ghost use Rattle.edi_answers.specs.Effects.{effects, written};
+ghost use Rattle.edi_answers.specs.Hashes.{IsHashStatus};
+ghost use Rattle.edi_answers.specs.Notes.{Notes};
+ghost use Rattle.edi_answers.specs.Statuses.{IsSheetStatus, LacksMemory, OnlyLacksMemory};
+ghost use Rattle.edi_words.specs.declared.words.ManyFiles.{ManyFiles};
+ghost use Rattle.edi_deliveries.specs.Deliveries.{AreLotsAnswered, EachInTurn, IsLotAnswered, IsLotHashed, missing_lines, status_of_missing};
+ghost use Rattle.edi_deliveries.specs.inner.Paths.{HavePaths};
+
+use crate::lot_files::{LotPaths, lot_paths};
+use crate::said::{missing_lines, say_lines, unnamed_lines};
+use edi_answers::hashes::hash;
+use edi_answers::report;
+use edi_delivery::Lot;
+use edi_files::Folder;
+use edi_line::ByteOut;
+use edi_words::{GivenKinds, ManyFiles};
+use std::alloc::{AllocError, Global};
+
+const MISSING_STATUS: u8 = 4;
+
+// The texts behind these.
+fn texts_of<'a>(alloc: Global, paths: &'a [String]) -> Result<Vec<&'a str>, AllocError>
+    ensures { IfOk result (λ texts. map (λ text. text.now) texts.items ≡ map string_bytes paths.now) }
+{
+    let mut texts = Vec::new(alloc);
+    for path in paths {
+        texts.push(path.as_str())?;
+    }
+    Ok(texts)
+}
+
+// Answers the sheets of these paths, as `hash` does.
+fn hash_paths<F: Folder, O: ByteOut, E: ByteOut>(
+    alloc: Global,
+    folder: &F,
+    kinds: &GivenKinds<'_>,
+    paths: &LotPaths,
+    out: &mut O,
+    err: &mut E,
+) -> u8
+    ensures status { IsSheetStatus result }
+    ensures answer { ((files : ManyFiles) × HavePaths paths.now files
+        × IsHashStatus (effects F.Folder F.Reader.ByteIn F.Sink.ByteOut F.NewFile.ByteOut folder.now folder.now)
+        (written O.ByteOut out.old out.new) (written E.ByteOut err.old err.new) kinds.now files false result)
+        ⊎ (OnlyLacksMemory (written O.ByteOut out.old out.new) (written E.ByteOut err.old err.new) × (result ≡ 5)) }
+    ensures out_stays { IsTrue (O.has_failed out.old) → IsTrue (O.has_failed out.new) }
+    ensures err_stays { IsTrue (E.has_failed err.old) → IsTrue (E.has_failed err.new) }
+{
+    let Ok(sheets) = texts_of(alloc, &paths.vecs) else {
+        return report::out_of_memory(err);
+    };
+    let files = ManyFiles {
+        scd: paths.scd.as_str(),
+        dic: paths.dic.as_str(),
+        sheets,
+    };
+    hash(alloc, folder, kinds, &files, false, out, err)
+}
+
+// Answers the VEC files of a lot that are there.
+fn hash_lot<F: Folder, O: ByteOut, E: ByteOut>(
+    alloc: Global,
+    folder: &F,
+    kinds: &GivenKinds<'_>,
+    before: &str,
+    names: &[String],
+    lot: &Lot,
+    out: &mut O,
+    err: &mut E,
+) -> u8
+    ensures status { IsSheetStatus result }
+    ensures answer { IsLotHashed (effects F.Folder F.Reader.ByteIn F.Sink.ByteOut F.NewFile.ByteOut folder.now folder.now) kinds.now
+        before.now (map string_bytes names.now) lot.now (written O.ByteOut out.old out.new) (written E.ByteOut err.old err.new) result }
+    ensures out_stays { IsTrue (O.has_failed out.old) → IsTrue (O.has_failed out.new) }
+    ensures err_stays { IsTrue (E.has_failed err.old) → IsTrue (E.has_failed err.new) }
+{
+    match lot_paths(alloc, before, names, lot) {
+        Ok(Some(paths)) => hash_paths(alloc, folder, kinds, &paths, out, err),
+        Ok(None) => 0,
+        Err(_) => report::out_of_memory(err),
+    }
+}
+
+// Says which files of a lot are missing, and gives the status of that.
+fn say_missing<E: ByteOut>(
+    alloc: Global,
+    before: &str,
+    names: &[String],
+    lot: &Lot,
+    err: &mut E,
+) -> u8
+    ensures status { IsSheetStatus result }
+    ensures said { ((result ≡ status_of_missing (missing_lines before.now (map string_bytes names.now) lot.now))
+        × Notes (written E.ByteOut err.old err.new) (missing_lines before.now (map string_bytes names.now) lot.now))
+        ⊎ ((result ≡ 5) × LacksMemory (written E.ByteOut err.old err.new)) }
+    ensures stays { IsTrue (E.has_failed err.old) → IsTrue (E.has_failed err.new) }
+{
+    let lines = missing_lines(alloc, before, names, lot);
+    say_lines(err, &lines, status_of(&lines))
+}
+
+// The status of the lines on missing files.
+fn status_of(lines: &Result<Vec<u8>, AllocError>) -> u8
+    ensures value { IfOk lines.now (λ lines. result ≡ status_of_missing lines.items) }
+    ensures status { IsSheetStatus result }
+{
+    match lines {
+        Ok(lines) if lines.is_empty() => 0,
+        _ => MISSING_STATUS,
+    }
+}
+
+// Answers a lot: says which of its files are missing, and answers the rest.
+fn answer_lot<F: Folder, O: ByteOut, E: ByteOut>(
+    alloc: Global,
+    folder: &F,
+    kinds: &GivenKinds<'_>,
+    before: &str,
+    names: &[String],
+    lot: &Lot,
+    out: &mut O,
+    err: &mut E,
+) -> u8
+    ensures status { IsSheetStatus result }
+    ensures answer { IsLotAnswered (effects F.Folder F.Reader.ByteIn F.Sink.ByteOut F.NewFile.ByteOut folder.now folder.now) kinds.now
+        before.now (map string_bytes names.now) lot.now (written O.ByteOut out.old out.new) (written E.ByteOut err.old err.new) result }
+    ensures out_stays { IsTrue (O.has_failed out.old) → IsTrue (O.has_failed out.new) }
+    ensures err_stays { IsTrue (E.has_failed err.old) → IsTrue (E.has_failed err.new) }
+{
+    let missing = say_missing(alloc, before, names, lot, err);
+    let hashed = hash_lot(alloc, folder, kinds, before, names, lot, out, err);
+    missing.max(hashed)
+}
+
+// Answers lots in their order, and gives the greatest status.
+fn answer_each<F: Folder, O: ByteOut, E: ByteOut>(
+    alloc: Global,
+    folder: &F,
+    kinds: &GivenKinds<'_>,
+    before: &str,
+    names: &[String],
+    lots: &[Lot],
+    out: &mut O,
+    err: &mut E,
+) -> u8
+    ensures status { IsSheetStatus result }
+    ensures answer { EachInTurn (IsLotAnswered (effects F.Folder F.Reader.ByteIn F.Sink.ByteOut F.NewFile.ByteOut folder.now folder.now) kinds.now
+        before.now (map string_bytes names.now)) lots.now (written O.ByteOut out.old out.new) (written E.ByteOut err.old err.new) result }
+    ensures out_stays { IsTrue (O.has_failed out.old) → IsTrue (O.has_failed out.new) }
+    ensures err_stays { IsTrue (E.has_failed err.old) → IsTrue (E.has_failed err.new) }
+{
+    let mut worst = 0;
+    for lot in lots {
+        let status = answer_lot(alloc, folder, kinds, before, names, lot, out, err);
+        worst = worst.max(status);
+    }
+    worst
+}
+
+/// Answers the lots of a delivery in their order, and says which VEC files none of them names.
+pub(crate) fn answer_lots<F: Folder, O: ByteOut, E: ByteOut>(
+    alloc: Global,
+    folder: &F,
+    kinds: &GivenKinds<'_>,
+    before: &str,
+    names: &[String],
+    lots: &[Lot],
+    out: &mut O,
+    err: &mut E,
+) -> u8
+    ensures status { IsSheetStatus result }
+    ensures answer { AreLotsAnswered (effects F.Folder F.Reader.ByteIn F.Sink.ByteOut F.NewFile.ByteOut folder.now folder.now) kinds.now
+        before.now (map string_bytes names.now) lots.now (written O.ByteOut out.old out.new) (written E.ByteOut err.old err.new) result }
+    ensures out_stays { IsTrue (O.has_failed out.old) → IsTrue (O.has_failed out.new) }
+    ensures err_stays { IsTrue (E.has_failed err.old) → IsTrue (E.has_failed err.new) }
+{
+    let worst = answer_each(alloc, folder, kinds, before, names, lots, out, err);
+    let unnamed = say_lines(err, &unnamed_lines(alloc, before, names, lots), 0);
+    worst.max(unnamed)
+}

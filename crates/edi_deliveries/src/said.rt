@@ -1,0 +1,212 @@
+//! The lines that standard error is told of deliveries.
+ghost use Rattle.std.specs.Prelude.{◌≡◌, ◌++◌, ◌&&◌, IfOk, IsTrue, MatchResult, OnOk, codes, flat_map, map, not, option_to_list, string_bytes};
+ghost use Rattle.std.specs.Fmt.{decimal};
+ghost use Rattle.std.specs.List.{list_any};
+ghost use Rattle.std.specs.Str.{bytes_eq};
+ghost use Rattle.edi_answers.specs.Effects.{written};
+ghost use Rattle.edi_answers.specs.Notes.{Notes};
+ghost use Rattle.edi_answers.specs.Statuses.{LacksMemory};
+ghost use Rattle.edi_delivery.specs.Lots.{files_of};
+ghost use Rattle.edi_deliveries.specs.Deliveries.{found_name, found_names, is_unnamed, missing_line, missing_lines, named_line, refusal_words, unnamed_lines};
+
+use crate::found::{found_name, has_extension};
+use edi_answers::hashes::{escaped, marked};
+use edi_answers::{notes, report};
+use edi_delivery::{DeliveryFault, Lot};
+use edi_files::{Reason, push_reason};
+use edi_line::{ByteOut, LineFault};
+use edi_record::RecordFault;
+use std::alloc::{AllocError, Global};
+
+/// Writes lines, if there are any and there was memory for them, and gives this status, or that of want of memory.
+pub(crate) fn say_lines<E: ByteOut>(
+    err: &mut E,
+    lines: &Result<Vec<u8>, AllocError>,
+    status: u8,
+) -> u8
+    ensures said { MatchResult lines.now (λ lines. (result ≡ status) × Notes (written E.ByteOut err.old err.new) lines.items)
+        (λ _. (result ≡ 5) × LacksMemory (written E.ByteOut err.old err.new)) }
+    ensures stays { IsTrue (E.has_failed err.old) → IsTrue (E.has_failed err.new) }
+{
+    match lines {
+        Ok(lines) => {
+            notes::say(err, lines);
+            status
+        }
+        Err(_) => report::out_of_memory(err),
+    }
+}
+
+/// Appends the line of a name, as lines of digests show it, and words about it.
+pub(crate) fn push_named(
+    alloc: Global,
+    lines: &mut Vec<u8>,
+    name: &[u8],
+    words: &[u8],
+) -> Result<(), AllocError>
+    ensures { OnOk result (lines.new.items ≡ lines.old.items ++ named_line name.now words.now) }
+{
+    lines.extend_from_slice(&marked(alloc, name)?)?;
+    lines.extend_from_slice(&escaped(alloc, name)?)?;
+    lines.extend_from_slice(b": ")?;
+    lines.extend_from_slice(words)?;
+    lines.push(b'\n')?;
+    Ok(())
+}
+
+// What stands before a name, and the name.
+fn joined(alloc: Global, before: &str, name: &[u8]) -> Result<Vec<u8>, AllocError>
+    ensures { IfOk result (λ path. path.items ≡ before.now ++ name.now) }
+{
+    let mut path = Vec::from_slice(alloc, before.as_bytes())?;
+    path.extend_from_slice(name)?;
+    Ok(path)
+}
+
+// Appends the lines on a file that is missing.
+fn push_missing(
+    alloc: Global,
+    lines: &mut Vec<u8>,
+    before: &str,
+    file: &[u8],
+) -> Result<(), AllocError>
+    ensures { OnOk result (lines.new.items ≡ lines.old.items ++ missing_line (before.now ++ file.now)) }
+{
+    let path = joined(alloc, before, file)?;
+    push_named(alloc, lines, &path, b"cannot read")?;
+    let name = escaped(alloc, &path)?;
+    push_reason(lines, &name, Reason::NoFile)
+}
+
+/// The lines on the files of a lot that are missing.
+pub(crate) fn missing_lines(
+    alloc: Global,
+    before: &str,
+    names: &[String],
+    lot: &Lot,
+) -> Result<Vec<u8>, AllocError>
+    ensures { IfOk result (λ lines. lines.items ≡ missing_lines before.now (map string_bytes names.now) lot.now) }
+{
+    let files = lot.files(alloc)?;
+    let mut lines = Vec::new(alloc);
+    for file in &files {
+        if found_name(names, file).is_none() {
+            push_missing(alloc, &mut lines, before, file.as_slice())?;
+        }
+    }
+    Ok(lines)
+}
+
+// Appends the names of the files of a lot, as they lie there.
+fn push_found<'a>(
+    alloc: Global,
+    found: &mut Vec<&'a str>,
+    names: &'a [String],
+    lot: &Lot,
+) -> Result<(), AllocError>
+    ensures { OnOk result (map (λ name. name.now) found.new.items
+        ≡ map (λ name. name.now) found.old.items ++ flat_map (λ file. option_to_list (found_name (map string_bytes names.now) file)) (files_of lot.now)) }
+{
+    let files = lot.files(alloc)?;
+    for file in &files {
+        if let Some(name) = found_name(names, file) {
+            found.push(name)?;
+        }
+    }
+    Ok(())
+}
+
+// The names of all the files of lots, as they lie there.
+fn found_names<'a>(
+    alloc: Global,
+    names: &'a [String],
+    lots: &[Lot],
+) -> Result<Vec<&'a str>, AllocError>
+    ensures { IfOk result (λ found. map (λ name. name.now) found.items ≡ found_names (map string_bytes names.now) lots.now) }
+{
+    let mut found = Vec::new(alloc);
+    for lot in lots {
+        push_found(alloc, &mut found, names, lot)?;
+    }
+    Ok(found)
+}
+
+// Whether a name is among these.
+fn is_among(found: &[&str], name: &str) -> bool
+    ensures { result ≡ list_any (bytes_eq name.now) (map (λ other. other.now) found.now) }
+{
+    for other in found {
+        if name == *other {
+            return true;
+        }
+    }
+    false
+}
+
+// Whether it is the name of a VEC file that isn't among those that were found.
+fn is_unnamed(found: &[&str], name: &str) -> bool
+    ensures { result ≡ is_unnamed (map (λ other. other.now) found.now) name.now }
+{
+    has_extension("VEC", name) && !is_among(found, name)
+}
+
+/// The lines on the VEC files that are there and that no lot names.
+pub(crate) fn unnamed_lines(
+    alloc: Global,
+    before: &str,
+    names: &[String],
+    lots: &[Lot],
+) -> Result<Vec<u8>, AllocError>
+    ensures { IfOk result (λ lines. lines.items ≡ unnamed_lines before.now (map string_bytes names.now) lots.now) }
+{
+    let found = found_names(alloc, names, lots)?;
+    let mut lines = Vec::new(alloc);
+    for name in names {
+        if is_unnamed(&found, name) {
+            let path = joined(alloc, before, name.as_bytes())?;
+            push_named(alloc, &mut lines, &path, b"not named in the THF file")?;
+        }
+    }
+    Ok(lines)
+}
+
+// The words of a rule that a THF file breaks, and where.
+fn refused(alloc: Global, rule: u16, place: &[u8], at: u64) -> Result<Vec<u8>, AllocError>
+    ensures { IfOk result (λ words. words.items ≡ codes "refused thf " ++ decimal rule ++ place.now ++ decimal at) }
+{
+    let mut words = Vec::from_slice(alloc, b"refused thf ")?;
+    words.extend_from_slice(rule.to_string(alloc)?.as_bytes())?;
+    words.extend_from_slice(place)?;
+    words.extend_from_slice(at.to_string(alloc)?.as_bytes())?;
+    Ok(words)
+}
+
+// The words of a refused THF file.
+fn refusal_words(alloc: Global, fault: &DeliveryFault) -> Result<Vec<u8>, AllocError>
+    ensures { IfOk result (λ words. words.items ≡ refusal_words fault.now) }
+{
+    match fault {
+        DeliveryFault::Line(LineFault::Broken { rule, at }) => refused(
+            alloc, *rule, b" line ", *at,
+        ),
+        DeliveryFault::Record(RecordFault::Broken { rule, at }) => {
+            refused(alloc, *rule, b" record ", *at)
+        }
+        DeliveryFault::Line(LineFault::Memory(_)) | DeliveryFault::Record(RecordFault::Memory(_)) =>
+            { Vec::from_slice(alloc, b"out of memory") }
+    }
+}
+
+/// The line of a refused THF file.
+pub(crate) fn refusal_line(
+    alloc: Global,
+    thf: &str,
+    fault: &DeliveryFault,
+) -> Result<Vec<u8>, AllocError>
+    ensures { IfOk result (λ line. line.items ≡ named_line thf.now (refusal_words fault.now)) }
+{
+    let words = refusal_words(alloc, fault)?;
+    let mut line = Vec::new(alloc);
+    push_named(alloc, &mut line, thf.as_bytes(), &words)?;
+    Ok(line)
+}
