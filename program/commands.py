@@ -598,7 +598,7 @@ def helped(text, part):
 # What each exit status means, as the help says it, and as the manual page does.
 STATUSES = {
     "0": ("accepted, the same plan, or a file that pairs",
-          "The sheet is accepted, the two state the same plan, or the file pairs them; of hash, each sheet has a digest."),
+          "The sheet is accepted, the two state the same plan, or the file pairs them; of hash and delivery, each sheet has a digest."),
     "1": ("different plans, or a file that doesn't pair", "The two sheets state different plans, or the file doesn't pair them."),
     "2": ("refused", "The schema, a sheet or the file of a pairing is refused."),
     "3": ("wrong words", "The words of the command are wrong."),

@@ -32,9 +32,11 @@ def deliveries(room):
     at = laid(room, "D")
     with open("/dev/full", "wb") as full:
         room.expect("a full output", ["delivery", "D"], (4, None, b"cannot write standard output\n"), stdout=full)
-    room.expect("kinds that no class has", ["delivery", "--kinds", "W,X,Y,Z", "D"],
-                (0, room.run(["hash", "--kinds", "W,X,Y,Z", "D/EDAB01SE.SCD", "D/EDAB01SE.DIC", "D/EDAB01T1.VEC"])[1],
-                 b"edicad: D/EDAB01SE.SCD: no class for initial node, final node, left face, right face: see --kinds\n"))
+    other = ["--kinds", "W,X,Y,Z"]
+    refused_too = (2, b"", b"edicad: D/EDAB01SE.SCD: no class for initial node, final node, left face, right face: see --kinds\n"
+                   b"D/EDAB01T1.VEC: refused 406 record 5\n")
+    room.expect("kinds that no class has, by `hash`", ["hash", *other, "D/EDAB01SE.SCD", "D/EDAB01SE.DIC", "D/EDAB01T1.VEC"], refused_too)
+    room.expect("kinds that no class has", ["delivery", *other, "D"], refused_too)
     shutil.rmtree(room.path("D"))
 
 

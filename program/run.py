@@ -40,12 +40,12 @@ BUILDS = ("edicad", "edicad.by-rattle")
 # was lost, or wasn't made. Who adds or takes away checks or cases on purpose changes the number here.
 PARTS = {
     "cases": 3413,
-    "words": 204,
+    "words": 209,
     "files": 79,
     "standard streams": 51,
     "shown": 8,
     "hashes": 34,
-    "deliveries": 34,
+    "deliveries": 35,
     "kinds noted": 31,
     "explains": 65,
     "explains kinds": 16,
@@ -58,7 +58,7 @@ PARTS = {
     "explains hints": 15,
     "explains lengths": 9,
     "explains rules": 74,
-    "manual": 22,
+    "manual": 24,
     "terminal": 3,
     "hostile folders": 11,
     "mount": 5,
