@@ -146,7 +146,7 @@ def ended_within(words, folder, seconds):
     """What a command says that may take so many seconds of a processor, or None where the system killed it, most likely for memory. It
     gives way to other work, as the proofs of `rt ci` beside it, and so may take four times as many by the clock."""
     most = math.ceil(seconds)
-    words = ["nice", "-n", "19", "prlimit", f"--cpu={most}:{most + 60}", *words]
+    words = ["nice", "-n", "10", "prlimit", f"--cpu={most}:{most + 60}", *words]
     with tempfile.TemporaryFile("w+", errors="replace") as said:
         how = {"cwd": folder, "stdin": subprocess.DEVNULL, "stdout": said, "stderr": subprocess.STDOUT}
         run = subprocess.Popen(words, **how)
