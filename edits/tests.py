@@ -217,7 +217,7 @@ def thirds(report):
 
 def turns(report):
     """What is too much for one landing is left for the next ones, which try all of it; a commit that isn't known leaves nothing out."""
-    edits = {f"crate_{it}": [f"edit_{at}" for at in range(33)] for it in range(10)}
+    edits = {f"crate_{it}": [f"edit_{at}" for at in range(3 * choice.MOST // 10)] for it in range(10)}
     every = [(crate, it) for crate in edits for it in edits[crate]]
     tried = set()
     for number in (5, 6, 7):

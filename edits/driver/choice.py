@@ -6,7 +6,7 @@ import subprocess
 FILE = "LANDING"
 PARTS = 3
 # how many edits one landing tries at most: they take about as long as the proofs
-MOST = 70
+MOST = 90
 
 
 class Landing:
