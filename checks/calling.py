@@ -1,5 +1,5 @@
 #!/usr/bin/env python3
-"""Writes docs/CALLING.md: the functions of crates/uses, which call the libraries, with their contracts.
+"""Writes docs/CALLING.md: the functions of crates/uses, which call the libraries, with their imports and their contracts.
 
     checks/calling.py            writes the page
     checks/calling.py --check    fails if the page isn't what it would write
@@ -18,6 +18,17 @@ Each function below is a whole use of the libraries, proved by the gate with its
 from `crates/uses/src`; the gate checks that it is current. The definitions that a contract names stand in the crates'
 specs/ ([DEFINITIONS.md](DEFINITIONS.md)); `crates/uses/specs` has those of these callers.
 
+A crate that calls the libraries names them in `crates.txt`, and begins with a line by which the prover does the plain steps itself. Of
+`uses` these are
+
+```
+{crates}
+```
+
+```rust
+#![tactic(auto)]
+```
+
 A schema is loaded once and serves any number of sheets. What allocates takes the allocator first and may answer that
 there is no memory for it, which says nothing of the sheet. A refused call leaves what it borrowed as it was, readers, writers
 and feeds aside. Coordinates are whole millionths of the file's unit.
@@ -29,12 +40,26 @@ def functions(text):
     return re.findall(r"^((?:///.*\n)+pub fn (\w+)(?:.*\n)+?\}\n)", text, re.M)
 
 
+def imports(text):
+    """The lines by which a module names what it calls, and what its contracts speak of."""
+    return text[re.search(r"^(?:ghost )?use ", text, re.M).start() : re.search(r"^///|^#\[", text, re.M).start()].strip("\n")
+
+
+def line_of_crates():
+    """The line of crates/uses in crates.txt."""
+    with open(os.path.join(ROOT, "crates.txt"), encoding="utf-8") as file:
+        return next(line.rstrip("\n") for line in file if line.startswith("uses:"))
+
+
 def page():
-    out = [HEAD]
+    out = [HEAD.format(crates=line_of_crates())]
     for path in sorted(glob.glob(os.path.join(ROOT, "crates/uses/src/*.rt")), reverse=True):
         with open(path, encoding="utf-8") as file:
             text = file.read()
-        for code, name in functions(text):
+        found = functions(text)
+        if found:
+            out.append(f"## Imports of `{os.path.basename(path)}`\n\n```rust\n{imports(text)}\n```\n")
+        for code, name in found:
             out.append(f"## `{name}`\n\n```rust\n{code}```\n")
     return "\n".join(out)
 
