@@ -40,9 +40,13 @@ parts_text parts = if some_differ parts then words_text parts else codes " linke
 abbrev pub both_lines : ℕ → ℕ → List ℕ
 both_lines line other = codes " (lines " ++ decimal line ++ codes " and " ++ decimal other ++ codes "):"
 
--- ~ TYPE IDENTIFIER IDENTIFIER (lines LINE and LINE): and the parts
+-- ~ TYPE IDENTIFIER IDENTIFIER
+abbrev pub changed_names : Report → ℕ → List ℕ → List ℕ
+changed_names r i rid = codes "~ " ++ record_name_text r.first i ++ (codes " " ++ shown_bytes rid)
+
+-- that, the lines of both, and the parts
 abbrev pub changed_line : Report → ℕ → ℕ → List ℕ
-changed_line r i j = codes "~ " ++ record_name_text r.first i ++ (codes " " ++ shown_bytes (site_at r.second j).rid)
+changed_line r i j = changed_names r i (site_at r.second j).rid
     ++ both_lines (site_at r.first i).line (site_at r.second j).line
     ++ parts_text (parts_at r.parts i) ++ line_feed ∷ []
 

@@ -2,7 +2,7 @@
 
 ghost use Rattle.std.specs.Prelude.{◌≡◌, ◌++◌, ◌<◌, IfOk, OnOk, count_by, length, not};
 ghost use Rattle.edi_plan.specs.Plans.{IsPlace};
-ghost use Rattle.edi_report.specs.Lines.{added_count, brief_text, changed_count, changed_line, charsets_line, first_line, gone_count, lines_of, lines_of_first, lines_of_second, report_text, second_line, text_of_report, totals_line};
+ghost use Rattle.edi_report.specs.Lines.{added_count, brief_text, changed_count, changed_line, changed_names, charsets_line, first_line, gone_count, lines_of, lines_of_first, lines_of_second, report_text, second_line, text_of_report, totals_line};
 ghost use Rattle.edi_report.specs.Reports.{parts_at};
 
 use crate::lines::{
@@ -150,12 +150,20 @@ impl<'a> Reporter<'a> {
     {
         let here = &self.first.sites.as_slice()[place as usize];
         let there = &self.second.sites.as_slice()[target as usize];
-        text.extend_from_slice(b"~ ")?;
-        push_name(text, self.first, place)?;
-        push_other(text, there.rid.as_slice())?;
+        self.push_names(text, place, there.rid.as_slice())?;
         push_both_lines(text, here.line, there.line)?;
         push_parts(text, &self.parts_of(place))?;
         text.extend_from_slice(b"\n")
+    }
+
+    /// Appends the mark of a change, the record of the first sheet, and the identifier of what it became.
+    fn push_names(&self, text: &mut Vec<u8>, place: u32, other: &[u8]) -> Result<(), AllocError>
+        requires { IsPlace self.now.first.accepted place }
+        ensures { OnOk result (text.new.items ≡ text.old.items ++ changed_names self.now place other.now) }
+    {
+        text.extend_from_slice(b"~ ")?;
+        push_name(text, self.first, place)?;
+        push_other(text, other)
     }
 
     /// The parts in which a record that changed differs.
