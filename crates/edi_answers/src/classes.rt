@@ -88,7 +88,15 @@ fn note_at(
 ) -> Result<Vec<u8>, AllocError>
     ensures { IfOk result (λ note. IsNoteOn kinds.now classes.now (shown_bytes (input_name path.now)) note.items) }
 {
+    let name = shown_name(alloc, path)?;
+    note_of(alloc, kinds.codes(), classes, &name)
+}
+
+// The name of the input of a path, as a line shows it.
+fn shown_name(alloc: Global, path: &str) -> Result<Vec<u8>, AllocError>
+    ensures { IfOk result (λ name. name.items ≡ shown_bytes (input_name path.now)) }
+{
     let mut name = Vec::new(alloc);
     push_shown(&mut name, input_name(path))?;
-    note_of(alloc, kinds.codes(), classes, &name)
+    Ok(name)
 }
