@@ -5,8 +5,21 @@ ghost use Rattle.edi_schema.specs.Sorted.{sort_by};
 ghost use Rattle.edi_plan.specs.Orders.{attribute_cmp};
 
 use crate::record::PlanAttribute;
-use itertools::Itertools;
 use std::alloc::{AllocError, Global};
+
+/// The attributes in the order in which they stand, borrowed.
+fn borrowed<'a>(
+    alloc: Global,
+    attributes: &'a [PlanAttribute],
+) -> Result<Vec<&'a PlanAttribute>, AllocError>
+    ensures { IfOk result (λ list. map (λ a. a.now) list.items ≡ attributes.now) }
+{
+    let mut list = Vec::with_capacity(alloc, attributes.len())?;
+    for attribute in attributes {
+        list.push(attribute)?;
+    }
+    Ok(list)
+}
 
 /// The attributes by class, then character set, then value, borrowed.
 pub fn sorted_attributes<'a>(
@@ -19,6 +32,7 @@ pub fn sorted_attributes<'a>(
     if attributes.is_empty() {
         return Ok(Vec::new(alloc));
     }
-    let sorted = attributes.iter().sorted_unstable(alloc)?;
-    sorted.collect_vec(alloc)
+    let mut sorted = borrowed(alloc, attributes)?;
+    sorted.sort_unstable();
+    Ok(sorted)
 }
