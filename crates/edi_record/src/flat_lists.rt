@@ -83,29 +83,27 @@ pub(crate) fn kept<T: Drop>(alloc: Global, list: Vec<T>) -> Vec<T>
     }
 }
 
-/// An empty list with room for the elements of another, but without where these are very many.
-pub(crate) fn exact_room<T>(alloc: Global, list: &Vec<T>) -> Result<Vec<T>, AllocError>
-    ensures { IfOk result (λ exact. exact.items ≡ []) }
+/// An empty list with room for some more elements than another has, but without where these are very many.
+pub(crate) fn room_like<T>(alloc: Global, list: &Vec<T>) -> Result<Vec<T>, AllocError>
+    ensures { IfOk result (λ room. room.items ≡ []) }
 {
-    if list.len() > MOST_KEPT {
+    let len = list.len();
+    if len > MOST_KEPT {
         return Ok(Vec::new(alloc));
     }
-    Vec::with_capacity(alloc, list.len())
+    Vec::with_capacity(alloc, len + len / 8)
 }
 
-/// Hands the elements of a list over, with no room for more: in the empty list, if it has room for them, or else in the list itself.
-pub(crate) fn handed_over<T: Drop>(alloc: Global, mut exact: Vec<T>, list: &mut Vec<T>) -> Vec<T>
-    requires { exact.items ≡ [] }
+/// Hands the elements of a list over, with no room for more. They stay where they lie, and the list goes on in the room of the
+/// empty one: to copy them to exact room took a thirtieth of the instructions of a check.
+pub(crate) fn handed_over<T: Drop>(room: Vec<T>, list: &mut Vec<T>) -> Vec<T>
+    requires { room.items ≡ [] }
     ensures items { result.items ≡ list.old.items }
     ensures emptied { list.new.items ≡ [] }
 {
-    if exact.capacity() < list.len() {
-        exact = mem::replace(list, Vec::new(alloc));
-        exact.shrink_to_fit();
-        return exact;
-    }
-    move_behind(&mut exact, list);
-    exact
+    let mut full = mem::replace(list, room);
+    full.shrink_to_fit();
+    full
 }
 
 /// A part of a list, borrowed.

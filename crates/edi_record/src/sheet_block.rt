@@ -5,7 +5,7 @@ ghost use Rattle.std.specs.Prelude.{◌≡◌, ◌<◌, ◌∷◌, ◌++◌, [],
 ghost use Rattle.edi_record.specs.Shapes.{stated_at};
 ghost use Rattle.edi_record.specs.inner.SheetBlocks.{no_stops, stops_before, records_in, AreParts, AreSame, HasRoom, AreStopsOf};
 
-use crate::flat_lists::{append, exact_room, handed_over, make_room, part, push_behind};
+use crate::flat_lists::{append, handed_over, make_room, part, push_behind, room_like};
 use crate::name::Name;
 use crate::record::{Attribute, End, Extra, Kind, Point, Record};
 use crate::record_ref::RecordRef;
@@ -124,7 +124,7 @@ impl SheetBlock {
         })
     }
 
-    /// The same records, in a block with no room for more. This block has none of them, and mostly keeps its room.
+    /// The same records, in a block with no room for more. This block has none of them, and mostly room for as many.
     pub(crate) fn close(&mut self, alloc: Global) -> Result<SheetBlock, AllocError>
         requires { AreParts self.old no_stops self.old.heads.items }
         ensures records { IfOk result (λ block. records_in block ≡ records_in self.old) }
@@ -133,17 +133,17 @@ impl SheetBlock {
         ensures unchanged { OnErr result (records_in self.new ≡ records_in self.old) }
         ensures own_parts { AreParts self.new no_stops self.new.heads.items }
     {
-        let heads = exact_room(alloc, &self.heads)?;
-        let points = exact_room(alloc, &self.points)?;
-        let ends = exact_room(alloc, &self.ends)?;
-        let attributes = exact_room(alloc, &self.attributes)?;
-        let extras = exact_room(alloc, &self.extras)?;
+        let heads = room_like(alloc, &self.heads)?;
+        let points = room_like(alloc, &self.points)?;
+        let ends = room_like(alloc, &self.ends)?;
+        let attributes = room_like(alloc, &self.attributes)?;
+        let extras = room_like(alloc, &self.extras)?;
         Ok(SheetBlock {
-            heads: handed_over(alloc, heads, &mut self.heads),
-            points: handed_over(alloc, points, &mut self.points),
-            ends: handed_over(alloc, ends, &mut self.ends),
-            attributes: handed_over(alloc, attributes, &mut self.attributes),
-            extras: handed_over(alloc, extras, &mut self.extras),
+            heads: handed_over(heads, &mut self.heads),
+            points: handed_over(points, &mut self.points),
+            ends: handed_over(ends, &mut self.ends),
+            attributes: handed_over(attributes, &mut self.attributes),
+            extras: handed_over(extras, &mut self.extras),
         })
     }
 
