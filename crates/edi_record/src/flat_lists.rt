@@ -83,27 +83,31 @@ pub(crate) fn kept<T: Drop>(alloc: Global, list: Vec<T>) -> Vec<T>
     }
 }
 
-/// An empty list with room for some more elements than another has, but without where these are very many.
-pub(crate) fn room_like<T>(alloc: Global, list: &Vec<T>) -> Result<Vec<T>, AllocError>
-    ensures { IfOk result (λ room. room.items ≡ []) }
+/// An empty list with room for the elements of another, but without where these are very many.
+pub(crate) fn exact_room<T>(alloc: Global, list: &Vec<T>) -> Result<Vec<T>, AllocError>
+    ensures { IfOk result (λ exact. exact.items ≡ []) }
 {
-    let len = list.len();
-    if len > MOST_KEPT {
+    if list.len() > MOST_KEPT {
         return Ok(Vec::new(alloc));
     }
-    Vec::with_capacity(alloc, len + len / 8)
+    Vec::with_capacity(alloc, list.len())
 }
 
-/// Hands the elements of a list over, with no room for more. They stay where they lie, and the list goes on in the room of the
-/// empty one: to copy them to exact room took a thirtieth of the instructions of a check.
-pub(crate) fn handed_over<T: Drop>(room: Vec<T>, list: &mut Vec<T>) -> Vec<T>
-    requires { room.items ≡ [] }
+/// Hands the elements of a list over, with no room for more: in the list itself, if it has no room for more or the empty one has too
+/// little, and then the list goes on in that one's room; or else in the empty one. The heads and the ends of a block of links fill their lists,
+/// and to copy them took a fortieth of the instructions of a check.
+pub(crate) fn handed_over<T: Drop>(mut exact: Vec<T>, list: &mut Vec<T>) -> Vec<T>
+    requires { exact.items ≡ [] }
     ensures items { result.items ≡ list.old.items }
     ensures emptied { list.new.items ≡ [] }
 {
-    let mut full = mem::replace(list, room);
-    full.shrink_to_fit();
-    full
+    if exact.capacity() < list.len() || list.len() == list.capacity() {
+        let mut full = mem::replace(list, exact);
+        full.shrink_to_fit();
+        return full;
+    }
+    move_behind(&mut exact, list);
+    exact
 }
 
 /// A part of a list, borrowed.

@@ -5,7 +5,7 @@ ghost use Rattle.std.specs.Prelude.{◌≡◌, ◌<◌, ◌∷◌, ◌++◌, [],
 ghost use Rattle.edi_record.specs.Shapes.{stated_at};
 ghost use Rattle.edi_record.specs.inner.SheetBlocks.{no_stops, stops_before, records_in, AreParts, AreSame, HasRoom, AreStopsOf};
 
-use crate::flat_lists::{append, handed_over, make_room, part, push_behind, room_like};
+use crate::flat_lists::{append, exact_room, handed_over, make_room, part, push_behind};
 use crate::name::Name;
 use crate::record::{Attribute, End, Extra, Kind, Point, Record};
 use crate::record_ref::RecordRef;
@@ -133,11 +133,11 @@ impl SheetBlock {
         ensures unchanged { OnErr result (records_in self.new ≡ records_in self.old) }
         ensures own_parts { AreParts self.new no_stops self.new.heads.items }
     {
-        let heads = room_like(alloc, &self.heads)?;
-        let points = room_like(alloc, &self.points)?;
-        let ends = room_like(alloc, &self.ends)?;
-        let attributes = room_like(alloc, &self.attributes)?;
-        let extras = room_like(alloc, &self.extras)?;
+        let heads = exact_room(alloc, &self.heads)?;
+        let points = exact_room(alloc, &self.points)?;
+        let ends = exact_room(alloc, &self.ends)?;
+        let attributes = exact_room(alloc, &self.attributes)?;
+        let extras = exact_room(alloc, &self.extras)?;
         Ok(SheetBlock {
             heads: handed_over(heads, &mut self.heads),
             points: handed_over(points, &mut self.points),
