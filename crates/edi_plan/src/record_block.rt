@@ -53,21 +53,28 @@ fn place_of(len: usize) -> Result<u32, AllocError>
     Ok(len as u32)
 }
 
-/// Moves the elements of a part behind those of a list. Where they end and the emptied part are the answer.
+/// Moves the elements of a part behind those of a list. Where they end and the emptied part are the answer. Most records have no
+/// part of a sort, and then the list is left alone.
 fn append<T: Drop>(list: &mut Vec<T>, mut part: Vec<T>) -> Result<(u32, Vec<T>), AllocError>
     ensures items { OnOk result (list.new.items ≡ list.old.items ++ part.items) }
     ensures stop { IfOk result (λ added. added.0 ≡ length list.old.items + length part.items) }
     ensures emptied { IfOk result (λ added. added.1.items ≡ []) }
 {
+    if part.is_empty() {
+        return Ok((place_of(list.len())?, part));
+    }
     list.append(&mut part)?;
     Ok((place_of(list.len())?, part))
 }
 
-/// Copies points behind those of a list. Where they end is the answer.
+/// Copies points behind those of a list, if there are some. Where they end is the answer.
 fn append_points(list: &mut Vec<Point>, part: &[Point]) -> Result<u32, AllocError>
     ensures items { OnOk result (list.new.items ≡ list.old.items ++ part.now) }
     ensures stop { IfOk result (λ stop. stop ≡ length list.old.items + length part.now) }
 {
+    if part.is_empty() {
+        return place_of(list.len());
+    }
     list.extend_from_slice(part)?;
     place_of(list.len())
 }

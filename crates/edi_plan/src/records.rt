@@ -145,7 +145,7 @@ fn plan_extras(extras: &[Extra], mut done: Vec<Extra>) -> Result<Vec<Extra>, All
 fn is_other(subset: &Subset, end: &End) -> bool
     ensures { result ≡ is_elsewhere subset.now end.now }
 {
-    end.lot.as_slice() != subset.lot.as_slice() || end.subset.as_slice() != subset.subset.as_slice()
+    end.lot != subset.lot || end.subset != subset.subset
 }
 
 fn has_other(subset: &Subset, ends: &[End]) -> bool

@@ -33,6 +33,7 @@ pub mod ArrangedRises
 pub mod RankedApart
 pub mod LowerNumbers
 pub mod PlacedLinks
+pub mod PackedEnds
 pub mod Carried
 pub mod Offsets
 pub mod KeysApart

@@ -15,7 +15,7 @@ ghost use Rattle.edi_rank.specs.inner.PlacedLinks.{end_of, is_empty, pair_key};
 
 use crate::ends::{end_in_order, numbered_end};
 use crate::keys::{LinkKey, NumberedEnd};
-use crate::placed_link::{PlainEnd, PlainPair};
+use crate::placed_link::{PlainEnd, PlainPair, packed_end};
 use edi_line::{BorrowedList, ListOfBorrowed, Sequence};
 use edi_plan::{Plan, PlanEnd, sorted_attributes};
 use edi_schema::{ClassRef, Role, Schema};
@@ -100,16 +100,13 @@ pub fn class_turned(schema: &Schema, plan: &Plan, turned: &[bool], place: u32) -
     }
 }
 
-/// An end without SNS, with the number of what it names.
-fn plain_end(plan: &Plan, numbers: &[u32], end: &PlanEnd) -> PlainEnd
+/// An end without SNS, with the number of what it names, if that isn't too large for a packed end.
+fn plain_end(plan: &Plan, numbers: &[u32], end: &PlanEnd) -> Option<PlainEnd>
     requires place { IsPlace plan.now end.now.target }
     requires numbers { length numbers.now ≡ length plan.now.list }
-    ensures { end.now.sns ≡ None → end_of result ≡ numbered plan.now (slice_index numbers.now) end.now }
+    ensures { IfSome result (λ plain. end.now.sns ≡ None → end_of plain ≡ numbered plan.now (slice_index numbers.now) end.now) }
 {
-    PlainEnd {
-        kind: plan.kind(end.target),
-        number: numbers[end.target as usize],
-    }
+    packed_end(plan.kind(end.target), numbers[end.target as usize])
 }
 
 /// Whether a record has neither attributes nor extra zones.
@@ -135,7 +132,7 @@ pub fn plain_ends(plan: &Plan, place: u32) -> Option<(&PlanEnd, &PlanEnd)>
     }
 }
 
-/// The two ends of a plain link, with the numbers of what they name.
+/// The two ends of a plain link, with the numbers of what they name, if these aren't too large for packed ends.
 pub(crate) fn plain_pair(plan: &Plan, numbers: &[u32], place: u32) -> Option<PlainPair>
     requires place { IsPlace plan.now place }
     requires numbers { length numbers.now ≡ length plan.now.list }
@@ -144,8 +141,8 @@ pub(crate) fn plain_pair(plan: &Plan, numbers: &[u32], place: u32) -> Option<Pla
     plan.keeps();
     let (origin, other) = plain_ends(plan, place)?;
     Some(PlainPair {
-        origin: plain_end(plan, numbers, origin),
-        other: plain_end(plan, numbers, other),
+        origin: plain_end(plan, numbers, origin)?,
+        other: plain_end(plan, numbers, other)?,
     })
 }
 

@@ -1,13 +1,13 @@
 //! The key of a link with its place, by which links are sorted. Nearly each link has two ends and nothing else: its key lies
-//! in the value itself, and needs no list.
+//! in the value itself, in two numbers, and needs no list.
 
-ghost use Rattle.std.specs.Prelude.{◌≡◌, ◌∷◌, [], ℕ, IfOk, refl};
+ghost use Rattle.std.specs.Prelude.{◌≡◌, ◌∷◌, [], ℕ, None, IfOk, IfSome, refl};
 ghost use Rattle.std.specs.Ordering.{as_partial_cmp, eq_by_cmp, ordering_then};
 ghost use Rattle.std.specs.Cmp.Lexicographic.{slice_cmp};
 ghost use Rattle.std.specs.Cmp.{eq_by_cmp_equiv, partial_equiv_from_equiv, partial_order_from_total};
 ghost use Rattle.edi_rank.specs.contracts.keys.LinkKeyOrd.TheImpl.{ghosts as links};
 ghost use Rattle.edi_rank.specs.contracts.keys.NumberedEndOrd.TheImpl.{ghosts as ends};
-ghost use Rattle.edi_rank.specs.inner.PlacedLinks.{IsBareIfSaid, IsOfClass, end_of as end_by, has_neither, key_in, pair_key, placed_cmp, placed_total, rest_cmp};
+ghost use Rattle.edi_rank.specs.inner.PlacedLinks.{IsBareIfSaid, IsOfClass, end_of as end_by, has_neither, key_in, least_packed, packed_kind, pair_key, placed_cmp, placed_total, rest_cmp};
 
 use crate::keys::{LinkKey, NumberedEnd};
 use edi_record::Kind;
@@ -16,11 +16,21 @@ use std::alloc::{AllocError, Global};
 use std::cmp::Ordering;
 use std::marker::Model;
 
-/// An end without SNS: the type and the number of what it names.
+// The least packed ends of the types behind nodes. The number of what a packed end names has 24 bits, which hold more than
+// a sheet has records.
+const ARCS: u32 = 1 << 24;
+
+const FACES: u32 = 2 << 24;
+
+const OBJECTS: u32 = 3 << 24;
+
+const LINKS: u32 = 4 << 24;
+
+/// An end without SNS: the type of what it names above its number. Packed in one number, which goes as the two go, ends take
+/// one comparison and four bytes.
 #[derive(Clone, Copy, PartialEq, Eq, PartialOrd, Ord)]
 pub(crate) struct PlainEnd {
-    pub(crate) kind: Kind,
-    pub(crate) number: u32,
+    packed: u32,
 }
 
 /// The ends of a link that has two, without SNS. Such pairs go by the origin, and then by the other end.
@@ -30,16 +40,24 @@ pub(crate) struct PlainPair {
     pub(crate) other: PlainEnd,
 }
 
-/// What the key of a link holds beside its class.
+/// A whole key, and whether it has neither attributes nor extra zones.
+pub(crate) struct WholeKey<'a> {
+    key: LinkKey<'a>,
+    is_bare: bool,
+}
+
+impl Drop for WholeKey<'_> {
+    fn drop(self) {
+        let WholeKey { key: _, is_bare: _ } = self;
+    }
+}
+
+/// What the key of a link holds beside its class. It is as small as it can be, since a sort moves it often.
 #[derive(Drop)]
 pub(crate) enum LinkParts<'a> {
     /// Two ends without SNS, and nothing else.
     Pair(PlainPair),
-    /// The whole key, and whether it has neither attributes nor extra zones.
-    Whole {
-        key: Box<LinkKey<'a>>,
-        is_bare: bool,
-    },
+    Whole(Box<WholeKey<'a>>),
 }
 
 /// The key of a link, and its place.
@@ -93,28 +111,73 @@ impl<'a> PlacedLink<'a> {
         requires { is_bare ≡ has_neither key }
         ensures { IfOk result (λ l. l ≡ (key.entry, place)) }
     {
+        let class = key.class;
+        let whole = Box::new(alloc, WholeKey { key, is_bare })?;
         Ok(PlacedLink {
-            class: key.class,
+            class,
             place,
-            parts: LinkParts::Whole {
-                key: Box::new(alloc, key)?,
-                is_bare,
-            },
+            parts: LinkParts::Whole(whole),
         })
     }
 }
 
+/// The least packed end of a type.
+fn least_of(kind: Kind) -> u32
+    ensures { result ≡ least_packed kind }
+{
+    match kind {
+        Kind::Pno => 0,
+        Kind::Par => ARCS,
+        Kind::Pfe => FACES,
+        Kind::Fea => OBJECTS,
+        Kind::Lnk => LINKS,
+    }
+}
+
+/// An end without SNS that names something of this type and number, if 24 bits hold the number.
+#[tactic(auto, using(crate::proofs::PackedEnds::packed_type))]
+pub(crate) fn packed_end(kind: Kind, number: u32) -> Option<PlainEnd>
+    ensures { IfSome result (λ end. end_by end ≡ record { kind = kind; number = number; sns = None }) }
+{
+    if number >= ARCS {
+        return None;
+    }
+    Some(PlainEnd {
+        packed: least_of(kind) + number,
+    })
+}
+
+/// The type of what an end names.
+fn kind_of(end: PlainEnd) -> Kind
+    ensures { result ≡ packed_kind end.packed }
+{
+    if end.packed < ARCS {
+        Kind::Pno
+    } else if end.packed < FACES {
+        Kind::Par
+    } else if end.packed < OBJECTS {
+        Kind::Pfe
+    } else if end.packed < LINKS {
+        Kind::Fea
+    } else {
+        Kind::Lnk
+    }
+}
+
+#[tactic(auto, using(crate::proofs::PackedEnds::packed_in_type))]
 fn end_of<'a>(end: PlainEnd) -> NumberedEnd<'a>
     ensures { result ≡ end_by end }
 {
+    let kind = kind_of(end);
     NumberedEnd {
-        kind: end.kind,
-        number: end.number,
+        kind,
+        number: end.packed - least_of(kind),
         sns: None,
     }
 }
 
 /// How two pairs go.
+#[tactic(auto, using(crate::proofs::PackedEnds::pair_order))]
 fn compare_pairs(a: &PlainPair, b: &PlainPair) -> Ordering
     ensures { (class : ℕ) → result ≡ links.cmp (pair_key class a.now) (pair_key class b.now) }
 {
@@ -167,15 +230,13 @@ fn compare_parts(a: &LinkParts<'_>, b: &LinkParts<'_>) -> Ordering
 {
     match (a, b) {
         (LinkParts::Pair(first), LinkParts::Pair(second)) => compare_pairs(first, second),
-        (LinkParts::Pair(pair), LinkParts::Whole { key, is_bare }) => {
-            compare_pair(pair, key, *is_bare)
+        (LinkParts::Pair(pair), LinkParts::Whole(whole)) => {
+            compare_pair(pair, &whole.key, whole.is_bare)
         }
-        (LinkParts::Whole { key, is_bare }, LinkParts::Pair(pair)) => {
-            compare_pair(pair, key, *is_bare).reverse()
+        (LinkParts::Whole(whole), LinkParts::Pair(pair)) => {
+            compare_pair(pair, &whole.key, whole.is_bare).reverse()
         }
-        (LinkParts::Whole { key: first, .. }, LinkParts::Whole { key: second, .. }) => {
-            (**first).cmp(&**second)
-        }
+        (LinkParts::Whole(first), LinkParts::Whole(second)) => first.key.cmp(&second.key),
     }
 }
 

@@ -47,6 +47,20 @@ impl<'a> OpenAttribute<'a> {
     }
 }
 
+/// Puts an attribute with this value behind others. It stands apart, so that a record without attributes makes nothing ready for them.
+#[inline(never)]
+fn push_attribute(
+    attributes: &mut Vec<Attribute>,
+    alloc: Global,
+    opened: OpenAttribute<'_>,
+    value: &[u8],
+) -> Result<(), AllocError>
+    ensures { OnOk result (attributes.new.items ≡ attributes.old.items ++ closed_with value.now (Some opened.entry)) }
+{
+    attributes.push(opened.attribute(alloc, value)?)?;
+    Ok(())
+}
+
 /// The attributes of the zones that have come. One is closed by its value, by the next or by the end.
 #[derive(Drop)]
 pub(crate) struct Attributes<'a> {
@@ -82,10 +96,10 @@ impl<'a> Attributes<'a> {
         ensures opened { OnOk result (self.new.opened ≡ None) }
         ensures done { OnOk result (self.new.done.items ≡ self.old.done.items ++ closed_with value.now self.old.opened) }
     {
-        if let Some(opened) = self.opened.take() {
-            self.done.push(opened.attribute(alloc, value)?)?;
+        match self.opened.take() {
+            Some(opened) => push_attribute(&mut self.done, alloc, opened, value),
+            None => Ok(()),
         }
-        Ok(())
     }
 
     /// Takes the class of the next attribute.

@@ -25,6 +25,7 @@ pub(crate) struct OpenEnd<'a> {
 }
 
 impl<'a> OpenEnd<'a> {
+    /// The end, whatever its texts are.
     fn end(self, alloc: Global) -> Result<End, AllocError>
         ensures { IfOk result (λ e. e ≡ record {
           lot = self.entry.pointer.lot.now;
@@ -33,9 +34,6 @@ impl<'a> OpenEnd<'a> {
           sns = option_map (λ s. s.now) self.entry.sense;
         }) }
     {
-        if self.sense.is_none() && self.pointer.is_short() {
-            return Ok(self.pointer.short_end(alloc));
-        }
         Ok(End {
             lot: Text::from_slice(alloc, self.pointer.lot)?,
             subset: Text::from_slice(alloc, self.pointer.subset)?,
@@ -66,6 +64,15 @@ impl<'a> Pointer<'a> {
     }
 }
 
+/// Puts an end behind others.
+#[inline(never)]
+fn push_end(ends: &mut Vec<End>, alloc: Global, opened: OpenEnd<'_>) -> Result<(), AllocError>
+    ensures { OnOk result (ends.new.items ≡ ends.old.items ++ ended_with (Some opened.entry)) }
+{
+    ends.push(opened.end(alloc)?)?;
+    Ok(())
+}
+
 /// The ends of the zones that have come. One is closed by the next or by the end of the zones.
 #[derive(Drop)]
 pub(crate) struct Ends<'a> {
@@ -87,16 +94,21 @@ impl<'a> Ends<'a> {
         }
     }
 
-    /// Closes the end that is open, if one is.
+    /// Closes the end that is open, if one is. A short one has a way of its own, since what other ends need would have to be made
+    /// ready for each.
     fn close(&mut self, alloc: Global) -> Result<(), AllocError>
         ensures broken { OnOk result (self.new.is_broken ≡ self.old.is_broken) }
         ensures opened { OnOk result (self.new.opened ≡ None) }
         ensures done { OnOk result (self.new.done.items ≡ self.old.done.items ++ ended_with self.old.opened) }
     {
-        if let Some(opened) = self.opened.take() {
-            self.done.push(opened.end(alloc)?)?;
+        let Some(opened) = self.opened.take() else {
+            return Ok(());
+        };
+        if opened.sense.is_none() && opened.pointer.is_short() {
+            self.done.push(opened.pointer.short_end(alloc))?;
+            return Ok(());
         }
-        Ok(())
+        push_end(&mut self.done, alloc, opened)
     }
 
     /// Takes the pointer of the next end.

@@ -50,8 +50,22 @@ impl<'a> Pointer<'a> {
             && self.rid.len() <= Text::SHORT
     }
 
-    /// The name of what it points at.
+    /// The name of what it points at. One of short texts takes no memory, and is made without a way out.
     pub(crate) fn name(self, alloc: Global) -> Result<Name, AllocError>
+        ensures { IfOk result (λ n. n ≡ record { rty = self.entry.rty.now; rid = self.entry.rid.now }) }
+    {
+        if self.rty.len() <= Text::SHORT && self.rid.len() <= Text::SHORT {
+            return Ok(Name {
+                rty: Text::short(alloc, self.rty),
+                rid: Text::short(alloc, self.rid),
+            });
+        }
+        self.long_name(alloc)
+    }
+
+    /// The name of what it points at, whatever its texts are.
+    #[inline(never)]
+    fn long_name(self, alloc: Global) -> Result<Name, AllocError>
         ensures { IfOk result (λ n. n ≡ record { rty = self.entry.rty.now; rid = self.entry.rid.now }) }
     {
         Ok(Name {

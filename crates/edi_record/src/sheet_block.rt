@@ -124,7 +124,7 @@ impl SheetBlock {
         })
     }
 
-    /// The same records, in a block with no room for more. This block has none of them, and mostly keeps its room.
+    /// The same records, in a block with no room for more. This block has none of them, and mostly room for as many.
     pub(crate) fn close(&mut self, alloc: Global) -> Result<SheetBlock, AllocError>
         requires { AreParts self.old no_stops self.old.heads.items }
         ensures records { IfOk result (λ block. records_in block ≡ records_in self.old) }
@@ -139,11 +139,11 @@ impl SheetBlock {
         let attributes = exact_room(alloc, &self.attributes)?;
         let extras = exact_room(alloc, &self.extras)?;
         Ok(SheetBlock {
-            heads: handed_over(alloc, heads, &mut self.heads),
-            points: handed_over(alloc, points, &mut self.points),
-            ends: handed_over(alloc, ends, &mut self.ends),
-            attributes: handed_over(alloc, attributes, &mut self.attributes),
-            extras: handed_over(alloc, extras, &mut self.extras),
+            heads: handed_over(heads, &mut self.heads),
+            points: handed_over(points, &mut self.points),
+            ends: handed_over(ends, &mut self.ends),
+            attributes: handed_over(attributes, &mut self.attributes),
+            extras: handed_over(extras, &mut self.extras),
         })
     }
 

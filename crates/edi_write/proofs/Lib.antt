@@ -2,6 +2,7 @@ pub mod Counts
 pub mod ThreeBytes
 pub mod Putting
 pub mod Breaking
+pub mod Joined
 pub mod Agreed
 pub mod LaidOut
 pub mod EndsWritten

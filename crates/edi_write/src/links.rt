@@ -9,8 +9,8 @@ ghost use Rattle.edi_rank.specs.Keys.{ends_key, numbered};
 ghost use Rattle.edi_rank.specs.Labelling.{number_of};
 ghost use Rattle.edi_write.specs.inner.Numbered.{numbered_end_zones};
 
-use crate::heads::{END_TARGET, SENSE};
-use crate::names::put_end_pointer;
+use crate::heads::SENSE;
+use crate::names::write_end_pointer;
 use crate::page::Page;
 use edi_plan::{Plan, PlanEnd};
 use edi_rank::{Labels, NumberedEnd, end_in_order, numbered_end};
@@ -20,8 +20,7 @@ use std::alloc::AllocError;
 fn write_end(page: &mut Page, end: &NumberedEnd<'_>) -> Result<(), AllocError>
     ensures { OnOk result (page.new.file.items ≡ page.old.file.items ++ printed (numbered_end_zones end.now)) }
 {
-    put_end_pointer(&mut page.text, end.kind, end.number)?;
-    page.write_text(END_TARGET)?;
+    write_end_pointer(page, end.kind, end.number)?;
     match &end.sns {
         Some(sns) => page.write(SENSE, sns.as_slice()),
         None => Ok(()),

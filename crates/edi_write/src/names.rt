@@ -1,14 +1,18 @@
 //! The names of records: types and identifiers.
 
-ghost use Rattle.std.specs.Prelude.{◌≡◌, ◌∷◌, ◌++◌, [], OnOk, codes};
+ghost use Rattle.std.specs.Prelude.{◌≡◌, ◌++◌, length, OnOk, codes};
 ghost use Rattle.edi_line.specs.Printing.{printed_zone, zone_headed};
 ghost use Rattle.edi_record.specs.CanonicalZones.{end_text};
 ghost use Rattle.edi_record.specs.Shapes.{kind_code as code_of_kind};
 ghost use Rattle.edi_write.specs.Layout.{identifier, kind_letter as letter_of_kind};
+ghost use Rattle.edi_write.specs.inner.Heads.{headed};
 ghost use Rattle.edi_write.specs.inner.Numbered.{numbered_name};
 
-use edi_line::push_number;
+use crate::heads::{END_TARGET, IDENTIFIER};
+use crate::page::Page;
+use crate::zones::write_joined;
 use edi_record::Kind;
+use itoa::Buffer;
 use std::alloc::AllocError;
 
 /// The zone of a record's type.
@@ -27,7 +31,8 @@ pub(crate) fn type_zone(kind: Kind) -> &'static [u8]
 
 /// The pointer to a record of a type, but for its number.
 fn pointer_front(kind: Kind) -> &'static [u8]
-    ensures { result.now ≡ codes "CANON;S;" ++ (code_of_kind kind ++ (codes ";" ++ letter_of_kind kind)) }
+    ensures front { result.now ≡ codes "CANON;S;" ++ (code_of_kind kind ++ (codes ";" ++ letter_of_kind kind)) }
+    ensures short { length result.now ≡ 13 }
 {
     match kind {
         Kind::Pno => b"CANON;S;PNO;N",
@@ -39,33 +44,34 @@ fn pointer_front(kind: Kind) -> &'static [u8]
 }
 
 /// The letter that identifiers of a type begin with.
-fn kind_letter(kind: Kind) -> u8
-    ensures { result ∷ [] ≡ letter_of_kind kind }
+fn kind_letter(kind: Kind) -> &'static [u8]
+    ensures letter { result.now ≡ letter_of_kind kind }
+    ensures short { length result.now ≡ 1 }
 {
     match kind {
-        Kind::Pno => b'N',
-        Kind::Par => b'A',
-        Kind::Pfe => b'F',
-        Kind::Fea => b'O',
-        Kind::Lnk => b'L',
+        Kind::Pno => b"N",
+        Kind::Par => b"A",
+        Kind::Pfe => b"F",
+        Kind::Fea => b"O",
+        Kind::Lnk => b"L",
     }
 }
 
-/// Makes the text the identifier of a record: the letter of its type, and its number.
-pub(crate) fn put_identifier(text: &mut Vec<u8>, kind: Kind, number: u32) -> Result<(), AllocError>
-    ensures { OnOk result (text.new.items ≡ identifier kind number) }
+/// Writes the zone of the identifier of a record: the letter of its type, and its number.
+pub(crate) fn write_identifier(page: &mut Page, kind: Kind, number: u32) -> Result<(), AllocError>
+    ensures { OnOk result (page.new.file.items ≡ page.old.file.items ++ printed_zone (headed IDENTIFIER (identifier kind number))) }
 {
-    text.clear();
-    text.push(kind_letter(kind))?;
-    push_number(text, u64::from(number))
+    let mut digits = Buffer::new();
+    let number = digits.format(number).as_bytes();
+    write_joined(&mut page.file, IDENTIFIER, kind_letter(kind), number)
 }
 
-/// Makes the text the pointer of an end to a record.
+/// Writes the zone of the pointer of an end to a record. No text is made of the pointer before.
 #[tactic(auto, unfolding(edi_record::specs::Texts::pointer_text))]
-pub(crate) fn put_end_pointer(text: &mut Vec<u8>, kind: Kind, number: u32) -> Result<(), AllocError>
-    ensures { OnOk result (text.new.items ≡ end_text (numbered_name kind number)) }
+pub(crate) fn write_end_pointer(page: &mut Page, kind: Kind, number: u32) -> Result<(), AllocError>
+    ensures { OnOk result (page.new.file.items ≡ page.old.file.items ++ printed_zone (headed END_TARGET (end_text (numbered_name kind number)))) }
 {
-    text.clear();
-    text.extend_from_slice(pointer_front(kind))?;
-    push_number(text, u64::from(number))
+    let mut digits = Buffer::new();
+    let number = digits.format(number).as_bytes();
+    write_joined(&mut page.file, END_TARGET, pointer_front(kind), number)
 }

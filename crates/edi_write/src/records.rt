@@ -15,9 +15,9 @@ ghost use Rattle.edi_write.specs.Layout.{attribute_zones, head_zones};
 ghost use Rattle.edi_write.specs.inner.Numbered.{arc_body, link_body, numbered_body, numbered_zones, ordered_tail};
 
 use crate::class_line::ClassLine;
-use crate::heads::{ATTRIBUTE_COUNT, END_COUNT, IDENTIFIER, POINT_COUNT, ZoneHead};
+use crate::heads::{ATTRIBUTE_COUNT, END_COUNT, POINT_COUNT, ZoneHead};
 use crate::links::write_ends;
-use crate::names::{put_identifier, type_zone};
+use crate::names::{type_zone, write_identifier};
 use crate::page::Page;
 use crate::parts::{write_attribute, write_extra, write_point};
 use edi_plan::{Plan, PlanAttribute, sorted_attributes};
@@ -129,8 +129,7 @@ fn write_head(
 {
     let kind = plan.kind(place);
     page.file.extend_from_slice(type_zone(kind))?;
-    put_identifier(&mut page.text, kind, labels.number(place))?;
-    page.write_text(IDENTIFIER)?;
+    write_identifier(page, kind, labels.number(place))?;
     let class = class_turned(schema, plan, labels.turned_arcs(), place);
     line.write(page, schema, class)
 }
