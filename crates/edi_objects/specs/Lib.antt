@@ -8,4 +8,6 @@ pub mod Objects
 pub mod Counts
 pub mod Accounts
 pub mod Known
+pub mod Telling
+pub mod Laws
 pub mod inner

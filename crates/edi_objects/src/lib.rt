@@ -9,6 +9,7 @@ mod distances;
 mod elements;
 mod index;
 pub mod known;
+pub mod laws;
 mod marks;
 mod names;
 mod objects;
