@@ -7,3 +7,4 @@ pub mod JoinedNames
 pub mod Coded
 pub mod EndsKeyed
 pub mod OpenPlaces
+pub mod Carried
