@@ -10,3 +10,4 @@ pub mod WholeTexts
 pub mod ToldLines
 pub mod AttributesTold
 pub mod NothingHidden
+pub mod NamedBehind

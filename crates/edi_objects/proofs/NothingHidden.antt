@@ -1,8 +1,8 @@
 -- The text of objects tells what that of records lists.
-use Rattle.std.proofs.Common.{◌≡◌, ◌≢◌, ◌∙◌, ◌<◌, ◌⊎◌, ◌++◌, ◌&&◌, ◌||◌, ℕ, zero, suc, Bool, true, false, List, [], ◌∷◌, Option, Some, None, ap, ap₂, arith, codes, eqb-true, get_or, if◌then◌else◌, inl, inr, IsPermutation, length, length-take, lt-ltb, ltb-true, not, refl, subst, sym, take, true≢false}
+use Rattle.std.proofs.Common.{◌≡◌, ◌≢◌, ◌∙◌, ◌<◌, ◌≤◌, ◌+◌, ◌-◌, ◌⊎◌, ◌++◌, ◌&&◌, ◌||◌, ℕ, zero, suc, Bool, true, false, List, [], ◌∷◌, Option, Some, None, ap, ap₂, arith, codes, drop, eqb-true, get_or, if◌then◌else◌, inl, inr, IsPermutation, length, length-drop, length-take, lt-ltb, ltb-true, not, refl, subst, sym, take, true≢false}
 use Rattle.std.specs.List.{AllByRecursion, flat_map, list_any, range_with_len}
-use Rattle.std.proofs.lemmas.Bool.{and_from, and_parts, cases_Bool, false_from_ne_true, or_cases, or_from, or_parts}
-use Rattle.std.proofs.lemmas.List.{get_or-take}
+use Rattle.std.proofs.lemmas.Bool.{and_from, and_parts, cases_Bool, cases_lt, false_from_ne_true, or_cases, or_from, or_parts}
+use Rattle.std.proofs.lemmas.List.{get_or-drop, get_or-take}
 use Rattle.edi_line.specs.Bytes.{line_feed}
 use Rattle.edi_record.specs.Records.{is_link}
 use Rattle.edi_record.specs.Shapes.{may_have_ends, may_have_points}
@@ -21,10 +21,11 @@ use Rattle.edi_objects.specs.Differing.{arrives, became_of, differs_by, is_diffe
 use Rattle.edi_objects.specs.Elements.{lone_element, most_named, others_text}
 use Rattle.edi_objects.specs.LinksOf.{links_of}
 use Rattle.edi_objects.specs.Names.{Naming, shown_class}
-use Rattle.edi_objects.specs.Objects.{attributes_change, class_change, differing_link, extras_change, first_link, first_object, has_other_outline, object_block, object_by, object_lines, outline_line, own_changes, own_lines, second_link}
+use Rattle.edi_objects.specs.Objects.{attributes_change, class_change, differing_link, extras_change, first_link, first_object, further_line, has_further_outline, has_other_outline, object_block, object_by, object_lines, outline_line, outline_lines, own_changes, own_lines, second_link}
 use Rattle.edi_objects.specs.Telling.{AreSoundParts, DiffersByLinksAlone, FirstHasLines, FirstIsTold, HidesNothing, IsLinkOf, IsSoundReport, IsToldBySecond, IsUntouched, SecondHasLines, SecondIsTold, by_joined, by_lines, by_object, new_by_joined, new_by_lines, new_by_object}
 use Rattle.edi_objects.proofs.AttributeLists.{all_mapped, one_of_all}
 use Rattle.edi_objects.proofs.AttributesTold.{unsaid_same}
+use Rattle.edi_objects.proofs.NamedBehind.{all_dropped}
 use Rattle.edi_objects.proofs.LinkEntries.{all_by_places, all_links, each_link}
 use Rattle.edi_objects.proofs.TextLines.{both_none, if_said, none_each, none_from}
 use Rattle.edi_objects.proofs.ToldLines.{bare_said, block_said, differing_said, element_said, first_stands, lone_said, new_bare_said, new_said, object_said, second_link_said, second_stands, told_by_first, told_by_second}
@@ -34,13 +35,6 @@ use Rattle.edi_objects.proofs.ToldLines.{bare_said, block_said, differing_said, 
 empty : {X : Type 0} (xs : List X) → length xs ≡ 0 → xs ≡ []
 empty [] e = refl
 empty (x ∷ xs) e = absurd (omega (arith, e))
-
-object_kind : (kind : Kind) → is_object kind ≡ true → kind ≡ Fea
-object_kind Pno e = absurd (true≢false (sym e))
-object_kind Par e = absurd (true≢false (sym e))
-object_kind Pfe e = absurd (true≢false (sym e))
-object_kind Fea e = refl
-object_kind Lnk e = absurd (true≢false (sym e))
 
 no_points : (p : Drawing) → IsWholePlan p → (k : ℕ) → IsPlace p k → (record_at p k).kind ≡ Fea → (record_at p k).points ≡ []
 no_points p whole k there is = empty _ (eqb-true (length (record_at p k).points) 0 (ap (λ (kind : Kind). may_have_points kind (length (record_at p k).points)) (sym is) ∙ whole.points k there))
@@ -77,6 +71,14 @@ any_at test (x ∷ xs) e = go (or_cases (test x) (list_any test xs) e) (any_at t
         → (k : ℕ) × (k < length (x ∷ xs)) × (test (get_or (x ∷ xs) k 0) ≡ true)
     go (inl h) more = (zero, omega arith, h)
     go (inr h) more = let w = more h in (suc w.0, omega (arith, w.1), w.2)
+
+none_any : (test : ℕ → Bool) (xs : List ℕ) → list_any test xs ≡ false → AllByRecursion (λ (x : ℕ). test x ≡ false) xs
+none_any test [] e = tt
+none_any test (x ∷ xs) e = let halves = or_parts (test x) (list_any test xs) e in (halves.0, none_any test xs halves.1)
+
+any_none : (test : ℕ → Bool) (xs : List ℕ) → AllByRecursion (λ (x : ℕ). test x ≡ false) xs → list_any test xs ≡ false
+any_none test [] all = refl
+any_none test (x ∷ xs) all = or_from (test x) (list_any test xs) all.0 (any_none test xs all.1)
 
 -- ---- what became of a record
 
@@ -357,11 +359,32 @@ module _ (n : Naming) (r : Report) (sound : IsSoundReport r) where
 
   links_silent : (i link : ℕ) → first_link n r i link ≡ [] → is_differing r link ≡ false
   links_silent i link none = false_from_ne_true (is_differing r link) (λ e. if_said (is_differing r link) (differing_link n r i link (became_of r link) (parts_at r.parts link))
-      (flat_map (outline_line n r) (take most_named (targets (record_at here link)))) e (differing_said n r i link (became_of r link) (parts_at r.parts link)) none)
+      (outline_lines n r link) e (differing_said n r i link (became_of r link) (parts_at r.parts link)) none)
 
-  outlines_silent : (i link : ℕ) → first_link n r i link ≡ [] → flat_map (outline_line n r) (take most_named (targets (record_at here link))) ≡ []
+  outlines_silent : (i link : ℕ) → first_link n r i link ≡ [] → outline_lines n r link ≡ []
   outlines_silent i link none =
-      sym (ap (λ (b : Bool). if b then differing_link n r i link (became_of r link) (parts_at r.parts link) else flat_map (outline_line n r) (take most_named (targets (record_at here link)))) (links_silent i link none)) ∙ none
+      sym (ap (λ (b : Bool). if b then differing_link n r i link (became_of r link) (parts_at r.parts link) else outline_lines n r link) (links_silent i link none)) ∙ none
+
+  further_silent : (link : ℕ) → further_line r link ≡ [] → list_any (has_other_outline r) (drop most_named (targets (record_at here link))) ≡ false
+  unfolding has_further_outline
+  further_silent link none = false_from_ne_true (has_further_outline r link) (λ e. if_said (has_further_outline r link) (codes "    outline of others" ++ line_feed ∷ []) [] e (λ h. cc) none)
+
+  each_silent : (link k : ℕ) → outline_lines n r link ≡ [] → k < length (targets (record_at here link)) → has_other_outline r (get_or (targets (record_at here link)) k 0) ≡ false
+  each_silent link k none within = go (cases_lt k most_named)
+    where
+      halves : (flat_map (outline_line n r) (take most_named (targets (record_at here link))) ≡ []) × (further_line r link ≡ [])
+      halves = both_none (flat_map (outline_line n r) (take most_named (targets (record_at here link)))) (further_line r link) none
+
+      go : (k < most_named) ⊎ (most_named ≤ k) → has_other_outline r (get_or (targets (record_at here link)) k 0) ≡ false
+      go (inl few) =
+          let all = none_each (outline_line n r) (take most_named (targets (record_at here link))) halves.0 in
+          let one = one_of_all (λ (x : ℕ). outline_line n r x ≡ []) (take most_named (targets (record_at here link))) all k 0 (omega (arith, few, within, length-take most_named (targets (record_at here link)))) in
+          outline_silent (get_or (targets (record_at here link)) k 0) (subst (λ (x : ℕ). outline_line n r x ≡ []) (get_or-take most_named (targets (record_at here link)) k 0 few) one)
+      go (inr more) =
+          let all = none_any (has_other_outline r) (drop most_named (targets (record_at here link))) (further_silent link halves.1) in
+          let one = one_of_all (λ (x : ℕ). has_other_outline r x ≡ false) (drop most_named (targets (record_at here link))) all (k - most_named) 0 (omega (arith, more, within, length-drop most_named (targets (record_at here link)))) in
+          let at : most_named + (k - most_named) ≡ k = omega (arith, more) in
+          subst (λ (x : ℕ). has_other_outline r x ≡ false) (get_or-drop most_named (targets (record_at here link)) (k - most_named) 0 ∙ ap (λ (m : ℕ). get_or (targets (record_at here link)) m 0) at) one
 
   untouched : (i j : ℕ) → IsPlace here i → (record_at here i).kind ≡ Fea → became_of r i ≡ Some j → object_lines n r i j ≡ [] → IsUntouched r i j
   untouched i j place is went none = record { itself = itself; links = links; outlines = outlines; new_links = new_links }
@@ -378,11 +401,9 @@ module _ (n : Naming) (r : Report) (sound : IsSoundReport r) where
       links : (link : ℕ) → IsLinkOf here i link → is_differing r link ≡ false
       links link names = links_silent i link (each_link here i (λ (x : ℕ). first_link n r i x ≡ []) each link names)
 
-      outlines : (link k : ℕ) → IsLinkOf here i link → k < most_named → k < length (targets (record_at here link)) → has_other_outline r (get_or (targets (record_at here link)) k 0) ≡ false
-      outlines link k names few within =
-          let all = none_each (outline_line n r) (take most_named (targets (record_at here link))) (outlines_silent i link (each_link here i (λ (x : ℕ). first_link n r i x ≡ []) each link names)) in
-          let one = one_of_all (λ (x : ℕ). outline_line n r x ≡ []) (take most_named (targets (record_at here link))) all k 0 (omega (arith, few, within, length-take most_named (targets (record_at here link)))) in
-          outline_silent (get_or (targets (record_at here link)) k 0) (subst (λ (x : ℕ). outline_line n r x ≡ []) (get_or-take most_named (targets (record_at here link)) k 0 few) one)
+      outlines : (link other : ℕ) → IsLinkOf here i link → IsLinkOf here other link → has_other_outline r other ≡ false
+      outlines link other names its = subst (λ (x : ℕ). has_other_outline r x ≡ false) its.names
+          (each_silent link its.at (outlines_silent i link (each_link here i (λ (x : ℕ). first_link n r i x ≡ []) each link names)) its.within)
 
       new_links : (link : ℕ) → IsLinkOf there j link → arrives r link ≡ false
       new_links link names = false_from_ne_true (arrives r link)
@@ -408,22 +429,35 @@ module _ (n : Naming) (r : Report) (sound : IsSoundReport r) where
       (sym (ap₂ (λ (s b : Option ℕ). differs_by s b (parts_at r.parts i)) is went)
       ∙ (sym (ap (λ (b : Bool). b && differs_by (same_of r i) (became_of r i) (parts_at r.parts i)) (lt-ltb i (length here.list) place)) ∙ e))
 
+  further_none : (link : ℕ) → list_any (has_other_outline r) (drop most_named (targets (record_at here link))) ≡ false → further_line r link ≡ []
+  unfolding has_further_outline
+  further_none link none = ap (λ (b : Bool). if b then codes "    outline of others" ++ line_feed ∷ [] else []) none
+
   -- and an object of which nothing differs has no line
   pub untouched_silent : (i : ℕ) → IsPlace here i → (j : ℕ) → became_of r i ≡ Some j → IsUntouched r i j → first_object n r i ≡ []
   untouched_silent i place j went u = ap (object_by n r i) went ∙ ap (object_block n r i j) none
     where
-      outline_quiet : (link : ℕ) → IsLinkOf here i link → flat_map (outline_line n r) (take most_named (targets (record_at here link))) ≡ []
-      outline_quiet link names = none_from (outline_line n r) (take most_named (targets (record_at here link)))
+      quiet : (link : ℕ) → IsLinkOf here i link → (k : ℕ) → k < length (targets (record_at here link)) → has_other_outline r (get_or (targets (record_at here link)) k 0) ≡ false
+      quiet link names k within = u.outlines link (get_or (targets (record_at here link)) k 0) names (record { there = names.there; kind = names.kind; at = k; within = within; names = refl })
+
+      few_quiet : (link : ℕ) → IsLinkOf here i link → flat_map (outline_line n r) (take most_named (targets (record_at here link))) ≡ []
+      few_quiet link names = none_from (outline_line n r) (take most_named (targets (record_at here link)))
           (all_by_places (λ (x : ℕ). outline_line n r x ≡ []) (take most_named (targets (record_at here link))) 0 (λ k h.
           let few : k < most_named = omega (arith, h, length-take most_named (targets (record_at here link))) in
           let within : k < length (targets (record_at here link)) = omega (arith, h, length-take most_named (targets (record_at here link))) in
           ap (λ (b : Bool). if b then lone_element (codes "    outline of ") n r.first (get_or (take most_named (targets (record_at here link))) k 0) else [])
-          (ap (has_other_outline r) (get_or-take most_named (targets (record_at here link)) k 0 few) ∙ u.outlines link k names few within)))
+          (ap (has_other_outline r) (get_or-take most_named (targets (record_at here link)) k 0 few) ∙ quiet link names k within)))
+
+      further_quiet : (link : ℕ) → IsLinkOf here i link → further_line r link ≡ []
+      further_quiet link names = further_none link
+          (any_none (has_other_outline r) (drop most_named (targets (record_at here link)))
+          (all_dropped (λ (x : ℕ). has_other_outline r x ≡ false) most_named (targets (record_at here link))
+          (all_by_places (λ (x : ℕ). has_other_outline r x ≡ false) (targets (record_at here link)) 0 (quiet link names))))
 
       link_quiet : (link : ℕ) → IsLinkOf here i link → first_link n r i link ≡ []
       link_quiet link names =
-          ap (λ (b : Bool). if b then differing_link n r i link (became_of r link) (parts_at r.parts link) else flat_map (outline_line n r) (take most_named (targets (record_at here link)))) (u.links link names)
-          ∙ outline_quiet link names
+          ap (λ (b : Bool). if b then differing_link n r i link (became_of r link) (parts_at r.parts link) else outline_lines n r link) (u.links link names)
+          ∙ ap₂ (λ (xs ys : List ℕ). xs ++ ys) (few_quiet link names) (further_quiet link names)
 
       new_quiet : (link : ℕ) → IsLinkOf there j link → second_link n r j link ≡ []
       new_quiet link names =

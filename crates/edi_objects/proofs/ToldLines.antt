@@ -1,11 +1,10 @@
 -- Where the lines of records stand in the text.
-use Rattle.std.proofs.Common.{◌≡◌, ◌≢◌, ◌∙◌, ◌++◌, ℕ, Bool, true, false, List, [], ◌∷◌, Option, Some, None, ap, arith, codes, if◌then◌else◌, length, ne_eqb, refl, subst, sym, take}
+use Rattle.std.proofs.Common.{◌≡◌, ◌≢◌, ◌∙◌, ◌++◌, ℕ, Bool, true, false, List, [], ◌∷◌, Option, Some, None, ap, arith, codes, if◌then◌else◌, length, ne_eqb, refl, subst, sym}
 use Rattle.std.specs.List.{flat_map}
 use Rattle.edi_record.specs.declared.record.Kind.{Kind}
 use Rattle.edi_record.specs.declared.record.Kind.TheVariants.{Pno, Par, Pfe, Fea, Lnk}
 use Rattle.edi_plan.specs.Places.{places_of}
 use Rattle.edi_plan.specs.Plans.{Drawing, IsPlace, record_at}
-use Rattle.edi_plan.specs.Sides.{targets}
 use Rattle.edi_plan.proofs.PlaceLemmas.{has_place}
 use Rattle.edi_line.specs.Bytes.{line_feed}
 use Rattle.edi_report.specs.Lines.{charsets_line, totals_line, words_text}
@@ -15,10 +14,10 @@ use Rattle.edi_report.specs.declared.sheet.LocatedSheet.{LocatedSheet}
 use Rattle.edi_objects.specs.Accounts.{account_text, bare_link, bare_link_by, bare_links, first_bare_link, objects_of, record_line_text, second_bare_link, shapes_of}
 use Rattle.edi_objects.specs.Counts.{class_totals}
 use Rattle.edi_objects.specs.Differing.{arrives, became_of, is_differing, same_of}
-use Rattle.edi_objects.specs.Elements.{elements_of, first_element, line_of_element, lone_element, most_named, others_text, second_element}
+use Rattle.edi_objects.specs.Elements.{elements_of, first_element, line_of_element, lone_element, others_text, second_element}
 use Rattle.edi_objects.specs.LinksOf.{links_of}
 use Rattle.edi_objects.specs.Names.{Naming, shown_class}
-use Rattle.edi_objects.specs.Objects.{differing_link, first_link, first_object, link_text, object_block, object_by, object_header, object_lines, outline_line, own_lines, second_link, second_object}
+use Rattle.edi_objects.specs.Objects.{differing_link, first_link, first_object, link_text, object_block, object_by, object_header, object_lines, outline_lines, own_lines, second_link, second_object}
 use Rattle.edi_objects.specs.Telling.{AreLinesOf, AreWholeLines, FirstHasLines, IsLinkOf, IsToldByFirst, IsToldBySecond, SecondHasLines, first_account_by, second_account_by}
 use Rattle.edi_objects.proofs.LinkEntries.{each_link}
 use Rattle.edi_objects.proofs.TextLines.{both_none, either_said, else_said, if_said, lines_at, lines_each, lines_fourth, lines_left, lines_right, lines_second, lines_third, text_there, whole_append, whole_flat}
@@ -181,7 +180,7 @@ module _ (n : Naming) (r : Report) where
       seconds = flat_map (second_link n r target) (links_of r.second.accepted target)
 
       line_is : first_link n r object link ≡ line
-      line_is = ap (λ (b : Bool). if b then line else flat_map (outline_line n r) (take most_named (targets (record_at r.first.accepted link)))) differs
+      line_is = ap (λ (b : Bool). if b then line else outline_lines n r link) differs
 
       in_firsts : AreLinesOf firsts (first_link n r object link)
       in_firsts = each_link r.first.accepted object (λ (x : ℕ). first_link n r object x ≢ [] → AreLinesOf firsts (first_link n r object x))

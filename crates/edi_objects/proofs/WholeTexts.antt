@@ -23,7 +23,7 @@ use Rattle.edi_objects.specs.Differing.{arrives, became_of, is_differing, same_o
 use Rattle.edi_objects.specs.Elements.{change_text, changed_element, element_text, elements_of, first_element, line_of_element, lone_element, most_named, name_of_record, others_text, second_element}
 use Rattle.edi_objects.specs.LinksOf.{links_of}
 use Rattle.edi_objects.specs.Names.{Naming, shown_class}
-use Rattle.edi_objects.specs.Objects.{attributes_change, class_change, differing_link, extras_change, first_link, first_object, has_other_outline, link_text, object_by, object_header, object_lines, outline_line, own_changes, own_lines, second_link, second_object}
+use Rattle.edi_objects.specs.Objects.{attributes_change, class_change, differing_link, extras_change, first_link, first_object, further_line, has_further_outline, has_other_outline, link_text, object_by, object_header, object_lines, outline_line, outline_lines, own_changes, own_lines, second_link, second_object}
 use Rattle.edi_objects.specs.Telling.{AreWholeLines}
 use Rattle.edi_objects.proofs.TextLines.{whole_append, whole_behind, whole_flat, whole_if, whole_line}
 
@@ -83,11 +83,16 @@ module _ (n : Naming) (r : Report) where
   outline_whole : (k : ℕ) → AreWholeLines (outline_line n r k)
   outline_whole k = whole_if (has_other_outline r k) (lone_element (codes "    outline of ") n r.first k) [] (lone_whole (codes "    outline of ") r.first k) refl
 
+  further_whole : (link : ℕ) → AreWholeLines (further_line r link)
+  further_whole link = whole_if (has_further_outline r link) (codes "    outline of others" ++ line_feed ∷ []) [] (whole_line (codes "    outline of others")) refl
+
+  outline_lines_whole : (link : ℕ) → AreWholeLines (outline_lines n r link)
+  outline_lines_whole link = whole_append (flat_map (outline_line n r) (take most_named (targets (record_at r.first.accepted link)))) (further_line r link)
+      (whole_flat (outline_line n r) outline_whole (take most_named (targets (record_at r.first.accepted link)))) (further_whole link)
+
   pub first_link_whole : (i link : ℕ) → AreWholeLines (first_link n r i link)
   first_link_whole i link = whole_if (is_differing r link) (differing_link n r i link (became_of r link) (parts_at r.parts link))
-      (flat_map (outline_line n r) (take most_named (targets (record_at r.first.accepted link))))
-      (differing_whole i link (became_of r link) (parts_at r.parts link))
-      (whole_flat (outline_line n r) outline_whole (take most_named (targets (record_at r.first.accepted link))))
+      (outline_lines n r link) (differing_whole i link (became_of r link) (parts_at r.parts link)) (outline_lines_whole link)
 
   pub second_link_whole : (j link : ℕ) → AreWholeLines (second_link n r j link)
   second_link_whole j link = whole_if (arrives r link)

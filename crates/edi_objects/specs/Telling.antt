@@ -12,7 +12,7 @@ use Rattle.edi_report.specs.Reports.{Report, parts_at}
 use Rattle.edi_report.specs.declared.parts.Parts.{Parts}
 use Rattle.edi_objects.specs.Accounts.{account_text, first_bare_link, second_bare_link}
 use Rattle.edi_objects.specs.Differing.{arrives, became_of, is_differing, same_of}
-use Rattle.edi_objects.specs.Elements.{first_element, most_named, second_element}
+use Rattle.edi_objects.specs.Elements.{first_element, second_element}
 use Rattle.edi_objects.specs.Names.{Naming}
 use Rattle.edi_objects.specs.Objects.{differing_link, first_object, has_other_outline, object_lines, second_link, second_object}
 
@@ -152,14 +152,12 @@ pub record DiffersByLinksAlone (r : Report) (i : ℕ) : Type 0 where
   pub no_part : some_differ (parts_at r.parts i) ≡ false
 
 -- Nothing differs of an object of the first sheet that is or became one of the second, nor of what its links reach: no
--- part of its own, no link that names it in the one sheet or the other, and no outline of the first four records that
--- such a link names.
+-- part of its own, no link that names it in the one sheet or the other, and no outline of what such a link names.
 pub record IsUntouched (r : Report) (i j : ℕ) : Type 0 where
   pub itself : is_differing r i ≡ false
   pub links : (link : ℕ) → IsLinkOf r.first.accepted i link → is_differing r link ≡ false
-  pub outlines : (link k : ℕ) → IsLinkOf r.first.accepted i link → k < most_named
-      → k < length (targets (record_at r.first.accepted link))
-      → has_other_outline r (slice_index_or (targets (record_at r.first.accepted link)) k 0) ≡ false
+  pub outlines : (link other : ℕ) → IsLinkOf r.first.accepted i link → IsLinkOf r.first.accepted other link
+      → has_other_outline r other ≡ false
   pub new_links : (link : ℕ) → IsLinkOf r.second.accepted j link → arrives r link ≡ false
 
 -- Each record that the text of records lists is told, but one of which only linked records differ; and nothing differs

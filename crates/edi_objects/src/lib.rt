@@ -7,6 +7,7 @@ mod bare_links;
 mod counts;
 mod distances;
 mod elements;
+mod further;
 mod index;
 pub mod known;
 pub mod laws;

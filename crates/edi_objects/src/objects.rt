@@ -8,13 +8,14 @@ ghost use Rattle.edi_record.specs.declared.record.Kind.TheVariants.{Fea};
 ghost use Rattle.edi_objects.specs.Counts.{changed_class, changed_classes, is_told_changed};
 ghost use Rattle.edi_objects.specs.Differing.{became_of, same_of};
 ghost use Rattle.edi_objects.specs.LinksOf.{links_of};
-ghost use Rattle.edi_objects.specs.Objects.{attributes_change, class_change, differing_link, extras_change, first_link, first_object, has_other_outline, link_text, object_block, object_header, object_lines, outline_line, outline_there, own_changes, own_lines, second_link, second_object};
+ghost use Rattle.edi_objects.specs.Objects.{attributes_change, class_change, differing_link, extras_change, first_link, first_object, further_line, has_other_outline, link_text, object_block, object_header, object_lines, outline_line, outline_lines, own_changes, own_lines, second_link, second_object};
 ghost use Rattle.edi_report.specs.Reports.{parts_at};
 
 use crate::account::ObjectReporter;
 use crate::attributes::push_attribute_lines;
 use crate::counts::push_class_if;
 use crate::elements::MOST_NAMED;
+use crate::further::has_other_outline;
 use crate::index::entries_of;
 use crate::names::first_few;
 use edi_record::Kind;
@@ -306,8 +307,30 @@ impl<'a> ObjectReporter<'a> {
         self.first().push_others(lines, Some(place), link)
     }
 
-    /// Appends the lines of the nodes, arcs and faces that a link of the first sheet names and whose outlines differ.
+    /// Appends the lines of what a link of the first sheet names, where outlines differ.
     fn push_outlines(&self, lines: &mut Vec<u8>, link: u32) -> Result<(), AllocError>
+        requires { IsPlace self.now.report.first.accepted link }
+        ensures { OnOk result (lines.new.items ≡ lines.old.items ++ outline_lines self.now.naming self.now.report link) }
+    {
+        self.push_few_outlines(lines, link)?;
+        self.push_further(lines, link)
+    }
+
+    /// Appends that the outline differs of one more of the records that a link names, if it does.
+    fn push_further(&self, lines: &mut Vec<u8>, link: u32) -> Result<(), AllocError>
+        requires { IsPlace self.now.report.first.accepted link }
+        ensures { OnOk result (lines.new.items ≡ lines.old.items ++ further_line self.now.report link) }
+    {
+        if self.has_further_outline(link) {
+            lines.extend_from_slice(b"    outline of others\n")
+        } else {
+            Ok(())
+        }
+    }
+
+    /// Appends the lines of the first few nodes, arcs and faces that a link of the first sheet names and whose outlines
+    /// differ.
+    fn push_few_outlines(&self, lines: &mut Vec<u8>, link: u32) -> Result<(), AllocError>
         requires { IsPlace self.now.report.first.accepted link }
         ensures { OnOk result (lines.new.items ≡ lines.old.items ++ flat_map (outline_line self.now.naming self.now.report) (take 4 (targets (record_at self.now.report.first.accepted link)))) }
     {
@@ -333,24 +356,16 @@ impl<'a> ObjectReporter<'a> {
     }
 
     /// Whether this is a node, an arc or a face whose outline differs in either sheet.
-    #[tactic(auto, unfolding(crate::specs::Objects::has_other_outline))]
     fn has_other_outline(&self, place: u32) -> bool
         requires { IsPlace self.now.report.first.accepted place }
         ensures { result ≡ has_other_outline self.now.report place }
     {
-        !is_object(self.first().plan().kind(place))
-            && (self.outline_differs(place) || self.outline_there(self.became_of(place)))
-    }
-
-    /// Whether the outline of what a record went to differs.
-    fn outline_there(&self, target: Option<u32>) -> bool
-        requires { IfSome target (IsPlace self.now.report.second.accepted) }
-        ensures { result ≡ outline_there self.now.report target }
-    {
-        match target {
-            Some(target) => self.outline_arrives(target),
-            None => false,
-        }
+        has_other_outline(
+            self.report,
+            &self.here.outlines,
+            &self.there.outlines,
+            place,
+        )
     }
 
     /// Appends the line of a link of the second sheet that names an object, if it is new.

@@ -58,7 +58,7 @@ fn bounds_anew(plan: &Plan, marks: &[bool], place: u32, link: u32) -> bool
 }
 
 /// Whether some end is marked.
-fn some_marked(marks: &[bool], ends: &[PlanEnd]) -> bool
+pub(crate) fn some_marked(marks: &[bool], ends: &[PlanEnd]) -> bool
     ensures { result ≡ list_any (test_of marks.now) (map (λ e. e.target) ends.now) }
 {
     for end in ends {
