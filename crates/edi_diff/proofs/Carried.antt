@@ -28,8 +28,10 @@ use Rattle.edi_objects.specs.Names.{usual_naming}
 use Rattle.edi_objects.specs.Telling.{AreSoundParts, IsSoundReport}
 use Rattle.edi_objects.proofs.NothingHidden.{hides_nothing}
 use Rattle.edi_diff.specs.Changes.{AreChangedParts, AreChanges, ArePartsOfEach, HasEndsOf}
-use Rattle.edi_diff.specs.Differences.{report_by}
+use Rattle.edi_diff.specs.Differences.{IsDifference, report_by}
 use Rattle.edi_diff.specs.Laws.{GoesUnchanged, RestIsCarried, TextHidesNothing, report_in}
+use Rattle.edi_diff.specs.declared.differing.Difference.{Difference}
+use Rattle.edi_diff.specs.declared.form.TextForm.{TextForm}
 
 -- ---- the report is sound
 
@@ -69,10 +71,13 @@ report_sound s first second unchanged became parts whole whole' are each = recor
 accepted_whole : (s : Classes) (b : List ℕ) (p : Drawing) → IsAccepted s b → IsPlanOfFile s b p → IsWholePlan p
 accepted_whole s b p accepted states = plans_whole s states.0 p states.2 (references_hold s b accepted states.0 states.1)
 
+pub difference_sound : (s : Classes) (a b : List ℕ) (form : TextForm) (found : Difference) → IsAccepted s a → IsAccepted s b → (d : IsDifference s a b form found) → IsSoundReport (report_in s a b form found d)
+difference_sound s a b form found accepted accepted' d =
+    report_sound s d.first d.second d.unchanged d.is_text.became d.is_text.parts (accepted_whole s a d.first.accepted accepted d.is_first.plan) (accepted_whole s b d.second.accepted accepted' d.is_second.plan)
+    d.is_text.changes d.is_text.are_parts
+
 pub hidden_by_none : TextHidesNothing
-hidden_by_none s a b form found accepted accepted' d = hides_nothing (usual_naming s) (report_in s a b form found d)
-    (report_sound s d.first d.second d.unchanged d.is_text.became d.is_text.parts (accepted_whole s a d.first.accepted accepted d.is_first.plan) (accepted_whole s b d.second.accepted accepted' d.is_second.plan)
-    d.is_text.changes d.is_text.are_parts)
+hidden_by_none s a b form found accepted accepted' d = hides_nothing (usual_naming s) (report_in s a b form found d) (difference_sound s a b form found accepted accepted' d)
 
 -- ---- records that don't differ
 

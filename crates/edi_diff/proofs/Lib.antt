@@ -8,3 +8,5 @@ pub mod Coded
 pub mod EndsKeyed
 pub mod OpenPlaces
 pub mod Carried
+pub mod Reached
+pub mod Silence

@@ -1,5 +1,5 @@
 //! Laws of what differs between two sheets.
-ghost use Rattle.edi_diff.specs.Laws.{RestIsCarried, TextHidesNothing};
+ghost use Rattle.edi_diff.specs.Laws.{RestIsCarried, SilentObjectsAreCarried, SilentOnlyIfSame, TextHidesNothing};
 
 /// Of what differs between two accepted sheets the text of objects hides nothing.
 pub fn text_hides_nothing()
@@ -10,4 +10,14 @@ pub fn text_hides_nothing()
 /// became.
 pub fn rest_is_carried()
     ensures { RestIsCarried }
+{}
+
+/// An object of the first sheet without a line in the text of objects is carried with all that its links reach.
+pub fn silent_objects_are_carried()
+    ensures { SilentObjectsAreCarried }
+{}
+
+/// The text of objects tells of no record only if the two sheets state the same plan.
+pub fn silent_only_if_same()
+    ensures { SilentOnlyIfSame }
 {}

@@ -51,7 +51,7 @@ no_ends p whole k there kind is none = empty _ (go kind none (ap (λ (x : Kind).
     go Lnk e h = absurd (true≢false e)
 
 -- what a link names is a record, and no link
-named_place : (p : Drawing) → IsWholePlan p → (place link : ℕ) → IsLinkOf p place link → IsPlace p place
+pub named_place : (p : Drawing) → IsWholePlan p → (place link : ℕ) → IsLinkOf p place link → IsPlace p place
 named_place p whole place link is = subst (IsPlace p) is.names
     (one_of_all (IsPlace p) (targets (record_at p link)) (all_mapped (λ (e : PlanEnd). e.target) (IsPlace p) (record_at p link).ends (whole.there link is.there)) is.at 0 is.within)
 
@@ -72,7 +72,7 @@ any_at test (x ∷ xs) e = go (or_cases (test x) (list_any test xs) e) (any_at t
     go (inl h) more = (zero, omega arith, h)
     go (inr h) more = let w = more h in (suc w.0, omega (arith, w.1), w.2)
 
-none_any : (test : ℕ → Bool) (xs : List ℕ) → list_any test xs ≡ false → AllByRecursion (λ (x : ℕ). test x ≡ false) xs
+pub none_any : (test : ℕ → Bool) (xs : List ℕ) → list_any test xs ≡ false → AllByRecursion (λ (x : ℕ). test x ≡ false) xs
 none_any test [] e = tt
 none_any test (x ∷ xs) e = let halves = or_parts (test x) (list_any test xs) e in (halves.0, none_any test xs halves.1)
 
@@ -243,7 +243,7 @@ module _ (n : Naming) (r : Report) (sound : IsSoundReport r) where
       let names : IsLinkOf here other i = record { there = place; kind = is; at = found.0; within = found.1; names = refl } in
       joined_tells i other e names (named_place here sound.first_whole other i names) (record_at here other).kind refl (named_no_link here sound.first_whole other i names) found.2
 
-  differing_told : (i : ℕ) → IsPlace here i → is_differing r i ≡ true → (kind : Kind) → (record_at here i).kind ≡ kind → FirstIsTold n r i
+  pub differing_told : (i : ℕ) → IsPlace here i → is_differing r i ≡ true → (kind : Kind) → (record_at here i).kind ≡ kind → FirstIsTold n r i
   differing_told i place e Pno is = by_lines (element_stands i place Pno is refl refl e)
   differing_told i place e Par is = by_lines (element_stands i place Par is refl refl e)
   differing_told i place e Pfe is = by_lines (element_stands i place Pfe is refl refl e)
@@ -265,7 +265,7 @@ module _ (n : Naming) (r : Report) (sound : IsSoundReport r) where
 
   -- ---- records of the second sheet
 
-  source_place : (i j : ℕ) → became_of r i ≡ Some j → IsPlace here i
+  pub source_place : (i j : ℕ) → became_of r i ≡ Some j → IsPlace here i
   source_place i j went = subst (λ (k : ℕ). i < k) sound.all_became (within_list r.became i j went)
 
   pub new_link_told : (link object source : ℕ) → IsLinkOf there object link → (record_at there object).kind ≡ Fea → became_of r source ≡ Some object → arrives r link ≡ true → IsToldBySecond n r link object
@@ -338,7 +338,7 @@ module _ (n : Naming) (r : Report) (sound : IsSoundReport r) where
       new : arrives r j ≡ true
       new = ap₂ (λ (a b : Bool). a && (not b || list_any (λ (i : ℕ). went_to j (moved_to r i)) (range_with_len 0 (length r.became)))) (lt-ltb j (length there.list) place) e
 
-  new_told : (j : ℕ) → IsPlace there j → is_reached r.became j ≡ false → (kind : Kind) → (record_at there j).kind ≡ kind → SecondIsTold n r j
+  pub new_told : (j : ℕ) → IsPlace there j → is_reached r.became j ≡ false → (kind : Kind) → (record_at there j).kind ≡ kind → SecondIsTold n r j
   new_told j place e Pno is = new_by_lines (element_new j place Pno is refl e)
   new_told j place e Par is = new_by_lines (element_new j place Par is refl e)
   new_told j place e Pfe is = new_by_lines (element_new j place Pfe is refl e)
