@@ -486,11 +486,11 @@ def by_objects(room):
         "an attribute more": (first.replace(b"ATCSN02:02\nATPCP22:EDAB01;SeSD;ATT;SUP_id\nATVSR05:25.00", b"ATCSN02:03\nATPCP22:EDAB01;SeSD;ATT;SUP_id\nATVSR05:25.00\nATPCP22:EDAB01;SeSD;ATT;SUP_id\nATVSR05:26.50"),
                               b"~ PARCELLE_id NOM_id A 12 (lines 39 and 39):\n    SUP_id: 25 -> 25, 26.5\n" + one_changed),
         "a node moved": (first.replace(b"+10.00;+0.00;", b"+11.00;+0.00;"),
-                         b"~ PARCELLE_id NOM_id A 12 (lines 39 and 39):\n    outline of face (line 34)\n"
+                         b"~ PARCELLE_id NOM_id A 12 (lines 39 and 39):\n    outline of face (line 34): arcs 2 gone, 2 new, 0 changed\n"
                          b"- arc 0;0 .. 10;0 (line 15)\n- arc 10;0 .. 0;0 (line 24)\n+ arc 0;0 .. 11;0 (line 15)\n+ arc 11;0 .. 0;0 (line 24)\n"
                          b"~ node 10;0 (lines 9 and 9): points (to 11;0, by 1)\n" + one_changed),
         "an arc bent": (first.replace(b"+5.00;+5.00;", b"+5.00;+6.00;"),
-                        b"~ PARCELLE_id NOM_id A 12 (lines 39 and 39):\n    outline of face (line 34)\n~ arc 10;0 .. 0;0 (lines 24 and 24): points (1 of 3, by at most 1)\n" + one_changed),
+                        b"~ PARCELLE_id NOM_id A 12 (lines 39 and 39):\n    outline of face (line 34): arcs 0 gone, 0 new, 1 changed\n~ arc 10;0 .. 0;0 (lines 24 and 24): points (1 of 3, by at most 1)\n" + one_changed),
         "the parcel gone": (gone, b"- PARCELLE_id NOM_id A 12 (line 39)\n" + one_gone),
         "a parcel on the same face": (first[:end] + label + first[end:], b"+ PARCELLE_id NOM_id B (line 106)\n" + one_new),
     }

@@ -11,3 +11,4 @@ pub mod ToldLines
 pub mod AttributesTold
 pub mod NothingHidden
 pub mod NamedBehind
+pub mod Bounded

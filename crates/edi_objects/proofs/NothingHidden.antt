@@ -18,10 +18,10 @@ use Rattle.edi_report.specs.Reports.{Report, parts_at}
 use Rattle.edi_report.specs.declared.parts.Parts.{Parts}
 use Rattle.edi_objects.specs.Accounts.{is_told_beside}
 use Rattle.edi_objects.specs.Differing.{arrives, became_of, differs_by, is_differing, moved_by, moved_to, same_of}
-use Rattle.edi_objects.specs.Elements.{lone_element, most_named, others_text}
+use Rattle.edi_objects.specs.Elements.{most_named, others_text}
 use Rattle.edi_objects.specs.LinksOf.{links_of}
 use Rattle.edi_objects.specs.Names.{Naming, shown_class}
-use Rattle.edi_objects.specs.Objects.{attributes_change, class_change, differing_link, extras_change, first_link, first_object, further_line, has_further_outline, has_other_outline, object_block, object_by, object_lines, outline_line, outline_lines, own_changes, own_lines, second_link}
+use Rattle.edi_objects.specs.Objects.{attributes_change, class_change, differing_link, extras_change, first_link, first_object, further_line, has_further_outline, has_other_outline, object_block, object_by, object_lines, outline_line, outline_lines, outline_name, outline_text, own_changes, own_lines, second_link}
 use Rattle.edi_objects.specs.Telling.{AreSoundParts, DiffersByLinksAlone, FirstHasLines, FirstIsTold, HidesNothing, IsLinkOf, IsSoundReport, IsToldBySecond, IsUntouched, SecondHasLines, SecondIsTold, by_joined, by_lines, by_object, new_by_joined, new_by_lines, new_by_object}
 use Rattle.edi_objects.proofs.AttributeLists.{all_mapped, one_of_all}
 use Rattle.edi_objects.proofs.AttributesTold.{unsaid_same}
@@ -355,7 +355,8 @@ module _ (n : Naming) (r : Report) (sound : IsSoundReport r) where
   -- ---- objects without a line
 
   outline_silent : (k : ℕ) → outline_line n r k ≡ [] → has_other_outline r k ≡ false
-  outline_silent k none = false_from_ne_true (has_other_outline r k) (λ e. if_said (has_other_outline r k) (lone_element (codes "    outline of ") n r.first k) [] e (λ h. cc) none)
+  unfolding outline_name
+  outline_silent k none = false_from_ne_true (has_other_outline r k) (λ e. if_said (has_other_outline r k) (outline_text n r k) [] e (λ h. cc) none)
 
   links_silent : (i link : ℕ) → first_link n r i link ≡ [] → is_differing r link ≡ false
   links_silent i link none = false_from_ne_true (is_differing r link) (λ e. if_said (is_differing r link) (differing_link n r i link (became_of r link) (parts_at r.parts link))
@@ -445,7 +446,7 @@ module _ (n : Naming) (r : Report) (sound : IsSoundReport r) where
           (all_by_places (λ (x : ℕ). outline_line n r x ≡ []) (take most_named (targets (record_at here link))) 0 (λ k h.
           let few : k < most_named = omega (arith, h, length-take most_named (targets (record_at here link))) in
           let within : k < length (targets (record_at here link)) = omega (arith, h, length-take most_named (targets (record_at here link))) in
-          ap (λ (b : Bool). if b then lone_element (codes "    outline of ") n r.first (get_or (take most_named (targets (record_at here link))) k 0) else [])
+          ap (λ (b : Bool). if b then outline_text n r (get_or (take most_named (targets (record_at here link))) k 0) else [])
           (ap (has_other_outline r) (get_or-take most_named (targets (record_at here link)) k 0 few) ∙ quiet link names k within)))
 
       further_quiet : (link : ℕ) → IsLinkOf here i link → further_line r link ≡ []

@@ -18,12 +18,13 @@ use Rattle.edi_report.specs.declared.parts.Parts.{Parts}
 use Rattle.edi_report.specs.declared.sheet.LocatedSheet.{LocatedSheet}
 use Rattle.edi_shown.specs.Shown.{shown_bytes}
 use Rattle.edi_objects.specs.Accounts.{bare_link, bare_link_by, first_bare_link, is_told_beside, objects_of, record_line_text, second_bare_link, shapes_of}
+use Rattle.edi_objects.specs.Bounds.{outline_counts}
 use Rattle.edi_objects.specs.Attributes.{are_alike, attribute_line, attribute_lines, class_line_at, class_values, classes_of_both, is_repeated, of_class, shown_values}
 use Rattle.edi_objects.specs.Differing.{arrives, became_of, is_differing, same_of}
 use Rattle.edi_objects.specs.Elements.{change_text, changed_element, element_text, elements_of, first_element, line_of_element, lone_element, most_named, name_of_record, others_text, second_element}
 use Rattle.edi_objects.specs.LinksOf.{links_of}
 use Rattle.edi_objects.specs.Names.{Naming, shown_class}
-use Rattle.edi_objects.specs.Objects.{attributes_change, class_change, differing_link, extras_change, first_link, first_object, further_line, has_further_outline, has_other_outline, link_text, object_by, object_header, object_lines, outline_line, outline_lines, own_changes, own_lines, second_link, second_object}
+use Rattle.edi_objects.specs.Objects.{attributes_change, class_change, differing_link, extras_change, first_link, first_object, further_line, has_further_outline, has_other_outline, link_text, object_by, object_header, object_lines, outline_line, outline_lines, outline_name, outline_text, own_changes, own_lines, second_link, second_object}
 use Rattle.edi_objects.specs.Telling.{AreWholeLines}
 use Rattle.edi_objects.proofs.TextLines.{whole_append, whole_behind, whole_flat, whole_if, whole_line}
 
@@ -81,7 +82,7 @@ module _ (n : Naming) (r : Report) where
       (whole_line (link_text (codes "    - ") n r i link)) (whole_line (link_text (codes "    ~ ") n r i link ++ codes ":" ++ words_text parts))
 
   outline_whole : (k : ℕ) → AreWholeLines (outline_line n r k)
-  outline_whole k = whole_if (has_other_outline r k) (lone_element (codes "    outline of ") n r.first k) [] (lone_whole (codes "    outline of ") r.first k) refl
+  outline_whole k = whole_if (has_other_outline r k) (outline_text n r k) [] (whole_line (outline_name n r k ++ outline_counts r k)) refl
 
   further_whole : (link : ℕ) → AreWholeLines (further_line r link)
   further_whole link = whole_if (has_further_outline r link) (codes "    outline of others" ++ line_feed ∷ []) [] (whole_line (codes "    outline of others")) refl

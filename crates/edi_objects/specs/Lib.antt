@@ -3,6 +3,7 @@ pub mod Differing
 pub mod Names
 pub mod Distances
 pub mod Elements
+pub mod Bounds
 pub mod Attributes
 pub mod Objects
 pub mod Counts

@@ -9,8 +9,9 @@ use Rattle.edi_report.specs.Lines.{both_lines, is_reached, words_text}
 use Rattle.edi_report.specs.Reports.{Report, parts_at, site_at}
 use Rattle.edi_report.specs.declared.parts.Parts.{Parts}
 use Rattle.edi_objects.specs.Attributes.{attribute_lines}
+use Rattle.edi_objects.specs.Bounds.{outline_counts}
 use Rattle.edi_objects.specs.Differing.{arrives, became_of, is_differing, outline_differs, same_of}
-use Rattle.edi_objects.specs.Elements.{element_text, lone_element, most_named, name_of_record, others_text}
+use Rattle.edi_objects.specs.Elements.{element_text, most_named, name_of_record, others_text}
 use Rattle.edi_objects.specs.LinksOf.{links_of}
 use Rattle.edi_objects.specs.Names.{Naming, shown_class}
 
@@ -55,8 +56,15 @@ outline_there r (Some j) = outline_differs (arrives r) r.second.accepted j
 unfoldable pub has_other_outline : Report → ℕ → Bool
 has_other_outline r k = not (is_object (record_at r.first.accepted k).kind) && (outline_differs (is_differing r) r.first.accepted k || outline_there r (became_of r k))
 
+-- that it does, and how many arcs of a face, or nodes of an arc, are gone, new and changed
+unfoldable pub outline_name : Naming → Report → ℕ → List ℕ
+outline_name n r k = codes "    outline of " ++ element_text n r.first k
+
+abbrev pub outline_text : Naming → Report → ℕ → List ℕ
+outline_text n r k = outline_name n r k ++ outline_counts r k ++ line_feed ∷ []
+
 abbrev pub outline_line : Naming → Report → ℕ → List ℕ
-outline_line n r k = if has_other_outline r k then lone_element (codes "    outline of ") n r.first k else []
+outline_line n r k = if has_other_outline r k then outline_text n r k else []
 
 -- the outline differs of one of the records that a link of the first sheet names behind the first four
 unfoldable pub has_further_outline : Report → ℕ → Bool

@@ -7,6 +7,7 @@ ghost use Rattle.edi_plan.specs.Agreeing.{Agrees};
 ghost use Rattle.edi_objects.specs.LinksOf.{index_of};
 ghost use Rattle.edi_plan.specs.Plans.{IsPlace, record_at};
 ghost use Rattle.edi_objects.specs.Accounts.{account_text, objects_of, shapes_of};
+ghost use Rattle.edi_objects.specs.Bounds.{bounds_count, is_bent, is_lost, new_bounds_count};
 ghost use Rattle.edi_objects.specs.Counts.{changed_classes};
 ghost use Rattle.edi_objects.specs.Differing.{arrives, became_of, is_differing, outline_differs, same_of};
 ghost use Rattle.edi_objects.specs.Elements.{change_text, changed_element, elements_of, first_element, second_element};
@@ -15,6 +16,7 @@ ghost use Rattle.edi_objects.specs.inner.Sheets.{test_of};
 ghost use Rattle.edi_report.specs.Lines.{is_reached};
 ghost use Rattle.edi_report.specs.Reports.{HasSites, parts_at};
 
+use crate::bounds::{BoundCounts, count_at};
 use crate::elements::{SheetNamer, push_points_change};
 use crate::further::further_outlines;
 use crate::index::index_of;
@@ -66,6 +68,8 @@ pub struct ObjectReporter<'a> {
     pub(crate) there: Notes,
     /// Which records of the first sheet name one behind the first few whose outline differs.
     pub(crate) further: Vec<bool>,
+    /// How many links that bound the records are gone, new or changed.
+    pub(crate) bounds: BoundCounts,
 }
 
 impl<'a> Model for ObjectReporter<'a> {
@@ -73,7 +77,7 @@ impl<'a> Model for ObjectReporter<'a> {
     ghost use Rattle.edi_plan.specs.Agreeing.{Agrees};
     ghost use Rattle.edi_objects.specs.Accounts.{Told};
     ghost use Rattle.edi_objects.specs.Differing.{arrives, is_differing};
-    ghost use Rattle.edi_objects.specs.inner.Sheets.{AreFurther, AreNotes};
+    ghost use Rattle.edi_objects.specs.inner.Sheets.{AreBoundCounts, AreFurther, AreNotes};
 
     ghost Value = { Told };
 
@@ -82,7 +86,8 @@ impl<'a> Model for ObjectReporter<'a> {
     ghost invariant = { λ a. AreNotes (is_differing a.report.now) a.report.now.first.accepted a.here.index.items a.here.marks.items a.here.outlines.items
         × AreNotes (arrives a.report.now) a.report.now.second.accepted a.there.index.items a.there.marks.items a.there.outlines.items
         × Agrees a.namer.now.classes a.report.now.first.accepted × Agrees a.namer.now.classes a.report.now.second.accepted
-        × AreFurther a.report.now a.further.items };
+        × AreFurther a.report.now a.further.items
+        × AreBoundCounts a.report.now a.bounds.gone.items a.bounds.new.items a.bounds.changed.items };
 }
 
 /// The text of what differs between two sheets, object by object (docs/FORMAT.md, "Differences by object"). The only error is a lack of memory.
@@ -115,12 +120,14 @@ impl<'a> ObjectReporter<'a> {
         let here = Notes::of(alloc, report.first.accepted.sound().plan(), differing)?;
         let there = Notes::of(alloc, report.second.accepted.sound().plan(), arriving)?;
         let further = further_outlines(alloc, report, &here.outlines, &there.outlines)?;
+        let bounds = BoundCounts::of(alloc, report, &here, &there)?;
         Ok(ObjectReporter {
             namer,
             report,
             here,
             there,
             further,
+            bounds,
         })
     }
 
@@ -172,6 +179,33 @@ impl<'a> ObjectReporter<'a> {
         ensures { result ≡ has_further_outline self.now.report link }
     {
         is_marked(&self.further, link)
+    }
+
+    /// How many links that bound a record of the first sheet are gone or got other ends.
+    pub(crate) fn gone_bounds(&self, place: u32) -> usize
+        requires { IsPlace self.now.report.first.accepted place }
+        ensures { result ≡ bounds_count (is_lost self.now.report) self.now.report.first.accepted place }
+    {
+        count_at(&self.bounds.gone, place)
+    }
+
+    /// How many that bound one of the second are new or got other ends.
+    pub(crate) fn new_bounds(&self, target: Option<u32>) -> usize
+        requires { IfSome target (IsPlace self.now.report.second.accepted) }
+        ensures { result ≡ new_bounds_count self.now.report target }
+    {
+        match target {
+            Some(target) => count_at(&self.bounds.new, target),
+            None => 0,
+        }
+    }
+
+    /// How many that bound one of the first changed, or what they bound it by.
+    pub(crate) fn changed_bounds(&self, place: u32) -> usize
+        requires { IsPlace self.now.report.first.accepted place }
+        ensures { result ≡ bounds_count (is_bent self.now.report) self.now.report.first.accepted place }
+    {
+        count_at(&self.bounds.changed, place)
     }
 
     /// Which record of the second sheet one of the first is, if any.

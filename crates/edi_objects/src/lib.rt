@@ -4,6 +4,7 @@
 mod account;
 mod attributes;
 mod bare_links;
+mod bounds;
 mod counts;
 mod distances;
 mod elements;

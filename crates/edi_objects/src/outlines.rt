@@ -80,7 +80,7 @@ pub(crate) fn is_marked(marks: &[bool], place: u32) -> bool
 }
 
 /// Whether a link of this kind bounds a record of this type.
-fn bounds_type(role: Role, kind: Kind) -> bool
+pub(crate) fn bounds_type(role: Role, kind: Kind) -> bool
     ensures { result ≡ bounds_type role kind }
 {
     match kind {

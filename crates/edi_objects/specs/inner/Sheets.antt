@@ -4,7 +4,8 @@ use Rattle.std.specs.List.{list_any}
 use Rattle.edi_plan.specs.Plans.{Drawing, IsPlace, record_at}
 use Rattle.edi_plan.specs.Sides.{targets}
 use Rattle.edi_report.specs.Reports.{Report}
-use Rattle.edi_objects.specs.Differing.{outline_differs}
+use Rattle.edi_objects.specs.Bounds.{bounds_count, is_bent, is_lost}
+use Rattle.edi_objects.specs.Differing.{arrives, outline_differs}
 use Rattle.edi_objects.specs.Elements.{most_named}
 use Rattle.edi_objects.specs.LinksOf.{index_of}
 use Rattle.edi_objects.specs.Objects.{has_further_outline, has_other_outline}
@@ -39,3 +40,14 @@ pub record AreNotes (test : ℕ → Bool) (p : Drawing) (index : List (ℕ × �
   pub indexed : index ≡ index_of p
   pub marked : AreTested test (length p.list) marks
   pub outlined : AreOutlined test p outlines
+
+-- so many links that bound each record are counted, of which the test holds
+abbrev pub AreCounted : (ℕ → Bool) → Drawing → List ℕ → Type 0
+AreCounted test p counts = (i : ℕ) → IsPlace p i → slice_index_or counts i 0 ≡ bounds_count test p i
+
+-- how many links that bound the records of the first sheet are gone or changed, and how many that bound those of the
+-- second are new
+pub record AreBoundCounts (r : Report) (gone new changed : List ℕ) : Type 0 where
+  pub all_gone : AreCounted (is_lost r) r.first.accepted gone
+  pub all_new : AreCounted (arrives r) r.second.accepted new
+  pub all_changed : AreCounted (is_bent r) r.first.accepted changed
