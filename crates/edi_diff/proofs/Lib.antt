@@ -10,3 +10,4 @@ pub mod OpenPlaces
 pub mod Carried
 pub mod Reached
 pub mod Silence
+pub mod SamePlans

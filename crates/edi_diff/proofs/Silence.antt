@@ -6,13 +6,15 @@ use Rattle.std.proofs.lemmas.List.{append_cancel_right}
 use Rattle.std.proofs.lemmas.Slice.Eq.{bytes_eq-Decides}
 use Rattle.edi_record.specs.declared.record.Kind.{Kind}
 use Rattle.edi_record.specs.declared.record.Kind.TheVariants.{Pno, Par, Pfe, Fea, Lnk}
+use Rattle.edi_schema.specs.Classes.{Classes}
 use Rattle.edi_plan.specs.Places.{places_of}
 use Rattle.edi_plan.specs.Plans.{Drawing, IsPlace, record_at}
 use Rattle.edi_plan.specs.declared.record.PlanEnd.{PlanEnd}
 use Rattle.edi_plan.proofs.PlaceLemmas.{has_place}
 use Rattle.edi_rank.specs.Labelling.{turned_at}
-use Rattle.edi_rank.specs.Same.{CarriesRecord}
+use Rattle.edi_rank.specs.Same.{CarriesRecord, Same}
 use Rattle.edi_rank.proofs.KeysPreserved.{all_weaker}
+use Rattle.edi_compare.specs.Rules.{IsAccepted}
 use Rattle.edi_matching.specs.Matchings.{GoesTo, IsMatched, IsTotal, MatchingHolds, targets_of}
 use Rattle.edi_matching.specs.declared.matching.Matching.{Matching}
 use Rattle.edi_matching.proofs.Totals.{goes_within, total_carries}
@@ -28,7 +30,10 @@ use Rattle.edi_objects.specs.Telling.{FirstIsTold, IsSoundReport, SecondIsTold, 
 use Rattle.edi_objects.proofs.AttributeLists.{one_of_all}
 use Rattle.edi_objects.proofs.NothingHidden.{differing_told, named_place, new_told, source_place}
 use Rattle.edi_objects.proofs.TextLines.{both_none, none_each}
-use Rattle.edi_diff.specs.Laws.{GoesUnchanged, SilentOnlyIfSame, TellsOfNone, report_in}
+use Rattle.edi_diff.specs.Differences.{IsDifference}
+use Rattle.edi_diff.specs.declared.differing.Difference.{Difference}
+use Rattle.edi_diff.specs.declared.form.TextForm.{TextForm}
+use Rattle.edi_diff.specs.Laws.{GoesUnchanged, TellsOfNone, report_in}
 use Rattle.edi_diff.proofs.Carried.{difference_sound, rest_carried}
 use Rattle.edi_diff.proofs.Outcomes.{reached_goes}
 
@@ -116,7 +121,8 @@ module _ (n : Naming) (r : Report) (sound : IsSoundReport r) (silent : TellsOfNo
       go true e = refl
       go false e = absurd (not_new j there (new_told n r sound j there e (record_at r.second.accepted j).kind refl))
 
-pub same_if_silent : SilentOnlyIfSame
+pub same_if_silent : (s : Classes) (a b : List ℕ) (form : TextForm) (found : Difference) → IsAccepted s a → IsAccepted s b → (d : IsDifference s a b form found) → TellsOfNone (usual_naming s) (report_in s a b form found d)
+    → Same s d.first.accepted d.second.accepted
 same_if_silent s a b form found accepted accepted' d silent =
     let carries = total_carries s p q became holds total (same_charset n r sound silent) in
     (slice_index (targets_of became.to), turned_at became.turned, carries.carries)

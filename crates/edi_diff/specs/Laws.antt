@@ -1,5 +1,5 @@
 -- Laws of what differs.
-use Rattle.std.specs.Prelude.{◌≡◌, ◌≢◌, ◌++◌, ℕ, true, false, List, [], codes, slice_index}
+use Rattle.std.specs.Prelude.{◌≡◌, ◌≢◌, ◌↔◌, ◌++◌, ℕ, true, false, List, [], codes, slice_index}
 use Rattle.edi_record.specs.declared.record.Kind.TheVariants.{Fea}
 use Rattle.edi_schema.specs.Classes.{Classes}
 use Rattle.edi_plan.specs.Plans.{Drawing, IsPlace, record_at}
@@ -77,8 +77,8 @@ SilentObjectsAreCarried = (s : Classes) (a b : List ℕ) (form : TextForm) (foun
 abbrev pub TellsOfNone : Naming → Report → Type 0
 TellsOfNone n r = account_text n r ≡ class_totals n r ++ codes "records: " ++ totals_line r
 
--- it tells of none only if the plans are the same
-abbrev pub SilentOnlyIfSame : Type 0
-SilentOnlyIfSame = (s : Classes) (a b : List ℕ) (form : TextForm) (found : Difference) → IsAccepted s a
+-- it tells of none exactly if the plans are the same
+abbrev pub SilentExactlyIfSame : Type 0
+SilentExactlyIfSame = (s : Classes) (a b : List ℕ) (form : TextForm) (found : Difference) → IsAccepted s a
     → IsAccepted s b → (d : IsDifference s a b form found)
-    → TellsOfNone (usual_naming s) (report_in s a b form found d) → Same s d.first.accepted d.second.accepted
+    → TellsOfNone (usual_naming s) (report_in s a b form found d) ↔ Same s d.first.accepted d.second.accepted

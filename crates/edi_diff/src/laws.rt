@@ -1,5 +1,5 @@
 //! Laws of what differs between two sheets.
-ghost use Rattle.edi_diff.specs.Laws.{RestIsCarried, SilentObjectsAreCarried, SilentOnlyIfSame, TextHidesNothing};
+ghost use Rattle.edi_diff.specs.Laws.{RestIsCarried, SilentObjectsAreCarried, SilentExactlyIfSame, TextHidesNothing};
 
 /// Of what differs between two accepted sheets the text of objects hides nothing.
 pub fn text_hides_nothing()
@@ -17,7 +17,7 @@ pub fn silent_objects_are_carried()
     ensures { SilentObjectsAreCarried }
 {}
 
-/// The text of objects tells of no record only if the two sheets state the same plan.
-pub fn silent_only_if_same()
-    ensures { SilentOnlyIfSame }
+/// The text of objects tells of no record exactly if the two sheets state the same plan.
+pub fn silent_exactly_if_same()
+    ensures { SilentExactlyIfSame }
 {}

@@ -76,7 +76,7 @@ pub none_any : (test : ℕ → Bool) (xs : List ℕ) → list_any test xs ≡ fa
 none_any test [] e = tt
 none_any test (x ∷ xs) e = let halves = or_parts (test x) (list_any test xs) e in (halves.0, none_any test xs halves.1)
 
-any_none : (test : ℕ → Bool) (xs : List ℕ) → AllByRecursion (λ (x : ℕ). test x ≡ false) xs → list_any test xs ≡ false
+pub any_none : (test : ℕ → Bool) (xs : List ℕ) → AllByRecursion (λ (x : ℕ). test x ≡ false) xs → list_any test xs ≡ false
 any_none test [] all = refl
 any_none test (x ∷ xs) all = or_from (test x) (list_any test xs) all.0 (any_none test xs all.1)
 
