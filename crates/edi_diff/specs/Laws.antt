@@ -73,11 +73,11 @@ SilentObjectsAreCarried = (s : Classes) (a b : List ℕ) (form : TextForm) (foun
     → (record_at d.first.accepted i).kind ≡ Fea → first_object (usual_naming s) (report_in s a b form found d) i ≡ []
     → IsCarriedWithLinks s d.first.accepted d.second.accepted d.is_text.became i
 
--- the text of objects tells of no record: it is that of the counts
+-- the text of objects is the counts alone: neither a record nor the character sets differ by it
 abbrev pub TellsOfNone : Naming → Report → Type 0
 TellsOfNone n r = account_text n r ≡ class_totals n r ++ codes "records: " ++ totals_line r
 
--- it tells of none exactly if the plans are the same
+-- it is that exactly if the plans are the same
 abbrev pub SilentExactlyIfSame : Type 0
 SilentExactlyIfSame = (s : Classes) (a b : List ℕ) (form : TextForm) (found : Difference) → IsAccepted s a
     → IsAccepted s b → (d : IsDifference s a b form found)

@@ -17,7 +17,7 @@ pub fn silent_objects_are_carried()
     ensures { SilentObjectsAreCarried }
 {}
 
-/// The text of objects tells of no record exactly if the two sheets state the same plan.
+/// The text of objects is the counts alone exactly if the two sheets state the same plan.
 pub fn silent_exactly_if_same()
     ensures { SilentExactlyIfSame }
 {}
