@@ -471,11 +471,13 @@ def as_compare(room, words, status, **how):
 
 def by_objects(room):
     """What differs, object by object: the parcel of the example with another attribute and one more, with a node moved and an arc bent, gone, and with
-    another object on its face; each text with its count by class."""
+    another object on its face; each text with its count by class. And a link of five records, of which the last one's outline differs."""
     first = room.read("a")
     label = (b"RTYSA03:FEA\nRIDSA05:Label\nSCPCP27:EDAB01;SeSD;OBJ;PARCELLE_id\nATCSN02:01\nATPCP22:EDAB01;SeSD;ATT;NOM_id\nATVSA01:B\n"
              b"RTYSA03:LNK\nRIDSA06:Lien_8\nSCPCP22:EDAB01;SeSD;REL;CMP_id\nFTCSN02:02\nFTPCP21:EDAB01;SeT1;FEA;Label\nFTPCP22:EDAB01;SeT1;PFE;Face_1\nATCSN02:00\n")
     at, end = first.index(b"RTYSA03:FEA\n"), first.index(b"EOMT")
+    others = b"".join(b"FTPCP%02d:EDAB01;SeT1;%s\n" % (len(name) + 12, name) for name in (b"PNO;Noeud_1", b"PNO;Noeud_2", b"PAR;Arc_1"))
+    wide = first.replace(b"FTCSN02:02\nFTPCP23:EDAB01;SeT1;FEA;Objet_1\n", b"FTCSN02:05\nFTPCP23:EDAB01;SeT1;FEA;Objet_1\n" + others)
     gone = first[:at] + first[first.index(b"RTYSA03:LNK\n"):first.index(b"RTYSA03:LNK\nRIDSA06:Lien_7\n")] + first[end:]
     one_changed, one_gone, one_new = ((b"PARCELLE_id: %d only in A, %d only in B, %d changed\n" % counts) for counts in ((0, 0, 1), (1, 0, 0), (0, 1, 0)))
     changes = {
@@ -484,14 +486,18 @@ def by_objects(room):
         "an attribute more": (first.replace(b"ATCSN02:02\nATPCP22:EDAB01;SeSD;ATT;SUP_id\nATVSR05:25.00", b"ATCSN02:03\nATPCP22:EDAB01;SeSD;ATT;SUP_id\nATVSR05:25.00\nATPCP22:EDAB01;SeSD;ATT;SUP_id\nATVSR05:26.50"),
                               b"~ PARCELLE_id NOM_id A 12 (lines 39 and 39):\n    SUP_id: 25 -> 25, 26.5\n" + one_changed),
         "a node moved": (first.replace(b"+10.00;+0.00;", b"+11.00;+0.00;"),
-                         b"~ PARCELLE_id NOM_id A 12 (lines 39 and 39):\n    outline of face (line 34)\n"
+                         b"~ PARCELLE_id NOM_id A 12 (lines 39 and 39):\n    outline of face (line 34): arcs 2 gone, 2 new, 0 changed\n"
                          b"- arc 0;0 .. 10;0 (line 15)\n- arc 10;0 .. 0;0 (line 24)\n+ arc 0;0 .. 11;0 (line 15)\n+ arc 11;0 .. 0;0 (line 24)\n"
                          b"~ node 10;0 (lines 9 and 9): points (to 11;0, by 1)\n" + one_changed),
         "an arc bent": (first.replace(b"+5.00;+5.00;", b"+5.00;+6.00;"),
-                        b"~ PARCELLE_id NOM_id A 12 (lines 39 and 39):\n    outline of face (line 34)\n~ arc 10;0 .. 0;0 (lines 24 and 24): points (1 of 3, by at most 1)\n" + one_changed),
+                        b"~ PARCELLE_id NOM_id A 12 (lines 39 and 39):\n    outline of face (line 34): arcs 0 gone, 0 new, 1 changed\n~ arc 10;0 .. 0;0 (lines 24 and 24): points (1 of 3, by at most 1)\n" + one_changed),
         "the parcel gone": (gone, b"- PARCELLE_id NOM_id A 12 (line 39)\n" + one_gone),
         "a parcel on the same face": (first[:end] + label + first[end:], b"+ PARCELLE_id NOM_id B (line 106)\n" + one_new),
     }
+    room.write("wide", wide)
+    room.write("b", wide.replace(b"+5.00;+5.00;", b"+5.00;+6.00;"))
+    status, told, _ = room.run(["diff", "s", "d", "wide", "b"])
+    room.report.check("the fifth record of a link, by objects", told.startswith(b"~ PARCELLE_id NOM_id A 12 (lines 39 and 39):\n    outline of others\n~ arc "), True)
     for name, (second, told) in changes.items():
         room.write("b", second)
         status, brief, _ = room.run(["diff", "--brief", "s", "d", "a", "b"])

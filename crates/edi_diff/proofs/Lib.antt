@@ -7,3 +7,7 @@ pub mod JoinedNames
 pub mod Coded
 pub mod EndsKeyed
 pub mod OpenPlaces
+pub mod Carried
+pub mod Reached
+pub mod Silence
+pub mod SamePlans

@@ -6,7 +6,7 @@ use Rattle.edi_schema.specs.Classes.{Classes}
 use Rattle.edi_plan.specs.Plans.{Drawing}
 use Rattle.edi_matching.specs.Matchings.{GoesTo, IsMatched, IsTotal, MatchingHolds}
 use Rattle.edi_matching.specs.declared.matching.Matching.{Matching}
-use Rattle.edi_report.specs.Lines.{is_reached, text_of_report, went_to}
+use Rattle.edi_report.specs.Lines.{is_reached, went_to}
 use Rattle.edi_report.specs.Reports.{HasSites, Report}
 use Rattle.edi_report.specs.declared.parts.Parts.{Parts}
 use Rattle.edi_report.specs.declared.sheet.LocatedSheet.{LocatedSheet}

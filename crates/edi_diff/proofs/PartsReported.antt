@@ -1,5 +1,5 @@
 -- Parts that differ.
-use Rattle.std.proofs.Common.{◌≡◌, ◌↔◌, ℕ, ◌<◌, ◌+◌, [], ◌∷◌, ◌++◌, ◌⊎◌, inl, inr, ◌∙◌, Bool, not, true, false, true≢false, IsTrue, List, length, get_or, Option, Result, Ok, Err, IfOk, refl, sym, ap, subst, arith}
+use Rattle.std.proofs.Common.{◌≡◌, ◌↔◌, ℕ, ◌<◌, ◌+◌, [], ◌∷◌, ◌++◌, ◌⊎◌, inl, inr, ◌∙◌, Bool, false, true≢false, IsTrue, List, length, get_or, Option, Result, Ok, Err, IfOk, sym, ap, subst, arith}
 use Rattle.std.proofs.Math.Seq.{get_or-append_seam}
 use Rattle.std.proofs.lemmas.Bool.{cases_eq}
 use Rattle.std.proofs.lemmas.List.{get_or_append_left}
@@ -16,10 +16,6 @@ use Rattle.edi_report.specs.Reports.{parts_at}
 use Rattle.edi_report.specs.declared.parts.Parts.{Parts}
 use Rattle.edi_diff.specs.Changes.{AreChangedParts, ArePartsOfEach, HasEndsOf}
 use Rattle.edi_diff.specs.inner.Comparisons.{Comparison, became}
-
-pub not_so : {P : Type 0} (b : Bool) → (IsTrue b ↔ P) → IsTrue (not b) ↔ ¬ P
-not_so true reporter = ((λ e. cc), (λ none. absurd (none (reporter.0 refl))))
-not_so false reporter = ((λ e p. true≢false (sym (reporter.1 p))), (λ none. refl))
 
 -- the parts of the record at one place
 abbrev pub ArePartsAt : Comparison → ℕ → ℕ → Parts → Type 0

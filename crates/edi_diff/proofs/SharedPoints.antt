@@ -1,5 +1,5 @@
 -- The points that two lists share.
-use Rattle.std.proofs.Common.{◌≡◌, ◌≢◌, ℕ, ◌+◌, ◌<◌, ◌≤◌, ◌⊎◌, inl, inr, Bool, true, false, List, length, reverse, get_or, refl, sym, ap, ◌∙◌, subst, arith, Ordering, Equal}
+use Rattle.std.proofs.Common.{◌≡◌, ◌≢◌, ℕ, ◌+◌, ◌<◌, ◌≤◌, ◌⊎◌, inl, inr, Bool, true, false, List, length, get_or, refl, sym, ap, ◌∙◌, arith, Ordering, Equal}
 use Rattle.std.proofs.lemmas.Bool.{cases_lt}
 use Rattle.std.proofs.lemmas.Cmp.{tied_itself}
 use Rattle.std.proofs.lemmas.List.{length-reverse}
@@ -7,8 +7,6 @@ use Rattle.edi_record.specs.Orders.{point_cmp}
 use Rattle.edi_record.specs.declared.record.Point.{Point}
 use Rattle.edi_plan.proofs.Orders.{point_exact, point_total}
 use Rattle.edi_rank.specs.Same.{directed}
-use Rattle.edi_topo.proofs.FirstDifference.{differs, tied}
-use Rattle.edi_diff.specs.Directions.{SharesFirst}
 
 pub length-directed : (backwards : Bool) (points : List Point) → length (directed backwards points) ≡ length points
 length-directed true points = length-reverse points

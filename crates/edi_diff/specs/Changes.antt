@@ -1,5 +1,5 @@
 -- What became of the records of one sheet in another: they are the same, they changed, or they are gone.
-use Rattle.std.specs.Prelude.{◌≡◌, ◌↔◌, ℕ, List, IsTrue, IsPermutation, length, map, option_map, slice_index, true}
+use Rattle.std.specs.Prelude.{◌≡◌, ◌↔◌, ℕ, List, IsPermutation, false, length, map, option_map, slice_index, true}
 use Rattle.std.specs.List.{AllByRecursion}
 use Rattle.edi_record.specs.declared.record.Kind.TheVariants.{Par}
 use Rattle.edi_schema.specs.Classes.{Classes, partner_of}
@@ -33,13 +33,14 @@ pub record HasEndsOf (became : Matching) (a b : PlanRecord) : Type 0 where
   pub origin : origin_of b ≡ option_map (moved (slice_index (targets_of became.to))) (origin_of a)
   pub others : IsPermutation (map (moved (slice_index (targets_of became.to))) (others_of a)) (others_of b)
 
--- the parts in which the record a at the place i and the record b that it became differ, after the reversals
+-- The parts in which the record a at the place i and the record b that it became differ, after the reversals: each is
+-- said to differ exactly unless it is that of b.
 pub record AreChangedParts (s : Classes) (became : Matching) (i : ℕ) (a b : PlanRecord) (parts : Parts) : Type 0 where
-  pub class : IsTrue parts.class ↔ ¬ (b.class ≡ class_after (partner_of s) (turned_at became.turned) a)
-  pub attributes : IsTrue parts.attributes ↔ ¬ (IsPermutation a.attributes b.attributes)
-  pub extras : IsTrue parts.extras ↔ ¬ (b.extras ≡ a.extras)
-  pub points : IsTrue parts.points ↔ ¬ (b.points ≡ directed (turned_at became.turned i) a.points)
-  pub ends : IsTrue parts.ends ↔ ¬ (HasEndsOf became a b)
+  pub class : (parts.class ≡ false) ↔ (b.class ≡ class_after (partner_of s) (turned_at became.turned) a)
+  pub attributes : (parts.attributes ≡ false) ↔ IsPermutation a.attributes b.attributes
+  pub extras : (parts.extras ≡ false) ↔ (b.extras ≡ a.extras)
+  pub points : (parts.points ≡ false) ↔ (b.points ≡ directed (turned_at became.turned i) a.points)
+  pub ends : (parts.ends ≡ false) ↔ HasEndsOf became a b
 
 -- the parts of each record that changed
 abbrev pub ArePartsOfEach : Classes → Drawing → Drawing → Matching → Matching → List Parts → Type 0

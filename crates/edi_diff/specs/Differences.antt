@@ -1,5 +1,5 @@
 -- What is answered of what differs between two sheets.
-use Rattle.std.specs.Prelude.{◌≡◌, ◌↔◌, ℕ, Bool, List, IsTrue}
+use Rattle.std.specs.Prelude.{◌≡◌, ◌↔◌, ℕ, List, IsTrue}
 use Rattle.edi_schema.specs.Classes.{Classes}
 use Rattle.edi_rank.specs.Same.{Same}
 use Rattle.edi_matching.specs.Differences.{IsTotalIfSame, MatchesFaces, MatchesLinks, MatchesPartners}

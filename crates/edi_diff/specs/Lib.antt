@@ -3,4 +3,5 @@ pub mod Forms
 pub mod Differences
 pub mod Directions
 pub mod Runs
+pub mod Laws
 pub mod inner

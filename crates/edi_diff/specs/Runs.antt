@@ -1,5 +1,5 @@
 -- What the run over two sheets answers.
-use Rattle.std.specs.Prelude.{ℕ, Bool, List}
+use Rattle.std.specs.Prelude.{ℕ, List}
 use Rattle.edi_schema.specs.Classes.{Classes}
 use Rattle.edi_schema.specs.Roles.{KindCodes}
 use Rattle.edi_schema.specs.SchemaRefusal.{IsGoodSchema}

@@ -4,3 +4,11 @@ pub mod AttributeLists
 pub mod Marked
 pub mod Placed
 pub mod Roots
+pub mod TextLines
+pub mod LinkEntries
+pub mod WholeTexts
+pub mod ToldLines
+pub mod AttributesTold
+pub mod NothingHidden
+pub mod NamedBehind
+pub mod Bounded

@@ -10,6 +10,7 @@ use Rattle.edi_record.specs.declared.record.Kind.TheVariants.{Lnk}
 use Rattle.edi_plan.specs.Places.{places_of}
 use Rattle.edi_plan.proofs.PlaceLemmas.{place_there}
 use Rattle.edi_rank.proofs.ArrangedUnder.{all_along}
+use Rattle.edi_rank.proofs.KeysPreserved.{all_weaker}
 use Rattle.edi_schema.proofs.SortedLists.{IsPermutation-sort_by}
 use Rattle.edi_objects.specs.LinksOf.{entries_of, index_of, naming_cmp, named_by}
 use Rattle.edi_objects.specs.inner.Indices.{all_named}
@@ -29,7 +30,7 @@ all_places : (P : ℕ → Type 0) (xs : List ℕ) → ((k : ℕ) → k < length 
 all_places P [] each = tt
 all_places P (x ∷ xs) each = (each zero (omega arith), all_places P xs (λ k h. each (suc k) (omega (arith, h))))
 
-all_joined : {X Y : Type 0} (P : Y → Type 0) (f : X → List Y) (xs : List X) → AllByRecursion (λ x. AllByRecursion P (f x)) xs → AllByRecursion P (flat_map f xs)
+pub all_joined : {X Y : Type 0} (P : Y → Type 0) (f : X → List Y) (xs : List X) → AllByRecursion (λ x. AllByRecursion P (f x)) xs → AllByRecursion P (flat_map f xs)
 all_joined P f [] all = tt
 all_joined P f (x ∷ xs) all = all_appended P (f x) (flat_map f xs) all.0 (all_joined P f xs all.1)
 
@@ -40,10 +41,6 @@ all_kept P p (x ∷ xs) all = one (p x) (all_kept P p xs all.1)
     one : (b : Bool) → AllByRecursion P (filter p xs) → AllByRecursion P (cond b (x ∷ filter p xs) (filter p xs))
     one true more = (all.0, more)
     one false more = more
-
-all_weaker : {X : Type 0} (P Q : X → Type 0) → ((x : X) → P x → Q x) → (xs : List X) → AllByRecursion P xs → AllByRecursion Q xs
-all_weaker P Q h [] all = tt
-all_weaker P Q h (x ∷ xs) all = (h x all.0, all_weaker P Q h xs all.1)
 
 module _ (p : Drawing) where
   abbrev IsLinkThere : ℕ × ℕ → Type 0

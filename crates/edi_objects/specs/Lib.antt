@@ -3,9 +3,12 @@ pub mod Differing
 pub mod Names
 pub mod Distances
 pub mod Elements
+pub mod Bounds
 pub mod Attributes
 pub mod Objects
 pub mod Counts
 pub mod Accounts
 pub mod Known
+pub mod Telling
+pub mod Laws
 pub mod inner

@@ -1,6 +1,6 @@
 -- How the text tells that an object differs.
-use Rattle.std.specs.Prelude.{ℕ, ◌==◌, ◌&&◌, ◌||◌, Bool, false, not, List, [], ◌∷◌, ◌++◌, Option, Some, None, codes, length, take, if◌then◌else◌}
-use Rattle.std.specs.List.{flat_map}
+use Rattle.std.specs.Prelude.{ℕ, ◌==◌, ◌&&◌, ◌||◌, Bool, false, not, List, [], ◌∷◌, ◌++◌, Option, Some, None, codes, drop, length, take, if◌then◌else◌}
+use Rattle.std.specs.List.{flat_map, list_any}
 use Rattle.edi_line.specs.Bytes.{line_feed}
 use Rattle.edi_plan.specs.Plans.{is_object, record_at}
 use Rattle.edi_plan.specs.Sides.{targets}
@@ -9,8 +9,9 @@ use Rattle.edi_report.specs.Lines.{both_lines, is_reached, words_text}
 use Rattle.edi_report.specs.Reports.{Report, parts_at, site_at}
 use Rattle.edi_report.specs.declared.parts.Parts.{Parts}
 use Rattle.edi_objects.specs.Attributes.{attribute_lines}
+use Rattle.edi_objects.specs.Bounds.{outline_counts}
 use Rattle.edi_objects.specs.Differing.{arrives, became_of, is_differing, outline_differs, same_of}
-use Rattle.edi_objects.specs.Elements.{element_text, lone_element, most_named, name_of_record, others_text}
+use Rattle.edi_objects.specs.Elements.{element_text, most_named, name_of_record, others_text}
 use Rattle.edi_objects.specs.LinksOf.{links_of}
 use Rattle.edi_objects.specs.Names.{Naming, shown_class}
 
@@ -55,14 +56,33 @@ outline_there r (Some j) = outline_differs (arrives r) r.second.accepted j
 unfoldable pub has_other_outline : Report → ℕ → Bool
 has_other_outline r k = not (is_object (record_at r.first.accepted k).kind) && (outline_differs (is_differing r) r.first.accepted k || outline_there r (became_of r k))
 
+-- that it does, and how many arcs of a face, or nodes of an arc, are gone, new and changed
+unfoldable pub outline_name : Naming → Report → ℕ → List ℕ
+outline_name n r k = codes "    outline of " ++ element_text n r.first k
+
+abbrev pub outline_text : Naming → Report → ℕ → List ℕ
+outline_text n r k = outline_name n r k ++ outline_counts r k ++ line_feed ∷ []
+
 abbrev pub outline_line : Naming → Report → ℕ → List ℕ
-outline_line n r k = if has_other_outline r k then lone_element (codes "    outline of ") n r.first k else []
+outline_line n r k = if has_other_outline r k then outline_text n r k else []
+
+-- the outline differs of one of the records that a link of the first sheet names behind the first four
+unfoldable pub has_further_outline : Report → ℕ → Bool
+has_further_outline r link = list_any (has_other_outline r) (drop most_named (targets (record_at r.first.accepted link)))
+
+abbrev pub further_line : Report → ℕ → List ℕ
+further_line r link = if has_further_outline r link then codes "    outline of others" ++ line_feed ∷ [] else []
+
+-- the lines of what a link of the first sheet names, where outlines differ
+abbrev pub outline_lines : Naming → Report → ℕ → List ℕ
+outline_lines n r link = flat_map (outline_line n r) (take most_named (targets (record_at r.first.accepted link)))
+    ++ further_line r link
 
 -- the lines of a link of the first sheet that names an object
 abbrev pub first_link : Naming → Report → ℕ → ℕ → List ℕ
 first_link n r i link =
     if is_differing r link then differing_link n r i link (became_of r link) (parts_at r.parts link)
-    else flat_map (outline_line n r) (take most_named (targets (record_at r.first.accepted link)))
+    else outline_lines n r link
 
 -- the line of a link of the second sheet that names an object, if the link is new there
 abbrev pub second_link : Naming → Report → ℕ → ℕ → List ℕ

@@ -7,14 +7,18 @@ ghost use Rattle.edi_plan.specs.Agreeing.{Agrees};
 ghost use Rattle.edi_objects.specs.LinksOf.{index_of};
 ghost use Rattle.edi_plan.specs.Plans.{IsPlace, record_at};
 ghost use Rattle.edi_objects.specs.Accounts.{account_text, objects_of, shapes_of};
+ghost use Rattle.edi_objects.specs.Bounds.{bounds_count, is_bent, is_lost, new_bounds_count};
 ghost use Rattle.edi_objects.specs.Counts.{changed_classes};
 ghost use Rattle.edi_objects.specs.Differing.{arrives, became_of, is_differing, outline_differs, same_of};
 ghost use Rattle.edi_objects.specs.Elements.{change_text, changed_element, elements_of, first_element, second_element};
+ghost use Rattle.edi_objects.specs.Objects.{has_further_outline};
 ghost use Rattle.edi_objects.specs.inner.Sheets.{test_of};
 ghost use Rattle.edi_report.specs.Lines.{is_reached};
 ghost use Rattle.edi_report.specs.Reports.{HasSites, parts_at};
 
+use crate::bounds::{BoundCounts, count_at};
 use crate::elements::{SheetNamer, push_points_change};
+use crate::further::further_outlines;
 use crate::index::index_of;
 use crate::marks::{arriving, became_of, differing, parts_at, same_of};
 use crate::names::Namer;
@@ -62,6 +66,10 @@ pub struct ObjectReporter<'a> {
     pub(crate) report: &'a Reporter<'a>,
     pub(crate) here: Notes,
     pub(crate) there: Notes,
+    /// Which records of the first sheet name one behind the first few whose outline differs.
+    pub(crate) further: Vec<bool>,
+    /// How many links that bound the records are gone, new or changed.
+    pub(crate) bounds: BoundCounts,
 }
 
 impl<'a> Model for ObjectReporter<'a> {
@@ -69,7 +77,7 @@ impl<'a> Model for ObjectReporter<'a> {
     ghost use Rattle.edi_plan.specs.Agreeing.{Agrees};
     ghost use Rattle.edi_objects.specs.Accounts.{Told};
     ghost use Rattle.edi_objects.specs.Differing.{arrives, is_differing};
-    ghost use Rattle.edi_objects.specs.inner.Sheets.{AreNotes};
+    ghost use Rattle.edi_objects.specs.inner.Sheets.{AreBoundCounts, AreFurther, AreNotes};
 
     ghost Value = { Told };
 
@@ -77,7 +85,9 @@ impl<'a> Model for ObjectReporter<'a> {
 
     ghost invariant = { λ a. AreNotes (is_differing a.report.now) a.report.now.first.accepted a.here.index.items a.here.marks.items a.here.outlines.items
         × AreNotes (arrives a.report.now) a.report.now.second.accepted a.there.index.items a.there.marks.items a.there.outlines.items
-        × Agrees a.namer.now.classes a.report.now.first.accepted × Agrees a.namer.now.classes a.report.now.second.accepted };
+        × Agrees a.namer.now.classes a.report.now.first.accepted × Agrees a.namer.now.classes a.report.now.second.accepted
+        × AreFurther a.report.now a.further.items
+        × AreBoundCounts a.report.now a.bounds.gone.items a.bounds.new.items a.bounds.changed.items };
 }
 
 /// The text of what differs between two sheets, object by object (docs/FORMAT.md, "Differences by object"). The only error is a lack of memory.
@@ -109,11 +119,15 @@ impl<'a> ObjectReporter<'a> {
         let arriving = arriving(alloc, report)?;
         let here = Notes::of(alloc, report.first.accepted.sound().plan(), differing)?;
         let there = Notes::of(alloc, report.second.accepted.sound().plan(), arriving)?;
+        let further = further_outlines(alloc, report, &here.outlines, &there.outlines)?;
+        let bounds = BoundCounts::of(alloc, report, &here, &there)?;
         Ok(ObjectReporter {
             namer,
             report,
             here,
             there,
+            further,
+            bounds,
         })
     }
 
@@ -159,20 +173,39 @@ impl<'a> ObjectReporter<'a> {
         is_marked(&self.there.marks, place)
     }
 
-    /// Whether the outline of a record of the first sheet differs.
-    pub(crate) fn outline_differs(&self, place: u32) -> bool
-        requires { IsPlace self.now.report.first.accepted place }
-        ensures { result ≡ outline_differs (is_differing self.now.report) self.now.report.first.accepted place }
+    /// Whether the outline differs of one of the records that a link of the first sheet names behind the first few.
+    pub(crate) fn has_further_outline(&self, link: u32) -> bool
+        requires { IsPlace self.now.report.first.accepted link }
+        ensures { result ≡ has_further_outline self.now.report link }
     {
-        is_marked(&self.here.outlines, place)
+        is_marked(&self.further, link)
     }
 
-    /// Whether that of one of the second does.
-    pub(crate) fn outline_arrives(&self, place: u32) -> bool
-        requires { IsPlace self.now.report.second.accepted place }
-        ensures { result ≡ outline_differs (arrives self.now.report) self.now.report.second.accepted place }
+    /// How many links that bound a record of the first sheet are gone or got other ends.
+    pub(crate) fn gone_bounds(&self, place: u32) -> usize
+        requires { IsPlace self.now.report.first.accepted place }
+        ensures { result ≡ bounds_count (is_lost self.now.report) self.now.report.first.accepted place }
     {
-        is_marked(&self.there.outlines, place)
+        count_at(&self.bounds.gone, place)
+    }
+
+    /// How many that bound one of the second are new or got other ends.
+    pub(crate) fn new_bounds(&self, target: Option<u32>) -> usize
+        requires { IfSome target (IsPlace self.now.report.second.accepted) }
+        ensures { result ≡ new_bounds_count self.now.report target }
+    {
+        match target {
+            Some(target) => count_at(&self.bounds.new, target),
+            None => 0,
+        }
+    }
+
+    /// How many that bound one of the first changed, or what they bound it by.
+    pub(crate) fn changed_bounds(&self, place: u32) -> usize
+        requires { IsPlace self.now.report.first.accepted place }
+        ensures { result ≡ bounds_count (is_bent self.now.report) self.now.report.first.accepted place }
+    {
+        count_at(&self.bounds.changed, place)
     }
 
     /// Which record of the second sheet one of the first is, if any.

@@ -85,6 +85,22 @@ impl<'a> SheetNamer<'a> {
         text.extend_from_slice(b")")
     }
 
+    /// Appends a sign, what the text calls a record, and its line.
+    pub(crate) fn push_signed(
+        &self,
+        text: &mut Vec<u8>,
+        sign: &[u8],
+        place: u32,
+    ) -> Result<(), AllocError>
+        requires agrees { Agrees self.now.namer.now.classes self.now.sheet.now.accepted }
+        requires sites { HasSites self.now.sheet.now }
+        requires place { IsPlace self.now.sheet.now.accepted place }
+        ensures { OnOk result (text.new.items ≡ text.old.items ++ (sign.now ++ element_text self.now.namer.now self.now.sheet.now place)) }
+    {
+        text.extend_from_slice(sign)?;
+        self.push_element(text, place)
+    }
+
     /// Appends the line of a record that stands in this sheet alone.
     pub(crate) fn push_lone(
         &self,

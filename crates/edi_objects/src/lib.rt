@@ -4,11 +4,14 @@
 mod account;
 mod attributes;
 mod bare_links;
+mod bounds;
 mod counts;
 mod distances;
 mod elements;
+mod further;
 mod index;
 pub mod known;
+pub mod laws;
 mod marks;
 mod names;
 mod objects;

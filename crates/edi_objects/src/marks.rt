@@ -23,7 +23,7 @@ pub(crate) fn differing(alloc: Global, report: &Reporter<'_>) -> Result<Vec<bool
 }
 
 /// How many records a sheet has.
-fn record_count(sheet: &LocatedSheet) -> u32
+pub(crate) fn record_count(sheet: &LocatedSheet) -> u32
     ensures { result ≡ length sheet.now.accepted.list }
 {
     sheet.accepted.sound().plan().len()

@@ -5,16 +5,19 @@ ghost use Rattle.edi_plan.specs.Places.{places_of};
 ghost use Rattle.edi_plan.specs.Plans.{IsPlace, is_object, record_at};
 ghost use Rattle.edi_plan.specs.Sides.{targets};
 ghost use Rattle.edi_record.specs.declared.record.Kind.TheVariants.{Fea};
+ghost use Rattle.edi_objects.specs.Bounds.{outline_counts};
 ghost use Rattle.edi_objects.specs.Counts.{changed_class, changed_classes, is_told_changed};
 ghost use Rattle.edi_objects.specs.Differing.{became_of, same_of};
 ghost use Rattle.edi_objects.specs.LinksOf.{links_of};
-ghost use Rattle.edi_objects.specs.Objects.{attributes_change, class_change, differing_link, extras_change, first_link, first_object, has_other_outline, link_text, object_block, object_header, object_lines, outline_line, outline_there, own_changes, own_lines, second_link, second_object};
+ghost use Rattle.edi_objects.specs.Objects.{attributes_change, class_change, differing_link, extras_change, first_link, first_object, further_line, has_other_outline, link_text, object_block, object_header, object_lines, outline_line, outline_lines, outline_name, outline_text, own_changes, own_lines, second_link, second_object};
 ghost use Rattle.edi_report.specs.Reports.{parts_at};
 
 use crate::account::ObjectReporter;
 use crate::attributes::push_attribute_lines;
+use crate::bounds::push_outline_counts;
 use crate::counts::push_class_if;
 use crate::elements::MOST_NAMED;
+use crate::further::has_other_outline;
 use crate::index::entries_of;
 use crate::names::first_few;
 use edi_record::Kind;
@@ -306,8 +309,30 @@ impl<'a> ObjectReporter<'a> {
         self.first().push_others(lines, Some(place), link)
     }
 
-    /// Appends the lines of the nodes, arcs and faces that a link of the first sheet names and whose outlines differ.
+    /// Appends the lines of what a link of the first sheet names, where outlines differ.
     fn push_outlines(&self, lines: &mut Vec<u8>, link: u32) -> Result<(), AllocError>
+        requires { IsPlace self.now.report.first.accepted link }
+        ensures { OnOk result (lines.new.items ≡ lines.old.items ++ outline_lines self.now.naming self.now.report link) }
+    {
+        self.push_few_outlines(lines, link)?;
+        self.push_further(lines, link)
+    }
+
+    /// Appends that the outline differs of one more of the records that a link names, if it does.
+    fn push_further(&self, lines: &mut Vec<u8>, link: u32) -> Result<(), AllocError>
+        requires { IsPlace self.now.report.first.accepted link }
+        ensures { OnOk result (lines.new.items ≡ lines.old.items ++ further_line self.now.report link) }
+    {
+        if self.has_further_outline(link) {
+            lines.extend_from_slice(b"    outline of others\n")
+        } else {
+            Ok(())
+        }
+    }
+
+    /// Appends the lines of the first few nodes, arcs and faces that a link of the first sheet names and whose outlines
+    /// differ.
+    fn push_few_outlines(&self, lines: &mut Vec<u8>, link: u32) -> Result<(), AllocError>
         requires { IsPlace self.now.report.first.accepted link }
         ensures { OnOk result (lines.new.items ≡ lines.old.items ++ flat_map (outline_line self.now.naming self.now.report) (take 4 (targets (record_at self.now.report.first.accepted link)))) }
     {
@@ -326,31 +351,56 @@ impl<'a> ObjectReporter<'a> {
         ensures { OnOk result (lines.new.items ≡ lines.old.items ++ outline_line self.now.naming self.now.report place) }
     {
         if self.has_other_outline(place) {
-            self.first().push_lone(lines, b"    outline of ", place)
+            self.push_outline_text(lines, place)
         } else {
             Ok(())
         }
     }
 
+    /// Appends that the outline of a record differs, and how many arcs of a face, or nodes of an arc, are gone, new and
+    /// changed.
+    fn push_outline_text(&self, lines: &mut Vec<u8>, place: u32) -> Result<(), AllocError>
+        requires { IsPlace self.now.report.first.accepted place }
+        ensures { OnOk result (lines.new.items ≡ lines.old.items ++ outline_text self.now.naming self.now.report place) }
+    {
+        self.push_outline_name(lines, place)?;
+        self.push_outline_counts(lines, place)?;
+        lines.extend_from_slice(b"\n")
+    }
+
+    /// Appends that the outline of a record differs.
+    #[tactic(auto, unfolding(crate::specs::Objects::outline_name))]
+    fn push_outline_name(&self, lines: &mut Vec<u8>, place: u32) -> Result<(), AllocError>
+        requires { IsPlace self.now.report.first.accepted place }
+        ensures { OnOk result (lines.new.items ≡ lines.old.items ++ outline_name self.now.naming self.now.report place) }
+    {
+        self.first().push_signed(lines, b"    outline of ", place)
+    }
+
+    /// Appends how many arcs of a face, or nodes of an arc, are gone, new and changed.
+    #[tactic(auto, unfolding(crate::specs::Bounds::outline_counts))]
+    fn push_outline_counts(&self, lines: &mut Vec<u8>, place: u32) -> Result<(), AllocError>
+        requires { IsPlace self.now.report.first.accepted place }
+        ensures { OnOk result (lines.new.items ≡ lines.old.items ++ outline_counts self.now.report place) }
+    {
+        let kind = self.first().plan().kind(place);
+        let gone = self.gone_bounds(place);
+        let new = self.new_bounds(self.became_of(place));
+        let changed = self.changed_bounds(place);
+        push_outline_counts(lines, kind, gone, new, changed)
+    }
+
     /// Whether this is a node, an arc or a face whose outline differs in either sheet.
-    #[tactic(auto, unfolding(crate::specs::Objects::has_other_outline))]
     fn has_other_outline(&self, place: u32) -> bool
         requires { IsPlace self.now.report.first.accepted place }
         ensures { result ≡ has_other_outline self.now.report place }
     {
-        !is_object(self.first().plan().kind(place))
-            && (self.outline_differs(place) || self.outline_there(self.became_of(place)))
-    }
-
-    /// Whether the outline of what a record went to differs.
-    fn outline_there(&self, target: Option<u32>) -> bool
-        requires { IfSome target (IsPlace self.now.report.second.accepted) }
-        ensures { result ≡ outline_there self.now.report target }
-    {
-        match target {
-            Some(target) => self.outline_arrives(target),
-            None => false,
-        }
+        has_other_outline(
+            self.report,
+            &self.here.outlines,
+            &self.there.outlines,
+            place,
+        )
     }
 
     /// Appends the line of a link of the second sheet that names an object, if it is new.

@@ -58,7 +58,7 @@ fn bounds_anew(plan: &Plan, marks: &[bool], place: u32, link: u32) -> bool
 }
 
 /// Whether some end is marked.
-fn some_marked(marks: &[bool], ends: &[PlanEnd]) -> bool
+pub(crate) fn some_marked(marks: &[bool], ends: &[PlanEnd]) -> bool
     ensures { result ≡ list_any (test_of marks.now) (map (λ e. e.target) ends.now) }
 {
     for end in ends {
@@ -80,7 +80,7 @@ pub(crate) fn is_marked(marks: &[bool], place: u32) -> bool
 }
 
 /// Whether a link of this kind bounds a record of this type.
-fn bounds_type(role: Role, kind: Kind) -> bool
+pub(crate) fn bounds_type(role: Role, kind: Kind) -> bool
     ensures { result ≡ bounds_type role kind }
 {
     match kind {

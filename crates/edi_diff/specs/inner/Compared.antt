@@ -1,5 +1,5 @@
 -- What two sheets are found to have in common, and what differs.
-use Rattle.std.specs.Prelude.{◌≡◌, ◌↔◌, Bool, IsTrue}
+use Rattle.std.specs.Prelude.{◌≡◌, ◌↔◌, IsTrue}
 use Rattle.edi_schema.specs.Classes.{Classes}
 use Rattle.edi_rank.specs.Same.{Same}
 use Rattle.edi_matching.specs.Differences.{IsTotalIfSame, MatchesFaces, MatchesLinks, MatchesPartners}

@@ -1,8 +1,14 @@
 -- A sheet with what is noted of its records.
-use Rattle.std.specs.Prelude.{◌≡◌, ℕ, Bool, false, List, length, slice_index_or}
-use Rattle.edi_plan.specs.Plans.{Drawing, IsPlace}
-use Rattle.edi_objects.specs.Differing.{outline_differs}
+use Rattle.std.specs.Prelude.{◌≡◌, ℕ, Bool, false, List, drop, length, slice_index_or}
+use Rattle.std.specs.List.{list_any}
+use Rattle.edi_plan.specs.Plans.{Drawing, IsPlace, record_at}
+use Rattle.edi_plan.specs.Sides.{targets}
+use Rattle.edi_report.specs.Reports.{Report}
+use Rattle.edi_objects.specs.Bounds.{bounds_count, is_bent, is_lost}
+use Rattle.edi_objects.specs.Differing.{arrives, outline_differs}
+use Rattle.edi_objects.specs.Elements.{most_named}
 use Rattle.edi_objects.specs.LinksOf.{index_of}
+use Rattle.edi_objects.specs.Objects.{has_further_outline, has_other_outline}
 
 -- whether a place is marked
 abbrev pub test_of : List Bool → ℕ → Bool
@@ -13,8 +19,35 @@ pub record AreTested (test : ℕ → Bool) (count : ℕ) (marks : List Bool) : T
   pub long : length marks ≡ count
   pub each : (i : ℕ) → test_of marks i ≡ test i
 
+-- the places whose outlines differ are marked
+abbrev pub AreOutlined : (ℕ → Bool) → Drawing → List Bool → Type 0
+AreOutlined test p outlines = (i : ℕ) → IsPlace p i → test_of outlines i ≡ outline_differs test p i
+
+-- the records of the first sheet are marked of which the outline differs in either sheet
+abbrev pub AreOthers : Report → List Bool → Type 0
+AreOthers r others = (i : ℕ) → IsPlace r.first.accepted i → test_of others i ≡ has_other_outline r i
+
+-- and those that name one behind the first four
+abbrev pub AreFurther : Report → List Bool → Type 0
+AreFurther r further = (i : ℕ) → IsPlace r.first.accepted i → test_of further i ≡ has_further_outline r i
+
+-- a test holds of one of the records that the one at a place names behind the first four
+abbrev pub names_further : (ℕ → Bool) → Drawing → ℕ → Bool
+names_further test p place = list_any test (drop most_named (targets (record_at p place)))
+
 -- the index of the plan; the records of which the test holds, and those whose outlines differ
 pub record AreNotes (test : ℕ → Bool) (p : Drawing) (index : List (ℕ × ℕ)) (marks outlines : List Bool) : Type 0 where
   pub indexed : index ≡ index_of p
   pub marked : AreTested test (length p.list) marks
-  pub outlined : (i : ℕ) → IsPlace p i → test_of outlines i ≡ outline_differs test p i
+  pub outlined : AreOutlined test p outlines
+
+-- so many links that bound each record are counted, of which the test holds
+abbrev pub AreCounted : (ℕ → Bool) → Drawing → List ℕ → Type 0
+AreCounted test p counts = (i : ℕ) → IsPlace p i → slice_index_or counts i 0 ≡ bounds_count test p i
+
+-- how many links that bound the records of the first sheet are gone or changed, and how many that bound those of the
+-- second are new
+pub record AreBoundCounts (r : Report) (gone new changed : List ℕ) : Type 0 where
+  pub all_gone : AreCounted (is_lost r) r.first.accepted gone
+  pub all_new : AreCounted (arrives r) r.second.accepted new
+  pub all_changed : AreCounted (is_bent r) r.first.accepted changed

@@ -1,4 +1,4 @@
-use Rattle.std.proofs.Common.{◌≡◌, ◌∙◌, ◌++◌, ◌∷◌, ◌<◌, [], length, Global, List, None, Vec, ap, drop, false, get_or, is_none, map, not, subst, sym, ℕ, Option}
+use Rattle.std.proofs.Common.{◌∙◌, ◌++◌, ◌∷◌, ◌<◌, [], length, Global, List, None, Vec, ap, false, get_or, is_none, map, not, subst, sym, ℕ, Option}
 use Rattle.edi_diff.specs.inner.Codes.{code_at}
 use Rattle.edi_diff.specs.inner.Progress.{places_where}
 use Rattle.edi_diff.proofs.OpenPlaces.{not-not, place_more, place_same}

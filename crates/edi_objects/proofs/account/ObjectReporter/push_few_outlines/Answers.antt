@@ -2,7 +2,7 @@ use Rattle.std.proofs.Common.{◌∙◌, ap, subst, sym}
 use Rattle.edi_plan.specs.Plans.{Drawing, IsPlace}
 use Rattle.edi_report.specs.declared.sheet.LocatedSheet.{LocatedSheet}
 use Rattle.edi_objects.proofs.Placed.{end_there}
-use Rattle.edi_objects.proofs.account.ObjectReporter.push_outlines.Goals as goal
+use Rattle.edi_objects.proofs.account.ObjectReporter.push_few_outlines.Goals as goal
 
 pub push_outline-requires : goal.push_outline-requires
 push_outline-requires c =
