@@ -59,12 +59,20 @@ fn attribute_class(schema: &Schema, name: &Name) -> Option<ClassRef>
     }
 }
 
-/// A text that may be absent, with memory of its own.
+/// A text with memory of its own.
+#[inline(never)]
+fn owned(text: &Text) -> Result<Option<Text>, AllocError>
+    ensures { IfOk result (λ copy. copy ≡ Some text.now) }
+{
+    Ok(Some(text.clone()?))
+}
+
+/// A text that may be absent, with memory of its own. Nearly each is absent, and nothing is made ready for a copy of it.
 fn copied(text: &Option<Text>) -> Result<Option<Text>, AllocError>
     ensures { IfOk result (λ copy. copy ≡ text.now) }
 {
     match text {
-        Some(text) => Ok(Some(text.clone()?)),
+        Some(text) => owned(text),
         None => Ok(None),
     }
 }

@@ -44,6 +44,26 @@ fn positions_in(alloc: Global, pairs: &[(NumberedEnd<'_>, usize)]) -> Result<Vec
     Ok(positions)
 }
 
+/// The positions of two or more ends in their order. It stands apart, since nearly each record has one at most, for which nothing
+/// is made ready.
+#[inline(never)]
+fn positions_of_many(
+    alloc: Global,
+    plan: &Plan,
+    numbers: &[u32],
+    ends: &[PlanEnd],
+) -> Result<Sequence<usize>, AllocError>
+    requires places { AllByRecursion (λ e. IsPlace plan.now e.target) ends.now }
+    requires numbers { length numbers.now ≡ length plan.now.list }
+    requires many { 2 ≤ length ends.now }
+    ensures { IfOk result (λ positions. PutsInOrder plan.now (slice_index numbers.now) positions ends.now) }
+{
+    let mut pairs = placed_ends(alloc, plan, numbers, ends)?;
+    pairs.sort_unstable();
+    let positions = positions_in(alloc, &pairs)?;
+    Ok(Sequence::from_vec(positions))
+}
+
 /// The positions of these ends in their order; none where there is one end at most.
 fn sorted_positions(
     alloc: Global,
@@ -58,10 +78,7 @@ fn sorted_positions(
     if ends.len() < 2 {
         return Ok(Sequence::from_vec(Vec::new(alloc)));
     }
-    let mut pairs = placed_ends(alloc, plan, numbers, ends)?;
-    pairs.sort_unstable();
-    let positions = positions_in(alloc, &pairs)?;
-    Ok(Sequence::from_vec(positions))
+    positions_of_many(alloc, plan, numbers, ends)
 }
 
 /// How many of these ends are objects.

@@ -1,5 +1,5 @@
 -- A zone from its head and its value.
-use Rattle.std.specs.Prelude.{ℕ, List, ◌+◌, ◌/◌, ◌%◌, [], ◌∷◌, ◌++◌}
+use Rattle.std.specs.Prelude.{ℕ, List, ◌∷◌, ◌++◌}
 use Rattle.edi_line.specs.Entry.{Entry}
 use Rattle.edi_line.specs.Printing.{zone_text}
 use Rattle.edi_write.specs.declared.heads.ZoneHead.{ZoneHead}
@@ -7,6 +7,6 @@ use Rattle.edi_write.specs.declared.heads.ZoneHead.{ZoneHead}
 abbrev pub headed : ZoneHead → List ℕ → Entry
 headed head value = zone_text head.code head.nature head.format value
 
--- what stands in a line before a value of so many bytes
-abbrev pub front_of : ZoneHead → ℕ → List ℕ
-front_of head len = head.code ++ (head.nature ∷ head.format ∷ (48 + len / 10) ∷ (48 + len % 10) ∷ 58 ∷ [])
+-- a line as far as a part of its value, with 00 for the length
+abbrev pub line_begun : ZoneHead → List ℕ → List ℕ
+line_begun head first = head.code ++ (head.nature ∷ head.format ∷ 48 ∷ 48 ∷ 58 ∷ first)

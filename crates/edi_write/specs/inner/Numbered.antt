@@ -19,11 +19,15 @@ use Rattle.edi_rank.specs.Keys.{ends_key}
 use Rattle.edi_rank.specs.Labelling.{Labelling, number_of, turned_at}
 use Rattle.edi_rank.specs.Same.{directed}
 use Rattle.edi_rank.specs.declared.keys.NumberedEnd.{NumberedEnd}
-use Rattle.edi_write.specs.Layout.{attribute_zones, head_zones, identifier}
+use Rattle.edi_write.specs.Layout.{attribute_zones, head_zones, identifier, kind_letter}
 
 -- the name of a record by its type and its number
 abbrev pub numbered_name : Kind → ℕ → Name
 numbered_name kind number = record { rty = kind_code kind; rid = identifier kind number }
+
+-- the pointer to a record of a type, but for its number
+abbrev pub pointer_begun : Kind → List ℕ
+pointer_begun kind = codes "CANON;S;" ++ (kind_code kind ++ (codes ";" ++ kind_letter kind))
 
 -- the zones of an end by the type and the number of what it names
 abbrev pub numbered_end_zones : NumberedEnd → List Entry
