@@ -1,4 +1,4 @@
 pub mod Lines
 pub mod Paths
-pub mod Reading
 pub mod Steps
+pub mod InFolder

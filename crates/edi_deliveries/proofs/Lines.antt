@@ -4,10 +4,10 @@ use Rattle.std.specs.Prelude.{filter, flat_map, if◌then◌else◌}
 use Rattle.std.specs.Path.{path_join, with_separator}
 use Rattle.edi_delivery.specs.Lots.{files_of}
 use Rattle.edi_delivery.specs.declared.lot.Lot.{Lot}
-use Rattle.edi_answers.specs.Hashes.{escaped_name}
+use Rattle.edi_answers.specs.Hashes.{escaped_name, named_line}
 use Rattle.edi_files.specs.Reasons.{reason_line}
 use Rattle.edi_files.specs.declared.reason.Reason.TheVariants.{NoFile}
-use Rattle.edi_deliveries.specs.Deliveries.{found_name, found_names, missing_line, named_line}
+use Rattle.edi_deliveries.specs.Deliveries.{found_name, found_names, missing_line}
 use Rattle.edi_deliveries.proofs.Steps.{flat_push, take_at}
 
 pub join_nothing : (base : List ℕ) → path_join base [] ≡ with_separator base

@@ -4,13 +4,14 @@ ghost use Rattle.std.specs.Fmt.{decimal};
 ghost use Rattle.std.specs.List.{list_any};
 ghost use Rattle.std.specs.Str.{bytes_eq};
 ghost use Rattle.edi_answers.specs.Effects.{written};
+ghost use Rattle.edi_answers.specs.Hashes.{named_line};
 ghost use Rattle.edi_answers.specs.Notes.{Notes};
 ghost use Rattle.edi_answers.specs.Statuses.{LacksMemory};
 ghost use Rattle.edi_delivery.specs.Lots.{files_of};
-ghost use Rattle.edi_deliveries.specs.Deliveries.{found_name, found_names, is_unnamed, missing_line, missing_lines, named_line, refusal_words, unnamed_lines};
+ghost use Rattle.edi_deliveries.specs.Deliveries.{found_name, found_names, is_unnamed, missing_line, missing_lines, refusal_words, unnamed_lines};
 
 use crate::found::{found_name, has_extension};
-use edi_answers::hashes::{escaped, marked};
+use edi_answers::hashes::{escaped, push_named};
 use edi_answers::{notes, report};
 use edi_delivery::{DeliveryFault, Lot};
 use edi_files::{Reason, push_reason};
@@ -35,23 +36,6 @@ pub(crate) fn say_lines<E: ByteOut>(
         }
         Err(_) => report::out_of_memory(err),
     }
-}
-
-/// Appends the line of a name, as lines of digests show it, and words about it.
-pub(crate) fn push_named(
-    alloc: Global,
-    lines: &mut Vec<u8>,
-    name: &[u8],
-    words: &[u8],
-) -> Result<(), AllocError>
-    ensures { OnOk result (lines.new.items ≡ lines.old.items ++ named_line name.now words.now) }
-{
-    lines.extend_from_slice(&marked(alloc, name)?)?;
-    lines.extend_from_slice(&escaped(alloc, name)?)?;
-    lines.extend_from_slice(b": ")?;
-    lines.extend_from_slice(words)?;
-    lines.push(b'\n')?;
-    Ok(())
 }
 
 // What stands before a name, and the name.

@@ -7,7 +7,8 @@ use Rattle.edi_delivery.specs.declared.lot.Lot.{Lot}
 use Rattle.edi_words.specs.declared.words.ManyFiles.{ManyFiles}
 use Rattle.edi_delivery.specs.DeliveryRefusal.{IsDeliveryRefusal}
 use Rattle.edi_answers.specs.Effects.{Inputs}
-use Rattle.edi_deliveries.specs.Deliveries.{LacksOneThf, OfThf, ThfFault, found_path, thf_names}
+use Rattle.edi_answers.specs.WholeInputs.{WholeInputFault, OfWholeInput}
+use Rattle.edi_deliveries.specs.Deliveries.{LacksOneThf, found_path, thf_names}
 use Rattle.edi_deliveries.specs.declared.thf.NoDelivery.{NoDelivery}
 use Rattle.edi_deliveries.specs.declared.thf.NoDelivery.TheVariants.{Unread, Refused}
 use Rattle.edi_deliveries.specs.declared.lot_files.LotPaths.{LotPaths}
@@ -30,8 +31,8 @@ pub record HavePaths (paths : LotPaths) (files : ManyFiles) : Type 0 where
 
 -- why a THF file states no lots
 abbrev pub MatchThf : Inputs → List ℕ → NoDelivery → Type 0
-MatchThf inputs thf (Unread e) = ThfFault inputs thf e
-MatchThf inputs thf (Refused f) = OfThf inputs thf (λ b. IsDeliveryRefusal b f)
+MatchThf inputs thf (Unread e) = WholeInputFault inputs thf e
+MatchThf inputs thf (Refused f) = OfWholeInput inputs thf (λ b. IsDeliveryRefusal b f)
 
 -- the only THF file among names, or what is wrong with them
 abbrev pub MatchChosen : List (List ℕ) → Result (Bor (List ℕ)) (Bor (List ℕ)) → Type 0

@@ -1,4 +1,4 @@
-use Rattle.std.proofs.Common.{◌≡◌, ◌∙◌, inl, refl, sym, subst, map, string_bytes, arith, get_or, IsTrue}
+use Rattle.std.proofs.Common.{◌≡◌, ◌∙◌, inl, refl, sym, subst, map, string_bytes, arith, get_or}
 use Rattle.std.specs.Prelude.{max}
 use Rattle.edi_answers.specs.Effects.{effects, written}
 use Rattle.edi_answers.specs.Statuses.{IsSheetStatus}
