@@ -2,3 +2,4 @@ pub mod Lines
 pub mod Paths
 pub mod Steps
 pub mod InFolder
+pub mod NameTables

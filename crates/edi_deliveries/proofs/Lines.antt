@@ -31,7 +31,7 @@ missing_more old named new path given name is first shown last =
     ∙ (ap (λ n. (old ++ named_line path (codes "cannot read")) ++ reason_line n (Some NoFile)) shown
     ∙ append_assoc old (named_line path (codes "cannot read")) (reason_line (escaped_name path) (Some NoFile))))
 
-map_push : {X Y : Type 0} (f : X → Y) (xs : List X) (x : X) → map f (xs ++ x ∷ []) ≡ map f xs ++ f x ∷ []
+pub map_push : {X Y : Type 0} (f : X → Y) (xs : List X) (x : X) → map f (xs ++ x ∷ []) ≡ map f xs ++ f x ∷ []
 map_push f [] x = refl
 map_push f (y ∷ ys) x = ap (λ l. f y ∷ l) (map_push f ys x)
 

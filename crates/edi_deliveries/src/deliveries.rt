@@ -6,6 +6,7 @@ ghost use Rattle.edi_answers.specs.Hashes.{named_line};
 ghost use Rattle.edi_answers.specs.Statuses.{IsSheetStatus, OnlyLacksMemory};
 ghost use Rattle.edi_deliveries.specs.Deliveries.{AreLotsAnswered, IsDeliveryStatus, IsFolderAnswered, IsListAnswered, IsPathAnswered, IsThfAnswered, listed_path, listings, parent_of, status_of_refusal};
 
+use crate::found::FolderNames;
 use crate::lot_files::path_in;
 use crate::lots::answer_lots;
 use crate::said::{refusal_line, say_lines};
@@ -244,8 +245,20 @@ fn answer_names<F: Folder, O: ByteOut, E: ByteOut>(
     ensures out_stays { IsTrue (O.has_failed out.old) → IsTrue (O.has_failed out.new) }
     ensures err_stays { IsTrue (E.has_failed err.old) → IsTrue (E.has_failed err.new) }
 {
+    let Ok(found) = FolderNames::new(alloc, names) else {
+        return report::out_of_memory(err);
+    };
     match before_names(alloc, parent) {
-        Ok(before) => answer_lots(alloc, folder, kinds, before.as_str(), names, lots, out, err),
+        Ok(before) => answer_lots(
+            alloc,
+            folder,
+            kinds,
+            before.as_str(),
+            &found,
+            lots,
+            out,
+            err,
+        ),
         Err(_) => report::out_of_memory(err),
     }
 }
