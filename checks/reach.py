@@ -27,6 +27,8 @@ CLAIMS = [
      [("edi_pairing", "Verified", "IsVerified"), ("edi_pairing", "Verified", "IsVerifyRefusal")]),
     ("Delivery::read", "the lots that a THF file states, or its refusal",
      [("edi_delivery", "DeliveryRefusal", "IsDeliveryOf"), ("edi_delivery", "DeliveryRefusal", "IsDeliveryRefusal")]),
+    ("changes_of", "what has become of each digest of one list in another",
+     [("edi_changes", "Changes", "AreListChanges")]),
 ]
 
 WORD = re.compile(r"[A-Za-z_][\w'-]*(?:\.[A-Za-z_][\w'-]*)*")

@@ -5,10 +5,11 @@
     python3 growth/sweep.py                                     from the top; needs cc
 
 For N = 1, 2, .. until a run meets no refusal, growth N of a run is refused. Each run must give the answer that it gives
-with ample memory, or `out of memory` with status 5 and nothing on standard output. OUT, or FILE, is then not there or whole: the
+with ample memory, or `out of memory` with status 5 and nothing on standard output (of `changed` perhaps behind the name of a file). OUT, or FILE, is then not there or whole: the
 line that tells that the sheet was accepted needs memory too. `hash` says of each sheet by itself that memory ran out.
 Anything else is a fault.
 """
+import hashlib
 import os
 import subprocess
 import sys
@@ -54,6 +55,12 @@ def lacks_lines(answer, wanted):
     return status == 5 and told and (each or no_schema)
 
 
+def lacks_list(answer, wanted):
+    """Nothing went out, for want of memory, which is said, perhaps of the file that was read."""
+    said = answer[2].splitlines()
+    return answer[:2] == (5, b"") and len(said) == 1 and (said[0] == b"out of memory" or said[0].endswith(b": out of memory"))
+
+
 def sweep(name, words, library, out, lacks=lacks_memory):
     wanted, _ = run(words, library, 0, out)
     memory = same = 0
@@ -91,6 +98,19 @@ def changed(folder, path):
     with open(other, "wb") as file:
         file.write(sheet.replace(b":25.00", b":26.00"))
     return other
+
+
+def lists(folder):
+    """Two lists of digests and two manifests, with names that are new, gone and changed."""
+    digits = ["0" * 64, "1" * 64, "2" * 64]
+    bodies = ["edicad manifest 1\n" + "".join(f"EDAB01T{name}.VEC sheet {digits[digit]}\n" for name, digit in it) for it in (((1, 0), (2, 1)), ((1, 2), (3, 1)))]
+    texts = {"before.txt": f"schema {digits[0]}  a.scd\n{digits[0]}  a long path/of a sheet.vec\n\\{digits[1]}  a\\nb\n",
+             "after.txt": f"schema {digits[0]}  a.scd\n{digits[2]}  a long path/of a sheet.vec\n{digits[1]}  c\n",
+             **{f"manifest{k}": body + f"digest {hashlib.sha256(body.encode()).hexdigest()}\n" for k, body in enumerate(bodies)}}
+    for name, text in texts.items():
+        with open(os.path.join(folder, name), "w", encoding="utf-8") as file:
+            file.write(text)
+    return [os.path.join(folder, name) for name in texts]
 
 
 def main():
@@ -131,6 +151,10 @@ def main():
         sweep("hash", ["hash", *schema, sheet, again], library, out, lacks_lines)
         sweep("hash, with the schema", ["hash", "--schema", *schema, sheet, again], library, out, lacks_lines)
         sweep("hash, a refused schema", ["hash", *reversed(schema), sheet], library, out, lacks_lines)
+        before, after, earlier, later = lists(folder)
+        sweep("changed, of lists", ["changed", before, after], library, out, lacks_list)
+        sweep("changed, of manifests", ["changed", earlier, later], library, out, lacks_list)
+        sweep("changed, of no list", ["changed", before, sheet], library, out, lacks_list)
         sweep("explain", ["explain", *schema, sheet], library, out)
         sweep("explain, refused", ["explain", *schema, refused], library, out)
         sweep("explain, a rule", ["explain", "403"], library, out)

@@ -22,13 +22,13 @@ def words(room):
     """Commands with good and bad words."""
     report = room.report
     for bad in (["paint"], ["check"], ["check", "s"], ["check", "s", "d"], ["canon", "s", "d", "v"], ["compare", "s", "d", "v"],
-                ["hash", "s"], ["delivery"], ["explain"], ["explain", "s", "d", "v", "v"], ["verify", "s", "d", "v", "v"], ["verify", "s", "d", "v", "v", "p", "p"], ["compare", "--pairing", "s", "d", "v", "v"],
+                ["hash", "s"], ["delivery"], ["changed"], ["changed", "a"], ["changed", "a", "b", "c"], ["changed", "--kinds", "A,B,C,D", "a", "b"], ["explain"], ["explain", "s", "d", "v", "v"], ["verify", "s", "d", "v", "v"], ["verify", "s", "d", "v", "v", "p", "p"], ["compare", "--pairing", "s", "d", "v", "v"],
                 ["verify", "--pairing", "p", "s", "d", "v", "v", "p"], ["diff", "s", "d", "v"], ["diff", "--brief=yes", "s", "d", "v", "v"], ["diff", "--brief", "--brief", "s", "d", "v", "v"], ["compare", "--brief", "s", "d", "v", "v"], ["check", "s", "d", "v", "v"], ["draw", "s", "d", "v"], ["draw", "s", "d", "v", "o", "o"], ["draw", "--picture", "o", "s", "d", "v"],
                 ["diff", "--picture", "s", "d", "v", "v"], ["diff", "--picture", "p", "--picture", "q", "s", "d", "v", "v"], ["compare", "--picture", "p", "s", "d", "v", "v"], ["--paint"], ["check", "--paint", "s", "d", "v"], ["check", "--kinds"], ["help", "paint"]):
         status, out, err = room.run(bad)
         report.check(f"{bad}: status and output", (status, out), (3, b""))
         report.holds(f"{bad}: says what is wrong", err.startswith(b"error: ") and err.endswith(b"\n"))
-    for asked in (["--help"], ["-h"], ["help"], ["help", "check"], ["check", "--help"], ["canon", "-h"], ["compare", "--help"], ["hash", "--help"], ["explain", "--help"], ["verify", "--help"], ["diff", "--help"], ["draw", "--help"], ["delivery", "--help"], ["help", "draw"]):
+    for asked in (["--help"], ["-h"], ["help"], ["help", "check"], ["check", "--help"], ["canon", "-h"], ["compare", "--help"], ["hash", "--help"], ["explain", "--help"], ["verify", "--help"], ["diff", "--help"], ["draw", "--help"], ["delivery", "--help"], ["changed", "--help"], ["help", "draw"]):
         status, out, err = room.run(asked)
         report.check(f"{asked}: status and output", (status, out), (0, b""))
         report.holds(f"{asked}: has the usage", b"Usage: edicad" in err and err.endswith(b"\n"))
@@ -42,7 +42,7 @@ def words(room):
         for command in (["check", "absent", "absent", "absent"], ["canon", "absent", "absent", "absent", "o"], ["compare", "absent", "absent", "absent", "absent"], ["hash", "absent", "absent", "absent"], ["verify", *["absent"] * 5], ["diff", *["absent"] * 4], ["diff", "--picture", "p", *["absent"] * 4], ["draw", "absent", "absent", "absent", "o"]):
             room.expect(f"{command[0]} with the kinds {kinds!r}", [command[0], "--kinds", kinds, *command[1:]], (3, b"", b"bad kinds\n" + line(f"edicad: --kinds {kinds}: {why}".replace("\x1b", "\\x1b"))))
     for twice in (["check", "-", "-", "v"], ["check", "-", "d", "-"], ["canon", "s", "-", "-", "o"], ["compare", "s", "d", "-", "-"], ["verify", "s", "d", "-", "v", "-"], ["verify", "-", "d", "v", "v", "-"], ["diff", "s", "d", "-", "-"], ["diff", "--picture", "p", "s", "d", "-", "-"], ["draw", "s", "-", "-", "o"],
-                  ["hash", "s", "d", "-", "v", "-"], ["hash", "s", "-", "v", "-"]):
+                  ["hash", "s", "d", "-", "v", "-"], ["hash", "s", "-", "v", "-"], ["changed", "-", "-"]):
         room.expect(f"{twice}", twice, (3, b"", b"only one input can be -\n"))
     status, out, err = room.run([b"\xff"])
     report.check("words that are no text", (status, out, err), (3, b"", NOT_TEXT))
@@ -603,10 +603,10 @@ def helped(text, part):
 
 # What each exit status means, as the help says it, and as the manual page does.
 STATUSES = {
-    "0": ("accepted, the same plan, or a file that pairs",
-          "The sheet is accepted, the two state the same plan, or the file pairs them; of hash and delivery, each sheet has a digest."),
-    "1": ("different plans, or a file that doesn't pair", "The two sheets state different plans, or the file doesn't pair them."),
-    "2": ("refused", "The schema, a sheet or the file of a pairing is refused."),
+    "0": ("accepted, the same, or a file that pairs",
+          "The sheet is accepted, the two state the same plan, or the file pairs them; of hash and delivery, each sheet has a digest; of changed, each digest is the same."),
+    "1": ("different, or a file that doesn't pair", "The two sheets state different plans, or the file doesn't pair them; of changed, a digest is new, gone or another."),
+    "2": ("refused", "The schema, a sheet, the file of a pairing or a list of digests is refused."),
     "3": ("wrong words", "The words of the command are wrong."),
     "4": ("a file can't be read or written", "A file can't be read or written."),
     "5": ("out of memory", "Memory ran out."),
@@ -627,7 +627,7 @@ def manual(room):
     options = items(page, "OPTIONS")
     for name, text in texts.items():
         own = [it for it, said in options.items() if said.startswith(f"Of {name}:")]
-        shared = ["-h, --help", "-V, --version"] if name == "edicad" else ["--kinds I,F,L,R", "-h, --help"]
+        shared = {"edicad": ["-h, --help", "-V, --version"], "changed": ["-h, --help"]}.get(name, ["--kinds I,F,L,R", "-h, --help"])
         check(f"{name}: its options", sorted(it.replace("<", "").replace(">", "") for it in helped(text, "Options")), sorted(own + shared))
     known = {it for text in texts.values() for it in helped(text, "Options")}
     check("options of the manual page alone", sorted(set(options) - {re.sub("[<>]", "", it) for it in known}), [])

@@ -91,6 +91,10 @@ mark_of name = if list_any is_escaped name then backslash ∷ [] else []
 abbrev pub digest_line : List ℕ → List ℕ → List ℕ
 digest_line digest name = mark_of name ++ encode_lower digest ++ codes "  " ++ escaped_name name ++ line_feed ∷ []
 
+-- a name, as lines of digests show it, and words about it
+abbrev pub named_line : List ℕ → List ℕ → List ℕ
+named_line name words = mark_of name ++ escaped_name name ++ codes ": " ++ ended words
+
 -- the name, and what is wrong with its sheet
 abbrev pub fault_line : RunFault → List ℕ → List ℕ
 fault_line e name = mark_of name ++ escaped_name name ++ codes ": " ++ ended (sheet_fault_text e)

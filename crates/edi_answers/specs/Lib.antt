@@ -7,5 +7,6 @@ pub mod PairInputs
 pub mod Paths
 pub mod Reasons
 pub mod SheetRuns
+pub mod WholeInputs
 pub mod Statuses
 pub mod inner

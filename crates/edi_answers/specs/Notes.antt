@@ -8,7 +8,7 @@ use Rattle.edi_explain.specs.KindLines.{NameLacking, lacking_words}
 use Rattle.edi_files.specs.Reasons.{ended}
 use Rattle.edi_shown.specs.Shown.{shown_bytes}
 use Rattle.edi_words.specs.declared.words.Request.{Request}
-use Rattle.edi_words.specs.declared.words.Request.TheVariants.{Bundle, Check, Canon, Compare, Hash, Delivery, Explain, Rule, Verify, Diff, Draw, Misused, Answered}
+use Rattle.edi_words.specs.declared.words.Request.TheVariants.{Bundle, Check, Canon, Pair, Hash, Delivery, Explain, Rule, Draw, Changed, Misused, Answered}
 use Rattle.edi_answers.specs.Effects.{Inputs, Stream}
 use Rattle.edi_answers.specs.Paths.{input_name}
 use Rattle.edi_answers.specs.SheetRuns.{Gives}
@@ -56,14 +56,13 @@ abbrev pub IsNoteOf : Inputs → Request → ℕ → List ℕ → Type 0
 IsNoteOf inputs Bundle status note = note ≡ []
 IsNoteOf inputs (Check kinds files) status note = IsNotedAs inputs kinds files.scd.now status note
 IsNoteOf inputs (Canon kinds files out) status note = IsNotedAs inputs kinds files.scd.now status note
-IsNoteOf inputs (Compare kinds files pairing) status note = IsNotedAs inputs kinds files.scd.now status note
+IsNoteOf inputs (Pair kinds files what) status note = IsNotedAs inputs kinds files.scd.now status note
 IsNoteOf inputs (Hash kinds files with_schema) status note = note ≡ []
 IsNoteOf inputs (Delivery kinds paths) status note = note ≡ []
 IsNoteOf inputs (Explain kinds files) status note = note ≡ []
 IsNoteOf inputs (Rule word) status note = note ≡ []
-IsNoteOf inputs (Verify kinds files pairing) status note = IsNotedAs inputs kinds files.scd.now status note
-IsNoteOf inputs (Diff kinds files brief records json picture) status note = IsNotedAs inputs kinds files.scd.now status note
 IsNoteOf inputs (Draw kinds files out) status note = IsNotedAs inputs kinds files.scd.now status note
+IsNoteOf inputs (Changed before after) status note = note ≡ []
 IsNoteOf inputs (Misused misuse) status note = note ≡ []
 IsNoteOf inputs (Answered given) status note = note ≡ []
 

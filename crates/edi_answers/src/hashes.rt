@@ -1,8 +1,8 @@
 //! The digests of the canonical files of many sheets.
-ghost use Rattle.std.specs.Prelude.{◌≡◌, ◌++◌, IfErr, IfOk, IsTrue, Option, map};
+ghost use Rattle.std.specs.Prelude.{◌≡◌, ◌++◌, IfErr, IfOk, IsTrue, OnOk, Option, map};
 ghost use Rattle.std.specs.List.{list_any};
 ghost use Rattle.edi_answers.specs.Effects.{effects, inputs, written};
-ghost use Rattle.edi_answers.specs.Hashes.{AnswersAll, AnswersHeaded, AnswersUnder, GivesSchema, IsAnswerOf, IsHashStatus, LoadFault, TellsFault, digest_line, escaped_name, fault_line, is_escaped, mark_of, refused_path, schema_fault_path, schema_line};
+ghost use Rattle.edi_answers.specs.Hashes.{AnswersAll, AnswersHeaded, AnswersUnder, GivesSchema, IsAnswerOf, IsHashStatus, LoadFault, TellsFault, digest_line, escaped_name, fault_line, is_escaped, mark_of, named_line, refused_path, schema_fault_path, schema_line};
 ghost use Rattle.edi_schema.specs.SchemaRefusal.{IsGoodSchema};
 ghost use Rattle.edi_compare.specs.Runs.{MatchFault, RefusesSchema};
 ghost use Rattle.edi_answers.specs.Notes.{IsNote, IsNoteOn};
@@ -309,8 +309,8 @@ fn line_of_schema(alloc: Global, schema: &Schema, name: &[u8]) -> Result<Vec<u8>
     Ok(line)
 }
 
-// The line of a digest: a backslash where the name has an escape, the digits, two spaces and the name.
-fn line_of_digest(alloc: Global, digest: &[u8], name: &[u8]) -> Result<Vec<u8>, AllocError>
+/// The line of a digest: a backslash where the name has an escape, the digits, two spaces and the name.
+pub fn line_of_digest(alloc: Global, digest: &[u8], name: &[u8]) -> Result<Vec<u8>, AllocError>
     ensures { IfOk result (λ line. line.items ≡ digest_line digest.now name.now) }
 {
     let mut line = marked(alloc, name)?;
@@ -330,6 +330,23 @@ fn line_of_fault(alloc: Global, fault: &RunFault, name: &[u8]) -> Result<Vec<u8>
     line.extend_from_slice(b": ")?;
     line.extend_from_slice(&line_of_sheet(alloc, fault)?)?;
     Ok(line)
+}
+
+/// Appends the line of a name, as lines of digests show it, and words about it.
+pub fn push_named(
+    alloc: Global,
+    lines: &mut Vec<u8>,
+    name: &[u8],
+    words: &[u8],
+) -> Result<(), AllocError>
+    ensures { OnOk result (lines.new.items ≡ lines.old.items ++ named_line name.now words.now) }
+{
+    lines.extend_from_slice(&marked(alloc, name)?)?;
+    lines.extend_from_slice(&escaped(alloc, name)?)?;
+    lines.extend_from_slice(b": ")?;
+    lines.extend_from_slice(words)?;
+    lines.push(b'\n')?;
+    Ok(())
 }
 
 /// A backslash where the name has an escape, and else nothing.

@@ -12,3 +12,4 @@ mod paths;
 mod reason;
 pub mod report;
 pub mod sheets;
+pub mod whole;

@@ -1,4 +1,5 @@
 pub mod Lines
 pub mod Paths
-pub mod Reading
 pub mod Steps
+pub mod InFolder
+pub mod NameTables

@@ -4,10 +4,10 @@ use Rattle.std.specs.Prelude.{filter, flat_map, if◌then◌else◌}
 use Rattle.std.specs.Path.{path_join, with_separator}
 use Rattle.edi_delivery.specs.Lots.{files_of}
 use Rattle.edi_delivery.specs.declared.lot.Lot.{Lot}
-use Rattle.edi_answers.specs.Hashes.{escaped_name}
+use Rattle.edi_answers.specs.Hashes.{escaped_name, named_line}
 use Rattle.edi_files.specs.Reasons.{reason_line}
 use Rattle.edi_files.specs.declared.reason.Reason.TheVariants.{NoFile}
-use Rattle.edi_deliveries.specs.Deliveries.{found_name, found_names, missing_line, named_line}
+use Rattle.edi_deliveries.specs.Deliveries.{found_name, found_names, missing_line}
 use Rattle.edi_deliveries.proofs.Steps.{flat_push, take_at}
 
 pub join_nothing : (base : List ℕ) → path_join base [] ≡ with_separator base
@@ -31,7 +31,7 @@ missing_more old named new path given name is first shown last =
     ∙ (ap (λ n. (old ++ named_line path (codes "cannot read")) ++ reason_line n (Some NoFile)) shown
     ∙ append_assoc old (named_line path (codes "cannot read")) (reason_line (escaped_name path) (Some NoFile))))
 
-map_push : {X Y : Type 0} (f : X → Y) (xs : List X) (x : X) → map f (xs ++ x ∷ []) ≡ map f xs ++ f x ∷ []
+pub map_push : {X Y : Type 0} (f : X → Y) (xs : List X) (x : X) → map f (xs ++ x ∷ []) ≡ map f xs ++ f x ∷ []
 map_push f [] x = refl
 map_push f (y ∷ ys) x = ap (λ l. f y ∷ l) (map_push f ys x)
 

@@ -1,6 +1,5 @@
 -- The paths of a lot's files.
 use Rattle.std.proofs.Common.{◌≡◌, ◌⊎◌, ◌∙◌, ℕ, false, List, Option, Some, None, inl, inr, refl, sym, ap, option_map, is_some}
-use Rattle.std.specs.Prelude.{string_bytes}
 use Rattle.std.proofs.lemmas.Bool.{false≢true}
 use Rattle.edi_schema.specs.Roles.{KindCodes}
 use Rattle.edi_delivery.specs.declared.lot.Lot.{Lot}

@@ -1,5 +1,5 @@
 -- What is answered of deliveries: of the lots that THF files state, and of the files that lie beside them.
-use Rattle.std.specs.Prelude.{◌≡◌, ◌⊎◌, ◌≤◌, ◌++◌, ◌&&◌, ℕ, Bool, false, true, not, max, List, [], ◌∷◌, Option, Some, None, IfSome, IsTrue, codes, filter, find, flat_map, is_none, length, map, option_map, option_to_list, unwrap_or}
+use Rattle.std.specs.Prelude.{◌≡◌, ◌⊎◌, ◌≤◌, ◌++◌, ◌&&◌, ℕ, Bool, false, true, not, max, List, [], ◌∷◌, Option, Some, None, IsTrue, codes, filter, find, flat_map, is_none, length, map, option_map, option_to_list, unwrap_or}
 use Rattle.std.proofs.Common.{Bor}
 use Rattle.std.specs.Fmt.{decimal}
 use Rattle.std.specs.List.{list_any}
@@ -16,19 +16,18 @@ use Rattle.edi_delivery.specs.declared.fault.DeliveryFault.{DeliveryFault}
 use Rattle.edi_delivery.specs.declared.fault.DeliveryFault.TheVariants.{Line, Record}
 use Rattle.edi_delivery.specs.declared.file_name.Extension.TheVariants.{Scd, Dic, Vec}
 use Rattle.edi_delivery.specs.declared.lot.Lot.{Lot}
-use Rattle.edi_compare.specs.Runs.{MatchFault}
 use Rattle.edi_compare.specs.declared.fault.RunFault.{RunFault}
 use Rattle.edi_compare.specs.declared.fault.RunFault.TheVariants.{Read}
-use Rattle.edi_files.specs.Reasons.{ended, reason_line}
+use Rattle.edi_files.specs.Reasons.{reason_line}
 use Rattle.edi_files.specs.declared.listing.Listing as listing
 use Rattle.edi_files.specs.declared.reason.Reason.TheVariants.{NoFile}
 use Rattle.edi_words.specs.Requests.{is_standard_path}
 use Rattle.edi_words.specs.declared.words.ManyFiles.{ManyFiles}
-use Rattle.edi_answers.specs.Effects.{Effects, Inputs, Stream}
-use Rattle.edi_answers.specs.Hashes.{IsHashStatus, TellsFault, escaped_name, mark_of}
+use Rattle.edi_answers.specs.Effects.{Effects, Stream}
+use Rattle.edi_answers.specs.Hashes.{IsHashStatus, TellsFault, escaped_name, named_line}
 use Rattle.edi_answers.specs.Notes.{Notes}
-use Rattle.edi_answers.specs.SheetRuns.{Gives, HasFailedAt, HoldsTooMuch, IsMissing, IsThere}
 use Rattle.edi_answers.specs.Statuses.{LacksMemory, OnlyLacksMemory, Prints}
+use Rattle.edi_answers.specs.WholeInputs.{WholeInputFault, OfWholeInput}
 
 -- ---- replies in turn
 
@@ -64,10 +63,6 @@ EachInTurn AnswerTo (x ∷ xs) = OneThenOther (AnswerTo x) (EachInTurn AnswerTo 
 -- the errors got these lines, with this status; or there was no memory for them
 abbrev pub SaysLines : List ℕ → ℕ → Reply
 SaysLines lines status out err s = Prints out [] × (((s ≡ status) × Notes err lines) ⊎ ((s ≡ 5) × LacksMemory err))
-
--- a name, as lines of digests show it, and words about it
-abbrev pub named_line : List ℕ → List ℕ → List ℕ
-named_line name words = mark_of name ++ escaped_name name ++ codes ": " ++ ended words
 
 -- ---- folders
 
@@ -168,17 +163,6 @@ abbrev pub LacksOneThf : List (List ℕ) → List ℕ → Type 0
 LacksOneThf names words =
     ((thf_names names ≡ []) × (words ≡ codes "no THF file")) ⊎ ((2 ≤ length (thf_names names)) × (words ≡ codes "more than one THF file"))
 
--- a fact of what the THF file holds, where it is known
-abbrev pub OfThf : Inputs → List ℕ → (List ℕ → Type 0) → Type 0
-OfThf inputs thf P = (contents : Option (List ℕ)) × Gives inputs thf contents × IfSome contents P
-
--- Why a THF file can't be read: it is missing; or it was opened, and it failed or is too long, or memory ran out.
-abbrev pub ThfFault : Inputs → List ℕ → RunFault → Type 0
-ThfFault inputs thf e =
-    (IsMissing inputs thf × (e ≡ Read 1))
-    ⊎ (IsThere inputs thf × MatchFault e (λ n. (n ≡ 1) × HasFailedAt inputs thf) (λ n. (n ≡ 1) × HoldsTooMuch inputs thf)
-    (λ _. ⊥) (λ _. ⊥) (λ _. ⊥) (λ _. ⊥))
-
 -- a path is no folder that can be listed, or stands for standard input
 abbrev pub IsNoFolder : Listings → List ℕ → Type 0
 IsNoFolder listings path = (is_standard_path path ≡ true) ⊎ listings.unlisted path
@@ -213,9 +197,9 @@ module _ (run : Effects) (listings : Listings) (kinds : KindCodes) where
   -- to a THF file: to its lots; or it is refused or can't be read, which the errors say
   abbrev pub IsThfAnswered : List ℕ → Reply
   IsThfAnswered thf out err s =
-      ((lots : List Lot) × OfThf run.inputs thf (λ b. IsDeliveryOf b lots) × IsFolderAnswered (parent_of thf) lots out err s)
-      ⊎ (((f : DeliveryFault) × OfThf run.inputs thf (λ b. IsDeliveryRefusal b f) × SaysLines (named_line thf (refusal_words f)) (status_of_refusal f) out err s)
-      ⊎ ((e : RunFault) × ThfFault run.inputs thf e × TellsFault run.why err e thf s × Prints out []))
+      ((lots : List Lot) × OfWholeInput run.inputs thf (λ b. IsDeliveryOf b lots) × IsFolderAnswered (parent_of thf) lots out err s)
+      ⊎ (((f : DeliveryFault) × OfWholeInput run.inputs thf (λ b. IsDeliveryRefusal b f) × SaysLines (named_line thf (refusal_words f)) (status_of_refusal f) out err s)
+      ⊎ ((e : RunFault) × WholeInputFault run.inputs thf e × TellsFault run.why err e thf s × Prints out []))
 
   -- to a folder with these names: to the only THF file in it; or the errors say that it has none or several, or that memory ran out
   abbrev pub IsListAnswered : List ℕ → List (List ℕ) → Reply

@@ -2,14 +2,16 @@
 ghost use Rattle.std.specs.Prelude.{◌≡◌, ◌⊎◌, ◌++◌, IfOk, IsTrue, map, string_bytes};
 ghost use Rattle.std.specs.Path.{path_buf_bytes, with_separator};
 ghost use Rattle.edi_answers.specs.Effects.{effects, written};
+ghost use Rattle.edi_answers.specs.Hashes.{named_line};
 ghost use Rattle.edi_answers.specs.Statuses.{IsSheetStatus, OnlyLacksMemory};
-ghost use Rattle.edi_deliveries.specs.Deliveries.{AreLotsAnswered, IsDeliveryStatus, IsFolderAnswered, IsListAnswered, IsPathAnswered, IsThfAnswered, listed_path, listings, named_line, parent_of, status_of_refusal};
+ghost use Rattle.edi_deliveries.specs.Deliveries.{AreLotsAnswered, IsDeliveryStatus, IsFolderAnswered, IsListAnswered, IsPathAnswered, IsThfAnswered, listed_path, listings, parent_of, status_of_refusal};
 
+use crate::found::FolderNames;
 use crate::lot_files::path_in;
 use crate::lots::answer_lots;
-use crate::said::{push_named, refusal_line, say_lines};
+use crate::said::{refusal_line, say_lines};
 use crate::thf::{NoDelivery, only_thf, read_thf};
-use edi_answers::hashes::tell_fault;
+use edi_answers::hashes::{push_named, tell_fault};
 use edi_answers::report;
 use edi_compare::RunFault;
 use edi_delivery::{DeliveryFault, Lot};
@@ -243,8 +245,20 @@ fn answer_names<F: Folder, O: ByteOut, E: ByteOut>(
     ensures out_stays { IsTrue (O.has_failed out.old) → IsTrue (O.has_failed out.new) }
     ensures err_stays { IsTrue (E.has_failed err.old) → IsTrue (E.has_failed err.new) }
 {
+    let Ok(found) = FolderNames::new(alloc, names) else {
+        return report::out_of_memory(err);
+    };
     match before_names(alloc, parent) {
-        Ok(before) => answer_lots(alloc, folder, kinds, before.as_str(), names, lots, out, err),
+        Ok(before) => answer_lots(
+            alloc,
+            folder,
+            kinds,
+            before.as_str(),
+            &found,
+            lots,
+            out,
+            err,
+        ),
         Err(_) => report::out_of_memory(err),
     }
 }

@@ -3,6 +3,7 @@
 
 pub mod deliveries;
 mod found;
+pub mod laws;
 mod lot_files;
 mod lots;
 mod said;

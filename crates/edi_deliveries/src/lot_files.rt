@@ -3,7 +3,7 @@ ghost use Rattle.std.specs.Prelude.{◌≡◌, ◌++◌, IfOk, MatchOption, map,
 ghost use Rattle.edi_deliveries.specs.Deliveries.{LacksSchema, found_path};
 ghost use Rattle.edi_deliveries.specs.inner.Paths.{AreLotPaths, vec_paths};
 
-use crate::found::found_name;
+use crate::found::FolderNames;
 use edi_delivery::{Extension, FileName, Lot};
 use std::alloc::{AllocError, Global};
 
@@ -37,12 +37,12 @@ pub(crate) fn path_in(alloc: Global, before: &str, name: &str) -> Result<String,
 fn found_path(
     alloc: Global,
     before: &str,
-    names: &[String],
+    names: &FolderNames<'_>,
     file: &FileName,
 ) -> Result<Option<String>, AllocError>
-    ensures { IfOk result (λ path. option_map string_bytes path ≡ found_path before.now (map string_bytes names.now) file.now) }
+    ensures { IfOk result (λ path. option_map string_bytes path ≡ found_path before.now (names.now) file.now) }
 {
-    match found_name(names, file) {
+    match names.find(alloc, file)? {
         Some(name) => Ok(Some(path_in(alloc, before, name)?)),
         None => Ok(None),
     }
@@ -52,10 +52,10 @@ fn found_path(
 fn vec_paths(
     alloc: Global,
     before: &str,
-    names: &[String],
+    names: &FolderNames<'_>,
     lot: &Lot,
 ) -> Result<Vec<String>, AllocError>
-    ensures { IfOk result (λ paths. map string_bytes paths.items ≡ vec_paths before.now (map string_bytes names.now) lot.now) }
+    ensures { IfOk result (λ paths. map string_bytes paths.items ≡ vec_paths before.now (names.now) lot.now) }
 {
     let mut paths = Vec::new(alloc);
     for own in lot.vecs.as_slice() {
@@ -71,11 +71,11 @@ fn vec_paths(
 pub(crate) fn lot_paths(
     alloc: Global,
     before: &str,
-    names: &[String],
+    names: &FolderNames<'_>,
     lot: &Lot,
 ) -> Result<Option<LotPaths>, AllocError>
-    ensures { IfOk result (λ paths. MatchOption paths (LacksSchema (map string_bytes names.now) lot.now)
-        (AreLotPaths before.now (map string_bytes names.now) lot.now)) }
+    ensures { IfOk result (λ paths. MatchOption paths (LacksSchema (names.now) lot.now)
+        (AreLotPaths before.now (names.now) lot.now)) }
 {
     let scd_file = lot.file(alloc, Extension::Scd, &lot.scd)?;
     let Some(scd) = found_path(alloc, before, names, &scd_file)? else {

@@ -8,6 +8,7 @@ ghost use Rattle.edi_words.specs.declared.words.ManyFiles.{ManyFiles};
 ghost use Rattle.edi_deliveries.specs.Deliveries.{AreLotsAnswered, EachInTurn, IsLotAnswered, IsLotHashed, missing_lines, status_of_missing};
 ghost use Rattle.edi_deliveries.specs.inner.Paths.{HavePaths};
 
+use crate::found::FolderNames;
 use crate::lot_files::{LotPaths, lot_paths};
 use crate::said::{missing_lines, say_lines, unnamed_lines};
 use edi_answers::hashes::hash;
@@ -65,14 +66,14 @@ fn hash_lot<F: Folder, O: ByteOut, E: ByteOut>(
     folder: &F,
     kinds: &GivenKinds<'_>,
     before: &str,
-    names: &[String],
+    names: &FolderNames<'_>,
     lot: &Lot,
     out: &mut O,
     err: &mut E,
 ) -> u8
     ensures status { IsSheetStatus result }
     ensures answer { IsLotHashed (effects F.Folder F.Reader.ByteIn F.Sink.ByteOut F.NewFile.ByteOut folder.now folder.now) kinds.now
-        before.now (map string_bytes names.now) lot.now (written O.ByteOut out.old out.new) (written E.ByteOut err.old err.new) result }
+        before.now (names.now) lot.now (written O.ByteOut out.old out.new) (written E.ByteOut err.old err.new) result }
     ensures out_stays { IsTrue (O.has_failed out.old) → IsTrue (O.has_failed out.new) }
     ensures err_stays { IsTrue (E.has_failed err.old) → IsTrue (E.has_failed err.new) }
 {
@@ -87,13 +88,13 @@ fn hash_lot<F: Folder, O: ByteOut, E: ByteOut>(
 fn say_missing<E: ByteOut>(
     alloc: Global,
     before: &str,
-    names: &[String],
+    names: &FolderNames<'_>,
     lot: &Lot,
     err: &mut E,
 ) -> u8
     ensures status { IsSheetStatus result }
-    ensures said { ((result ≡ status_of_missing (missing_lines before.now (map string_bytes names.now) lot.now))
-        × Notes (written E.ByteOut err.old err.new) (missing_lines before.now (map string_bytes names.now) lot.now))
+    ensures said { ((result ≡ status_of_missing (missing_lines before.now (names.now) lot.now))
+        × Notes (written E.ByteOut err.old err.new) (missing_lines before.now (names.now) lot.now))
         ⊎ ((result ≡ 5) × LacksMemory (written E.ByteOut err.old err.new)) }
     ensures stays { IsTrue (E.has_failed err.old) → IsTrue (E.has_failed err.new) }
 {
@@ -118,14 +119,14 @@ fn answer_lot<F: Folder, O: ByteOut, E: ByteOut>(
     folder: &F,
     kinds: &GivenKinds<'_>,
     before: &str,
-    names: &[String],
+    names: &FolderNames<'_>,
     lot: &Lot,
     out: &mut O,
     err: &mut E,
 ) -> u8
     ensures status { IsSheetStatus result }
     ensures answer { IsLotAnswered (effects F.Folder F.Reader.ByteIn F.Sink.ByteOut F.NewFile.ByteOut folder.now folder.now) kinds.now
-        before.now (map string_bytes names.now) lot.now (written O.ByteOut out.old out.new) (written E.ByteOut err.old err.new) result }
+        before.now (names.now) lot.now (written O.ByteOut out.old out.new) (written E.ByteOut err.old err.new) result }
     ensures out_stays { IsTrue (O.has_failed out.old) → IsTrue (O.has_failed out.new) }
     ensures err_stays { IsTrue (E.has_failed err.old) → IsTrue (E.has_failed err.new) }
 {
@@ -140,14 +141,14 @@ fn answer_each<F: Folder, O: ByteOut, E: ByteOut>(
     folder: &F,
     kinds: &GivenKinds<'_>,
     before: &str,
-    names: &[String],
+    names: &FolderNames<'_>,
     lots: &[Lot],
     out: &mut O,
     err: &mut E,
 ) -> u8
     ensures status { IsSheetStatus result }
     ensures answer { EachInTurn (IsLotAnswered (effects F.Folder F.Reader.ByteIn F.Sink.ByteOut F.NewFile.ByteOut folder.now folder.now) kinds.now
-        before.now (map string_bytes names.now)) lots.now (written O.ByteOut out.old out.new) (written E.ByteOut err.old err.new) result }
+        before.now (names.now)) lots.now (written O.ByteOut out.old out.new) (written E.ByteOut err.old err.new) result }
     ensures out_stays { IsTrue (O.has_failed out.old) → IsTrue (O.has_failed out.new) }
     ensures err_stays { IsTrue (E.has_failed err.old) → IsTrue (E.has_failed err.new) }
 {
@@ -165,14 +166,14 @@ pub(crate) fn answer_lots<F: Folder, O: ByteOut, E: ByteOut>(
     folder: &F,
     kinds: &GivenKinds<'_>,
     before: &str,
-    names: &[String],
+    names: &FolderNames<'_>,
     lots: &[Lot],
     out: &mut O,
     err: &mut E,
 ) -> u8
     ensures status { IsSheetStatus result }
     ensures answer { AreLotsAnswered (effects F.Folder F.Reader.ByteIn F.Sink.ByteOut F.NewFile.ByteOut folder.now folder.now) kinds.now
-        before.now (map string_bytes names.now) lots.now (written O.ByteOut out.old out.new) (written E.ByteOut err.old err.new) result }
+        before.now (names.now) lots.now (written O.ByteOut out.old out.new) (written E.ByteOut err.old err.new) result }
     ensures out_stays { IsTrue (O.has_failed out.old) → IsTrue (O.has_failed out.new) }
     ensures err_stays { IsTrue (E.has_failed err.old) → IsTrue (E.has_failed err.new) }
 {

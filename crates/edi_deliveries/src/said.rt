@@ -1,16 +1,17 @@
 //! The lines that standard error is told of deliveries.
-ghost use Rattle.std.specs.Prelude.{◌≡◌, ◌++◌, ◌&&◌, IfOk, IsTrue, MatchResult, OnOk, codes, flat_map, map, not, option_to_list, string_bytes};
+ghost use Rattle.std.specs.Prelude.{◌≡◌, ◌++◌, ◌&&◌, IfOk, IsTrue, MatchResult, OnOk, codes, filter, flat_map, map, not, option_to_list, string_bytes};
 ghost use Rattle.std.specs.Fmt.{decimal};
 ghost use Rattle.std.specs.List.{list_any};
 ghost use Rattle.std.specs.Str.{bytes_eq};
 ghost use Rattle.edi_answers.specs.Effects.{written};
+ghost use Rattle.edi_answers.specs.Hashes.{named_line};
 ghost use Rattle.edi_answers.specs.Notes.{Notes};
 ghost use Rattle.edi_answers.specs.Statuses.{LacksMemory};
 ghost use Rattle.edi_delivery.specs.Lots.{files_of};
-ghost use Rattle.edi_deliveries.specs.Deliveries.{found_name, found_names, is_unnamed, missing_line, missing_lines, named_line, refusal_words, unnamed_lines};
+ghost use Rattle.edi_deliveries.specs.Deliveries.{found_name, found_names, is_unnamed, missing_line, missing_lines, refusal_words, unnamed_line, unnamed_lines};
 
-use crate::found::{found_name, has_extension};
-use edi_answers::hashes::{escaped, marked};
+use crate::found::{FolderNames, has_extension};
+use edi_answers::hashes::{escaped, push_named};
 use edi_answers::{notes, report};
 use edi_delivery::{DeliveryFault, Lot};
 use edi_files::{Reason, push_reason};
@@ -35,23 +36,6 @@ pub(crate) fn say_lines<E: ByteOut>(
         }
         Err(_) => report::out_of_memory(err),
     }
-}
-
-/// Appends the line of a name, as lines of digests show it, and words about it.
-pub(crate) fn push_named(
-    alloc: Global,
-    lines: &mut Vec<u8>,
-    name: &[u8],
-    words: &[u8],
-) -> Result<(), AllocError>
-    ensures { OnOk result (lines.new.items ≡ lines.old.items ++ named_line name.now words.now) }
-{
-    lines.extend_from_slice(&marked(alloc, name)?)?;
-    lines.extend_from_slice(&escaped(alloc, name)?)?;
-    lines.extend_from_slice(b": ")?;
-    lines.extend_from_slice(words)?;
-    lines.push(b'\n')?;
-    Ok(())
 }
 
 // What stands before a name, and the name.
@@ -82,15 +66,15 @@ fn push_missing(
 pub(crate) fn missing_lines(
     alloc: Global,
     before: &str,
-    names: &[String],
+    names: &FolderNames<'_>,
     lot: &Lot,
 ) -> Result<Vec<u8>, AllocError>
-    ensures { IfOk result (λ lines. lines.items ≡ missing_lines before.now (map string_bytes names.now) lot.now) }
+    ensures { IfOk result (λ lines. lines.items ≡ missing_lines before.now (names.now) lot.now) }
 {
     let files = lot.files(alloc)?;
     let mut lines = Vec::new(alloc);
     for file in &files {
-        if found_name(names, file).is_none() {
+        if names.find(alloc, file)?.is_none() {
             push_missing(alloc, &mut lines, before, file.as_slice())?;
         }
     }
@@ -101,15 +85,15 @@ pub(crate) fn missing_lines(
 fn push_found<'a>(
     alloc: Global,
     found: &mut Vec<&'a str>,
-    names: &'a [String],
+    names: &FolderNames<'a>,
     lot: &Lot,
 ) -> Result<(), AllocError>
     ensures { OnOk result (map (λ name. name.now) found.new.items
-        ≡ map (λ name. name.now) found.old.items ++ flat_map (λ file. option_to_list (found_name (map string_bytes names.now) file)) (files_of lot.now)) }
+        ≡ map (λ name. name.now) found.old.items ++ flat_map (λ file. option_to_list (found_name (names.now) file)) (files_of lot.now)) }
 {
     let files = lot.files(alloc)?;
     for file in &files {
-        if let Some(name) = found_name(names, file) {
+        if let Some(name) = names.find(alloc, file)? {
             found.push(name)?;
         }
     }
@@ -119,10 +103,10 @@ fn push_found<'a>(
 // The names of all the files of lots, as they lie there.
 fn found_names<'a>(
     alloc: Global,
-    names: &'a [String],
+    names: &FolderNames<'a>,
     lots: &[Lot],
 ) -> Result<Vec<&'a str>, AllocError>
-    ensures { IfOk result (λ found. map (λ name. name.now) found.items ≡ found_names (map string_bytes names.now) lots.now) }
+    ensures { IfOk result (λ found. map (λ name. name.now) found.items ≡ found_names (names.now) lots.now) }
 {
     let mut found = Vec::new(alloc);
     for lot in lots {
@@ -154,15 +138,28 @@ fn is_unnamed(found: &[&str], name: &str) -> bool
 pub(crate) fn unnamed_lines(
     alloc: Global,
     before: &str,
-    names: &[String],
+    names: &FolderNames<'_>,
     lots: &[Lot],
 ) -> Result<Vec<u8>, AllocError>
-    ensures { IfOk result (λ lines. lines.items ≡ unnamed_lines before.now (map string_bytes names.now) lots.now) }
+    ensures { IfOk result (λ lines. lines.items ≡ unnamed_lines before.now names.now lots.now) }
 {
     let found = found_names(alloc, names, lots)?;
+    lines_on_unnamed(alloc, before, names.all(), &found)
+}
+
+// The lines on the VEC files among names that aren't among those that were found.
+fn lines_on_unnamed(
+    alloc: Global,
+    before: &str,
+    names: &[String],
+    found: &[&str],
+) -> Result<Vec<u8>, AllocError>
+    ensures { IfOk result (λ lines. lines.items ≡ flat_map (λ name. unnamed_line (before.now ++ name))
+        (filter (is_unnamed (map (λ other. other.now) found.now)) (map string_bytes names.now))) }
+{
     let mut lines = Vec::new(alloc);
     for name in names {
-        if is_unnamed(&found, name) {
+        if is_unnamed(found, name) {
             let path = joined(alloc, before, name.as_bytes())?;
             push_named(alloc, &mut lines, &path, b"not named in the THF file")?;
         }

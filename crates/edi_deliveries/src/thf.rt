@@ -2,12 +2,13 @@
 ghost use Rattle.std.specs.Prelude.{◌≡◌, ◌∷◌, [], ◌≤◌, IfErr, IfOk, codes, length, map, string_bytes};
 ghost use Rattle.edi_answers.specs.Effects.{inputs};
 ghost use Rattle.edi_delivery.specs.DeliveryRefusal.{IsDeliveryOf, IsDeliveryRefusal};
-ghost use Rattle.edi_deliveries.specs.Deliveries.{OfThf, ThfFault, LacksOneThf, thf_names};
+ghost use Rattle.edi_answers.specs.WholeInputs.{OfWholeInput, WholeInputFault};
+ghost use Rattle.edi_deliveries.specs.Deliveries.{LacksOneThf, thf_names};
 ghost use Rattle.edi_deliveries.specs.inner.Paths.{MatchChosen, MatchThf};
 
 use crate::found::has_extension;
-use edi_answers::sheets::opened;
-use edi_compare::{RunFault, read_input};
+use edi_answers::whole::read_whole;
+use edi_compare::RunFault;
 use edi_delivery::{Delivery, DeliveryFault};
 use edi_files::Folder;
 use std::alloc::{AllocError, Global};
@@ -21,25 +22,16 @@ pub(crate) enum NoDelivery {
     Refused(DeliveryFault),
 }
 
-// The bytes of a THF file.
-fn read_bytes<F: Folder>(alloc: Global, folder: &F, thf: &str) -> Result<Vec<u8>, RunFault>
-    ensures ok { IfOk result (λ bytes. OfThf (inputs F.Folder F.Reader.ByteIn folder.now) thf.now (λ b. bytes.items ≡ b)) }
-    ensures err { IfErr result (ThfFault (inputs F.Folder F.Reader.ByteIn folder.now) thf.now) }
-{
-    let mut reader = opened(folder, thf, 1)?;
-    read_input(alloc, &mut reader, 1)
-}
-
 /// The delivery that a THF file states.
 pub(crate) fn read_thf<F: Folder>(
     alloc: Global,
     folder: &F,
     thf: &str,
 ) -> Result<Delivery, NoDelivery>
-    ensures ok { IfOk result (λ lots. OfThf (inputs F.Folder F.Reader.ByteIn folder.now) thf.now (λ b. IsDeliveryOf b lots)) }
+    ensures ok { IfOk result (λ lots. OfWholeInput (inputs F.Folder F.Reader.ByteIn folder.now) thf.now (λ b. IsDeliveryOf b lots)) }
     ensures err { IfErr result (MatchThf (inputs F.Folder F.Reader.ByteIn folder.now) thf.now) }
 {
-    match read_bytes(alloc, folder, thf) {
+    match read_whole(alloc, folder, thf) {
         Ok(bytes) => match Delivery::read(alloc, &bytes) {
             Ok(delivery) => Ok(delivery),
             Err(fault) => Err(NoDelivery::Refused(fault)),

@@ -2,3 +2,4 @@ pub mod ByteOrder
 pub mod LineTexts
 pub mod SameLines
 pub mod ReadBack
+pub mod LastLines

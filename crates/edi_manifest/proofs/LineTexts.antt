@@ -42,13 +42,15 @@ found_lacks byte [] h zero_apart k = zero_apart
 found_lacks byte (x ∷ xs) h zero_apart zero = h.0
 found_lacks byte (x ∷ xs) h zero_apart (suc k) = found_lacks byte xs h.1 zero_apart k
 
-digits_lack_feed : (k : ℕ) → get_or lower_digits k 0 ≢ 10
-digits_lack_feed = found_lacks 10 lower_digits (search arith) (search arith)
+-- digits don't have a byte that isn't one
+pub digits_lack_any : (byte : ℕ) → Lacks byte lower_digits → 0 ≢ byte → (bytes : List ℕ) → Lacks byte (encode_lower bytes)
+unfolding encode_with
+digits_lack_any byte h zero_apart [] = tt
+digits_lack_any byte h zero_apart (b ∷ bytes) =
+    (found_lacks byte lower_digits h zero_apart (b / 16), (found_lacks byte lower_digits h zero_apart (b % 16), digits_lack_any byte h zero_apart bytes))
 
 pub digits_lack : (bytes : List ℕ) → Lacks 10 (encode_lower bytes)
-unfolding encode_with
-digits_lack [] = tt
-digits_lack (b ∷ bytes) = (digits_lack_feed (b / 16), (digits_lack_feed (b % 16), digits_lack bytes))
+digits_lack = digits_lack_any 10 (search arith) (search arith)
 
 word_lacks_feed : (d : Digested) → Lacks 10 (digested_text d)
 word_lacks_feed Schema = search arith
@@ -101,7 +103,7 @@ word_same Sheet Coordinates r s h = let n : 115 ≡ 99 = ap (λ t. get_or t 0 0)
 word_same Coordinates Schema r s h = let n : 99 ≡ 115 = ap (λ t. get_or t 0 0) h in absurd (omega (arith, n))
 word_same Coordinates Sheet r s h = let n : 99 ≡ 115 = ap (λ t. get_or t 0 0) h in absurd (omega (arith, n))
 
-bytes_same : (a b : List ℕ) → IsBytes a → IsBytes b → encode_lower a ≡ encode_lower b → a ≡ b
+pub bytes_same : (a b : List ℕ) → IsBytes a → IsBytes b → encode_lower a ≡ encode_lower b → a ≡ b
 bytes_same a b h k e =
     let same : ◌≡◌ {A = Result (List ℕ) _} (Ok a) (Ok b) = sym (decode_of-encode_lower a h) ∙ (ap decode_of e ∙ decode_of-encode_lower b k) in
     cc

@@ -1,5 +1,5 @@
 -- Reading back what was written.
-use Rattle.std.proofs.Common.{◌≡◌, ◌≢◌, ℕ, suc, ◌+◌, ◌*◌, ◌-◌, ◌<◌, ◌≤◌, true, false, eqb, List, [], ◌∷◌, ◌++◌, length, map, get_or, take, drop, Option, Some, None, MatchOption, position, codes, refl, sym, ap, ◌∙◌, subst, arith}
+use Rattle.std.proofs.Common.{◌≡◌, ◌≢◌, ℕ, suc, ◌+◌, ◌*◌, ◌-◌, ◌<◌, ◌≤◌, true, false, eqb, List, [], ◌∷◌, ◌++◌, length, map, get_or, take, drop, Option, Some, None, MatchOption, IfSome, Result, Ok, Err, position, codes, refl, sym, ap, ◌∙◌, subst, arith}
 use Rattle.std.specs.List.{AllByRecursion, concat, position_or_len}
 use Rattle.std.proofs.lemmas.Bool.{eqb-true, eqb-false}
 use Rattle.std.proofs.lemmas.List.{append_assoc, append-nil, take_all, take-append-drop, length-append, length-take-le, get_or-take, map-append}
@@ -7,8 +7,10 @@ use Rattle.std.proofs.lemmas.List.Elements.{recursion_from_All, All-from_get_or}
 use Rattle.std.proofs.lemmas.List.Sums.{fails_before_first, passes_at_first}
 use Rattle.std.proofs.lemmas.List.Sorted.{IsPermutation-sym}
 use Rattle.std.proofs.Math.Seq.{drop-cons}
-use Rattle.hex.specs.Hex.{encode_lower, lower_digits}
-use Rattle.hex.proofs.HexLemmas.{length-encode_with}
+use Rattle.std.specs.Result.{result_ok}
+use Rattle.hex.specs.Hex.{decode_sized, encode_lower, lower_digits, IsBytes}
+use Rattle.hex.specs.declared.error.FromHexError.{FromHexError}
+use Rattle.hex.proofs.HexLemmas.{decode_of-ok, decode_sized-ok, decode_sized-twice, length-encode_with}
 use Rattle.sha2.specs.Sha256.{sha256}
 use Rattle.sha2.proofs.Facts256.{length-sha256}
 use Rattle.edi_line.proofs.Numbers.{position_at_Some, position_at_None}
@@ -194,3 +196,22 @@ no_name found text e h = let P : Option (List ℕ) → Type 0 = λ o. MatchOptio
 
 pub a_name : (found : Option (List ℕ)) (text name : List ℕ) → found ≡ Some name → MatchOption found (is_file_name text ≡ false) (λ n. (n ≡ text) × (is_file_name text ≡ true)) → name ≡ text
 a_name found text name e h = let P : Option (List ℕ) → Type 0 = λ o. MatchOption o (is_file_name text ≡ false) (λ n. (n ≡ text) × (is_file_name text ≡ true)) in (subst P e h).0
+
+-- ---- what is read is a line
+
+pub digest_is : (digits : List ℕ) (found : Result (List ℕ) FromHexError) → found ≡ decode_sized digits 32 → IfSome (result_ok found) (λ digest. (length digest ≡ 32) × IsBytes digest)
+digest_is digits (Ok digest) e =
+    let long = decode_sized-ok digits 32 digest (sym e) in
+    let all = decode_of-ok digits digest (sym (decode_sized-twice digits 32 long) ∙ sym e) in
+    (omega (arith, long, all.2), all.3)
+digest_is digits (Err f) e = tt
+
+pub is_a_name : (found : Option (List ℕ)) (text name : List ℕ) → found ≡ Some name → MatchOption found (is_file_name text ≡ false) (λ n. (n ≡ text) × (is_file_name text ≡ true)) → is_file_name name ≡ true
+is_a_name found text name e h =
+    let P : Option (List ℕ) → Type 0 = λ o. MatchOption o (is_file_name text ≡ false) (λ n. (n ≡ text) × (is_file_name text ≡ true)) in
+    let both = subst P e h in
+    ap is_file_name both.0 ∙ both.1
+
+pub one_more_line : (xs : List ManifestLine) (x : ManifestLine) → AllByRecursion IsManifestLine xs → IsManifestLine x → AllByRecursion IsManifestLine (xs ++ x ∷ [])
+one_more_line [] x h k = (k, tt)
+one_more_line (y ∷ ys) x h k = (h.0, one_more_line ys x h.1 k)

@@ -123,11 +123,13 @@ moved_back ls ms h k moved =
     let same : ms ≡ apply_swaps ls moved.moves = map_same ms (apply_swaps ls moved.moves) k kept (moved.is ∙ swaps_map manifest_line ls moved.moves) in
     subst (IsPermutation ls) (sym same) there
 
+pub same_body : (ls ms : List ManifestLine) → IsPermutation ls ms → manifest_body ls ≡ manifest_body ms
+same_body ls ms moved =
+    ap (λ ts. manifest_head ++ concat ts) (sort_by-same bytes_cmp bytes_total bytes_exact (map manifest_line ls) (map manifest_line ms)
+    (counts_from_permutation (map manifest_line ls) (map manifest_line ms) (IsPermutation-map manifest_line ls ms moved)))
+
 pub same_text : (ls ms : List ManifestLine) → IsPermutation ls ms → manifest_text ls ≡ manifest_text ms
-same_text ls ms moved =
-    let sorted : manifest_lines ls ≡ manifest_lines ms = sort_by-same bytes_cmp bytes_total bytes_exact (map manifest_line ls) (map manifest_line ms)
-    (counts_from_permutation (map manifest_line ls) (map manifest_line ms) (IsPermutation-map manifest_line ls ms moved)) in
-    ap (λ ts. (manifest_head ++ concat ts) ++ last_line (manifest_head ++ concat ts)) sorted
+same_text ls ms moved = ap (λ body. body ++ last_line body) (same_body ls ms moved)
 
 pub text_same : (ls ms : List ManifestLine) → AllByRecursion IsManifestLine ls → AllByRecursion IsManifestLine ms → manifest_text ls ≡ manifest_text ms → IsPermutation ls ms
 text_same ls ms h k e =

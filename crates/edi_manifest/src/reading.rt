@@ -3,7 +3,8 @@
 ghost use Rattle.std.specs.Prelude.{◌≡◌, ℕ, ◌<◌, ◌==◌, List, ◌∷◌, ◌++◌, length, position};
 ghost use Rattle.std.specs.Prelude.{Some, option_map, IfOk, IfSome, MatchOption};
 ghost use Rattle.hex.specs.Hex.{encode_lower, IsBytes};
-ghost use Rattle.edi_manifest.specs.ManifestText.{digested_text, manifest_text, IsNoManifest};
+ghost use Rattle.std.specs.List.{AllByRecursion};
+ghost use Rattle.edi_manifest.specs.ManifestText.{digested_text, manifest_text, IsManifestLine, IsNoManifest};
 ghost use Rattle.edi_manifest.specs.inner.Reading.{Lacks, FindsWord, FindsLine, FindsBody, FindsLines};
 
 use crate::line::{Digested, ManifestLine};
@@ -29,10 +30,12 @@ fn word_in(text: &[u8]) -> Option<(Digested, &[u8])>
     Some((Digested::Coordinates, behind))
 }
 
-/// The digest that these digits say.
-fn digest_in(digits: &[u8]) -> Option<[u8; 32]>
-    ensures { (bytes : List ℕ) → length bytes ≡ 32 → IsBytes bytes → digits.now ≡ encode_lower bytes
+/// The digest that these digits say, where they are those of 32 bytes, with `a` to `f` in lower case. Of other bytes
+/// nothing is claimed.
+pub fn digest_in(digits: &[u8]) -> Option<[u8; 32]>
+    ensures finds { (bytes : List ℕ) → length bytes ≡ 32 → IsBytes bytes → digits.now ≡ encode_lower bytes
         → result ≡ Some bytes }
+    ensures bytes { IfSome result (λ digest. (length digest ≡ 32) × IsBytes digest) }
 {
     <[u8; 32] as FromHex>::from_hex(digits).ok()
 }
@@ -45,7 +48,7 @@ fn place_of(bytes: &[u8], byte: u8) -> Option<usize>
 }
 
 /// What stands in front of the first such byte, and what behind it.
-fn cut_at(bytes: &[u8], byte: u8) -> Option<(&[u8], &[u8])>
+pub fn cut_at(bytes: &[u8], byte: u8) -> Option<(&[u8], &[u8])>
     ensures cut { MatchOption result (Lacks byte bytes.now)
         (λ p. (bytes.now ≡ p.0.now ++ byte ∷ p.1.now) × Lacks byte p.0.now) }
     ensures shorter { IfSome result (λ p. length p.1.now < length bytes.now) }
@@ -62,7 +65,8 @@ fn cut_at(bytes: &[u8], byte: u8) -> Option<(&[u8], &[u8])>
 
 /// The line with this content, which has no line feed.
 fn line_in(alloc: Global, content: &[u8]) -> Result<Option<ManifestLine>, AllocError>
-    ensures { IfOk result (FindsLine content.now) }
+    ensures finds { IfOk result (FindsLine content.now) }
+    ensures is { IfOk result (λ found. IfSome found IsManifestLine) }
 {
     let Some((name, behind)) = cut_at(content, b' ') else {
         return Ok(None);
@@ -96,7 +100,8 @@ fn body_in(text: &[u8]) -> Option<&[u8]>
 
 /// The lines of these bytes, or none where one of them isn't in form.
 fn lines_in(alloc: Global, body: &[u8]) -> Result<Option<Vec<ManifestLine>>, AllocError>
-    ensures { IfOk result (λ found. FindsLines body.now (option_map (λ lines. lines.items) found)) }
+    ensures finds { IfOk result (λ found. FindsLines body.now (option_map (λ lines. lines.items) found)) }
+    ensures are { IfOk result (λ found. IfSome found (λ lines. AllByRecursion IsManifestLine lines.items)) }
 {
     let mut found = Vec::new(alloc);
     let mut rest = body;
@@ -112,8 +117,9 @@ fn lines_in(alloc: Global, body: &[u8]) -> Result<Option<Vec<ManifestLine>>, All
 
 /// The lines of a manifest in the order of its text, or none where the text is that of no manifest.
 pub fn read_manifest(alloc: Global, text: &[u8]) -> Result<Option<Vec<ManifestLine>>, AllocError>
-    ensures { IfOk result (λ found.
+    ensures reads { IfOk result (λ found.
         MatchOption found (IsNoManifest text.now) (λ lines. manifest_text lines.items ≡ text.now)) }
+    ensures are { IfOk result (λ found. IfSome found (λ lines. AllByRecursion IsManifestLine lines.items)) }
 {
     let Some(body) = body_in(text) else {
         return Ok(None);

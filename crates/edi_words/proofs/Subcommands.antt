@@ -1,4 +1,4 @@
--- Words without a fault name check, canon, compare, hash, explain, verify, diff, draw or delivery, or no subcommand.
+-- Words without a fault name check, canon, compare, hash, explain, verify, diff, draw, delivery or changed, or no subcommand.
 use Rattle.std.proofs.Common.{◌≡◌, ◌≢◌, ◌||◌, ◌⊎◌, ℕ, Bool, true, false, not, cond, List, [], ◌∷◌, Option, Some, None, codes, length, is_some, option_map, refl, sym, ap, subst, inl, inr, arith}
 use Rattle.std.specs.Prelude.{fold, unwrap_or, if◌then◌else◌, ⊤}
 use Rattle.std.specs.Str.{bytes_eq}
@@ -109,38 +109,39 @@ module _ (s : Shape) (shows : s.disable_help_subcommand ≡ false) where
 abbrev NameOf : Option (Text × List Row) → Text
 NameOf met = unwrap_or (option_map (λ (p : Text × List Row). p.0) met) []
 
--- one of nine names
-abbrev IsOneOf : Text → Text → Text → Text → Text → Text → Text → Text → Text → Text → Type 0
-IsOneOf name x y z w u t r q p =
-    (name ≡ x) ⊎ ((name ≡ y) ⊎ ((name ≡ z) ⊎ ((name ≡ w) ⊎ ((name ≡ u) ⊎ ((name ≡ t) ⊎ ((name ≡ r) ⊎ ((name ≡ q) ⊎ (name ≡ p))))))))
+-- one of ten names
+abbrev IsOneOf : Text → Text → Text → Text → Text → Text → Text → Text → Text → Text → Text → Type 0
+IsOneOf name x y z w u t r q p o =
+    (name ≡ x) ⊎ ((name ≡ y) ⊎ ((name ≡ z) ⊎ ((name ≡ w) ⊎ ((name ≡ u) ⊎ ((name ≡ t) ⊎ ((name ≡ r) ⊎ ((name ≡ q) ⊎ ((name ≡ p) ⊎ (name ≡ o)))))))))
 
--- the name of the first of ten subcommands that is met, where the tenth isn't
-picked : (a b c d f g k l m e : Bool) (x y z w u t r q p v : Shape) (words : List Text) (met : Text × List Row) → e ≢ true
+-- the name of the first of eleven subcommands that is met, where the eleventh isn't
+picked : (a b c d f g k l m n e : Bool) (x y z w u t r q p o v : Shape) (words : List Text) (met : Text × List Row) → e ≢ true
     → option_map (λ (s : Shape). rows_at s words)
-    (cond (a || false) (Some x) (cond (b || false) (Some y) (cond (c || false) (Some z) (cond (d || false) (Some w) (cond (f || false) (Some u) (cond (g || false) (Some t) (cond (k || false) (Some r) (cond (l || false) (Some q) (cond (m || false) (Some p) (cond (e || false) (Some v) None))))))))))
-    ≡ Some met → IsOneOf met.0 x.name y.name z.name w.name u.name t.name r.name q.name p.name
-picked true b c d f g k l m e x y z w u t r q p v words met tenth h = inl (sym (ap NameOf h))
-picked false true c d f g k l m e x y z w u t r q p v words met tenth h = inr (inl (sym (ap NameOf h)))
-picked false false true d f g k l m e x y z w u t r q p v words met tenth h = inr (inr (inl (sym (ap NameOf h))))
-picked false false false true f g k l m e x y z w u t r q p v words met tenth h = inr (inr (inr (inl (sym (ap NameOf h)))))
-picked false false false false true g k l m e x y z w u t r q p v words met tenth h = inr (inr (inr (inr (inl (sym (ap NameOf h))))))
-picked false false false false false true k l m e x y z w u t r q p v words met tenth h = inr (inr (inr (inr (inr (inl (sym (ap NameOf h)))))))
-picked false false false false false false true l m e x y z w u t r q p v words met tenth h = inr (inr (inr (inr (inr (inr (inl (sym (ap NameOf h))))))))
-picked false false false false false false false true m e x y z w u t r q p v words met tenth h = inr (inr (inr (inr (inr (inr (inr (inl (sym (ap NameOf h)))))))))
-picked false false false false false false false false true e x y z w u t r q p v words met tenth h = inr (inr (inr (inr (inr (inr (inr (inr (sym (ap NameOf h)))))))))
-picked false false false false false false false false false true x y z w u t r q p v words met tenth h = absurd (tenth refl)
-picked false false false false false false false false false false x y z w u t r q p v words met tenth h = absurd (false≢true (ap is_some h))
+    (cond (a || false) (Some x) (cond (b || false) (Some y) (cond (c || false) (Some z) (cond (d || false) (Some w) (cond (f || false) (Some u) (cond (g || false) (Some t) (cond (k || false) (Some r) (cond (l || false) (Some q) (cond (m || false) (Some p) (cond (n || false) (Some o) (cond (e || false) (Some v) None)))))))))))
+    ≡ Some met → IsOneOf met.0 x.name y.name z.name w.name u.name t.name r.name q.name p.name o.name
+picked true b c d f g k l m n e x y z w u t r q p o v words met last h = inl (sym (ap NameOf h))
+picked false true c d f g k l m n e x y z w u t r q p o v words met last h = inr (inl (sym (ap NameOf h)))
+picked false false true d f g k l m n e x y z w u t r q p o v words met last h = inr (inr (inl (sym (ap NameOf h))))
+picked false false false true f g k l m n e x y z w u t r q p o v words met last h = inr (inr (inr (inl (sym (ap NameOf h)))))
+picked false false false false true g k l m n e x y z w u t r q p o v words met last h = inr (inr (inr (inr (inl (sym (ap NameOf h))))))
+picked false false false false false true k l m n e x y z w u t r q p o v words met last h = inr (inr (inr (inr (inr (inl (sym (ap NameOf h)))))))
+picked false false false false false false true l m n e x y z w u t r q p o v words met last h = inr (inr (inr (inr (inr (inr (inl (sym (ap NameOf h))))))))
+picked false false false false false false false true m n e x y z w u t r q p o v words met last h = inr (inr (inr (inr (inr (inr (inr (inl (sym (ap NameOf h)))))))))
+picked false false false false false false false false true n e x y z w u t r q p o v words met last h = inr (inr (inr (inr (inr (inr (inr (inr (inl (sym (ap NameOf h))))))))))
+picked false false false false false false false false false true e x y z w u t r q p o v words met last h = inr (inr (inr (inr (inr (inr (inr (inr (inr (sym (ap NameOf h))))))))))
+picked false false false false false false false false false false true x y z w u t r q p o v words met last h = absurd (last refl)
+picked false false false false false false false false false false false x y z w u t r q p o v words met last h = absurd (false≢true (ap is_some h))
 
 entered_name : (stop : Option (Text × List Text)) (met : Text × List Row) → IsElsewhere stop → entered (built edicad) stop ≡ Some met
-    → IsOneOf met.0 (codes "check") (codes "canon") (codes "compare") (codes "hash") (codes "explain") (codes "verify") (codes "diff") (codes "draw") (codes "delivery")
+    → IsOneOf met.0 (codes "check") (codes "canon") (codes "compare") (codes "hash") (codes "explain") (codes "verify") (codes "diff") (codes "draw") (codes "delivery") (codes "changed")
 entered_name None met k e = absurd (false≢true (ap is_some e))
 entered_name (Some p) met k e =
-    picked (bytes_eq (codes "check") p.0) (bytes_eq (codes "canon") p.0) (bytes_eq (codes "compare") p.0) (bytes_eq (codes "hash") p.0) (bytes_eq (codes "explain") p.0) (bytes_eq (codes "verify") p.0) (bytes_eq (codes "diff") p.0) (bytes_eq (codes "draw") p.0) (bytes_eq (codes "delivery") p.0)
-    (bytes_eq (codes "help") p.0) _ _ _ _ _ _ _ _ _ _ p.1 met (λ is. k (sym ((bytes_eq-Decides (codes "help") p.0).0 is))) e
+    picked (bytes_eq (codes "check") p.0) (bytes_eq (codes "canon") p.0) (bytes_eq (codes "compare") p.0) (bytes_eq (codes "hash") p.0) (bytes_eq (codes "explain") p.0) (bytes_eq (codes "verify") p.0) (bytes_eq (codes "diff") p.0) (bytes_eq (codes "draw") p.0) (bytes_eq (codes "delivery") p.0) (bytes_eq (codes "changed") p.0)
+    (bytes_eq (codes "help") p.0) _ _ _ _ _ _ _ _ _ _ _ p.1 met (λ is. k (sym ((bytes_eq-Decides (codes "help") p.0).0 is))) e
 
--- the subcommand of words without a fault is `check`, `canon`, `compare`, `hash`, `explain`, `verify`, `diff`, `draw` or `delivery`
+-- the subcommand of words without a fault is `check`, `canon`, `compare`, `hash`, `explain`, `verify`, `diff`, `draw`, `delivery` or `changed`
 pub met_name : (words : List Text) (met : Text × List Row) → fault_of edicad words ≡ [] → subcommand_of edicad words ≡ Some met
-    → IsOneOf met.0 (codes "check") (codes "canon") (codes "compare") (codes "hash") (codes "explain") (codes "verify") (codes "diff") (codes "draw") (codes "delivery")
+    → IsOneOf met.0 (codes "check") (codes "canon") (codes "compare") (codes "hash") (codes "explain") (codes "verify") (codes "diff") (codes "draw") (codes "delivery") (codes "changed")
 met_name words met none e =
     let app = built edicad in
     entered_name (stop_after app.top.rules (names_of app) (argument_words edicad words)) met

@@ -51,3 +51,9 @@ paths_asked line = option_map (λ met. (met.0, values_at (codes "PATH") met.1)) 
 -- the subcommand of a line, with the values of its last argument VEC
 abbrev pub sheets_of : Text → Option (Text × List Text)
 sheets_of line = option_map (λ met. (met.0, values_at (codes "VEC") met.1)) (subcommand_of edicad (words_in line))
+
+-- the subcommand of a line, with the values of BEFORE and AFTER
+abbrev pub lists_asked : Text → Option (Text × List (Option Text))
+lists_asked line =
+    option_map (λ met. (met.0, first_of (codes "BEFORE") met.1 ∷ first_of (codes "AFTER") met.1 ∷ []))
+    (subcommand_of edicad (words_in line))

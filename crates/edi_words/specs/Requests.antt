@@ -10,8 +10,9 @@ use Rattle.clap.specs.declared.error.kind.ErrorKind.{ErrorKind}
 use Rattle.clap.specs.declared.error.kind.ErrorKind.TheVariants.{OutOfMemory, DisplayHelp, DisplayVersion}
 use Rattle.edi_schema.specs.Roles.{KindCodes, AreKindCodes}
 use Rattle.edi_words.specs.declared.words.Request.{Request}
-use Rattle.edi_words.specs.declared.words.Request.TheVariants.{Bundle, Check, Canon, Compare, Hash, Delivery, Explain, Verify, Diff, Draw, Misused, Answered}
+use Rattle.edi_words.specs.declared.words.Request.TheVariants.{Bundle, Check, Canon, Pair, Hash, Delivery, Explain, Draw, Changed, Misused, Answered}
 use Rattle.edi_words.specs.declared.words.Request.TheVariants as asks
+use Rattle.edi_words.specs.declared.words.PairRequest.TheVariants.{Compare, Verify, Diff}
 use Rattle.edi_words.specs.declared.words.Misuse.{Misuse}
 use Rattle.edi_words.specs.declared.words.Misuse.TheVariants.{BadKinds, TwoStandard, NoSheet, NothingHashed, StandardPairing, StandardPicture}
 use Rattle.edi_words.specs.declared.words.BadKinds.{BadKinds as BadCodes}
@@ -112,12 +113,17 @@ draw_command = output_command (codes "draw")
 abbrev pub delivery_command : App
 delivery_command = with_rule (with_rule (new_app (codes "delivery")) kinds_rule) (files_rule (codes "PATH"))
 
+-- the subcommand over two lists of digests
+abbrev pub changed_command : App
+changed_command =
+    with_rule (with_rule (new_app (codes "changed")) (file_rule (codes "BEFORE"))) (file_rule (codes "AFTER"))
+
 -- a command that says its version
 abbrev pub versioned : App → App
 versioned a = record a { top = record a.top { has_version = true } }
 
 abbrev pub edicad : App
-edicad = with_subcommand (with_subcommand (with_subcommand (with_subcommand (with_subcommand (with_subcommand (with_subcommand (with_subcommand (with_subcommand (versioned (new_app (codes "edicad"))) check_command.top) canon_command.top) compare_command.top) hash_command.top) explain_command.top) verify_command.top) diff_command.top) draw_command.top) delivery_command.top
+edicad = with_subcommand (with_subcommand (with_subcommand (with_subcommand (with_subcommand (with_subcommand (with_subcommand (with_subcommand (with_subcommand (with_subcommand (versioned (new_app (codes "edicad"))) check_command.top) canon_command.top) compare_command.top) hash_command.top) explain_command.top) verify_command.top) diff_command.top) draw_command.top) delivery_command.top) changed_command.top
 
 -- IND, FND, LPO and RPO
 abbrev pub usual_kinds : KindCodes
@@ -213,6 +219,7 @@ abbrev pub standard_count : List Row → ℕ
 standard_count rows =
     standard_at (codes "SCD") rows + standard_at (codes "DIC") rows + standard_at (codes "VEC") rows + standard_at (codes "A") rows + standard_at (codes "B") rows
     + standard_at (codes "FILE") rows + standard_at (codes "PATH") rows
+    + standard_at (codes "BEFORE") rows + standard_at (codes "AFTER") rows
 
 -- an argument is given
 abbrev pub is_given : Text → List Row → Bool
@@ -253,7 +260,7 @@ Means met Bundle = met ≡ None
 Means met (Check kinds files) = (rows : List Row) × (met ≡ Some (codes "check", rows)) × GiveKinds rows kinds × AreSheetFiles rows files
 Means met (Canon kinds files out) = (rows : List Row) × (met ≡ Some (codes "canon", rows)) × GiveKinds rows kinds × AreSheetFiles rows files
     × (out.now ≡ value_at (codes "OUT") rows)
-Means met (Compare kinds files pairing) = (rows : List Row) × (met ≡ Some (codes "compare", rows)) × GiveKinds rows kinds × ArePairFiles rows files
+Means met (Pair kinds files (Compare pairing)) = (rows : List Row) × (met ≡ Some (codes "compare", rows)) × GiveKinds rows kinds × ArePairFiles rows files
     × IsOptionFile (codes "pairing") rows pairing
 Means met (Hash kinds files with_schema) =
     (rows : List Row) × (met ≡ Some (codes "hash", rows)) × GiveKinds rows kinds × AreManyFiles rows files
@@ -264,14 +271,17 @@ Means met (Explain kinds files) = (rows : List Row) × (met ≡ Some (codes "exp
     × (is_given (codes "DIC") rows ≡ true) × (is_given (codes "VEC") rows ≡ true)
 Means met (asks.Rule word) = (rows : List Row) × (met ≡ Some (codes "explain", rows)) × (word.now ≡ value_at (codes "SCD") rows)
     × (is_given (codes "DIC") rows ≡ false)
-Means met (Verify kinds files pairing) = (rows : List Row) × (met ≡ Some (codes "verify", rows)) × GiveKinds rows kinds × ArePairFiles rows files
+Means met (Pair kinds files (Verify pairing)) = (rows : List Row) × (met ≡ Some (codes "verify", rows)) × GiveKinds rows kinds × ArePairFiles rows files
     × (pairing.now ≡ value_at (codes "FILE") rows)
-Means met (Diff kinds files brief records json picture) =
+Means met (Pair kinds files (Diff brief records json picture)) =
     (rows : List Row) × (met ≡ Some (codes "diff", rows)) × GiveKinds rows kinds × ArePairFiles rows files
     × IsFlag (one_of (codes "brief") rows) brief × IsFlag (one_of (codes "records") rows) records
     × IsFlag (one_of (codes "json") rows) json × IsOptionFile (codes "picture") rows picture
 Means met (Draw kinds files out) = (rows : List Row) × (met ≡ Some (codes "draw", rows)) × GiveKinds rows kinds × AreSheetFiles rows files
     × (out.now ≡ value_at (codes "OUT") rows)
+Means met (Changed before after) =
+    (rows : List Row) × (met ≡ Some (codes "changed", rows)) × (before.now ≡ value_at (codes "BEFORE") rows)
+    × (after.now ≡ value_at (codes "AFTER") rows)
 Means met (Misused misuse) = (name : Text) × (rows : List Row) × (met ≡ Some (name, rows)) × IsMisuse name rows misuse
 Means met (Answered status) = (rows : List Row) × ((met ≡ Some (codes "hash", rows)) ⊎ (met ≡ Some (codes "delivery", rows))) × (status ≡ 5)
 

@@ -1,7 +1,7 @@
 //! The command line, as clap takes it.
 ghost use Rattle.std.specs.Prelude.{◌≡◌, IfOk, IsOkAnd, codes};
 ghost use Rattle.clap.specs.Words.{AddsArg, AddsSubcommand, app_of, new_app, new_rule, rule_of, with_rule};
-ghost use Rattle.edi_words.specs.Requests.{brief_rule, canon_command, check_command, compare_command, delivery_command, diff_command, draw_command, edicad, explain_command, file_option_rule, file_rule, files_rule, hash_command, json_rule, kinds_rule, optional_files_rule, pairing_rule, picture_rule, records_rule, schema_command, schema_flag_rule, subject_rule, verify_command};
+ghost use Rattle.edi_words.specs.Requests.{brief_rule, canon_command, changed_command, check_command, compare_command, delivery_command, diff_command, draw_command, edicad, explain_command, file_option_rule, file_rule, files_rule, hash_command, json_rule, kinds_rule, optional_files_rule, pairing_rule, picture_rule, records_rule, schema_command, schema_flag_rule, subject_rule, verify_command};
 
 use clap::{Arg, ArgAction, Command};
 use std::alloc::{AllocError, Global};
@@ -15,8 +15,8 @@ const VERSION: &str = "0.1.0";
 const STATUSES: &str = "\
     A file named - is standard input, or standard output.\n\
     \n\
-    Exit status: 0 accepted, the same plan, or a file that pairs\n\
-    \x20            1 different plans, or a file that doesn't pair\n\
+    Exit status: 0 accepted, the same, or a file that pairs\n\
+    \x20            1 different, or a file that doesn't pair\n\
     \x20            2 refused\n\
     \x20            3 wrong words\n\
     \x20            4 a file can't be read or written\n\
@@ -40,7 +40,8 @@ pub fn command<'a>(alloc: Global) -> Result<Command<'a>, AllocError>
     let with_verify = with_subcommand(with_explain, verify(alloc));
     let with_diff = with_subcommand(with_verify, diff(alloc));
     let with_draw = with_subcommand(with_diff, draw(alloc));
-    with_subcommand(with_draw, delivery(alloc))
+    let with_delivery = with_subcommand(with_draw, delivery(alloc));
+    with_subcommand(with_delivery, changed(alloc))
 }
 
 // A command with one more subcommand, if there was memory for both.
@@ -139,6 +140,19 @@ fn delivery<'a>(alloc: Global) -> Result<Command<'a>, AllocError>
         "Gives the digests of the sheets of deliveries",
     );
     with_argument(with_kinds, paths_argument(alloc))
+}
+
+// The subcommand that compares two lists of digests.
+fn changed<'a>(alloc: Global) -> Result<Command<'a>, AllocError>
+    ensures { IfOk result (λ c. app_of c ≡ changed_command) }
+{
+    let bare = Command::new(alloc, "changed").about(
+        "Says which digests are new, gone or changed between two lists",
+    );
+    let before = file(alloc, "BEFORE", "A manifest, or a list as hash writes it");
+    let with_before = with_argument(Ok(bare), before);
+    let after = file(alloc, "AFTER", "A later manifest or list");
+    with_argument(with_before, after)
 }
 
 // The subcommand that explains a rule or a sheet.

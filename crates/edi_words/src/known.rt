@@ -2,7 +2,7 @@
 ghost use Rattle.std.specs.Prelude.{◌≡◌, [], ◌∷◌, None, Some, codes};
 ghost use Rattle.clap.specs.Words.{fault_of, subcommand_of};
 ghost use Rattle.clap.specs.declared.error.ErrorKind.TheVariants.{DisplayHelp, DisplayVersion, InvalidSubcommand, MissingRequiredArgument, UnknownArgument};
-ghost use Rattle.edi_words.specs.Known.{brief_of, json_of, pairing_files_of, paths_asked, picture_of, records_of, sheets_of, values_of, with_schema_of, words_in};
+ghost use Rattle.edi_words.specs.Known.{brief_of, json_of, lists_asked, pairing_files_of, paths_asked, picture_of, records_of, sheets_of, values_of, with_schema_of, words_in};
 ghost use Rattle.edi_words.specs.Requests.{edicad};
 
 /// Known words ask for what they should.
@@ -19,6 +19,8 @@ pub fn known_words_are_asked()
     ensures with_schema { with_schema_of (codes "edicad hash --schema s d") ≡ Some (Some (codes "true")) }
     ensures without_schema { with_schema_of (codes "edicad hash s d a") ≡ Some (Some (codes "false")) }
     ensures delivery { paths_asked (codes "edicad delivery p q") ≡ Some (codes "delivery", codes "p" ∷ codes "q" ∷ []) }
+    ensures changed { lists_asked (codes "edicad changed a b")
+        ≡ Some (codes "changed", Some (codes "a") ∷ Some (codes "b") ∷ []) }
     ensures explain { values_of (codes "edicad explain s d v")
         ≡ Some (codes "explain", None ∷ Some (codes "s") ∷ Some (codes "d") ∷ Some (codes "v") ∷ None ∷ None ∷ None ∷ []) }
     ensures rule { values_of (codes "edicad explain 403")
@@ -46,6 +48,8 @@ pub fn known_words_are_asked()
     ensures no_hash_fault { fault_of edicad (words_in (codes "edicad hash s d a b c")) ≡ [] }
     ensures no_delivery_fault { fault_of edicad (words_in (codes "edicad delivery --kinds=A,B,C,D p")) ≡ [] }
     ensures no_path { fault_of edicad (words_in (codes "edicad delivery")) ≡ MissingRequiredArgument ∷ [] }
+    ensures no_changed_fault { fault_of edicad (words_in (codes "edicad changed a b")) ≡ [] }
+    ensures no_after { fault_of edicad (words_in (codes "edicad changed a")) ≡ MissingRequiredArgument ∷ [] }
     ensures no_explain_fault { fault_of edicad (words_in (codes "edicad explain s d v")) ≡ [] }
     ensures no_rule_fault { fault_of edicad (words_in (codes "edicad explain 403")) ≡ [] }
     ensures no_verify_fault { fault_of edicad (words_in (codes "edicad verify s d a b f")) ≡ [] }

@@ -60,11 +60,11 @@ pub enum Request<'a> {
         files: SheetFiles<'a>,
         out: &'a str,
     },
-    /// Whether two sheets state the same plan, and where a pairing of them goes.
-    Compare {
+    /// What is asked of two sheets.
+    Pair {
         kinds: GivenKinds<'a>,
         files: PairFiles<'a>,
-        pairing: Option<&'a str>,
+        what: PairRequest<'a>,
     },
     /// The digests of the canonical files of sheets, and that of the schema first.
     Hash {
@@ -86,32 +86,42 @@ pub enum Request<'a> {
     Rule {
         word: &'a str,
     },
-    /// Whether a file states a pairing that carries the plan of one sheet onto that of another.
-    Verify {
-        kinds: GivenKinds<'a>,
-        files: PairFiles<'a>,
-        pairing: &'a str,
-    },
-    /// What differs between two sheets, object by object, record by record or as lines of JSON, or only how many records differ, and where a picture of
-    /// that goes.
-    Diff {
-        kinds: GivenKinds<'a>,
-        files: PairFiles<'a>,
-        brief: bool,
-        records: bool,
-        json: bool,
-        picture: Option<&'a str>,
-    },
     /// The picture of a sheet.
     Draw {
         kinds: GivenKinds<'a>,
         files: SheetFiles<'a>,
         out: &'a str,
     },
+    /// Which digests are new, gone or changed between two lists.
+    Changed {
+        before: &'a str,
+        after: &'a str,
+    },
     /// Nothing that can be meant.
     Misused(Misuse<'a>),
     /// Nothing more: the words were answered on standard error, and this is the exit status.
     Answered(u8),
+}
+
+/// What is asked of two sheets.
+#[derive(Clone, Copy)]
+pub enum PairRequest<'a> {
+    /// Whether they state the same plan, and where a pairing of them goes.
+    Compare {
+        pairing: Option<&'a str>,
+    },
+    /// Whether a file states a pairing that carries the plan of the one onto that of the other.
+    Verify {
+        pairing: &'a str,
+    },
+    /// What differs between them, object by object, record by record or as lines of JSON, or only how many records
+    /// differ, and where a picture of that goes.
+    Diff {
+        brief: bool,
+        records: bool,
+        json: bool,
+        picture: Option<&'a str>,
+    },
 }
 
 /// Why words in good form can't be meant.
@@ -209,10 +219,12 @@ fn subcommand_meant<'a, R: Eprint + AllocGlobal>(
         },
         "compare" => compared(given, kinds),
         "hash" => hashed(rt, given, kinds),
-        "verify" => Request::Verify {
+        "verify" => Request::Pair {
             kinds,
             files: pair_files(given),
-            pairing: path(given, "FILE"),
+            what: PairRequest::Verify {
+                pairing: path(given, "FILE"),
+            },
         },
         "diff" => differing(given, kinds),
         "draw" => Request::Draw {
@@ -221,6 +233,10 @@ fn subcommand_meant<'a, R: Eprint + AllocGlobal>(
             out: path(given, "OUT"),
         },
         "delivery" => delivered(rt, given, kinds),
+        "changed" => Request::Changed {
+            before: path(given, "BEFORE"),
+            after: path(given, "AFTER"),
+        },
         _ => explained(given, kinds),
     }
 }
@@ -232,10 +248,12 @@ fn compared<'a>(given: &ArgMatches<'a>, kinds: GivenKinds<'a>) -> Request<'a>
     if is_standard(path(given, "pairing")) {
         return Request::Misused(Misuse::StandardPairing);
     }
-    Request::Compare {
+    Request::Pair {
         kinds,
         files: pair_files(given),
-        pairing: given.get_str("pairing"),
+        what: PairRequest::Compare {
+            pairing: given.get_str("pairing"),
+        },
     }
 }
 
@@ -289,13 +307,15 @@ fn differing<'a>(given: &ArgMatches<'a>, kinds: GivenKinds<'a>) -> Request<'a>
     if is_standard(path(given, "picture")) {
         return Request::Misused(Misuse::StandardPicture);
     }
-    Request::Diff {
+    Request::Pair {
         kinds,
         files: pair_files(given),
-        brief: flag(given, "brief"),
-        records: flag(given, "records"),
-        json: flag(given, "json"),
-        picture: given.get_str("picture"),
+        what: PairRequest::Diff {
+            brief: flag(given, "brief"),
+            records: flag(given, "records"),
+            json: flag(given, "json"),
+            picture: given.get_str("picture"),
+        },
     }
 }
 
@@ -340,6 +360,8 @@ fn reads_input_twice(given: &ArgMatches<'_>) -> bool
         + standard(given, "B")
         + standard(given, "FILE")
         + standard(given, "PATH")
+        + standard(given, "BEFORE")
+        + standard(given, "AFTER")
         > 1
 }
 

@@ -1,6 +1,7 @@
 -- What each request is answered by.
 use Rattle.std.specs.Prelude.{◌≡◌, ◌⊎◌, ℕ, List, [], IsTrue, MatchOption}
 use Rattle.std.specs.Bool.{MatchBool}
+use Rattle.edi_changes.specs.Statuses.{IsChangedStatus}
 use Rattle.edi_deliveries.specs.Deliveries.{IsDeliveryStatus, Listings}
 use Rattle.edi_answers.specs.Explains.{IsExplainStatus, IsRuleStatus}
 use Rattle.edi_answers.specs.Hashes.{IsHashStatus}
@@ -15,9 +16,12 @@ use Rattle.edi_answers.specs.Statuses.{IsBundleStatus, IsCompareStatus, IsFileSt
 use Rattle.edicad.specs.Forms.{form_asked}
 use Rattle.edicad.specs.Statuses.{IsDiffStatus, IsPictureStatus, IsPutStatus, IsSendStatus}
 use Rattle.edi_schema.specs.Roles.{KindCodes}
+use Rattle.edi_words.specs.declared.words.PairFiles.{PairFiles}
+use Rattle.edi_words.specs.declared.words.PairRequest.{PairRequest}
+use Rattle.edi_words.specs.declared.words.PairRequest.TheVariants.{Compare, Verify, Diff}
 use Rattle.edi_words.specs.declared.words.SheetFiles.{SheetFiles}
 use Rattle.edi_words.specs.declared.words.Request.{Request}
-use Rattle.edi_words.specs.declared.words.Request.TheVariants.{Bundle, Check, Canon, Compare, Hash, Delivery, Explain, Rule, Verify, Diff, Draw, Misused, Answered}
+use Rattle.edi_words.specs.declared.words.Request.TheVariants.{Bundle, Check, Canon, Pair, Hash, Delivery, Explain, Rule, Draw, Changed, Misused, Answered}
 
 -- The status of what is made of a sheet, which is sent to the output or put at a path.
 abbrev pub IsMadeStatus : Effects → Stream → Stream → Product → KindCodes → SheetFiles → List ℕ → ℕ → Type 0
@@ -29,24 +33,33 @@ abbrev pub IsMisusedStatus : Stream → Stream → Misuse → ℕ → Type 0
 IsMisusedStatus out err misuse s =
     ((s ≡ 3) × Complains out err (misuse_lines misuse)) ⊎ ((s ≡ 5) × IsTrue (shows_words misuse) × Prints out [] × LacksMemory err)
 
+-- The status of what was asked of two sheets. Where no FILE is named to which something goes, nothing in the folder has
+-- changed.
+abbrev pub IsPairReplied : Effects → Stream → Stream → KindCodes → PairFiles → PairRequest → ℕ → Type 0
+IsPairReplied run out err kinds files (Compare pairing) s =
+    MatchOption pairing (run.untouched × IsCompareStatus run out err kinds files s)
+    (λ path. IsPairingStatus run out err kinds files path.now s)
+IsPairReplied run out err kinds files (Verify pairing) s =
+    run.untouched × IsVerifyStatus run out err kinds files pairing.now s
+IsPairReplied run out err kinds files (Diff brief records json picture) s =
+    MatchOption picture (run.untouched × IsDiffStatus run out err kinds files (form_asked brief records json) s)
+    (λ path. IsPictureStatus run out err kinds files (form_asked brief records json) path.now s)
+
 -- The status of what was asked for but for the note on kinds, over what was found in the folder and left there, and what the two streams
 -- have before and after. Where no OUT or FILE is named, nothing in the folder has changed.
 abbrev pub IsReplied : Effects → Listings → Stream → Stream → Request → ℕ → Type 0
 IsReplied run listings out err Bundle s = run.untouched × IsBundleStatus run out err s
 IsReplied run listings out err (Check kinds files) s = run.untouched × IsFileStatus run out err kinds files s
 IsReplied run listings out err (Canon kinds files path) s = IsMadeStatus run out err Canonical kinds files path.now s
-IsReplied run listings out err (Compare kinds files pairing) s = MatchOption pairing (run.untouched × IsCompareStatus run out err kinds files s)
-    (λ path. IsPairingStatus run out err kinds files path.now s)
+IsReplied run listings out err (Pair kinds files what) s = IsPairReplied run out err kinds files what s
 IsReplied run listings out err (Hash kinds files with_schema) s =
     run.untouched × IsHashStatus run out err kinds files with_schema s
 IsReplied run listings out err (Delivery kinds paths) s = run.untouched × IsDeliveryStatus run listings kinds paths.items out err s
 IsReplied run listings out err (Explain kinds files) s = run.untouched × IsExplainStatus run out err kinds files s
 IsReplied run listings out err (Rule word) s = run.untouched × IsRuleStatus out err word.now s
-IsReplied run listings out err (Verify kinds files pairing) s = run.untouched × IsVerifyStatus run out err kinds files pairing.now s
-IsReplied run listings out err (Diff kinds files brief records json picture) s =
-    MatchOption picture (run.untouched × IsDiffStatus run out err kinds files (form_asked brief records json) s)
-    (λ path. IsPictureStatus run out err kinds files (form_asked brief records json) path.now s)
 IsReplied run listings out err (Draw kinds files path) s = IsMadeStatus run out err Picture kinds files path.now s
+IsReplied run listings out err (Changed before after) s =
+    run.untouched × IsChangedStatus run out err before.now after.now s
 IsReplied run listings out err (Misused misuse) s = run.untouched × IsMisusedStatus out err misuse s
 IsReplied run listings out err (Answered status) s = run.untouched × (s ≡ status) × Prints out [] × Prints err []
 

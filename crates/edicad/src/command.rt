@@ -1,7 +1,7 @@
 //! What the program does with its words.
 ghost use Rattle.std.specs.Prelude.{◌≡◌, ◌⊎◌, ◌<◌, ℕ, List, MatchOption, map, string_bytes};
 ghost use Rattle.std.specs.Bool.{MatchBool};
-ghost use Rattle.edicad.specs.Answered.{AnswersWords, IsAnswered, IsMadeStatus, IsReplied, IsUnread};
+ghost use Rattle.edicad.specs.Answered.{AnswersWords, IsAnswered, IsMadeStatus, IsPairReplied, IsReplied, IsUnread};
 ghost use Rattle.edi_answers.specs.Effects.{effects, inputs, written};
 ghost use Rattle.edi_answers.specs.Notes.{HasNoteOf};
 ghost use Rattle.edicad.specs.inner.Notes.{LeavesNoteOf};
@@ -15,13 +15,14 @@ use edi_answers::commands::{bundle, check, compare_or_pair, verify};
 use edi_answers::explains::{explain, explain_rule};
 use edi_answers::hashes::hash;
 use edi_answers::{notes, report};
+use edi_changes::answer::changed;
 use edi_deliveries::deliveries::answer_paths;
 use edi_diff::{Difference, TextForm};
 use edi_files::Product::{self, Canonical, Picture};
 use edi_files::{CommandLine, Disk, Errors, Folder, Listing, Words};
 use edi_line::{ByteOut, ToWrite};
 use edi_outcome::Outcome;
-use edi_words::{GivenKinds, PairFiles, Request, SheetFiles, asked, is_standard};
+use edi_words::{GivenKinds, PairFiles, PairRequest, Request, SheetFiles, asked, is_standard};
 use edi_write::put_all;
 use std::alloc::Global;
 use std::fs::File;
@@ -132,35 +133,18 @@ fn replied<F: Folder + Listing, O: ByteOut, E: ByteOut>(
         } => make(
             alloc, folder, Canonical, &kinds, &files, path, out, err, note,
         ),
-        Request::Compare {
-            kinds,
-            files,
-            pairing,
-        } => compare_or_pair(alloc, folder, &kinds, &files, pairing, out, err, note),
+        Request::Pair { kinds, files, what } => {
+            replied_of_pair(alloc, folder, &kinds, &files, what, out, err, note)
+        }
         Request::Hash {
             kinds,
             files,
             with_schema,
         } => hash(alloc, folder, &kinds, &files, with_schema, out, err),
         Request::Delivery { kinds, paths } => answer_paths(alloc, folder, &kinds, &paths, out, err),
+        Request::Changed { before, after } => changed(alloc, folder, before, after, out, err),
         Request::Explain { kinds, files } => explain(alloc, folder, &kinds, &files, out, err),
         Request::Rule { word } => explain_rule(alloc, word, out, err),
-        Request::Verify {
-            kinds,
-            files,
-            pairing,
-        } => verify(alloc, folder, &kinds, &files, pairing, out, err, note),
-        Request::Diff {
-            kinds,
-            files,
-            brief,
-            records,
-            json,
-            picture,
-        } => {
-            let form = form_asked(brief, records, json);
-            diff_or_draw(alloc, folder, &kinds, &files, form, picture, out, err, note)
-        }
         Request::Draw {
             kinds,
             files,
@@ -168,6 +152,41 @@ fn replied<F: Folder + Listing, O: ByteOut, E: ByteOut>(
         } => make(alloc, folder, Picture, &kinds, &files, path, out, err, note),
         Request::Misused(misuse) => report::misused(alloc, err, misuse),
         Request::Answered(status) => status,
+    }
+}
+
+// What is asked of two sheets.
+fn replied_of_pair<F: Folder, O: ByteOut, E: ByteOut>(
+    alloc: Global,
+    folder: &mut F,
+    kinds: &GivenKinds<'_>,
+    files: &PairFiles<'_>,
+    what: PairRequest<'_>,
+    out: &mut O,
+    err: &mut E,
+    note: &mut Vec<u8>,
+) -> u8
+    ensures status { IsPairStatus result }
+    ensures answer { IsPairReplied (effects F.Folder F.Reader.ByteIn F.Sink.ByteOut F.NewFile.ByteOut folder.old folder.new)
+        (written O.ByteOut out.old out.new) (written E.ByteOut err.old err.new) kinds.now files.now what.entry result }
+    ensures note { HasNoteOf (inputs F.Folder F.Reader.ByteIn folder.old) kinds.now files.now.scd.now result note.old.items note.new.items }
+{
+    match what {
+        PairRequest::Compare { pairing } => {
+            compare_or_pair(alloc, folder, kinds, files, pairing, out, err, note)
+        }
+        PairRequest::Verify { pairing } => {
+            verify(alloc, folder, kinds, files, pairing, out, err, note)
+        }
+        PairRequest::Diff {
+            brief,
+            records,
+            json,
+            picture,
+        } => {
+            let form = form_asked(brief, records, json);
+            diff_or_draw(alloc, folder, kinds, files, form, picture, out, err, note)
+        }
     }
 }
 

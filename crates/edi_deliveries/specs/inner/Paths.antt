@@ -1,5 +1,7 @@
 -- The paths of a lot's files, as the program owns them, and what is found of THF files.
-use Rattle.std.specs.Prelude.{◌≡◌, ℕ, List, [], ◌∷◌, Some, flat_map, map, option_to_list, string_bytes}
+use Rattle.std.specs.Prelude.{◌≡◌, ℕ, List, [], ◌∷◌, Some, find, flat_map, map, option_map, option_to_list, string_bytes}
+use Rattle.std.specs.Str.{bytes_eq, str_to_ascii_lowercase}
+use Rattle.indexmap.specs.IndexMap.{IndexMap, get}
 use Rattle.std.proofs.Common.{Bor, Result, Ok, Err}
 use Rattle.edi_delivery.specs.NameParts.{file_name}
 use Rattle.edi_delivery.specs.declared.file_name.Extension.TheVariants.{Scd, Dic, Vec}
@@ -7,10 +9,17 @@ use Rattle.edi_delivery.specs.declared.lot.Lot.{Lot}
 use Rattle.edi_words.specs.declared.words.ManyFiles.{ManyFiles}
 use Rattle.edi_delivery.specs.DeliveryRefusal.{IsDeliveryRefusal}
 use Rattle.edi_answers.specs.Effects.{Inputs}
-use Rattle.edi_deliveries.specs.Deliveries.{LacksOneThf, OfThf, ThfFault, found_path, thf_names}
+use Rattle.edi_answers.specs.WholeInputs.{WholeInputFault, OfWholeInput}
+use Rattle.edi_deliveries.specs.Deliveries.{LacksOneThf, found_path, thf_names}
 use Rattle.edi_deliveries.specs.declared.thf.NoDelivery.{NoDelivery}
 use Rattle.edi_deliveries.specs.declared.thf.NoDelivery.TheVariants.{Unread, Refused}
 use Rattle.edi_deliveries.specs.declared.lot_files.LotPaths.{LotPaths}
+
+-- a table finds by a name in lower case the first of these names that is equal to it in lower case
+abbrev pub FindsFirst : {S : Type 0} → List (List ℕ) → IndexMap (List ℕ) (Bor (List ℕ)) S → Type 0
+FindsFirst names table = (key : List ℕ)
+    → option_map (λ (name : Bor (List ℕ)). name.now) (get bytes_eq table key)
+    ≡ find (λ name. bytes_eq key (str_to_ascii_lowercase name)) names
 
 -- the paths of those of its VEC files that are there
 abbrev pub vec_paths : List ℕ → List (List ℕ) → Lot → List (List ℕ)
@@ -30,8 +39,8 @@ pub record HavePaths (paths : LotPaths) (files : ManyFiles) : Type 0 where
 
 -- why a THF file states no lots
 abbrev pub MatchThf : Inputs → List ℕ → NoDelivery → Type 0
-MatchThf inputs thf (Unread e) = ThfFault inputs thf e
-MatchThf inputs thf (Refused f) = OfThf inputs thf (λ b. IsDeliveryRefusal b f)
+MatchThf inputs thf (Unread e) = WholeInputFault inputs thf e
+MatchThf inputs thf (Refused f) = OfWholeInput inputs thf (λ b. IsDeliveryRefusal b f)
 
 -- the only THF file among names, or what is wrong with them
 abbrev pub MatchChosen : List (List ℕ) → Result (Bor (List ℕ)) (Bor (List ℕ)) → Type 0

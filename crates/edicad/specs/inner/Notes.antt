@@ -1,7 +1,7 @@
 -- The note on the kinds of links that no class has, while a command runs.
 use Rattle.std.specs.Prelude.{◌≡◌, ℕ, List}
 use Rattle.edi_words.specs.declared.words.Request.{Request}
-use Rattle.edi_words.specs.declared.words.Request.TheVariants.{Bundle, Check, Canon, Compare, Hash, Delivery, Explain, Rule, Verify, Diff, Draw, Misused, Answered}
+use Rattle.edi_words.specs.declared.words.Request.TheVariants.{Bundle, Check, Canon, Pair, Hash, Delivery, Explain, Rule, Draw, Changed, Misused, Answered}
 use Rattle.edi_answers.specs.Effects.{Inputs}
 use Rattle.edi_answers.specs.Notes.{HasNoteOf}
 
@@ -11,13 +11,12 @@ abbrev pub LeavesNoteOf : Inputs → Request → ℕ → List ℕ → List ℕ �
 LeavesNoteOf inputs Bundle status old new = new ≡ old
 LeavesNoteOf inputs (Check kinds files) status old new = HasNoteOf inputs kinds files.scd.now status old new
 LeavesNoteOf inputs (Canon kinds files out) status old new = HasNoteOf inputs kinds files.scd.now status old new
-LeavesNoteOf inputs (Compare kinds files pairing) status old new = HasNoteOf inputs kinds files.scd.now status old new
+LeavesNoteOf inputs (Pair kinds files what) status old new = HasNoteOf inputs kinds files.scd.now status old new
 LeavesNoteOf inputs (Hash kinds files with_schema) status old new = new ≡ old
 LeavesNoteOf inputs (Delivery kinds paths) status old new = new ≡ old
 LeavesNoteOf inputs (Explain kinds files) status old new = new ≡ old
 LeavesNoteOf inputs (Rule word) status old new = new ≡ old
-LeavesNoteOf inputs (Verify kinds files pairing) status old new = HasNoteOf inputs kinds files.scd.now status old new
-LeavesNoteOf inputs (Diff kinds files brief records json picture) status old new = HasNoteOf inputs kinds files.scd.now status old new
 LeavesNoteOf inputs (Draw kinds files out) status old new = HasNoteOf inputs kinds files.scd.now status old new
+LeavesNoteOf inputs (Changed before after) status old new = new ≡ old
 LeavesNoteOf inputs (Misused misuse) status old new = new ≡ old
 LeavesNoteOf inputs (Answered given) status old new = new ≡ old

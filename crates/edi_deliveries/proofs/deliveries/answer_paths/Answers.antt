@@ -1,4 +1,4 @@
-use Rattle.std.proofs.Common.{◌≡◌, ◌∙◌, inl, refl, sym, subst, arith, IsTrue, ℕ, List, Bor}
+use Rattle.std.proofs.Common.{◌≡◌, ◌∙◌, inl, refl, sym, subst, arith, ℕ, List, Bor}
 use Rattle.std.specs.Prelude.{max}
 use Rattle.edi_answers.specs.Effects.{effects}
 use Rattle.edi_answers.specs.Statuses.{IsSheetStatus}

@@ -7,4 +7,4 @@ use Rattle.edi_deliveries.proofs.lot_files.vec_paths.Given as goal
 abbrev pub invariant-loop-own : goal.invariant-loop-own
 invariant-loop-own l =
     map string_bytes l.paths.items
-    ≡ flat_map (λ own. option_to_list (found_path l.before (map string_bytes l.names) (file_name l.lot.name Vec own))) (take l.own-index l.lot.vecs)
+    ≡ flat_map (λ own. option_to_list (found_path l.before l.names (file_name l.lot.name Vec own))) (take l.own-index l.lot.vecs)

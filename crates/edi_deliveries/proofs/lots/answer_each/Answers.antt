@@ -1,4 +1,4 @@
-use Rattle.std.proofs.Common.{◌≡◌, ◌∙◌, inl, refl, sym, subst, map, string_bytes, arith, get_or, IsTrue}
+use Rattle.std.proofs.Common.{◌≡◌, ◌∙◌, inl, refl, sym, subst, arith, get_or}
 use Rattle.std.specs.Prelude.{max}
 use Rattle.edi_answers.specs.Effects.{effects, written}
 use Rattle.edi_answers.specs.Statuses.{IsSheetStatus}
@@ -9,12 +9,12 @@ use Rattle.edi_deliveries.proofs.lots.answer_each.Goals as goal
 
 pub loop-lot-init : goal.loop-lot-init
 loop-lot-init g c =
-    let says = IsLotAnswered (effects g.F.Folder g.F.Reader.ByteIn g.F.Sink.ByteOut g.F.NewFile.ByteOut c.args.folder.now c.args.folder.now) c.args.kinds.now c.args.before.now (map string_bytes c.args.names.now) in
+    let says = IsLotAnswered (effects g.F.Folder g.F.Reader.ByteIn g.F.Sink.ByteOut g.F.NewFile.ByteOut c.args.folder.now c.args.folder.now) c.args.kinds.now c.args.before.now c.args.names.now in
     (none_so_far says c.args.lots.now (g.O.ByteOut.contents c.args.out.now) (g.E.ByteOut.contents c.args.err.now) (g.O.ByteOut.has_failed c.args.out.now) (g.E.ByteOut.has_failed c.args.err.now), inl refl, λ t. t, λ t. t)
 
 pub loop-lot-preserved : goal.loop-lot-preserved
 loop-lot-preserved g c =
-    let says = IsLotAnswered (effects g.F.Folder g.F.Reader.ByteIn g.F.Sink.ByteOut g.F.NewFile.ByteOut c.args.folder.now c.args.folder.now) c.args.kinds.now c.args.before.now (map string_bytes c.args.names.now) in
+    let says = IsLotAnswered (effects g.F.Folder g.F.Reader.ByteIn g.F.Sink.ByteOut g.F.NewFile.ByteOut c.args.folder.now c.args.folder.now) c.args.kinds.now c.args.before.now c.args.names.now in
     let worst : c.max-worst.result ≡ max c.loop-lot.worst c.answer_lot-status.result = c.max-worst.ensures ∙ ord_max_is c.loop-lot.worst c.answer_lot-status.result in
     let o = g.O.ByteOut.contents c.args.out.now in
     let e = g.E.ByteOut.contents c.args.err.now in

@@ -1,4 +1,4 @@
-use Rattle.std.proofs.Common.{map, string_bytes, IsTrue}
+use Rattle.std.proofs.Common.{IsTrue}
 use Rattle.edi_answers.specs.Effects.{effects}
 use Rattle.edi_answers.specs.Statuses.{IsSheetStatus}
 use Rattle.edi_deliveries.specs.Deliveries.{IsLotAnswered}
@@ -7,7 +7,7 @@ use Rattle.edi_deliveries.proofs.lots.answer_each.Given as goal
 
 abbrev pub invariant-loop-lot : goal.invariant-loop-lot
 invariant-loop-lot g l =
-    Completes (IsLotAnswered (effects g.F.Folder g.F.Reader.ByteIn g.F.Sink.ByteOut g.F.NewFile.ByteOut l.folder l.folder) l.kinds l.before (map string_bytes l.names)) l.lots l.lot-index
+    Completes (IsLotAnswered (effects g.F.Folder g.F.Reader.ByteIn g.F.Sink.ByteOut g.F.NewFile.ByteOut l.folder l.folder) l.kinds l.before l.names) l.lots l.lot-index
     (g.O.ByteOut.contents l.initial.out) (g.E.ByteOut.contents l.initial.err) (g.O.ByteOut.contents l.out) (g.E.ByteOut.contents l.err)
     (g.O.ByteOut.has_failed l.out) (g.E.ByteOut.has_failed l.err) l.worst
     × IsSheetStatus l.worst

@@ -1,4 +1,4 @@
-use Rattle.std.proofs.Common.{map, string_bytes, subst}
+use Rattle.std.proofs.Common.{subst}
 use Rattle.std.specs.Option.{MatchOption}
 use Rattle.edi_answers.specs.Effects.{effects, written}
 use Rattle.edi_deliveries.specs.Deliveries.{LacksSchema}
@@ -8,7 +8,7 @@ use Rattle.edi_deliveries.proofs.lots.hash_lot.Goals as goal
 
 pub returns-in-Ok-Some-clause-answer : goal.returns-in-Ok-Some-clause-answer
 returns-in-Ok-Some-clause-answer g c =
-    let names = map string_bytes c.args.names.now in
+    let names = c.args.names.now in
     let are = subst (λ found. MatchOption found (LacksSchema names c.args.lot.now) (AreLotPaths c.args.before.now names c.args.lot.now)) c.in-Ok-Some.field-0-is c.in-Ok-Some.ensures in
     let run = effects g.F.Folder g.F.Reader.ByteIn g.F.Sink.ByteOut g.F.NewFile.ByteOut c.args.folder.now c.args.folder.now in
     lot_hashed run c.args.kinds.now c.args.before.now names c.args.lot.now c.in-Ok-Some.paths (written g.O.ByteOut c.args.out.now c.hash_paths.new.out)

@@ -1,23 +1,13 @@
-use Rattle.std.proofs.Common.{◌≡◌, ◌∙◌, ◌++◌, ℕ, List, Bor, map, string_bytes, sym, ap}
+use Rattle.std.proofs.Common.{◌∙◌, ◌++◌, ℕ, List, Bor, ap, filter, flat_map, map, string_bytes}
+use Rattle.std.proofs.lemmas.Result.{IfOk-weaker}
 use Rattle.edi_deliveries.specs.Deliveries.{found_names, is_unnamed, unnamed_line}
-use Rattle.edi_deliveries.proofs.Lines.{one_named_more, one_unnamed_more}
 use Rattle.edi_deliveries.proofs.said.unnamed_lines.Goals as goal
-use Rattle.edi_deliveries.proofs.said.unnamed_lines.Goals.{then-is_unnamed+in_ok-path+in_ok-push_named, else-is_unnamed}
 
-pub loop-name-preserved : goal.loop-name-preserved
-loop-name-preserved c =
-    let found = found_names (map string_bytes c.args.names.now) c.args.lots.now in
-    let line = λ (name : List ℕ). unnamed_line (c.args.before.now ++ name) in
-    let test : c.is_unnamed.result ≡ is_unnamed found (string_bytes c.name-item.result) =
-    c.is_unnamed.ensures ∙ (ap (λ (names : List (Bor (List ℕ))). is_unnamed (map (λ (n : Bor (List ℕ)). n.now) names) c.deref-in-loop-name.result.now) c.deref.ensures.value
-    ∙ (ap (λ names. is_unnamed names c.deref-in-loop-name.result.now) c.in_ok-found.ensures ∙ ap (is_unnamed found) c.deref-in-loop-name.ensures)) in
-    elim c.if-is_unnamed.branch [
-      | then-is_unnamed+in_ok-path+in_ok-push_named w ↦
-          one_unnamed_more string_bytes (is_unnamed found) line c.args.names.now c.loop-name.name-index c.name-item.result c.loop-name-test.true c.name-item.is
-          c.loop-name.lines.items c.if-is_unnamed.lines.items (sym test ∙ w.if-is_unnamed.true) c.loop-name.invariant
-          (ap (λ v. v.items) w.lines-is ∙ (w.in_ok-push_named.ensures
-          ∙ ap (λ path. c.loop-name.lines.items ++ unnamed_line path) (w.deref-then-is_unnamed.ensures.value ∙ (w.in_ok-path.ensures ∙ ap (λ name. c.args.before.now ++ name) w.as_bytes.ensures.value))))
-      | else-is_unnamed w ↦
-          one_named_more string_bytes (is_unnamed found) line c.args.names.now c.loop-name.name-index c.name-item.result c.loop-name-test.true c.name-item.is
-          c.loop-name.lines.items c.if-is_unnamed.lines.items (sym test ∙ w.if-is_unnamed.false) c.loop-name.invariant (ap (λ v. v.items) w.lines-is)
-    ]
+pub returns : goal.returns
+returns c =
+    let names = c.args.names.now in
+    let lots = c.args.lots.now in
+    let lines = λ (found all : List (List ℕ)). flat_map (λ name. unnamed_line (c.args.before.now ++ name)) (filter (is_unnamed found) all) in
+    IfOk-weaker c.lines_on_unnamed.result _ _ (λ made is.
+    is ∙ (ap (λ (found : List (Bor (List ℕ))). lines (map (λ (n : Bor (List ℕ)). n.now) found) (map string_bytes c.all.result.now)) c.deref.ensures.value
+    ∙ (ap (λ found. lines found (map string_bytes c.all.result.now)) c.in_ok-found.ensures ∙ ap (lines (found_names names lots)) c.all.ensures))) c.lines_on_unnamed.ensures

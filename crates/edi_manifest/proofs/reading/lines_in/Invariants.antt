@@ -6,7 +6,9 @@ use Rattle.edi_manifest.proofs.ReadBack.{ReadUpTo}
 use Rattle.edi_manifest.proofs.reading.lines_in.Given as goal
 
 abbrev pub invariant-loop-content : goal.invariant-loop-content
-invariant-loop-content l = (lines : List ManifestLine) → AllByRecursion IsManifestLine lines → concat (manifest_lines lines) ≡ l.fn.body → ReadUpTo (manifest_lines lines) l.found.items l.rest
+invariant-loop-content l =
+    ((lines : List ManifestLine) → AllByRecursion IsManifestLine lines → concat (manifest_lines lines) ≡ l.fn.body → ReadUpTo (manifest_lines lines) l.found.items l.rest)
+    × AllByRecursion IsManifestLine l.found.items
 
 abbrev pub decreases-loop-content : goal.decreases-loop-content
 decreases-loop-content l = length l.rest

@@ -1,6 +1,6 @@
 use Rattle.std.proofs.Common.{◌≡◌, Ok, ap, codes, refl}
 use Rattle.clap.specs.Words.{app_of, new_app}
-use Rattle.edi_words.specs.Requests.{canon_command, check_command, compare_command, delivery_command, diff_command, draw_command, explain_command, hash_command, verify_command, versioned}
+use Rattle.edi_words.specs.Requests.{canon_command, changed_command, check_command, compare_command, delivery_command, diff_command, draw_command, explain_command, hash_command, verify_command, versioned}
 use Rattle.edi_words.proofs.Plain.{subcommand_added}
 use Rattle.edi_words.proofs.command_line.command.Goals as goal
 
@@ -16,4 +16,5 @@ returns c =
     let with_verify = subcommand_added c.with_subcommand-with_explain.result c.verify.result c.with_subcommand-with_verify.result _ verify_command refl with_explain c.verify.ensures c.with_subcommand-with_verify.ensures in
     let with_diff = subcommand_added c.with_subcommand-with_verify.result c.diff.result c.with_subcommand-with_diff.result _ diff_command refl with_verify c.diff.ensures c.with_subcommand-with_diff.ensures in
     let with_draw = subcommand_added c.with_subcommand-with_diff.result c.draw.result c.with_subcommand-with_draw.result _ draw_command refl with_diff c.draw.ensures c.with_subcommand-with_draw.ensures in
-    subcommand_added c.with_subcommand-with_draw.result c.delivery.result c.with_subcommand.result _ delivery_command refl with_draw c.delivery.ensures c.with_subcommand.ensures
+    let with_delivery = subcommand_added c.with_subcommand-with_draw.result c.delivery.result c.with_subcommand-with_delivery.result _ delivery_command refl with_draw c.delivery.ensures c.with_subcommand-with_delivery.ensures in
+    subcommand_added c.with_subcommand-with_delivery.result c.changed.result c.with_subcommand.result _ changed_command refl with_delivery c.changed.ensures c.with_subcommand.ensures

@@ -27,6 +27,9 @@ returns-in-hash g c = λ own give. subst (λ name. Means (Some (name, rows_of (f
 pub returns-in-delivery : goal.returns-in-delivery
 returns-in-delivery g c = λ own give. subst (λ name. Means (Some (name, rows_of (found_of c.args.given.now))) c.delivered.result) (sym c.in-delivery.is) (c.delivered.ensures give)
 
+pub returns-in-changed : goal.returns-in-changed
+returns-in-changed g c = λ own give. (rows_of (found_of c.args.given.now), ap (λ name. Some (name, rows_of (found_of c.args.given.now))) c.in-changed.is, c.path-in-changed.ensures, c.path-in-changed-2.ensures)
+
 pub returns-in_default : goal.returns-in_default
 returns-in_default g c = λ own give.
     let name_is : c.args.name.now ≡ codes "explain" = elim own [
@@ -38,6 +41,7 @@ returns-in_default g c = λ own give.
       | inr (inr (inr (inr (inr (inl e))))) ↦ absurd (c.in_default.not-verify e)
       | inr (inr (inr (inr (inr (inr (inl e)))))) ↦ absurd (c.in_default.not-diff e)
       | inr (inr (inr (inr (inr (inr (inr (inl e))))))) ↦ absurd (c.in_default.not-draw e)
-      | inr (inr (inr (inr (inr (inr (inr (inr e))))))) ↦ absurd (c.in_default.not-delivery e)
+      | inr (inr (inr (inr (inr (inr (inr (inr (inl e)))))))) ↦ absurd (c.in_default.not-delivery e)
+      | inr (inr (inr (inr (inr (inr (inr (inr (inr e)))))))) ↦ absurd (c.in_default.not-changed e)
     ] in
     subst (λ name. Means (Some (name, rows_of (found_of c.args.given.now))) c.explained.result) (sym name_is) (c.explained.ensures give)

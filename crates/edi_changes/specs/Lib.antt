@@ -1,0 +1,7 @@
+pub mod Changes
+pub mod Laws
+pub mod ListText
+pub mod Stated
+pub mod Told
+pub mod Statuses
+pub mod inner

@@ -1,0 +1,182 @@
+//! What `changed` answers.
+ghost use Rattle.std.specs.Prelude.{◌≡◌, ◌⊎◌, ℕ, IfErr, IfOk, codes};
+ghost use Rattle.edi_answers.specs.Effects.{effects, inputs, written};
+ghost use Rattle.edi_answers.specs.Hashes.{named_line};
+ghost use Rattle.edi_answers.specs.Statuses.{Answers, IsPairStatus, IsUnsaid, OnlyLacksMemory, PrintsFirst};
+ghost use Rattle.edi_answers.specs.WholeInputs.{OfWholeInput};
+ghost use Rattle.edi_changes.specs.Stated.{StatesDigests};
+ghost use Rattle.edi_changes.specs.Statuses.{ChangesSince, IsChangedStatus, LacksDigests, TellsChangesOf};
+ghost use Rattle.edi_changes.specs.inner.Answering.{IsToldOf, MatchLack};
+
+use crate::changes::changes_of;
+use crate::entry::Entry;
+use crate::stated::read_digests;
+use crate::told::{changes_text, status_of_changes};
+use edi_answers::hashes::{push_named, tell_fault};
+use edi_answers::report;
+use edi_answers::whole::read_whole;
+use edi_compare::RunFault;
+use edi_files::Folder;
+use edi_line::ByteOut;
+use edi_write::put_all;
+use std::alloc::{AllocError, Global};
+
+const REFUSED_STATUS: u8 = 2;
+
+/// Writes which digests of two inputs are new, gone or changed, and how many. Gives 0 where none is, and else 1; 2
+/// where an input states no digests, 4 where one can't be read or `out` fails, and 5 where memory runs out, which `err`
+/// says. The second input is opened once the first is read.
+pub fn changed<F: Folder, O: ByteOut, E: ByteOut>(
+    alloc: Global,
+    folder: &F,
+    before: &str,
+    after: &str,
+    out: &mut O,
+    err: &mut E,
+) -> u8
+    ensures status { IsPairStatus result }
+    ensures answer { IsChangedStatus
+        (effects F.Folder F.Reader.ByteIn F.Sink.ByteOut F.NewFile.ByteOut folder.now folder.now)
+        (written O.ByteOut out.old out.new) (written E.ByteOut err.old err.new) before.now after.now result }
+{
+    match entries_at(alloc, folder, before) {
+        Ok(old) => changed_since(alloc, folder, old, after, out, err),
+        Err(fault) => tell_lack(alloc, folder, &fault, before, err),
+    }
+}
+
+// Writes what has changed since a list of digests.
+fn changed_since<F: Folder, O: ByteOut, E: ByteOut>(
+    alloc: Global,
+    folder: &F,
+    old: Vec<Entry>,
+    after: &str,
+    out: &mut O,
+    err: &mut E,
+) -> u8
+    ensures status { IsPairStatus result }
+    ensures answer { ChangesSince
+        (effects F.Folder F.Reader.ByteIn F.Sink.ByteOut F.NewFile.ByteOut folder.now folder.now)
+        (written O.ByteOut out.old out.new) (written E.ByteOut err.old err.new) old.items after.now result }
+{
+    match entries_at(alloc, folder, after) {
+        Ok(new) => tell_changes(alloc, old, new, out, err),
+        Err(fault) => tell_lack(alloc, folder, &fault, after, err),
+    }
+}
+
+// Why the input of a path states no digests.
+#[derive(Drop)]
+enum Lack {
+    /// It can't be read.
+    Unread(RunFault),
+    /// It is neither a manifest nor a list.
+    Neither,
+}
+
+// The digests that the input of a path states.
+fn entries_at<F: Folder>(alloc: Global, folder: &F, path: &str) -> Result<Vec<Entry>, Lack>
+    ensures ok { IfOk result (λ entries.
+        OfWholeInput (inputs F.Folder F.Reader.ByteIn folder.now) path.now (λ b. StatesDigests b entries.items)) }
+    ensures err { IfErr result (MatchLack (inputs F.Folder F.Reader.ByteIn folder.now) path.now) }
+{
+    match read_whole(alloc, folder, path) {
+        Ok(bytes) => match read_digests(alloc, &bytes) {
+            Ok(Some(entries)) => Ok(entries),
+            Ok(None) => Err(Lack::Neither),
+            Err(error) => Err(Lack::Unread(RunFault::Memory(error))),
+        },
+        Err(fault) => Err(Lack::Unread(fault)),
+    }
+}
+
+// Says why the input of a path states no digests, and gives the status.
+fn tell_lack<F: Folder, E: ByteOut>(
+    alloc: Global,
+    folder: &F,
+    lack: &Lack,
+    path: &str,
+    err: &mut E,
+) -> u8
+    requires { MatchLack (inputs F.Folder F.Reader.ByteIn folder.now) path.now lack.now }
+    ensures status { IsPairStatus result }
+    ensures said { LacksDigests
+        (effects F.Folder F.Reader.ByteIn F.Sink.ByteOut F.NewFile.ByteOut folder.now folder.now)
+        (written E.ByteOut err.old err.new) path.now result }
+{
+    match lack {
+        Lack::Unread(fault) => tell_fault(alloc, folder, fault, path, err),
+        Lack::Neither => match neither_line(alloc, path) {
+            Ok(line) => {
+                report::warn(err, &line);
+                REFUSED_STATUS
+            }
+            Err(_) => report::out_of_memory(err),
+        },
+    }
+}
+
+// The line on an input that is neither a manifest nor a list.
+fn neither_line(alloc: Global, path: &str) -> Result<Vec<u8>, AllocError>
+    ensures { IfOk result (λ line.
+        line.items ≡ named_line path.now (codes "neither a manifest nor a list of digests")) }
+{
+    let mut line = Vec::new(alloc);
+    push_named(
+        alloc,
+        &mut line,
+        path.as_bytes(),
+        b"neither a manifest nor a list of digests",
+    )?;
+    Ok(line)
+}
+
+// Writes what has changed between two lists of digests.
+fn tell_changes<O: ByteOut, E: ByteOut>(
+    alloc: Global,
+    old: Vec<Entry>,
+    new: Vec<Entry>,
+    out: &mut O,
+    err: &mut E,
+) -> u8
+    ensures status { IsPairStatus result }
+    ensures answer { TellsChangesOf (written O.ByteOut out.old out.new) (written E.ByteOut err.old err.new)
+        old.items new.items result
+        ⊎ (OnlyLacksMemory (written O.ByteOut out.old out.new) (written E.ByteOut err.old err.new) × (result ≡ 5)) }
+{
+    match told_of(alloc, old, new) {
+        Ok(told) => put_told(&told, out, err),
+        Err(_) => report::out_of_memory(err),
+    }
+}
+
+// What is said of changes, and its status.
+#[derive(Drop)]
+struct Told {
+    text: Vec<u8>,
+    status: u8,
+}
+
+// What is said of the changes between two lists of digests.
+fn told_of(alloc: Global, old: Vec<Entry>, new: Vec<Entry>) -> Result<Told, AllocError>
+    ensures { IfOk result (λ told. IsToldOf old.items new.items told.text.items told.status) }
+{
+    let changes = changes_of(alloc, old, new)?;
+    Ok(Told {
+        text: changes_text(alloc, &changes)?,
+        status: status_of_changes(&changes),
+    })
+}
+
+// Writes what is said, and gives the status.
+fn put_told<O: ByteOut, E: ByteOut>(told: &Told, out: &mut O, err: &mut E) -> u8
+    ensures { (Answers (written O.ByteOut out.old out.new) (written E.ByteOut err.old err.new) told.now.text.items
+        × (result ≡ told.now.status))
+        ⊎ (((count : ℕ) × PrintsFirst (written O.ByteOut out.old out.new) count told.now.text.items)
+        × IsUnsaid (written O.ByteOut out.old out.new) (written E.ByteOut err.old err.new) × (result ≡ 4)) }
+{
+    match put_all(out, &told.text) {
+        Ok(()) => told.status,
+        Err(_) => report::unwritten(err),
+    }
+}
