@@ -53,8 +53,8 @@ fn place_of(len: usize) -> Result<u32, AllocError>
     Ok(len as u32)
 }
 
-/// Moves the elements of a part behind those of a list. Where they end and the emptied part are the answer. Most records have no
-/// part of a sort, and then the list is left alone.
+/// Moves the elements of a part behind those of a list. Where they end and the emptied part are the answer. Most
+/// records have no part of a sort, and then the list is left alone.
 fn append<T: Drop>(list: &mut Vec<T>, mut part: Vec<T>) -> Result<(u32, Vec<T>), AllocError>
     ensures items { OnOk result (list.new.items ≡ list.old.items ++ part.items) }
     ensures stop { IfOk result (λ added. added.0 ≡ length list.old.items + length part.items) }

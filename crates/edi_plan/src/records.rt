@@ -67,7 +67,7 @@ fn owned(text: &Text) -> Result<Option<Text>, AllocError>
     Ok(Some(text.clone()?))
 }
 
-/// A text that may be absent, with memory of its own. Nearly each is absent, and nothing is made ready for a copy of it.
+/// A text that may be absent, with memory of its own. Nearly each is absent, and then nothing is made ready for a copy.
 fn copied(text: &Option<Text>) -> Result<Option<Text>, AllocError>
     ensures { IfOk result (λ copy. copy ≡ text.now) }
 {

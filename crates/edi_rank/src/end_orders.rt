@@ -44,8 +44,8 @@ fn positions_in(alloc: Global, pairs: &[(NumberedEnd<'_>, usize)]) -> Result<Vec
     Ok(positions)
 }
 
-/// The positions of two or more ends in their order. It stands apart, since nearly each record has one at most, for which nothing
-/// is made ready.
+/// The positions of two or more ends in their order. It stands apart, since nearly each record has one at most, for
+/// which nothing is made ready.
 #[inline(never)]
 fn positions_of_many(
     alloc: Global,

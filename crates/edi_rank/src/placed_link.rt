@@ -1,5 +1,5 @@
-//! The key of a link with its place, by which links are sorted. Nearly each link has two ends and nothing else: its key lies
-//! in the value itself, in two numbers, and needs no list.
+//! The key of a link with its place, by which links are sorted. Nearly each link has two ends and nothing else: its
+//! key lies in the value itself, in two numbers, and needs no list.
 
 ghost use Rattle.std.specs.Prelude.{◌≡◌, ◌∷◌, [], ℕ, None, IfOk, IfSome, refl};
 ghost use Rattle.std.specs.Ordering.{as_partial_cmp, eq_by_cmp, ordering_then};
@@ -16,8 +16,8 @@ use std::alloc::{AllocError, Global};
 use std::cmp::Ordering;
 use std::marker::Model;
 
-// The least packed ends of the types behind nodes. The number of what a packed end names has 24 bits, which hold more than
-// a sheet has records.
+// The least packed ends of the types behind nodes. The number of what a packed end names has 24 bits, which hold more
+// than a sheet has records.
 const ARCS: u32 = 1 << 24;
 
 const FACES: u32 = 2 << 24;
@@ -26,8 +26,8 @@ const OBJECTS: u32 = 3 << 24;
 
 const LINKS: u32 = 4 << 24;
 
-/// An end without SNS: the type of what it names above its number. Packed in one number, which goes as the two go, ends take
-/// one comparison and four bytes.
+/// An end without SNS: the type of what it names above its number. Packed in one number, which goes as the two go, it
+/// takes one comparison and four bytes.
 #[derive(Clone, Copy, PartialEq, Eq, PartialOrd, Ord)]
 pub(crate) struct PlainEnd {
     packed: u32,

@@ -47,7 +47,8 @@ impl<'a> OpenAttribute<'a> {
     }
 }
 
-/// Puts an attribute with this value behind others. It stands apart, so that a record without attributes makes nothing ready for them.
+/// Puts an attribute with this value behind others. It stands apart, so that a record without attributes makes nothing
+/// ready for them.
 #[inline(never)]
 fn push_attribute(
     attributes: &mut Vec<Attribute>,

@@ -94,8 +94,8 @@ impl<'a> Ends<'a> {
         }
     }
 
-    /// Closes the end that is open, if one is. A short one has a way of its own, since what other ends need would have to be made
-    /// ready for each.
+    /// Closes the end that is open, if one is. A short one has a way of its own, since what other ends need would have
+    /// to be made ready for each.
     fn close(&mut self, alloc: Global) -> Result<(), AllocError>
         ensures broken { OnOk result (self.new.is_broken ≡ self.old.is_broken) }
         ensures opened { OnOk result (self.new.opened ≡ None) }

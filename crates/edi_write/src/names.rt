@@ -54,8 +54,8 @@ fn identifier_line(kind: Kind) -> [u8; 9]
     }
 }
 
-/// Writes the zone of the identifier of a record: the letter of its type, and its number. What stands before the number has a
-/// known size, so that it is copied without a call.
+/// Writes the zone of the identifier of a record: the letter of its type, and its number. What stands before the number
+/// has a known size, so that it is copied without a call.
 pub(crate) fn write_identifier(page: &mut Page, kind: Kind, number: u32) -> Result<(), AllocError>
     ensures { OnOk result (page.new.file.items ≡ page.old.file.items ++ printed_zone (headed IDENTIFIER (identifier kind number))) }
 {
