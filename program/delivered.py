@@ -2,7 +2,11 @@
 import os
 import shutil
 
-DELIVERY = os.path.join(os.path.dirname(os.path.abspath(__file__)), "..", "examples", "delivery")
+EXAMPLES = os.path.join(os.path.dirname(os.path.abspath(__file__)), "..", "examples")
+DELIVERY = os.path.join(EXAMPLES, "delivery")
+# a delivery in the manner of the cadastral plan, with labels and dates, and its digest by a program that shares no code with this one
+CADASTRE = os.path.join(EXAMPLES, "pci")
+CADASTRE_DIGEST = b"271bb143a2fcfbe1776863d18c48af3c12e03678ab6e89e08424806e94f74fb2"
 NAMES = ("EDAB01SE.THF", "EDAB01SE.SCD", "EDAB01SE.DIC", "EDAB01SE.GEN", "EDAB01SE.GEO", "EDAB01SE.QAL", "EDAB01T1.VEC")
 
 
@@ -38,6 +42,9 @@ def deliveries(room):
     room.expect("kinds that no class has, by `hash`", ["hash", *other, "D/EDAB01SE.SCD", "D/EDAB01SE.DIC", "D/EDAB01T1.VEC"], refused_too)
     room.expect("kinds that no class has", ["delivery", *other, "D"], refused_too)
     shutil.rmtree(room.path("D"))
+    shutil.copytree(CADASTRE, room.path("P"))
+    room.expect("a delivery of the cadastral plan", ["delivery", "P"], (0, CADASTRE_DIGEST + b"  P/EDAB01T3.VEC\n", b""))
+    shutil.rmtree(room.path("P"))
 
 
 def whole(room, line):

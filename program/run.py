@@ -46,7 +46,7 @@ PARTS = {
     "standard streams": 51,
     "shown": 8,
     "hashes": 34,
-    "deliveries": 35,
+    "deliveries": 36,
     "changes": 35,
     "kinds noted": 31,
     "explains": 65,
