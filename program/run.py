@@ -53,7 +53,7 @@ PARTS = {
     "explains kinds": 16,
     "pairings": 115,
     "paired": 183,
-    "differences": 105,
+    "differences": 106,
     "presentations": 120,
     "pictures": 105,
     "explains partners": 5,
