@@ -7,7 +7,7 @@ from room import unread
 
 DOCS = os.path.join(os.path.dirname(os.path.abspath(__file__)), "..", "docs")
 CODES = [b"IND", b"FND", b"LPO", b"RPO"]
-RULES = (*range(101, 111), *range(201, 209), *range(301, 308), *range(401, 407), 501, 601, 602, 603, 604)
+RULES = (*range(101, 111), *range(201, 209), *range(301, 308), *range(401, 407), 501, 601, 602, 603, 604, *range(701, 712))
 
 
 def explains(room, sheet):
@@ -205,7 +205,7 @@ def section(out):
 def explains_rules(room):
     """Each rule has the sentence of docs/FORMAT.md, and the reason, the usual cause and the advice of docs/EXPLAINED.md."""
     check = room.report.check
-    sentences = {int(rule): sentence for rule, sentence in re.findall(r"^\| ([1-6]\d\d) \| (.*) \| .* \|$", page_text("FORMAT.md"), re.M)}
+    sentences = {int(rule): sentence for rule, sentence in re.findall(r"^\| ([1-7]\d\d) \| (.*) \| .* \|$", page_text("FORMAT.md"), re.M)}
     sections = {int(it[3:6]): it for it in re.split(r"^(?=## )", page_text("EXPLAINED.md"), flags=re.M)[1:]}
     check("the rules of docs/FORMAT.md and docs/EXPLAINED.md", (sorted(sentences), list(sections)), (list(RULES), list(RULES)))
     whole = r"## \d+: .+\n\n- Why: .+\.\n- Usual cause: .+\.\n- What to do: .+\.\n\n?"

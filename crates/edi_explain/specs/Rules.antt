@@ -21,9 +21,14 @@ object_rules = 501 ∷ []
 abbrev pub schema_rules : List ℕ
 schema_rules = 601 ∷ 602 ∷ 603 ∷ 604 ∷ []
 
+abbrev pub delivery_rules : List ℕ
+delivery_rules = 701 ∷ 702 ∷ 703 ∷ 704 ∷ 705 ∷ 706 ∷ 707 ∷ 708 ∷ 709 ∷ 710 ∷ 711 ∷ []
+
 -- the numbers of all rules
 abbrev pub rules : List ℕ
-rules = ((((line_rules ++ record_rules) ++ reference_rules) ++ topology_rules) ++ object_rules) ++ schema_rules
+rules =
+    (((((line_rules ++ record_rules) ++ reference_rules) ++ topology_rules) ++ object_rules) ++ schema_rules)
+    ++ delivery_rules
 
 -- the number is one of these
 abbrev pub is_among : List ℕ → ℕ → Bool

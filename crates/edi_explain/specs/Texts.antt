@@ -305,9 +305,118 @@ schema_texts =
     } ∷
     []
 
+-- the rules of deliveries
+abbrev pub delivery_texts : List RuleWords
+delivery_texts =
+    record {
+      rule = 701;
+      sentence = codes "the type is neither GTS nor GTL";
+      reason = codes "A THF file has records of two types, GTS for the support and GTL for a lot; what another one "
+          ++ codes "says of the delivery would be lost.";
+      cause = codes "It is no THF file, but an SCD or a VEC that was given in its place, or two files were joined.";
+      remedy = codes "Give the THF file of the delivery; where it is the one, fetch the delivery again, and tell the "
+          ++ codes "producer if it says the same.";
+    } ∷
+    record {
+      rule = 702;
+      sentence = codes "a lot without exactly one LON";
+      reason = codes "The names of a lot's files begin with the name of the lot; without just one, nobody can say "
+          ++ codes "which files they are.";
+      cause = codes "The program that wrote the THF file leaves LON out or repeats it, or lines of the file are "
+          ++ codes "missing.";
+      remedy = codes "Fetch the delivery again; if the THF file says the same, ask the producer for a right one. "
+          ++ codes "Until then edicad hash answers the sheets, by the paths of their files.";
+    } ∷
+    record {
+      rule = 703;
+      sentence = codes "the LON of a lot is no part of a name";
+      reason = codes "The name of a lot becomes a part of the names of files; with a point or a slash in it, these "
+          ++ codes "could lead out of the folder.";
+      cause = codes "The producer gives lots names with spaces, points or accents, or LON is empty or longer than 125 "
+          ++ codes "bytes; or the file was made to lead a reader elsewhere.";
+      remedy = codes "Ask the producer for a delivery whose lots are named by letters, digits, _ and -. Until then "
+          ++ codes "edicad hash answers the sheets, by the paths of their files.";
+    } ∷
+    record {
+      rule = 704;
+      sentence = codes "a lot without exactly one SCN";
+      reason = codes "SCN names the file of the classes, under which all sheets of the lot are read; a lot has one.";
+      cause = codes "The lot has no SCD file of its own or has several, or lines of the THF file are missing.";
+      remedy = codes "Fetch the delivery again; if the THF file says the same, ask the producer for one that names "
+          ++ codes "one SCD file for each lot. Until then edicad hash answers the sheets, by the paths of their files.";
+    } ∷
+    record {
+      rule = 705;
+      sentence = codes "a lot without exactly one DIN";
+      reason = codes "DIN names the dictionary, which says of each class whether its values are numbers; a lot has "
+          ++ codes "one.";
+      cause = codes "The lot has no DIC file of its own or has several, or lines of the THF file are missing.";
+      remedy = codes "Fetch the delivery again; if the THF file says the same, ask the producer for one that names "
+          ++ codes "one DIC file for each lot. Until then edicad hash answers the sheets, by the paths of their files.";
+    } ∷
+    record {
+      rule = 706;
+      sentence = codes "a lot without a GDN; GDC repeated, not digits, or not the count of GDN";
+      reason = codes "A lot has sheets, and their count shows that none is missing from the list.";
+      cause = codes "Lines of the THF file are missing, or sheets were added to a delivery or taken out of it and the "
+          ++ codes "count was not changed.";
+      remedy = codes "Fetch the delivery again; if the THF file says the same, ask the producer which sheets the lot "
+          ++ codes "has. Until then edicad hash answers those that are there, by the paths of their files.";
+    } ∷
+    record {
+      rule = 707;
+      sentence = codes "more than one GNN, GON or QAN in a lot";
+      reason = codes "A lot has at most one file of general data, one of the coordinate system and one of quality; "
+          ++ codes "where there are two, nobody can say which one holds.";
+      cause = codes "Two lots were written as one, or the program that wrote the THF file repeats these zones for "
+          ++ codes "each sheet.";
+      remedy = codes "Fetch the delivery again; if the THF file says the same, ask the producer which file holds. "
+          ++ codes "Until then edicad hash answers the sheets, by the paths of their files.";
+    } ∷
+    record {
+      rule = 708;
+      sentence = codes "an SCN, DIN, GNN, GON, QAN or GDN of a lot is no part of a name";
+      reason = codes "The own name of a file stands between the name of its lot and its extension; with a point or a "
+          ++ codes "slash in it, the whole could lead to another file or out of the folder.";
+      cause = codes "The THF file gives whole names with their extension, or paths, or names with spaces or accents, "
+          ++ codes "or a value is empty or longer than 125 bytes; or the file was made to lead a reader elsewhere.";
+      remedy = codes "Ask the producer for a THF file with own names of letters, digits, _ and -. Until then edicad "
+          ++ codes "hash answers the sheets, by the paths of their files.";
+    } ∷
+    record {
+      rule = 709;
+      sentence = codes "a lot has the same name as an earlier lot";
+      reason = codes "The names of a lot's files begin with the name of the lot, so lots need names of their own; "
+          ++ codes "upper and lower case count as the same, since some disks don't distinguish them.";
+      cause = codes "A lot was written twice, or the THF files of two deliveries were joined.";
+      remedy = codes "Take each delivery by its own THF file, in a folder of its own; if the file came as it is, ask "
+          ++ codes "the producer which of the two lots holds.";
+    } ∷
+    record {
+      rule = 710;
+      sentence = codes "two files of a lot have the same name, or one of its files has that of a file of an earlier "
+          ++ codes "lot";
+      reason = codes "Each file has one place in a delivery, so that each sheet is answered once; upper and lower "
+          ++ codes "case count as the same, since some disks don't distinguish them.";
+      cause = codes "A sheet stands in the list twice, or the names of two lots and their files come to one, as those "
+          ++ codes "of lot A with file BC and of lot AB with file C.";
+      remedy = codes "Fetch the delivery again; if the THF file says the same, ask the producer which lot the file "
+          ++ codes "belongs to. Until then edicad hash answers the sheets, by the paths of their files.";
+    } ∷
+    record {
+      rule = 711;
+      sentence = codes "there is no lot";
+      reason = codes "A delivery has a lot at least; without one nothing would be answered, as if all were well.";
+      cause = codes "The THF file was cut behind its support, or it is another file.";
+      remedy = codes "Look whether it is the THF file of the delivery, and fetch the delivery again.";
+    } ∷
+    []
+
 -- all rules
 abbrev pub rule_texts : List RuleWords
-rule_texts = ((((line_texts ++ record_texts) ++ reference_texts) ++ topology_texts) ++ object_texts) ++ schema_texts
+rule_texts =
+    (((((line_texts ++ record_texts) ++ reference_texts) ++ topology_texts) ++ object_texts) ++ schema_texts)
+    ++ delivery_texts
 
 -- the words of this text are those of the rule with this number, or there is neither
 abbrev pub SaysRule : ℕ → Option RuleText → Type 0

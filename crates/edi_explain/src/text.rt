@@ -4,12 +4,14 @@ ghost use Rattle.std.specs.Prelude.{◌≡◌, map, option_map};
 ghost use Rattle.edi_explain.specs.Rules.{IsTextIfAny};
 ghost use Rattle.edi_explain.specs.Texts.{IsRuleText, words_among, words_of_text};
 
-use crate::texts::{of_lines, of_objects, of_records, of_references, of_schemas, of_topology};
+use crate::texts::{
+    of_deliveries, of_lines, of_objects, of_records, of_references, of_schemas, of_topology,
+};
 
 /// A rule in words.
 #[derive(Clone, Copy)]
 pub struct RuleText {
-    /// Its number, 101 to 604.
+    /// Its number, 101 to 711.
     pub rule: u16,
     /// Where it is broken, as the tables of docs/FORMAT.md say it.
     pub sentence: &'static str,
@@ -36,8 +38,8 @@ fn text_among(texts: &[RuleText], rule: u16) -> Option<RuleText>
     None
 }
 
-/// A rule in words, or `None` where no rule has this number (docs/FORMAT.md, "Schemas" and "The
-/// rules of a sheet").
+/// A rule in words, or `None` where no rule has this number (docs/FORMAT.md, "Schemas", "The rules of
+/// a sheet" and "Deliveries").
 pub fn rule_text(rule: u16) -> Option<RuleText>
     ensures { IsRuleText rule result }
 {
@@ -47,4 +49,5 @@ pub fn rule_text(rule: u16) -> Option<RuleText>
         .or(text_among(of_topology(), rule))
         .or(text_among(of_objects(), rule))
         .or(text_among(of_schemas(), rule))
+        .or(text_among(of_deliveries(), rule))
 }

@@ -1,9 +1,10 @@
 //! The texts of the rules, by phases.
 
 ghost use Rattle.std.specs.Prelude.{◌≡◌, map};
-ghost use Rattle.edi_explain.specs.Rules.{line_rules, object_rules, record_rules, reference_rules, schema_rules, topology_rules};
-ghost use Rattle.edi_explain.specs.Texts.{line_texts, object_texts, record_texts, reference_texts, schema_texts, topology_texts, words_of_text};
+ghost use Rattle.edi_explain.specs.Rules.{delivery_rules, line_rules, object_rules, record_rules, reference_rules, schema_rules, topology_rules};
+ghost use Rattle.edi_explain.specs.Texts.{delivery_texts, line_texts, object_texts, record_texts, reference_texts, schema_texts, topology_texts, words_of_text};
 
+mod deliveries;
 mod lines;
 mod objects;
 mod records;
@@ -59,4 +60,12 @@ pub(crate) fn of_schemas() -> &'static [RuleText]
     ensures words { map words_of_text result.now ≡ schema_texts }
 {
     &schemas::SCHEMAS
+}
+
+/// 701 to 711.
+pub(crate) fn of_deliveries() -> &'static [RuleText]
+    ensures numbers { map (λ text. text.rule) result.now ≡ delivery_rules }
+    ensures words { map words_of_text result.now ≡ delivery_texts }
+{
+    &deliveries::DELIVERIES
 }
