@@ -26,6 +26,7 @@ from changed import changes
 from delivered import deliveries
 from commands import differences, files, hashes, kinds_noted, manual, pairings, shown, standard_streams, terminal, words
 from explained import explains, explains_hints, explains_kinds, explains_lengths, explains_partners, explains_rules
+from held import held
 from hostile import full_disk, hostile_folders, kills, most_records
 from paired import paired
 from pictured import pictures
@@ -48,6 +49,7 @@ PARTS = {
     "hashes": 34,
     "deliveries": 36,
     "changes": 35,
+    "lists held": 29,
     "kinds noted": 31,
     "explains": 76,
     "explains kinds": 16,
@@ -88,6 +90,7 @@ def works():
         "hashes": lambda room: hashes(room, sheet, canonical),
         "deliveries": deliveries,
         "changes": changes,
+        "lists held": lambda room: held(room, sheet, canonical),
         "kinds noted": lambda room: kinds_noted(room, sheet, canonical),
         "explains": lambda room: explains(room, sheet),
         "explains kinds": lambda room: explains_kinds(room, sheet),

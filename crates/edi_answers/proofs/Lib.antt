@@ -11,3 +11,4 @@ pub mod OneSheet
 pub mod PairRuns
 pub mod Pairings
 pub mod Refusals
+pub mod Replies

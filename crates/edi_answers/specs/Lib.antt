@@ -6,6 +6,7 @@ pub mod Notes
 pub mod PairInputs
 pub mod Paths
 pub mod Reasons
+pub mod Replies
 pub mod SheetRuns
 pub mod WholeInputs
 pub mod Statuses

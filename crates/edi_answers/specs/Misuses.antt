@@ -7,7 +7,7 @@ use Rattle.edi_words.specs.declared.words.BadKinds.{BadKinds as BadCodes}
 use Rattle.edi_words.specs.declared.words.KindsFault.{KindsFault}
 use Rattle.edi_words.specs.declared.words.KindsFault.TheVariants.{Count, Empty, Twice}
 use Rattle.edi_words.specs.declared.words.Misuse.{Misuse}
-use Rattle.edi_words.specs.declared.words.Misuse.TheVariants.{BadKinds, TwoStandard, NoSheet, NothingHashed, StandardPairing, StandardPicture}
+use Rattle.edi_words.specs.declared.words.Misuse.TheVariants.{BadKinds, TwoStandard, NoSheet, NothingHashed, ListAndMore, StandardPairing, StandardPicture}
 
 -- what is wrong with codes, in words
 abbrev pub kinds_fault_words : KindsFault → List ℕ
@@ -25,6 +25,7 @@ misuse_lines (BadKinds bad) = bad_kinds_lines bad
 misuse_lines TwoStandard = ended (misuse_text TwoStandard)
 misuse_lines NoSheet = ended (misuse_text NoSheet)
 misuse_lines NothingHashed = ended (misuse_text NothingHashed)
+misuse_lines ListAndMore = ended (misuse_text ListAndMore)
 misuse_lines StandardPairing = ended (misuse_text StandardPairing)
 misuse_lines StandardPicture = ended (misuse_text StandardPicture)
 
@@ -34,6 +35,7 @@ shows_words (BadKinds bad) = true
 shows_words TwoStandard = false
 shows_words NoSheet = false
 shows_words NothingHashed = false
+shows_words ListAndMore = false
 shows_words StandardPairing = false
 shows_words StandardPicture = false
 

@@ -8,7 +8,7 @@ use Rattle.edi_explain.specs.KindLines.{NameLacking, lacking_words}
 use Rattle.edi_files.specs.Reasons.{ended}
 use Rattle.edi_shown.specs.Shown.{shown_bytes}
 use Rattle.edi_words.specs.declared.words.Request.{Request}
-use Rattle.edi_words.specs.declared.words.Request.TheVariants.{Bundle, Check, Canon, Pair, Hash, Delivery, Explain, Rule, Draw, Changed, Misused, Answered}
+use Rattle.edi_words.specs.declared.words.Request.TheVariants.{Bundle, Check, Canon, Pair, Hash, CheckList, Delivery, Explain, Rule, Draw, Changed, Misused, Answered}
 use Rattle.edi_answers.specs.Effects.{Inputs, Stream}
 use Rattle.edi_answers.specs.Paths.{input_name}
 use Rattle.edi_answers.specs.SheetRuns.{Gives}
@@ -58,6 +58,7 @@ IsNoteOf inputs (Check kinds files) status note = IsNotedAs inputs kinds files.s
 IsNoteOf inputs (Canon kinds files out) status note = IsNotedAs inputs kinds files.scd.now status note
 IsNoteOf inputs (Pair kinds files what) status note = IsNotedAs inputs kinds files.scd.now status note
 IsNoteOf inputs (Hash kinds files with_schema) status note = note ≡ []
+IsNoteOf inputs (CheckList kinds files list) status note = note ≡ []
 IsNoteOf inputs (Delivery kinds paths) status note = note ≡ []
 IsNoteOf inputs (Explain kinds files) status note = note ≡ []
 IsNoteOf inputs (Rule word) status note = note ≡ []

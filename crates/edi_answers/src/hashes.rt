@@ -55,10 +55,10 @@ pub fn hash<F: Folder, O: ByteOut, E: ByteOut>(
     }
 }
 
-// A schema, and the note on its kinds.
-struct NotedSchema {
-    schema: Schema,
-    note: Vec<u8>,
+/// A schema, and the note on its kinds.
+pub struct NotedSchema {
+    pub schema: Schema,
+    pub note: Vec<u8>,
 }
 
 impl Drop for NotedSchema {
@@ -67,8 +67,8 @@ impl Drop for NotedSchema {
     }
 }
 
-// The schema of two files, with the note on its kinds. Both are opened before the first is read.
-fn loaded<F: Folder>(
+/// The schema of two files, with the note on its kinds. Both are opened before the first is read.
+pub fn loaded<F: Folder>(
     alloc: Global,
     folder: &F,
     kinds: &GivenKinds<'_>,
@@ -242,8 +242,8 @@ pub fn tell_fault<F: Folder, E: ByteOut>(
     }
 }
 
-// The file that keeps a schema from being loaded.
-fn path_of_schema<'a>(files: &ManyFiles<'a>, fault: &RunFault) -> &'a str
+/// The file that keeps a schema from being loaded, by the fault that says why.
+pub fn path_of_schema<'a>(files: &ManyFiles<'a>, fault: &RunFault) -> &'a str
     ensures { result.now ≡ schema_fault_path files.now fault.now }
 {
     match fault {
@@ -285,8 +285,8 @@ fn lines_of_fault<F: Folder>(
     Ok(lines)
 }
 
-// The digest of the canonical file of the sheet of a path.
-fn digest_of<F: Folder>(
+/// The digest of the canonical file of the sheet of a path, or why it has none.
+pub fn digest_of<F: Folder>(
     alloc: Global,
     folder: &F,
     schema: &Schema,

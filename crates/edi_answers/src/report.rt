@@ -176,6 +176,7 @@ pub fn misused<E: ByteOut>(alloc: Global, err: &mut E, misuse: Misuse<'_>) -> u8
         Misuse::NothingHashed => {
             wrong_words(err, b"hash takes SCD, DIC and a VEC, or --schema\n")
         }
+        Misuse::ListAndMore => wrong_words(err, b"hash --check LIST takes SCD and DIC alone\n"),
         Misuse::StandardPairing => wrong_words(err, b"--pairing takes a file, and not -\n"),
         Misuse::StandardPicture => wrong_words(err, b"--picture takes a file, and not -\n"),
     }

@@ -1,3 +1,4 @@
+pub mod Checking
 pub mod Orders
 pub mod Comparing
 pub mod Digests

@@ -1,4 +1,5 @@
 pub mod Changes
+pub mod Checks
 pub mod Laws
 pub mod ListText
 pub mod Stated

@@ -1,4 +1,5 @@
 -- What private contracts use.
 pub mod Answering
+pub mod Checking
 pub mod Merging
 pub mod Reading

@@ -3,6 +3,7 @@
 
 pub mod answer;
 pub mod changes;
+pub mod checks;
 pub mod entry;
 pub mod known;
 pub mod laws;
@@ -11,6 +12,7 @@ mod merge;
 pub mod reading;
 pub mod stated;
 pub mod told;
+pub mod verdict;
 
 pub use changes::{Change, Fate, changes_of};
 pub use entry::Entry;

@@ -25,8 +25,8 @@ impl Drop for ListLine {
     }
 }
 
-// The word before the digest of a schema, or nothing.
-fn schema_word(is_schema: bool) -> &'static [u8]
+/// The word before the digest of a schema, or nothing.
+pub(crate) fn schema_word(is_schema: bool) -> &'static [u8]
     ensures { result.now ≡ schema_word is_schema }
 {
     if is_schema { b"schema " } else { b"" }

@@ -2,7 +2,8 @@
 use Rattle.std.proofs.Common.{◌≡◌, ℕ, zero, suc, ◌+◌, ◌<◌, ◌≤◌, Bool, List, [], ◌∷◌, ◌++◌, Option, IsTrue, Result, Ok, Err, OnOk, drop, take, get_or, length, refl, sym, ap, subst, arith, add-one, append_assoc, append-nil, ◌∙◌}
 use Rattle.std.specs.Prelude.{flat_map, max}
 use Rattle.edi_answers.proofs.Answering.{over}
-use Rattle.edi_deliveries.specs.Deliveries.{EachInTurn, OneThenOther, Reply}
+pub use Rattle.edi_answers.proofs.Replies.{behind}
+use Rattle.edi_deliveries.specs.Deliveries.{EachInTurn, Reply}
 
 drop_suc : {X : Type 0} (xs : List X) (i : ℕ) (d : X) → i < length xs → drop i xs ≡ get_or xs i d ∷ drop (suc i) xs
 drop_suc [] i d h = absurd (omega (arith, h))
@@ -74,20 +75,3 @@ module _ {X : Type 0} (Says : X → Reply) (xs : List X) (o e : Option (List ℕ
       let is : max worst 0 ≡ worst = omega arith in
       subst (EachInTurn Says xs (over o p pf) (over e f ff)) is
       (so_far p f pf ff 0 (λ w. w) (λ w. w) (subst (λ l. EachInTurn Says l (over p p pf) (over f f ff) 0) (sym (drop_all xs i h)) (refl, refl, refl)))
-
--- one reply behind another
-pub behind : (First Rest : Reply) (o p q e f r : Option (List ℕ)) (pf qf ff rf : Bool) (a b s : ℕ) → First (over o p pf) (over e f ff) a
-    → Rest (over p q qf) (over f r rf) b → (IsTrue pf → IsTrue qf) → (IsTrue ff → IsTrue rf) → s ≡ max a b → OneThenOther First Rest (over o q qf) (over e r rf) s
-behind First Rest o p q e f r pf qf ff rf a b s one other so se is = record {
-  between_out = p;
-  between_err = f;
-  out_failed = pf;
-  err_failed = ff;
-  out_stays = so;
-  err_stays = se;
-  first = a;
-  rest = b;
-  one = one;
-  other = other;
-  greater = is;
-}

@@ -1,5 +1,5 @@
 -- What is answered of deliveries: of the lots that THF files state, and of the files that lie beside them.
-use Rattle.std.specs.Prelude.{◌≡◌, ◌⊎◌, ◌≤◌, ◌++◌, ◌&&◌, ℕ, Bool, false, true, not, max, List, [], ◌∷◌, Option, Some, None, IsTrue, codes, filter, find, flat_map, is_none, length, map, option_map, option_to_list, unwrap_or}
+use Rattle.std.specs.Prelude.{◌≡◌, ◌⊎◌, ◌≤◌, ◌++◌, ◌&&◌, ℕ, Bool, false, true, not, List, [], ◌∷◌, Option, Some, None, codes, filter, find, flat_map, is_none, length, map, option_map, option_to_list, unwrap_or}
 use Rattle.std.proofs.Common.{Bor}
 use Rattle.std.specs.Fmt.{decimal}
 use Rattle.std.specs.List.{list_any}
@@ -23,46 +23,11 @@ use Rattle.edi_files.specs.declared.listing.Listing as listing
 use Rattle.edi_files.specs.declared.reason.Reason.TheVariants.{NoFile}
 use Rattle.edi_words.specs.Requests.{is_standard_path}
 use Rattle.edi_words.specs.declared.words.ManyFiles.{ManyFiles}
-use Rattle.edi_answers.specs.Effects.{Effects, Stream}
+use Rattle.edi_answers.specs.Effects.{Effects}
 use Rattle.edi_answers.specs.Hashes.{IsHashStatus, TellsFault, escaped_name, named_line}
-use Rattle.edi_answers.specs.Notes.{Notes}
-use Rattle.edi_answers.specs.Statuses.{LacksMemory, OnlyLacksMemory, Prints}
+pub use Rattle.edi_answers.specs.Replies.{AddsNothing, EachInTurn, OneThenOther, Reply, SaysLines}
+use Rattle.edi_answers.specs.Statuses.{OnlyLacksMemory, Prints}
 use Rattle.edi_answers.specs.WholeInputs.{WholeInputFault, OfWholeInput}
-
--- ---- replies in turn
-
--- what a reply adds to the output and to the errors, and its status
-abbrev pub Reply : Type 1
-Reply = Stream → Stream → ℕ → Type 0
-
--- nothing is added
-abbrev pub AddsNothing : Reply
-AddsNothing out err s = (out.after ≡ out.before) × (err.after ≡ err.before) × (s ≡ 0)
-
--- One reply, and behind it another: each stream got what the one adds and then the other, and the status is the greater.
-pub record OneThenOther (First Rest : Reply) (out err : Stream) (s : ℕ) : Type 0 where
-  pub between_out : Option (List ℕ)
-  pub between_err : Option (List ℕ)
-  pub out_failed : Bool
-  pub err_failed : Bool
-  pub out_stays : IsTrue out_failed → IsTrue out.failed
-  pub err_stays : IsTrue err_failed → IsTrue err.failed
-  pub first : ℕ
-  pub rest : ℕ
-  pub one : First (record { before = out.before; after = between_out; failed = out_failed })
-      (record { before = err.before; after = between_err; failed = err_failed }) first
-  pub other : Rest (record { before = between_out; after = out.after; failed = out.failed })
-      (record { before = between_err; after = err.after; failed = err.failed }) rest
-  pub greater : s ≡ max first rest
-
--- the replies to each of these, in their order
-abbrev pub EachInTurn : {X : Type 0} → (X → Reply) → List X → Reply
-EachInTurn AnswerTo [] = AddsNothing
-EachInTurn AnswerTo (x ∷ xs) = OneThenOther (AnswerTo x) (EachInTurn AnswerTo xs)
-
--- the errors got these lines, with this status; or there was no memory for them
-abbrev pub SaysLines : List ℕ → ℕ → Reply
-SaysLines lines status out err s = Prints out [] × (((s ≡ status) × Notes err lines) ⊎ ((s ≡ 5) × LacksMemory err))
 
 -- ---- folders
 

@@ -52,6 +52,11 @@ paths_asked line = option_map (λ met. (met.0, values_at (codes "PATH") met.1)) 
 abbrev pub sheets_of : Text → Option (Text × List Text)
 sheets_of line = option_map (λ met. (met.0, values_at (codes "VEC") met.1)) (subcommand_of edicad (words_in line))
 
+-- the subcommand of a line, with the value of its option for a list
+abbrev pub list_asked : Text → Option (Text × Option Text)
+list_asked line =
+    option_map (λ met. (met.0, first_of (codes "check") met.1)) (subcommand_of edicad (words_in line))
+
 -- the subcommand of a line, with the values of BEFORE and AFTER
 abbrev pub lists_asked : Text → Option (Text × List (Option Text))
 lists_asked line =

@@ -10,11 +10,11 @@ use Rattle.clap.specs.declared.error.kind.ErrorKind.{ErrorKind}
 use Rattle.clap.specs.declared.error.kind.ErrorKind.TheVariants.{OutOfMemory, DisplayHelp, DisplayVersion}
 use Rattle.edi_schema.specs.Roles.{KindCodes, AreKindCodes}
 use Rattle.edi_words.specs.declared.words.Request.{Request}
-use Rattle.edi_words.specs.declared.words.Request.TheVariants.{Bundle, Check, Canon, Pair, Hash, Delivery, Explain, Draw, Changed, Misused, Answered}
+use Rattle.edi_words.specs.declared.words.Request.TheVariants.{Bundle, Check, Canon, Pair, Hash, CheckList, Delivery, Explain, Draw, Changed, Misused, Answered}
 use Rattle.edi_words.specs.declared.words.Request.TheVariants as asks
 use Rattle.edi_words.specs.declared.words.PairRequest.TheVariants.{Compare, Verify, Diff}
 use Rattle.edi_words.specs.declared.words.Misuse.{Misuse}
-use Rattle.edi_words.specs.declared.words.Misuse.TheVariants.{BadKinds, TwoStandard, NoSheet, NothingHashed, StandardPairing, StandardPicture}
+use Rattle.edi_words.specs.declared.words.Misuse.TheVariants.{BadKinds, TwoStandard, NoSheet, NothingHashed, ListAndMore, StandardPairing, StandardPicture}
 use Rattle.edi_words.specs.declared.words.BadKinds.{BadKinds as BadCodes}
 use Rattle.edi_words.specs.declared.words.KindsFault.{KindsFault}
 use Rattle.edi_words.specs.declared.words.KindsFault.TheVariants.{Count, Empty, Twice}
@@ -66,6 +66,10 @@ optional_files_rule id =
 abbrev pub schema_flag_rule : Rule
 schema_flag_rule = record (new_rule (codes "schema")) { long = Some (codes "schema"); action = Some SetTrue }
 
+-- the option with a list of digests that are held against those that are found, which has one value
+abbrev pub list_rule : Rule
+list_rule = record (new_rule (codes "check")) { long = Some (codes "check"); value_names = 1 }
+
 -- a subcommand over the files of a schema
 abbrev pub schema_command : Text → App
 schema_command name = with_rule (with_rule (with_rule (new_app name) kinds_rule) (file_rule (codes "SCD"))) (file_rule (codes "DIC"))
@@ -86,7 +90,9 @@ compare_command = with_rule (with_rule (with_rule (schema_command (codes "compar
 
 abbrev pub hash_command : App
 hash_command =
-    with_rule (with_rule (schema_command (codes "hash")) (optional_files_rule (codes "VEC"))) schema_flag_rule
+    with_rule
+    (with_rule (with_rule (schema_command (codes "hash")) (optional_files_rule (codes "VEC"))) schema_flag_rule)
+    list_rule
 
 -- a rule's number, or the first file of a schema
 abbrev pub subject_rule : Rule
@@ -219,7 +225,7 @@ abbrev pub standard_count : List Row → ℕ
 standard_count rows =
     standard_at (codes "SCD") rows + standard_at (codes "DIC") rows + standard_at (codes "VEC") rows + standard_at (codes "A") rows + standard_at (codes "B") rows
     + standard_at (codes "FILE") rows + standard_at (codes "PATH") rows
-    + standard_at (codes "BEFORE") rows + standard_at (codes "AFTER") rows
+    + standard_at (codes "BEFORE") rows + standard_at (codes "AFTER") rows + standard_at (codes "check") rows
 
 -- an argument is given
 abbrev pub is_given : Text → List Row → Bool
@@ -229,15 +235,24 @@ is_given id rows = is_some (first_of id rows)
 abbrev pub is_option_standard : Text → List Row → Bool
 is_option_standard id rows = is_standard_path (value_at id rows)
 
+-- the arguments of `hash` ask for digests: of the schema, or of a sheet
+abbrev pub AsksForDigests : List Row → Type 0
+AsksForDigests rows = (with_schema : Bool) × IsFlag (one_of (codes "schema") rows) with_schema
+    × ((with_schema || is_given (codes "VEC") rows) ≡ true)
+
 -- The arguments of a subcommand can't be meant: the codes are no codes, standard input is to be read twice, explain is
--- given two files of three, hash is given no sheet and isn't asked for the digest of the schema, or the pairing of a
--- comparison or the picture of a difference is to go to standard output.
+-- given two files of three, hash is given no sheet and no list and isn't asked for the digest of the schema, or it is
+-- given a list and one of these, or the pairing of a comparison or the picture of a difference is to go to standard
+-- output.
 abbrev pub IsMisuse : Text → List Row → Misuse → Type 0
 IsMisuse name rows (BadKinds bad) = HasBadKinds rows × AreBadKinds (first_of (codes "kinds") rows) bad
 IsMisuse name rows TwoStandard = 1 < standard_count rows
 IsMisuse name rows NoSheet = (name ≡ codes "explain") × (is_given (codes "DIC") rows ≡ true) × (is_given (codes "VEC") rows ≡ false)
 IsMisuse name rows NothingHashed =
     (name ≡ codes "hash") × IsFlag (one_of (codes "schema") rows) false × (is_given (codes "VEC") rows ≡ false)
+    × (is_given (codes "check") rows ≡ false)
+IsMisuse name rows ListAndMore =
+    (name ≡ codes "hash") × (is_given (codes "check") rows ≡ true) × AsksForDigests rows
 IsMisuse name rows StandardPairing = (name ≡ codes "compare") × (is_option_standard (codes "pairing") rows ≡ true)
 IsMisuse name rows StandardPicture = (name ≡ codes "diff") × (is_option_standard (codes "picture") rows ≡ true)
 
@@ -247,6 +262,7 @@ misuse_text (BadKinds bad) = codes "bad kinds"
 misuse_text TwoStandard = codes "only one input can be -"
 misuse_text NoSheet = codes "explain takes RULE, or SCD, DIC and VEC"
 misuse_text NothingHashed = codes "hash takes SCD, DIC and a VEC, or --schema"
+misuse_text ListAndMore = codes "hash --check LIST takes SCD and DIC alone"
 misuse_text StandardPairing = codes "--pairing takes a file, and not -"
 misuse_text StandardPicture = codes "--picture takes a file, and not -"
 
@@ -265,6 +281,11 @@ Means met (Pair kinds files (Compare pairing)) = (rows : List Row) × (met ≡ S
 Means met (Hash kinds files with_schema) =
     (rows : List Row) × (met ≡ Some (codes "hash", rows)) × GiveKinds rows kinds × AreManyFiles rows files
     × IsFlag (one_of (codes "schema") rows) with_schema × ((with_schema || is_given (codes "VEC") rows) ≡ true)
+    × (is_given (codes "check") rows ≡ false)
+Means met (CheckList kinds files list) =
+    (rows : List Row) × (met ≡ Some (codes "hash", rows)) × GiveKinds rows kinds × AreManyFiles rows files
+    × (first_of (codes "check") rows ≡ Some list.now) × IsFlag (one_of (codes "schema") rows) false
+    × (is_given (codes "VEC") rows ≡ false)
 Means met (Delivery kinds paths) = (rows : List Row) × (met ≡ Some (codes "delivery", rows)) × GiveKinds rows kinds
     × (map (λ p. p.now) paths.items ≡ values_at (codes "PATH") rows)
 Means met (Explain kinds files) = (rows : List Row) × (met ≡ Some (codes "explain", rows)) × GiveKinds rows kinds × AreSheetFiles rows files

@@ -1,7 +1,7 @@
 //! The command line, as clap takes it.
 ghost use Rattle.std.specs.Prelude.{◌≡◌, IfOk, IsOkAnd, codes};
 ghost use Rattle.clap.specs.Words.{AddsArg, AddsSubcommand, app_of, new_app, new_rule, rule_of, with_rule};
-ghost use Rattle.edi_words.specs.Requests.{brief_rule, canon_command, changed_command, check_command, compare_command, delivery_command, diff_command, draw_command, edicad, explain_command, file_option_rule, file_rule, files_rule, hash_command, json_rule, kinds_rule, optional_files_rule, pairing_rule, picture_rule, records_rule, schema_command, schema_flag_rule, subject_rule, verify_command};
+ghost use Rattle.edi_words.specs.Requests.{brief_rule, canon_command, changed_command, check_command, compare_command, delivery_command, diff_command, draw_command, edicad, explain_command, file_option_rule, file_rule, files_rule, hash_command, json_rule, kinds_rule, list_rule, optional_files_rule, pairing_rule, picture_rule, records_rule, schema_command, schema_flag_rule, subject_rule, verify_command};
 
 use clap::{Arg, ArgAction, Command};
 use std::alloc::{AllocError, Global};
@@ -127,7 +127,8 @@ fn hash<'a>(alloc: Global) -> Result<Command<'a>, AllocError>
         "Gives the SHA-256 digest of each sheet's canonical file",
     );
     let with_sheets = with_argument(over_schema, sheets_argument(alloc));
-    with_argument(with_sheets, schema_flag(alloc))
+    let with_schema = with_argument(with_sheets, schema_flag(alloc));
+    with_argument(with_schema, list_option(alloc))
 }
 
 // The subcommand that gives the digests of the sheets of deliveries.
@@ -283,6 +284,16 @@ fn schema_flag<'a>(alloc: Global) -> Arg<'a>
         .long("schema")
         .action(ArgAction::SetTrue)
         .help("Gives the digest of the schema first")
+}
+
+// The option with a list of digests, which are held against those that are found.
+fn list_option<'a>(alloc: Global) -> Arg<'a>
+    ensures { rule_of result ≡ list_rule }
+{
+    Arg::new(alloc, "check")
+        .long("check")
+        .value_name("LIST")
+        .help("Says which digests of a list are still the same")
 }
 
 // The option with the codes of the kinds.

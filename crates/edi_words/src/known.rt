@@ -2,7 +2,7 @@
 ghost use Rattle.std.specs.Prelude.{◌≡◌, [], ◌∷◌, None, Some, codes};
 ghost use Rattle.clap.specs.Words.{fault_of, subcommand_of};
 ghost use Rattle.clap.specs.declared.error.ErrorKind.TheVariants.{DisplayHelp, DisplayVersion, InvalidSubcommand, MissingRequiredArgument, UnknownArgument};
-ghost use Rattle.edi_words.specs.Known.{brief_of, json_of, lists_asked, pairing_files_of, paths_asked, picture_of, records_of, sheets_of, values_of, with_schema_of, words_in};
+ghost use Rattle.edi_words.specs.Known.{brief_of, json_of, list_asked, lists_asked, pairing_files_of, paths_asked, picture_of, records_of, sheets_of, values_of, with_schema_of, words_in};
 ghost use Rattle.edi_words.specs.Requests.{edicad};
 
 /// Known words ask for what they should.
@@ -18,6 +18,8 @@ pub fn known_words_are_asked()
     ensures no_sheets { sheets_of (codes "edicad hash --schema s d") ≡ Some (codes "hash", []) }
     ensures with_schema { with_schema_of (codes "edicad hash --schema s d") ≡ Some (Some (codes "true")) }
     ensures without_schema { with_schema_of (codes "edicad hash s d a") ≡ Some (Some (codes "false")) }
+    ensures list { list_asked (codes "edicad hash --check l s d") ≡ Some (codes "hash", Some (codes "l")) }
+    ensures no_list { list_asked (codes "edicad hash s d a") ≡ Some (codes "hash", None) }
     ensures delivery { paths_asked (codes "edicad delivery p q") ≡ Some (codes "delivery", codes "p" ∷ codes "q" ∷ []) }
     ensures changed { lists_asked (codes "edicad changed a b")
         ≡ Some (codes "changed", Some (codes "a") ∷ Some (codes "b") ∷ []) }
@@ -63,6 +65,7 @@ pub fn known_words_are_asked()
     ensures no_drawing { fault_of edicad (words_in (codes "edicad draw s d v")) ≡ MissingRequiredArgument ∷ [] }
     ensures no_schema_fault { fault_of edicad (words_in (codes "edicad hash s d a --schema")) ≡ [] }
     ensures no_sheet { fault_of edicad (words_in (codes "edicad hash s d")) ≡ [] }
+    ensures no_list_fault { fault_of edicad (words_in (codes "edicad hash --check l s d")) ≡ [] }
     ensures no_dictionary { fault_of edicad (words_in (codes "edicad hash --schema s")) ≡ MissingRequiredArgument ∷ [] }
     ensures help { fault_of edicad (words_in (codes "edicad --help")) ≡ DisplayHelp ∷ [] }
     ensures version { fault_of edicad (words_in (codes "edicad --version")) ≡ DisplayVersion ∷ [] }

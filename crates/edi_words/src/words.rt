@@ -1,7 +1,7 @@
 //! What the words of the command line ask for.
-ghost use Rattle.std.specs.Prelude.{◌≡◌, ◌≢◌, ◌↔◌, ◌<◌, ◌≤◌, ◌^◌, ◌||◌, ◌∷◌, IsTrue, IfErr, IfOk, MatchOption, MatchResult, OnOk, Some, [], codes, length, map};
+ghost use Rattle.std.specs.Prelude.{◌≡◌, ◌≢◌, ◌↔◌, ◌<◌, ◌≤◌, ◌^◌, ◌||◌, ◌∷◌, IsTrue, IfErr, IfOk, MatchOption, MatchResult, OnOk, Some, [], codes, false, length, map};
 ghost use Rattle.std.specs.Prelude.{option_map, string_bytes};
-ghost use Rattle.clap.specs.Words.{HasKind, fault_of, found_of, kind_of, one_of, rows_of, subcommand_of, subcommand_rows_of};
+ghost use Rattle.clap.specs.Words.{HasKind, fault_of, first_of, found_of, kind_of, one_of, rows_of, subcommand_of, subcommand_rows_of};
 ghost use Rattle.edi_schema.specs.Roles.{AreKindCodes, KindCodes};
 ghost use Rattle.edi_words.specs.Requests.{AreBadKinds, AreKindsIn, AreKindsOf, AreManyFiles, ArePairFiles, AreSheetFiles, IsAsked, IsFlag, IsKindsFault, GiveKinds, Means, ReadsInputOnce, codes_in, edicad, is_given, is_standard_path, standard_at, standard_count, standard_in, status_of_kind, value_at, values_at};
 ghost use Rattle.edi_words.specs.inner.Requests.{IsOwn};
@@ -72,6 +72,12 @@ pub enum Request<'a> {
         files: ManyFiles<'a>,
         with_schema: bool,
     },
+    /// Which digests of a list are those that are found now. No sheet is named.
+    CheckList {
+        kinds: GivenKinds<'a>,
+        files: ManyFiles<'a>,
+        list: &'a str,
+    },
     /// The digests of the canonical files of the sheets of deliveries.
     Delivery {
         kinds: GivenKinds<'a>,
@@ -133,8 +139,10 @@ pub enum Misuse<'a> {
     TwoStandard,
     /// A schema is named, and no sheet.
     NoSheet,
-    /// No sheet is named, nor is the digest of the schema asked for.
+    /// No sheet and no list is named, nor is the digest of the schema asked for.
     NothingHashed,
+    /// A list is named, and beside it a sheet, or the digest of the schema is asked for.
+    ListAndMore,
     /// A pairing is to go to standard output, which gets the answer.
     StandardPairing,
     /// A picture is to go to standard output, which gets what differs.
@@ -265,6 +273,29 @@ fn hashed<'a, R: Eprint + AllocGlobal>(
 ) -> Request<'a>
     ensures { GiveKinds (rows_of (found_of given.now)) kinds.entry → Means (Some (codes "hash", rows_of (found_of given.now))) result }
 {
+    match list_given(given) {
+        Some(list) => listed(rt, given, kinds, list),
+        None => unlisted(rt, given, kinds),
+    }
+}
+
+// The list that the arguments of `hash` name.
+fn list_given<'a>(given: &ArgMatches<'a>) -> Option<&'a str>
+    ensures { option_map (λ t. t.now) result ≡ first_of (codes "check") (rows_of (found_of given.now)) }
+{
+    given.get_str("check")
+}
+
+// What the arguments of `hash` ask for where they name no list.
+fn unlisted<'a, R: Eprint + AllocGlobal>(
+    rt: &R,
+    given: &ArgMatches<'a>,
+    kinds: GivenKinds<'a>,
+) -> Request<'a>
+    ensures { is_given (codes "check") (rows_of (found_of given.now)) ≡ false
+        → GiveKinds (rows_of (found_of given.now)) kinds.entry
+        → Means (Some (codes "hash", rows_of (found_of given.now))) result }
+{
     let with_schema = flag(given, "schema");
     if !asks_for_digests(given, with_schema) {
         return Request::Misused(Misuse::NothingHashed);
@@ -275,6 +306,26 @@ fn hashed<'a, R: Eprint + AllocGlobal>(
             files,
             with_schema,
         },
+        Err(_) => Request::Answered(out_of_memory(rt)),
+    }
+}
+
+// What the arguments of `hash` ask for where they name a list.
+fn listed<'a, R: Eprint + AllocGlobal>(
+    rt: &R,
+    given: &ArgMatches<'a>,
+    kinds: GivenKinds<'a>,
+    list: &'a str,
+) -> Request<'a>
+    ensures { first_of (codes "check") (rows_of (found_of given.now)) ≡ Some list.entry.now
+        → GiveKinds (rows_of (found_of given.now)) kinds.entry
+        → Means (Some (codes "hash", rows_of (found_of given.now))) result }
+{
+    if asks_for_digests(given, flag(given, "schema")) {
+        return Request::Misused(Misuse::ListAndMore);
+    }
+    match many_files(rt.alloc(), given) {
+        Ok(files) => Request::CheckList { kinds, files, list },
         Err(_) => Request::Answered(out_of_memory(rt)),
     }
 }
@@ -362,6 +413,7 @@ fn reads_input_twice(given: &ArgMatches<'_>) -> bool
         + standard(given, "PATH")
         + standard(given, "BEFORE")
         + standard(given, "AFTER")
+        + standard(given, "check")
         > 1
 }
 

@@ -2,7 +2,7 @@
 use Rattle.std.proofs.Common.{◌≡◌, ℕ, List, [], inl, inr, ◌∙◌}
 use Rattle.edi_schema.specs.Roles.{KindCodes}
 use Rattle.edi_words.specs.declared.words.Request.{Request}
-use Rattle.edi_words.specs.declared.words.Request.TheVariants.{Bundle, Check, Canon, Pair, Hash, Delivery, Explain, Rule, Draw, Changed, Misused, Answered}
+use Rattle.edi_words.specs.declared.words.Request.TheVariants.{Bundle, Check, Canon, Pair, Hash, CheckList, Delivery, Explain, Rule, Draw, Changed, Misused, Answered}
 use Rattle.edi_answers.specs.Effects.{Inputs}
 use Rattle.edi_answers.specs.Notes.{HasNoteOf, IsNoteOf, IsNotedAs}
 use Rattle.edicad.specs.inner.Notes.{LeavesNoteOf}
@@ -18,6 +18,7 @@ note_left inputs (Check kinds files) s old new none h = noted inputs kinds files
 note_left inputs (Canon kinds files out) s old new none h = noted inputs kinds files.scd.now old new s none h
 note_left inputs (Pair kinds files what) s old new none h = noted inputs kinds files.scd.now old new s none h
 note_left inputs (Hash kinds files with_schema) s old new none h = h ∙ none
+note_left inputs (CheckList kinds files list) s old new none h = h ∙ none
 note_left inputs (Delivery kinds paths) s old new none h = h ∙ none
 note_left inputs (Explain kinds files) s old new none h = h ∙ none
 note_left inputs (Rule word) s old new none h = h ∙ none

@@ -1,6 +1,7 @@
 -- What each request is answered by.
 use Rattle.std.specs.Prelude.{◌≡◌, ◌⊎◌, ℕ, List, [], IsTrue, MatchOption}
 use Rattle.std.specs.Bool.{MatchBool}
+use Rattle.edi_changes.specs.Checks.{IsHeldStatus}
 use Rattle.edi_changes.specs.Statuses.{IsChangedStatus}
 use Rattle.edi_deliveries.specs.Deliveries.{IsDeliveryStatus, Listings}
 use Rattle.edi_answers.specs.Explains.{IsExplainStatus, IsRuleStatus}
@@ -21,7 +22,7 @@ use Rattle.edi_words.specs.declared.words.PairRequest.{PairRequest}
 use Rattle.edi_words.specs.declared.words.PairRequest.TheVariants.{Compare, Verify, Diff}
 use Rattle.edi_words.specs.declared.words.SheetFiles.{SheetFiles}
 use Rattle.edi_words.specs.declared.words.Request.{Request}
-use Rattle.edi_words.specs.declared.words.Request.TheVariants.{Bundle, Check, Canon, Pair, Hash, Delivery, Explain, Rule, Draw, Changed, Misused, Answered}
+use Rattle.edi_words.specs.declared.words.Request.TheVariants.{Bundle, Check, Canon, Pair, Hash, CheckList, Delivery, Explain, Rule, Draw, Changed, Misused, Answered}
 
 -- The status of what is made of a sheet, which is sent to the output or put at a path.
 abbrev pub IsMadeStatus : Effects → Stream → Stream → Product → KindCodes → SheetFiles → List ℕ → ℕ → Type 0
@@ -54,6 +55,8 @@ IsReplied run listings out err (Canon kinds files path) s = IsMadeStatus run out
 IsReplied run listings out err (Pair kinds files what) s = IsPairReplied run out err kinds files what s
 IsReplied run listings out err (Hash kinds files with_schema) s =
     run.untouched × IsHashStatus run out err kinds files with_schema s
+IsReplied run listings out err (CheckList kinds files list) s =
+    run.untouched × IsHeldStatus run out err kinds files list.now s
 IsReplied run listings out err (Delivery kinds paths) s = run.untouched × IsDeliveryStatus run listings kinds paths.items out err s
 IsReplied run listings out err (Explain kinds files) s = run.untouched × IsExplainStatus run out err kinds files s
 IsReplied run listings out err (Rule word) s = run.untouched × IsRuleStatus out err word.now s

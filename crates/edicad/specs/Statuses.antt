@@ -15,7 +15,7 @@ use Rattle.edicad.specs.Made.{IsInput, IsPictureOfPair, IsPut, IsReplaced, OfMad
 use Rattle.edi_words.specs.declared.words.PairFiles.{PairFiles}
 use Rattle.edi_words.specs.declared.words.SheetFiles.{SheetFiles}
 use Rattle.edi_words.specs.declared.words.Request.{Request}
-use Rattle.edi_words.specs.declared.words.Request.TheVariants.{Bundle, Check, Canon, Pair, Hash, Delivery, Explain, Rule, Draw, Changed, Misused, Answered}
+use Rattle.edi_words.specs.declared.words.Request.TheVariants.{Bundle, Check, Canon, Pair, Hash, CheckList, Delivery, Explain, Rule, Draw, Changed, Misused, Answered}
 use Rattle.edi_answers.specs.Statuses.{Answers, AreFourTried, AreTried, Complains, IsPageStatus, IsPairStatus, IsSheetStatus, MeansStatus, Prints, PrintsFirst, SaysPairRefusal, SaysRefusal, pair_paths_of, paths_of}
 use Rattle.edi_diff.specs.declared.form.TextForm.{TextForm}
 
@@ -26,6 +26,7 @@ IsStatusOf (Check kinds files) s = IsSheetStatus s
 IsStatusOf (Canon kinds files out) s = IsSheetStatus s
 IsStatusOf (Pair kinds files what) s = IsPairStatus s
 IsStatusOf (Hash kinds files with_schema) s = IsSheetStatus s
+IsStatusOf (CheckList kinds files list) s = IsPairStatus s
 IsStatusOf (Delivery kinds paths) s = IsSheetStatus s
 IsStatusOf (Explain kinds files) s = IsSheetStatus s
 IsStatusOf (Rule word) s = IsPageStatus s

@@ -16,6 +16,7 @@ use edi_answers::explains::{explain, explain_rule};
 use edi_answers::hashes::hash;
 use edi_answers::{notes, report};
 use edi_changes::answer::changed;
+use edi_changes::checks::check_list;
 use edi_deliveries::deliveries::answer_paths;
 use edi_diff::{Difference, TextForm};
 use edi_files::Product::{self, Canonical, Picture};
@@ -141,6 +142,9 @@ fn replied<F: Folder + Listing, O: ByteOut, E: ByteOut>(
             files,
             with_schema,
         } => hash(alloc, folder, &kinds, &files, with_schema, out, err),
+        Request::CheckList { kinds, files, list } => {
+            check_list(alloc, folder, &kinds, &files, list, out, err)
+        }
         Request::Delivery { kinds, paths } => answer_paths(alloc, folder, &kinds, &paths, out, err),
         Request::Changed { before, after } => changed(alloc, folder, before, after, out, err),
         Request::Explain { kinds, files } => explain(alloc, folder, &kinds, &files, out, err),

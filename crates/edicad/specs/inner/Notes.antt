@@ -1,7 +1,7 @@
 -- The note on the kinds of links that no class has, while a command runs.
 use Rattle.std.specs.Prelude.{◌≡◌, ℕ, List}
 use Rattle.edi_words.specs.declared.words.Request.{Request}
-use Rattle.edi_words.specs.declared.words.Request.TheVariants.{Bundle, Check, Canon, Pair, Hash, Delivery, Explain, Rule, Draw, Changed, Misused, Answered}
+use Rattle.edi_words.specs.declared.words.Request.TheVariants.{Bundle, Check, Canon, Pair, Hash, CheckList, Delivery, Explain, Rule, Draw, Changed, Misused, Answered}
 use Rattle.edi_answers.specs.Effects.{Inputs}
 use Rattle.edi_answers.specs.Notes.{HasNoteOf}
 
@@ -13,6 +13,7 @@ LeavesNoteOf inputs (Check kinds files) status old new = HasNoteOf inputs kinds 
 LeavesNoteOf inputs (Canon kinds files out) status old new = HasNoteOf inputs kinds files.scd.now status old new
 LeavesNoteOf inputs (Pair kinds files what) status old new = HasNoteOf inputs kinds files.scd.now status old new
 LeavesNoteOf inputs (Hash kinds files with_schema) status old new = new ≡ old
+LeavesNoteOf inputs (CheckList kinds files list) status old new = new ≡ old
 LeavesNoteOf inputs (Delivery kinds paths) status old new = new ≡ old
 LeavesNoteOf inputs (Explain kinds files) status old new = new ≡ old
 LeavesNoteOf inputs (Rule word) status old new = new ≡ old
