@@ -27,7 +27,7 @@ fn mark_of(unchanged: Option<u32>, became: Option<u32>) -> Mark
     match unchanged {
         Some(_) => Mark::Plain,
         None => match became {
-            Some(_) => Mark::Changed,
+            Some(_) => Mark::Before,
             None => Mark::OnlyFirst,
         },
     }
@@ -101,7 +101,7 @@ pub(crate) fn second_marks(
     ensures { IfOk result (λ marks. marks.items ≡ map (second_mark unchanged.now became.now) (range_with_len 0 count)) }
 {
     let mut marks = one_mark_each(alloc, Mark::OnlySecond, count)?;
-    stamp_all(&mut marks, became.to.as_slice(), Mark::Changed);
+    stamp_all(&mut marks, became.to.as_slice(), Mark::After);
     stamp_all(&mut marks, unchanged.to.as_slice(), Mark::Hidden);
     Ok(marks)
 }
