@@ -11,7 +11,7 @@ ghost use Rattle.edi_drawing.specs.Marked.{of_each};
 ghost use Rattle.edi_drawing.specs.Tints.{first_tint};
 ghost use Rattle.edi_drawing.specs.inner.Labels.{AreCallers};
 
-use crate::pair::Pair;
+use crate::pair::{Pair, entry_at};
 use edi_plan::{Plan, PlanAttribute, PlanEnd};
 use edi_record::{Kind, Value};
 use edi_schema::Schema;
@@ -28,10 +28,10 @@ const MOST_SHOWN: usize = 40;
 fn is_label(identifier: &[u8]) -> bool
     ensures { result ≡ is_label identifier.now }
 {
-    identifier == b"TEX_id"
-        || identifier == b"TEX2_id"
-        || identifier == b"NUM_id"
-        || identifier == b"NOM_id"
+    identifier == b"TEX_id".as_slice()
+        || identifier == b"TEX2_id".as_slice()
+        || identifier == b"NUM_id".as_slice()
+        || identifier == b"NOM_id".as_slice()
 }
 
 /// The first so many elements, or all if there are fewer.
@@ -114,10 +114,10 @@ fn link_label<'a>(schema: &Schema, plan: &'a Plan, link: u32) -> &'a [u8]
 }
 
 /// Notes a link for a record that has none yet.
-fn note(callers: &mut [Option<u32>], place: u32, link: u32)
-    ensures length { length callers.new ≡ length callers.old }
-    ensures each { (k : ℕ) → k < length callers.old → slice_index_or callers.new k None
-        ≡ option_or (slice_index_or callers.old k None) (if place == k then Some link else None) }
+fn note(callers: &mut Vec<Option<u32>>, place: u32, link: u32)
+    ensures length { length callers.new.items ≡ length callers.old.items }
+    ensures each { (k : ℕ) → k < length callers.old.items → slice_index_or callers.new.items k None
+        ≡ option_or (slice_index_or callers.old.items k None) (if place == k then Some link else None) }
 {
     if (place as usize) < callers.len() && callers[place as usize].is_none() {
         callers[place as usize] = Some(link);
@@ -125,10 +125,10 @@ fn note(callers: &mut [Option<u32>], place: u32, link: u32)
 }
 
 /// Notes a link for each record that its ends name and that has none yet.
-fn note_all(callers: &mut [Option<u32>], ends: &[PlanEnd], link: u32)
-    ensures length { length callers.new ≡ length callers.old }
-    ensures each { (k : ℕ) → k < length callers.old → slice_index_or callers.new k None
-        ≡ option_or (slice_index_or callers.old k None) (if list_any (λ e. e.target == k) ends.now then Some link else None) }
+fn note_all(callers: &mut Vec<Option<u32>>, ends: &[PlanEnd], link: u32)
+    ensures length { length callers.new.items ≡ length callers.old.items }
+    ensures each { (k : ℕ) → k < length callers.old.items → slice_index_or callers.new.items k None
+        ≡ option_or (slice_index_or callers.old.items k None) (if list_any (λ e. e.target == k) ends.now then Some link else None) }
 {
     for end in ends {
         note(callers, end.target, link);
@@ -136,12 +136,12 @@ fn note_all(callers: &mut [Option<u32>], ends: &[PlanEnd], link: u32)
 }
 
 /// Notes a link for each record that it calls something and that has none yet.
-fn call_all(callers: &mut [Option<u32>], schema: &Schema, plan: &Plan, link: u32)
+fn call_all(callers: &mut Vec<Option<u32>>, schema: &Schema, plan: &Plan, link: u32)
     requires agrees { Agrees schema.now plan.now }
     requires link { IsPlace plan.now link }
-    ensures length { length callers.new ≡ length callers.old }
-    ensures each { (k : ℕ) → k < length callers.old → slice_index_or callers.new k None
-        ≡ option_or (slice_index_or callers.old k None) (if calls schema.now plan.now k link then Some link else None) }
+    ensures length { length callers.new.items ≡ length callers.old.items }
+    ensures each { (k : ℕ) → k < length callers.old.items → slice_index_or callers.new.items k None
+        ≡ option_or (slice_index_or callers.old.items k None) (if calls schema.now plan.now k link then Some link else None) }
 {
     if !link_label(schema, plan, link).is_empty() {
         note_all(callers, plan.ends(link), link);
@@ -161,11 +161,7 @@ fn no_callers(alloc: Global, count: u32) -> Result<Vec<Option<u32>>, AllocError>
 }
 
 /// For each record the first link that calls it something.
-fn callers_of(
-    alloc: Global,
-    schema: &Schema,
-    plan: &Plan,
-) -> Result<Vec<Option<u32>>, AllocError>
+fn callers_of(alloc: Global, schema: &Schema, plan: &Plan) -> Result<Vec<Option<u32>>, AllocError>
     requires { Agrees schema.now plan.now }
     ensures { IfOk result (λ callers. AreCallers schema.now plan.now callers.items) }
 {
@@ -177,19 +173,14 @@ fn callers_of(
 }
 
 /// What the record at a place is called.
-fn label_of<'a>(
-    schema: &Schema,
-    plan: &'a Plan,
-    callers: &[Option<u32>],
-    place: u32,
-) -> &'a [u8]
+fn label_of<'a>(schema: &Schema, plan: &'a Plan, callers: &[Option<u32>], place: u32) -> &'a [u8]
     requires agrees { Agrees schema.now plan.now }
     requires callers { AreCallers schema.now plan.now callers.now }
     ensures { result.now ≡ label_of schema.now plan.now place }
 {
-    match callers.get(place as usize) {
-        Some(Some(link)) => link_label(schema, plan, *link),
-        Some(None) | None => b"",
+    match entry_at(callers, place) {
+        Some(link) => link_label(schema, plan, link),
+        None => b"",
     }
 }
 

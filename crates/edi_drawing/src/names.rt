@@ -3,7 +3,7 @@
 use std::marker::Model;
 
 /// The names of the files of two sheets, as a picture gives them.
-#[derive(Clone, Copy)]
+#[derive(Drop)]
 pub struct FileNames<'a> {
     pub first: &'a str,
     pub second: &'a str,

@@ -1,12 +1,24 @@
 //! Two sheets that were compared.
 
+ghost use Rattle.std.specs.Prelude.{◌≡◌, None, slice_index_or};
+
 use edi_matching::Matching;
 use edi_plan::Plan;
 use edi_report::LocatedSheet;
 use std::marker::Model;
 
+/// What stands at a place of a list, if anything does.
+pub(crate) fn entry_at(list: &[Option<u32>], place: u32) -> Option<u32>
+    ensures { result ≡ slice_index_or list.now place None }
+{
+    match list.get(place as usize) {
+        Some(entry) => *entry,
+        None => None,
+    }
+}
+
 /// Two sheets, and what is unchanged of the first in the second and what became of it there.
-#[derive(Clone, Copy)]
+#[derive(Drop)]
 pub(crate) struct Pair<'a> {
     pub(crate) first: &'a LocatedSheet,
     pub(crate) second: &'a LocatedSheet,
@@ -49,9 +61,6 @@ impl<'a> Pair<'a> {
     pub(crate) fn same_of(&self, place: u32) -> Option<u32>
         ensures { result ≡ same_of self.now place }
     {
-        match self.unchanged.to.as_slice().get(place as usize) {
-            Some(target) => *target,
-            None => None,
-        }
+        entry_at(self.unchanged.to.as_slice(), place)
     }
 }

@@ -34,7 +34,11 @@ pub(crate) fn picture_of(
         tints: Vec::new(alloc),
         labels: labels_of(alloc, schema, plan)?,
     };
-    picture(alloc, schema, &[Shown::new(plan, name.as_bytes(), identifiers, looks)])
+    picture(
+        alloc,
+        schema,
+        &[Shown::new(plan, name.as_bytes(), identifiers, looks)],
+    )
 }
 
 /// The first of two sheets as it is drawn.

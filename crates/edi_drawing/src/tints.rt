@@ -55,10 +55,10 @@ fn links_out(marks: &[Mark], plan: &Plan, link: u32) -> bool
 }
 
 /// Marks a place.
-fn touch(touched: &mut [bool], place: u32)
-    ensures length { length touched.new ≡ length touched.old }
-    ensures each { (k : ℕ) → k < length touched.old
-        → slice_index_or touched.new k false ≡ (slice_index_or touched.old k false || (place == k)) }
+fn touch(touched: &mut Vec<bool>, place: u32)
+    ensures length { length touched.new.items ≡ length touched.old.items }
+    ensures each { (k : ℕ) → k < length touched.old.items
+        → slice_index_or touched.new.items k false ≡ (slice_index_or touched.old.items k false || (place == k)) }
 {
     if (place as usize) < touched.len() {
         touched[place as usize] = true;
@@ -66,10 +66,10 @@ fn touch(touched: &mut [bool], place: u32)
 }
 
 /// Marks each record that these ends name.
-fn touch_all(touched: &mut [bool], ends: &[PlanEnd])
-    ensures length { length touched.new ≡ length touched.old }
-    ensures each { (k : ℕ) → k < length touched.old → slice_index_or touched.new k false
-        ≡ (slice_index_or touched.old k false || list_any (λ e. e.target == k) ends.now) }
+fn touch_all(touched: &mut Vec<bool>, ends: &[PlanEnd])
+    ensures length { length touched.new.items ≡ length touched.old.items }
+    ensures each { (k : ℕ) → k < length touched.old.items → slice_index_or touched.new.items k false
+        ≡ (slice_index_or touched.old.items k false || list_any (λ e. e.target == k) ends.now) }
 {
     for end in ends {
         touch(touched, end.target);
@@ -77,11 +77,11 @@ fn touch_all(touched: &mut [bool], ends: &[PlanEnd])
 }
 
 /// Marks each record that a link touches.
-fn touch_by(touched: &mut [bool], marks: &[Mark], plan: &Plan, link: u32)
+fn touch_by(touched: &mut Vec<bool>, marks: &[Mark], plan: &Plan, link: u32)
     requires { IsPlace plan.now link }
-    ensures length { length touched.new ≡ length touched.old }
-    ensures each { (k : ℕ) → k < length touched.old → slice_index_or touched.new k false
-        ≡ (slice_index_or touched.old k false || touches marks.now plan.now k link) }
+    ensures length { length touched.new.items ≡ length touched.old.items }
+    ensures each { (k : ℕ) → k < length touched.old.items → slice_index_or touched.new.items k false
+        ≡ (slice_index_or touched.old.items k false || touches marks.now plan.now k link) }
 {
     if links_out(marks, plan, link) {
         touch_all(touched, plan.ends(link));

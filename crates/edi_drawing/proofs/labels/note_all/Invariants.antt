@@ -4,4 +4,4 @@ use Rattle.std.specs.Option.{option_or}
 use Rattle.edi_drawing.proofs.labels.note_all.Given as goal
 
 abbrev pub invariant-loop-end : goal.invariant-loop-end
-invariant-loop-end l = (length l.callers ≡ length l.initial.callers) × ((k : ℕ) → k < length l.initial.callers → get_or l.callers k None ≡ option_or (get_or l.initial.callers k None) (if list_any (λ e. e.target == k) (take l.end-index l.ends) then Some l.link else None))
+invariant-loop-end l = (length l.callers.items ≡ length l.initial.callers.items) × ((k : ℕ) → k < length l.initial.callers.items → get_or l.callers.items k None ≡ option_or (get_or l.initial.callers.items k None) (if list_any (λ e. e.target == k) (take l.end-index l.ends) then Some l.link else None))
