@@ -11,15 +11,51 @@ HERE = os.path.dirname(os.path.abspath(__file__))
 SVG = "{http://www.w3.org/2000/svg}"
 
 
-MARKS = {"#777777": "in both", "#D55E00": "- ", "#0072B2": "+ ", "#E69F00": "~ "}
+# the ink of a group, and the words behind the title of a record that is drawn in it, with the mark that the lines of diff have for it
+INKS = {"#777777": {"": "  "}, "#D55E00": {", only in A": "- ", ", as it was in A": "~ "}, "#0072B2": {", only in B": "+ ", ", as it is in B": "~ "}}
+
+
+WORDS = {words: mark for ink in INKS.values() for words, mark in ink.items()}
+
+
+TINT = "#F0E442"
+
+
+OPEN = ", not filled, since its arcs do not close"
+
+
+def said(title, marks):
+    """The mark of a record by the words behind its title, of those that its ink allows, and the title without them."""
+    words = next(it for it in sorted(marks, key=len, reverse=True) if title.endswith(it))
+    return marks[words], title[: len(title) - len(words)]
 
 
 def drawn(picture):
-    """The faces, arcs and nodes of a picture: the colour, the title and the points or the path of each."""
-    groups = xml.fromstring(picture).findall(f"{SVG}svg/{SVG}g")
-    rows = lambda kind, group, colour, where: [(kind, it.get(colour), it.findtext(SVG + "title"), it.get(where)) for it in group]
-    faces, arcs, nodes = groups if groups else ([], [], [])
-    return rows("PFE", faces, "fill", "d") + rows("PAR", arcs, "stroke", "points") + rows("PNO", nodes, "stroke", "d")
+    """The faces, arcs and nodes of a picture: the type, the mark, the title and where it is drawn; and of faces whether they are tinted."""
+    plan = xml.fromstring(picture).findall(f"{SVG}svg")
+    groups = plan[1].findall(f"{SVG}g") if plan else []
+    found = []
+    for it in groups[0] if groups else []:
+        title = it.findtext(SVG + "title")
+        tinted = TINT in (it.get("fill"), it.get("stroke"))
+        mark, name = said(title.removesuffix(OPEN), WORDS)
+        found.append(("PFE", mark, name, it.get("d"), tinted))
+    for group in groups[1:]:
+        for it in group:
+            mark, name = said(it.findtext(SVG + "title"), INKS[group.get("stroke")])
+            found.append(("PAR", mark, name, it.get("points")) if it.tag == SVG + "polyline" else ("PNO", mark, name, f"{it.get('cx')},{it.get('cy')}"))
+    return found
+
+
+def labels(picture):
+    """What is written on the faces of a picture."""
+    return [it.text for it in xml.fromstring(picture).findall(f"{SVG}g/{SVG}text")]
+
+
+def far_off(picture):
+    """The nodes that a picture names, since they lie far off."""
+    texts = [it.text or "" for it in xml.fromstring(picture).findall(f"{SVG}text")]
+    return re.findall(r" (PNO [^;]*;[^;]*);", texts[-1].removeprefix("far off:")) if texts[-1].startswith("far off:") else []
 
 
 def count_of(room, name, kind):
@@ -38,10 +74,11 @@ def draw_case(room, name, words, wanted):
         return
     picture = room.read("o")
     found = drawn(picture)
-    report.check(name + ": arcs and nodes", [sum(it[0] == kind for it in found) for kind in ("PAR", "PNO")], [count_of(room, words[-1], kind) for kind in ("PAR", "PNO")])
+    far = len(far_off(picture))
+    report.check(name + ": arcs and nodes", [sum(it[0] == "PAR" for it in found), sum(it[0] == "PNO" for it in found) + far], [count_of(room, words[-1], kind) for kind in ("PAR", "PNO")])
     report.holds(name + ": no more faces than there are", sum(it[0] == "PFE" for it in found) <= count_of(room, words[-1], "PFE"))
     report.check(name + ": titles of other types", [it for it in found if not it[2].startswith(it[0] + " ")], [])
-    report.check(name + ": colours of one sheet", {it[1] for it in found} - {"#777777"}, set())
+    report.check(name + ": marks of one sheet", {it[1] for it in found} - {"  "}, set())
     room.expect(name + ": drawn to -", ["draw", *words, "-"], (0, picture, wanted[2]))
     os.remove(room.path("o"))
 
@@ -69,14 +106,16 @@ def picture_case(room, name, kinds, wanted):
         return
     picture = room.read("p")
     found = drawn(picture)
-    marked = sorted((MARKS[it[1]], it[0], it[2].split(" ")[1]) for it in found if it[1] != "#777777" and it[0] != "PFE")
+    marked = sorted((it[1], it[0], it[2].split(" ")[1]) for it in found if it[1] != "  " and it[0] != "PFE")
     rows = listed(wanted_answer[1].decode("latin-1").splitlines())
-    report.check(name + ": the arcs and nodes in colours", marked, [it for it in rows if it[1] != "PFE"])
-    faces = [(MARKS[it[1]], it[0], it[2].split(" ")[1]) for it in found if it[1] != "#777777" and it[0] == "PFE"]
+    far = [it.split(" ")[1] for it in far_off(picture)]
+    report.check(name + ": the arcs and nodes in colours", marked, [it for it in rows if it[1] == "PAR" or (it[1] == "PNO" and it[2] not in far)])
+    faces = [(it[1], it[0], it[2].split(" ")[1]) for it in found if it[1] != "  " and it[0] == "PFE"]
     report.check(name + ": faces in colours that no line lists", [it for it in faces if it not in rows], [])
-    for kind in ("PAR", "PNO"):
+    report.check(name + ": faces that only one sheet has, and aren't tinted", [it for it in found if it[0] == "PFE" and it[1] in ("- ", "+ ") and not it[4]], [])
+    for kind, more_far in (("PAR", 0), ("PNO", len(far))):
         more = sum(it[:2] == ("+ ", kind) for it in rows) + sum(it[:2] == ("~ ", kind) for it in rows) // 2
-        report.check(f"{name}: {kind} drawn", sum(it[0] == kind for it in found), count_of(room, "a", kind) + more)
+        report.check(f"{name}: {kind} drawn", sum(it[0] == kind for it in found) + more_far, count_of(room, "a", kind) + more)
     brief = room.run(["diff", *kinds, "--brief", "s", "d", "a", "b"])
     room.expect(name + ": with a picture, in brief", ["diff", *kinds, "--brief", "--picture=p", "s", "d", "a", "b"], brief)
     report.check(name + ": the picture in brief", room.read("p"), picture)
@@ -98,6 +137,8 @@ def pictures(room):
     room.expect("OUT of draw is made", ["draw", *sheet, "o"], accepted)
     picture = room.read("o")
     report.check("the example, drawn", drawn(picture), EXAMPLE)
+    report.check("the example's label", labels(picture), ["A 12"])
+    report.holds("the name of the example's file", b">a</text>" in picture)
     room.write("o", "old" * 10000)
     os.chmod(room.path("o"), 0o640)
     room.expect("OUT of draw is replaced", ["draw", *sheet, "o"], accepted)
@@ -109,7 +150,8 @@ def pictures(room):
     for at, name in enumerate(sheet):
         words = list(sheet)
         words[at] = "-"
-        room.expect(f"draw with {name} on standard input", ["draw", *words, "-"], (0, picture, b""), room.read(name))
+        named = picture.replace(b">a</text>", b">-</text>") if name == "a" else picture
+        room.expect(f"draw with {name} on standard input", ["draw", *words, "-"], (0, named, b""), room.read(name))
         words[at] = "x"
         room.expect(f"draw without {name}", ["draw", *words, "o"], (4, b"", unread("x")))
         words[at] = "bad"
@@ -138,16 +180,22 @@ def pictures(room):
 CORNER = (b"CORCC12:+5.00;+5.00;", b"CORCC12:+5.00;+6.00;")
 
 
-GREY = "#777777"
-
-
 EXAMPLE = [
-    ("PFE", GREY, "PFE Face_1 PGE;FAC_id", "M 0,5 10,5 0,5ZM 10,5 5,0 0,5 0,5Z"),
-    ("PAR", GREY, "PAR Arc_1 PGE;ARC_id", " 0,5 10,5"),
-    ("PAR", GREY, "PAR Arc_2 PGE;ARC_id", " 10,5 5,0 0,5"),
-    ("PNO", GREY, "PNO Noeud_1 PGE;NOD_id", "M 0,5h0"),
-    ("PNO", GREY, "PNO Noeud_2 PGE;NOD_id", "M 10,5h0"),
+    ("PFE", "  ", "PFE Face_1 PGE;FAC_id", "M 0,5 10,5 0,5ZM 10,5 5,0 0,5 0,5Z", False),
+    ("PAR", "  ", "PAR Arc_1 PGE;ARC_id", " 0,5 10,5"),
+    ("PAR", "  ", "PAR Arc_2 PGE;ARC_id", " 10,5 5,0 0,5"),
+    ("PNO", "  ", "PNO Noeud_1 PGE;NOD_id", "0,5"),
+    ("PNO", "  ", "PNO Noeud_2 PGE;NOD_id", "10,5"),
 ]
+
+
+# which faces are tinted, and what is written on them: a parcel that has another number, and one whose corner moved
+TINTED = {"b": (["Face_1"], ["A 12 -> A 13"]), "same": ([], []), "a": ([], []), "moved": (["Face_1"], ["A 12"])}
+
+
+def tinted(picture):
+    """The faces that are tinted."""
+    return [it[2].split(" ")[1] for it in drawn(picture) if it[0] == "PFE" and it[4]]
 
 
 def differing(room, sheets):
@@ -158,6 +206,8 @@ def differing(room, sheets):
         room.write("b2", room.read("b"))
         room.write("b", room.read(second))
         picture_case(room, f"the example and {second}", [], wanted)
+        room.run(["diff", "--picture", "p", *sheets])
+        report.check(f"what is tinted and written for {second}", (tinted(room.read("p")), labels(room.read("p"))), TINTED[second])
         room.write("b", room.read("b2"))
     room.write("p", "kept")
     room.expect("a picture to -", ["diff", "--picture", "-", *sheets], (3, b"", b"--picture takes a file, and not -\n"))
@@ -167,7 +217,7 @@ def differing(room, sheets):
         room.expect(f"a picture of {words}", ["diff", "--picture", "p", *words], wanted)
     report.check("FILE where there is no answer", (room.read("p"), room.read("-")), (b"kept", None))
     room.expect("a picture with a sheet on standard input", ["diff", "--picture", "p", "s", "d", "-", "b"], room.run(["diff", *sheets]), room.read("a"))
-    picture = room.read("p")
+    picture = room.read("p").replace(b">A: -,", b">A: a,")
     with open("/dev/full", "wb") as full:
         room.write("p", "old")
         status, _, err = room.run(["diff", "--picture", "p", *sheets], stdout=full)

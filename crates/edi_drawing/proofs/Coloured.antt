@@ -8,7 +8,7 @@ use Rattle.edi_report.specs.declared.sheet.LocatedSheet.{LocatedSheet}
 use Rattle.edi_diff.specs.Changes.{AreChanges}
 use Rattle.edi_diff.proofs.Outcomes.{goes_reached, reached_goes}
 use Rattle.edi_plan.specs.Plans.{Drawing}
-use Rattle.edi_picture.specs.declared.mark.Mark.TheVariants.{Plain, OnlySecond, Changed, Hidden}
+use Rattle.edi_picture.specs.declared.mark.Mark.TheVariants.{Plain, OnlySecond, After, Hidden}
 use Rattle.edi_drawing.specs.Laws.{FirstGreyIfUnlisted, SecondAloneIfListed, SecondChangedIfBecame, report_of}
 use Rattle.edi_drawing.specs.Marked.{mark_by}
 
@@ -25,7 +25,7 @@ kept_reached : (p q : Drawing) (unchanged became : Matching) (j : ℕ) → AreCh
 kept_reached p q unchanged became j are h = let w = reached_goes unchanged.to j h in goes_reached became.to w.0 j (are.keeps w.0 j w.1)
 
 alone_by : (line : List ℕ) → ¬ (line ≡ []) → (a b : Bool) → (a ≡ true → b ≡ true)
-    → ((if a then Hidden else if b then Changed else OnlySecond) ≡ OnlySecond) ↔ ¬ ((if b then [] else line) ≡ [])
+    → ((if a then Hidden else if b then After else OnlySecond) ≡ OnlySecond) ↔ ¬ ((if b then [] else line) ≡ [])
 alone_by line some true true within = (λ e. absurd cc, λ none. absurd (none refl))
 alone_by line some true false within = absurd (let e = within refl in cc)
 alone_by line some false true within = (λ e. absurd cc, λ none. absurd (none refl))
@@ -38,12 +38,12 @@ pub alone : SecondAloneIfListed
 alone first second unchanged became parts j are =
     alone_by (lone_line (codes "+ ") second j) (lone_said second j) (is_reached unchanged.to j) (is_reached became.to j) (kept_reached first.accepted second.accepted unchanged became j are)
 
-changed_said : (a b : Bool) → (if a then Hidden else if b then Changed else OnlySecond) ≡ Changed → (a ≡ false) × (b ≡ true)
+changed_said : (a b : Bool) → (if a then Hidden else if b then After else OnlySecond) ≡ After → (a ≡ false) × (b ≡ true)
 changed_said true b e = absurd cc
 changed_said false true e = (refl, refl)
 changed_said false false e = absurd cc
 
-changed_from : (a b : Bool) → a ≡ false → b ≡ true → (if a then Hidden else if b then Changed else OnlySecond) ≡ Changed
+changed_from : (a b : Bool) → a ≡ false → b ≡ true → (if a then Hidden else if b then After else OnlySecond) ≡ After
 changed_from a b e f = rw (e, f) refl
 
 no_case : (b : Bool) → (b ≡ true → ⊥) → b ≡ false
@@ -53,7 +53,7 @@ no_case false h = refl
 pub changed : SecondChangedIfBecame
 changed first second unchanged became j are = (onto, back)
   where
-    onto : (if is_reached unchanged.to j then Hidden else if is_reached became.to j then Changed else OnlySecond) ≡ Changed → (i : ℕ) × (¬ (IsMatched unchanged.to i)) × GoesTo became.to i j
+    onto : (if is_reached unchanged.to j then Hidden else if is_reached became.to j then After else OnlySecond) ≡ After → (i : ℕ) × (¬ (IsMatched unchanged.to i)) × GoesTo became.to i j
     onto e =
         let parts = changed_said (is_reached unchanged.to j) (is_reached became.to j) e in
         let w = reached_goes became.to j parts.1 in
@@ -69,7 +69,7 @@ changed first second unchanged became j are = (onto, back)
             one_place : (x y : ℕ) → Some x ≡ Some y → x ≡ y
             one_place x y e = cc
 
-    back : (i : ℕ) × (¬ (IsMatched unchanged.to i)) × GoesTo became.to i j → (if is_reached unchanged.to j then Hidden else if is_reached became.to j then Changed else OnlySecond) ≡ Changed
+    back : (i : ℕ) × (¬ (IsMatched unchanged.to i)) × GoesTo became.to i j → (if is_reached unchanged.to j then Hidden else if is_reached became.to j then After else OnlySecond) ≡ After
     back w = changed_from (is_reached unchanged.to j) (is_reached became.to j) (no_case (is_reached unchanged.to j) (λ h. taken (reached_goes unchanged.to j h))) (goes_reached became.to w.0 j w.2)
       where
         taken : (k : ℕ) × GoesTo unchanged.to k j → ⊥

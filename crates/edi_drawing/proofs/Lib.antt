@@ -1,3 +1,5 @@
 pub mod Marking
 pub mod Together
 pub mod Coloured
+pub mod Labelled
+pub mod Touched

@@ -8,7 +8,7 @@ use Rattle.edi_matching.specs.declared.matching.Matching.{Matching}
 use Rattle.edi_report.specs.Lines.{is_reached, went_to}
 use Rattle.edi_drawing.specs.Marked.{second_mark}
 use Rattle.edi_picture.specs.declared.mark.Mark.{Mark}
-use Rattle.edi_picture.specs.declared.mark.Mark.TheVariants.{OnlySecond, Changed, Hidden}
+use Rattle.edi_picture.specs.declared.mark.Mark.TheVariants.{OnlySecond, After, Hidden}
 
 or_none : (a b : Bool) (m x : Mark) → (if a || (b || false) then m else x) ≡ (if b then m else (if a then m else x))
 or_none true true m x = refl
@@ -33,7 +33,7 @@ one_more f n old new m done is pushed =
     pushed ∙ (ap (λ xs. xs ++ m ∷ []) done ∙ (ap (λ x. map f (range_with_len 0 n) ++ x ∷ []) is ∙ sym (map-range_with_len_more f 0 n n (omega arith))))
 
 pub second_marked : (unchanged became : Matching) (n : ℕ) (start mid marks : List Mark) → start ≡ map (λ k. OnlySecond) (range_with_len 0 n) → length mid ≡ length start → length marks ≡ length mid
-    → ((j : ℕ) → j < length start → get_or mid j Hidden ≡ (if is_reached became.to j then Changed else get_or start j Hidden))
+    → ((j : ℕ) → j < length start → get_or mid j Hidden ≡ (if is_reached became.to j then After else get_or start j Hidden))
     → ((j : ℕ) → j < length mid → get_or marks j Hidden ≡ (if is_reached unchanged.to j then Hidden else get_or mid j Hidden))
     → marks ≡ map (second_mark unchanged became) (range_with_len 0 n)
 second_marked unchanged became n start mid marks begun long longer first second =
@@ -52,5 +52,5 @@ second_marked unchanged became n start mid marks begun long longer first second 
         let in_start : i < length start = subst (λ k. i < k) long in_mid in
         second i in_mid
         ∙ (ap (λ x. if is_reached unchanged.to i then Hidden else x)
-        (first i in_start ∙ ap (λ x. if is_reached became.to i then Changed else x) (ap (λ ms. get_or ms i Hidden) begun ∙ get_or-map-range_with_len (λ k. OnlySecond) 0 n i i Hidden less (omega arith)))
+        (first i in_start ∙ ap (λ x. if is_reached became.to i then After else x) (ap (λ ms. get_or ms i Hidden) begun ∙ get_or-map-range_with_len (λ k. OnlySecond) 0 n i i Hidden less (omega arith)))
         ∙ sym (get_or-map-range_with_len (second_mark unchanged became) 0 n i i Hidden less (omega arith)))

@@ -1,25 +1,26 @@
 -- What differs, with its picture.
-use Rattle.std.proofs.Common.{◌≡◌, ℕ, Bool, List, sym, ap, ◌∙◌, subst}
+use Rattle.std.proofs.Common.{ℕ, List}
 use Rattle.std.specs.Global.{Vec}
 use Rattle.edi_schema.specs.Classes.{Classes}
 use Rattle.edi_diff.specs.Differences.{AreFindings}
 use Rattle.edi_diff.specs.declared.differing.Findings.{Findings}
-use Rattle.edi_picture.specs.Pictures.{IsPicture}
-use Rattle.edi_picture.specs.Sheets.{Sheet}
-use Rattle.edi_drawing.specs.Drawn.{IsDrawnDifference}
-use Rattle.edi_drawing.specs.Marked.{marked_sheets}
 use Rattle.edi_diff.specs.declared.form.TextForm.{TextForm}
+use Rattle.edi_picture.specs.Pictures.{IsPicture}
+use Rattle.edi_drawing.specs.Drawn.{FileNames, IsDrawnDifference, both_sheets}
+use Rattle.edi_drawing.specs.Marked.{Compared}
 
-pub drawn_by : (s : Classes) (a b : List ℕ) (form : TextForm) (found : Findings) (picture : Vec ℕ) → AreFindings s a b form found
-    → IsPicture s (marked_sheets found.first found.second found.unchanged found.became) picture.items
-    → IsDrawnDifference s a b form (record { difference = found.difference; picture = picture })
-drawn_by s a b form found picture are drawn = record {
+abbrev pub compared_of : Findings → Compared
+compared_of found = record { first = found.first; second = found.second; unchanged = found.unchanged; became = found.became }
+
+pub drawn_by : (s : Classes) (names : FileNames) (a b : List ℕ) (form : TextForm) (found : Findings) (picture : Vec ℕ) → AreFindings s a b form found
+    → IsPicture s (both_sheets s names (compared_of found)) picture.items
+    → IsDrawnDifference s names a b form (record { difference = found.difference; picture = picture })
+drawn_by s names a b form found picture are drawn = record {
   differs = are.differs;
-  is_picture = subst (λ (sheets : List Sheet). IsPicture s sheets picture.items) (sym all) drawn;
+  compared = compared_of found;
+  by_first = are.by_first;
+  by_second = are.by_second;
+  by_unchanged = are.by_unchanged;
+  by_became = are.by_became;
+  is_picture = drawn;
 }
-  where
-    all : marked_sheets are.differs.first are.differs.second are.differs.unchanged are.differs.is_text.became ≡ marked_sheets found.first found.second found.unchanged found.became
-    all =
-        ap (λ x. marked_sheets x are.differs.second are.differs.unchanged are.differs.is_text.became) are.by_first
-        ∙ (ap (λ x. marked_sheets found.first x are.differs.unchanged are.differs.is_text.became) are.by_second
-        ∙ (ap (λ x. marked_sheets found.first found.second x are.differs.is_text.became) are.by_unchanged ∙ ap (λ x. marked_sheets found.first found.second found.unchanged x) are.by_became))

@@ -7,7 +7,7 @@ use Rattle.edi_report.specs.Reports.{Report}
 use Rattle.edi_report.specs.declared.parts.Parts.{Parts}
 use Rattle.edi_report.specs.declared.sheet.LocatedSheet.{LocatedSheet}
 use Rattle.edi_diff.specs.Changes.{AreChanges}
-use Rattle.edi_picture.specs.declared.mark.Mark.TheVariants.{Plain, OnlySecond, Changed}
+use Rattle.edi_picture.specs.declared.mark.Mark.TheVariants.{Plain, OnlySecond, After}
 use Rattle.edi_drawing.specs.Marked.{first_mark, second_mark}
 
 -- what a text of two sheets reports
@@ -37,4 +37,4 @@ SecondAloneIfListed = (first second : LocatedSheet) (unchanged became : Matching
 abbrev pub SecondChangedIfBecame : Type 0
 SecondChangedIfBecame = (first second : LocatedSheet) (unchanged became : Matching) (j : ℕ)
     → AreChanges first.accepted second.accepted unchanged became
-    → (second_mark unchanged became j ≡ Changed) ↔ ((i : ℕ) × (¬ (IsMatched unchanged.to i)) × GoesTo became.to i j)
+    → (second_mark unchanged became j ≡ After) ↔ ((i : ℕ) × (¬ (IsMatched unchanged.to i)) × GoesTo became.to i j)

@@ -1,19 +1,24 @@
 -- What the runs that draw answer.
-use Rattle.std.specs.Prelude.{ℕ, Bool, List}
+use Rattle.std.specs.Prelude.{ℕ, List}
 use Rattle.edi_schema.specs.Classes.{Classes}
 use Rattle.edi_schema.specs.Roles.{KindCodes}
 use Rattle.edi_schema.specs.SchemaRefusal.{IsGoodSchema}
 use Rattle.edi_compare.specs.Rules.{IsAccepted}
-use Rattle.edi_drawing.specs.Drawn.{IsDrawnDifference, IsPictureOfFile}
+use Rattle.edi_drawing.specs.Drawn.{FileNames, IsDrawnDifference, IsPictureOfFile}
 use Rattle.edi_drawing.specs.declared.drawn.DrawnDifference.{DrawnDifference}
 use Rattle.edi_diff.specs.declared.form.TextForm.{TextForm}
 
 -- the sheet is accepted under the schema of the two files and the codes, and this is its picture
-abbrev pub IsPictureUnder : KindCodes → List ℕ → List ℕ → List ℕ → List ℕ → Type 0
-IsPictureUnder kinds scd dic b picture =
-    (s : Classes) × IsGoodSchema scd dic kinds s × IsAccepted s b × IsPictureOfFile s b picture
+pub record IsPictureUnder (kinds : KindCodes) (name scd dic b picture : List ℕ) : Type 0 where
+  pub schema : Classes
+  pub good : IsGoodSchema scd dic kinds schema
+  pub accepted : IsAccepted schema b
+  pub drawn : IsPictureOfFile schema name b picture
 
 -- both sheets are accepted under that schema, and this is what differs between them, with their picture
-abbrev pub IsDrawnDifferenceUnder : KindCodes → List ℕ → List ℕ → List ℕ → List ℕ → TextForm → DrawnDifference → Type 0
-IsDrawnDifferenceUnder kinds scd dic a b form drawn =
-    (s : Classes) × IsGoodSchema scd dic kinds s × IsAccepted s a × IsAccepted s b × IsDrawnDifference s a b form drawn
+pub record IsDrawnDifferenceUnder (kinds : KindCodes) (names : FileNames) (scd dic a b : List ℕ) (form : TextForm) (drawn : DrawnDifference) : Type 0 where
+  pub schema : Classes
+  pub good : IsGoodSchema scd dic kinds schema
+  pub first : IsAccepted schema a
+  pub second : IsAccepted schema b
+  pub differs : IsDrawnDifference schema names a b form drawn

@@ -4,10 +4,15 @@
 mod drawing;
 pub mod drawn;
 mod identifiers;
+mod labels;
 pub mod laws;
 mod marks;
+pub mod names;
+mod pair;
 mod pictures;
 pub mod runs;
+mod tints;
 
 pub use drawn::DrawnDifference;
+pub use names::FileNames;
 pub use runs::{run_draw, run_draw_difference};

@@ -6,19 +6,10 @@ ghost use Rattle.edi_report.specs.Lines.{is_reached, went_to};
 ghost use Rattle.edi_drawing.specs.Marked.{first_mark, mark_by, second_mark};
 ghost use Rattle.edi_picture.specs.declared.mark.Mark.TheVariants.{Hidden};
 
+use crate::pair::entry_at;
 use edi_matching::Matching;
 use edi_picture::Mark;
 use std::alloc::{AllocError, Global};
-
-/// Where a record goes.
-fn target_at(matching: &Matching, place: u32) -> Option<u32>
-    ensures { result ≡ slice_index_or matching.now.to place None }
-{
-    match matching.to.as_slice().get(place as usize) {
-        Some(target) => *target,
-        None => None,
-    }
-}
 
 /// The mark of a record of the first sheet, by the one of the second that it is, and the one that it is or became.
 fn mark_of(unchanged: Option<u32>, became: Option<u32>) -> Mark
@@ -27,7 +18,7 @@ fn mark_of(unchanged: Option<u32>, became: Option<u32>) -> Mark
     match unchanged {
         Some(_) => Mark::Plain,
         None => match became {
-            Some(_) => Mark::Changed,
+            Some(_) => Mark::Before,
             None => Mark::OnlyFirst,
         },
     }
@@ -37,7 +28,10 @@ fn mark_of(unchanged: Option<u32>, became: Option<u32>) -> Mark
 fn first_mark_at(unchanged: &Matching, became: &Matching, place: u32) -> Mark
     ensures { result ≡ first_mark unchanged.now became.now place }
 {
-    mark_of(target_at(unchanged, place), target_at(became, place))
+    mark_of(
+        entry_at(unchanged.to.as_slice(), place),
+        entry_at(became.to.as_slice(), place),
+    )
 }
 
 /// The marks of the records of the first sheet, in file order.
@@ -101,7 +95,7 @@ pub(crate) fn second_marks(
     ensures { IfOk result (λ marks. marks.items ≡ map (second_mark unchanged.now became.now) (range_with_len 0 count)) }
 {
     let mut marks = one_mark_each(alloc, Mark::OnlySecond, count)?;
-    stamp_all(&mut marks, became.to.as_slice(), Mark::Changed);
+    stamp_all(&mut marks, became.to.as_slice(), Mark::After);
     stamp_all(&mut marks, unchanged.to.as_slice(), Mark::Hidden);
     Ok(marks)
 }

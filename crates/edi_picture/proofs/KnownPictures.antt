@@ -11,10 +11,10 @@ use Rattle.edi_plan.specs.Extents.{IsExtent, IsSpan, all_x, all_y}
 use Rattle.edi_plan.specs.declared.extent.Extent.{Extent}
 use Rattle.edi_plan.specs.declared.extent.Span.{Span}
 use Rattle.edi_picture.specs.Frames.{IsBar}
-use Rattle.edi_picture.specs.KnownPictures.{IsOnlyPicture, blank_picture, blank_sheet, classes_of_nodes, nodes_of_a, nodes_of_b, picture_of_nodes, triangle_classes, triangle_picture, triangle_sheet}
+use Rattle.edi_picture.specs.KnownPictures.{IsOnlyPicture, blank_picture, blank_sheet, classes_of_nodes, faces_of_a, faces_of_b, nodes_of_a, nodes_of_b, picture_of_faces, picture_of_nodes, triangle_classes, triangle_picture, triangle_sheet}
 use Rattle.edi_picture.specs.Known.{one_class}
-use Rattle.edi_picture.specs.Pictures.{IsPicture, bar_text, plan_text}
-use Rattle.edi_picture.specs.Sheets.{Sheet, all_points}
+use Rattle.edi_picture.specs.Pictures.{IsPicture}
+use Rattle.edi_picture.specs.Sheets.{Sheet, all_points, arc_points}
 use Rattle.edi_picture.proofs.OnePicture.{one_picture}
 
 -- a picture is the only one
@@ -51,6 +51,12 @@ frames_triangle = record {
   y = spans (all_y (all_points (triangle_sheet ∷ []))) triangle_frame.y (0, lit< tt, refl) (3, lit< tt, refl) refl refl;
 }
 
+arcs_of_triangle : IsExtent (arc_points (triangle_sheet ∷ [])) triangle_frame
+arcs_of_triangle = record {
+  x = spans (all_x (arc_points (triangle_sheet ∷ []))) triangle_frame.x (0, lit< tt, refl) (1, lit< tt, refl) refl refl;
+  y = spans (all_y (arc_points (triangle_sheet ∷ []))) triangle_frame.y (0, lit< tt, refl) (2, lit< tt, refl) refl refl;
+}
+
 bar_of_one : IsBar 3000000 1000000
 bar_of_one = record { power = 6; is_power = refl; fits = lit≤ tt; greatest = lit< tt }
 
@@ -58,10 +64,8 @@ pub triangle_is_drawn : IsPicture triangle_classes (triangle_sheet ∷ []) trian
 unfolding size_text fraction_digits digits
 triangle_is_drawn = record {
   frame = Some triangle_frame;
-  drawn = bar_text triangle_frame 1000000 ++ plan_text triangle_classes triangle_frame (triangle_sheet ∷ []);
-  is_frame = frames_triangle;
-  is_drawn = (1000000, bar_of_one, refl);
-  is_text = refl;
+  is_frame = record { arcs = Some triangle_frame; are_arcs = arcs_of_triangle; is_frame = frames_triangle };
+  is_page = (1000000, bar_of_one, refl);
 }
 
 abbrev frame_of_nodes : Extent
@@ -76,6 +80,9 @@ frames_nodes = record {
   y = spans (all_y (all_points (nodes_of_a ∷ nodes_of_b ∷ []))) frame_of_nodes.y (0, lit< tt, refl) (3, lit< tt, refl) refl refl;
 }
 
+bar_of_eight : IsBar 8000000 1000000
+bar_of_eight = record { power = 6; is_power = refl; fits = lit≤ tt; greatest = lit< tt }
+
 bar_of_ten : IsBar 20000000 10000000
 bar_of_ten = record { power = 7; is_power = refl; fits = lit≤ tt; greatest = lit< tt }
 
@@ -83,11 +90,34 @@ pub nodes_are_drawn : IsPicture classes_of_nodes (nodes_of_a ∷ nodes_of_b ∷ 
 unfolding size_text fraction_digits digits
 nodes_are_drawn = record {
   frame = Some frame_of_nodes;
-  drawn = bar_text frame_of_nodes 10000000 ++ plan_text classes_of_nodes frame_of_nodes (nodes_of_a ∷ nodes_of_b ∷ []);
-  is_frame = frames_nodes;
-  is_drawn = (10000000, bar_of_ten, refl);
-  is_text = refl;
+  is_frame = record { arcs = None; are_arcs = refl; is_frame = frames_nodes };
+  is_page = (10000000, bar_of_ten, refl);
+}
+
+-- the frame of two sheets with faces, and the extent of their arcs, in which all but the node that lies far off are
+abbrev frame_of_faces : Extent
+frame_of_faces = record {
+  x = record { least = pos 0; greatest = pos 8000000 };
+  y = record { least = pos 0; greatest = pos 4000000 };
+}
+
+abbrev sheets_of_faces : List Sheet
+sheets_of_faces = faces_of_a ∷ faces_of_b ∷ []
+
+arcs_of_faces : IsExtent (arc_points sheets_of_faces) frame_of_faces
+arcs_of_faces = record {
+  x = spans (all_x (arc_points sheets_of_faces)) frame_of_faces.x (0, lit< tt, refl) (5, lit< tt, refl) refl refl;
+  y = spans (all_y (arc_points sheets_of_faces)) frame_of_faces.y (0, lit< tt, refl) (8, lit< tt, refl) refl refl;
+}
+
+pub faces_are_drawn : IsPicture triangle_classes sheets_of_faces picture_of_faces
+unfolding size_text fraction_digits digits
+faces_are_drawn = record {
+  frame = Some frame_of_faces;
+  is_frame = record { arcs = Some frame_of_faces; are_arcs = arcs_of_faces; is_frame = arcs_of_faces };
+  is_page = (1000000, bar_of_eight, refl);
 }
 
 pub page_is_drawn : IsPicture one_class (blank_sheet ∷ []) blank_picture
-page_is_drawn = record { frame = None; drawn = []; is_frame = refl; is_drawn = refl; is_text = refl }
+unfolding digits
+page_is_drawn = record { frame = None; is_frame = record { arcs = None; are_arcs = refl; is_frame = refl }; is_page = refl }

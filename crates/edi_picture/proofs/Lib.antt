@@ -4,3 +4,5 @@ pub mod Counted
 pub mod ArcsRound
 pub mod OnePicture
 pub mod KnownPictures
+pub mod ArcExtents
+pub mod LabelTexts

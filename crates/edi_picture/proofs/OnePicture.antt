@@ -1,5 +1,5 @@
 -- Sheets have one picture.
-use Rattle.std.proofs.Common.{◌≡◌, ◌⊎◌, inl, inr, ℕ, ◌+◌, ◌*◌, ◌^◌, ◌<◌, ◌≤◌, List, [], ◌++◌, Option, Some, None, ℤ, Contains, refl, sym, ap, ◌∙◌, subst, arith, lit<}
+use Rattle.std.proofs.Common.{◌≡◌, ◌⊎◌, inl, inr, ℕ, ◌+◌, ◌*◌, ◌^◌, ◌<◌, ◌≤◌, List, [], ◌++◌, filter, Option, Some, None, ℤ, Contains, refl, sym, ap, ◌∙◌, subst, arith, lit<}
 use Rattle.std.proofs.Math.Nat.{pow-le-pow_right}
 use Rattle.std.proofs.lemmas.Bool.{cases_lt}
 use Rattle.std.proofs.lemmas.Grind.{pow_more}
@@ -9,9 +9,10 @@ use Rattle.edi_schema.specs.Classes.{Classes}
 use Rattle.edi_plan.specs.Extents.{IsExtent, IsExtentIfAny, IsSpan, all_x, all_y}
 use Rattle.edi_plan.specs.declared.extent.Extent.{Extent}
 use Rattle.edi_plan.specs.declared.extent.Span.{Span}
-use Rattle.edi_picture.specs.Frames.{IsBar, side_length}
-use Rattle.edi_picture.specs.Pictures.{IsDrawnIn, IsPicture, bar_text, head_text, legend_text, plan_text, tail_text}
-use Rattle.edi_picture.specs.Sheets.{Sheet, all_points}
+use Rattle.edi_picture.specs.Frames.{IsBar, IsFrame, is_near, side_length}
+use Rattle.edi_picture.specs.Legends.{tail_text}
+use Rattle.edi_picture.specs.Pictures.{IsPage, IsPicture, drawn_text, page_top, plan_bottom}
+use Rattle.edi_picture.specs.Sheets.{Sheet, all_points, arc_points}
 
 -- ---- one frame
 
@@ -72,14 +73,19 @@ one_bar width a b h k =
 
 -- ---- one text
 
-one_drawn : (s : Classes) (sheets : List Sheet) (frame : Option Extent) (a b : List ℕ) → IsDrawnIn s sheets frame a → IsDrawnIn s sheets frame b → a ≡ b
-one_drawn s sheets None a b h k = h ∙ sym k
-one_drawn s sheets (Some f) a b (bar, is_bar, is) (bar', is_bar', is') =
-    is ∙ ap (λ (n : ℕ). bar_text f n ++ plan_text s f sheets) (one_bar (side_length f.x) bar bar' is_bar is_bar') ∙ sym is'
+one_page : (s : Classes) (sheets : List Sheet) (frame : Option Extent) (a b : List ℕ) → IsPage s sheets frame a → IsPage s sheets frame b → a ≡ b
+one_page s sheets None a b h k = h ∙ sym k
+one_page s sheets (Some f) a b (bar, is_bar, is) (bar', is_bar', is') =
+    is ∙ ap (λ (n : ℕ). page_top sheets (plan_bottom sheets f + 32) ++ drawn_text s sheets f n ++ tail_text) (one_bar (side_length f.x) bar bar' is_bar is_bar') ∙ sym is'
+
+-- the frame is one, since the extent of the arcs is
+one_frame_of : (sheets : List Sheet) (a b : Option Extent) → IsFrame sheets a → IsFrame sheets b → a ≡ b
+one_frame_of sheets a b h k =
+    let arcs : h.arcs ≡ k.arcs = one_frame (arc_points sheets) h.arcs k.arcs h.are_arcs k.are_arcs in
+    let near = subst (λ (e : Option Extent). IsExtentIfAny (filter (is_near e) (all_points sheets)) a) arcs h.is_frame in
+    one_frame (filter (is_near k.arcs) (all_points sheets)) a b near k.is_frame
 
 pub one_picture : (s : Classes) (sheets : List Sheet) (text other : List ℕ) → IsPicture s sheets text → IsPicture s sheets other → text ≡ other
 one_picture s sheets text other h k =
-    let same : h.frame ≡ k.frame = one_frame (all_points sheets) h.frame k.frame h.is_frame k.is_frame in
-    let in_one = subst (λ (frame : Option Extent). IsDrawnIn s sheets frame h.drawn) same h.is_drawn in
-    let drawn : h.drawn ≡ k.drawn = one_drawn s sheets k.frame h.drawn k.drawn in_one k.is_drawn in
-    h.is_text ∙ ap (λ (d : List ℕ). head_text ++ legend_text sheets ++ d ++ tail_text) drawn ∙ sym k.is_text
+    let same : h.frame ≡ k.frame = one_frame_of sheets h.frame k.frame h.is_frame k.is_frame in
+    one_page s sheets k.frame text other (subst (λ (frame : Option Extent). IsPage s sheets frame text) same h.is_page) k.is_page

@@ -40,8 +40,11 @@ pointed_record kind class points = record {
 abbrev pub one_record : Kind → List Point → Mark → Sheet
 one_record kind points mark = record {
   plan = record { cse = None; list = pointed_record kind 0 points ∷ [] };
+  name = [];
   identifiers = codes "A&B" ∷ [];
   marks = mark ∷ [];
+  tints = [];
+  labels = [];
 }
 
 -- a frame from 0.5 to 3, and from 0 to 22.5

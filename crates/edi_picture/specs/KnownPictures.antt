@@ -1,5 +1,5 @@
 -- Known sheets, and their pictures from the first byte to the last.
-use Rattle.std.specs.Prelude.{◌≡◌, ◌↔◌, ℕ, List, [], ◌∷◌, ◌++◌, None, codes}
+use Rattle.std.specs.Prelude.{◌≡◌, ◌↔◌, ℕ, true, false, List, [], ◌∷◌, ◌++◌, None, codes}
 use Rattle.edi_record.specs.declared.record.Kind.TheVariants.{Pno, Par, Pfe, Lnk}
 use Rattle.edi_record.specs.declared.record.Point.{Point}
 use Rattle.edi_schema.specs.Classes.{Classes}
@@ -55,33 +55,50 @@ triangle_plan = record {
 abbrev pub triangle_sheet : Sheet
 triangle_sheet = record {
   plan = triangle_plan;
+  name = codes "sheet.vec";
   identifiers = codes "N1" ∷ codes "A1" ∷ codes "F1" ∷ codes "L1" ∷ codes "L2" ∷ codes "L3" ∷ [];
   marks = mark.Plain ∷ mark.Plain ∷ mark.Plain ∷ mark.Plain ∷ mark.Plain ∷ mark.Plain ∷ [];
+  tints = [];
+  labels = [] ∷ [] ∷ codes "A&12" ∷ [];
 }
 
 -- its picture, where it is drawn alone
 abbrev pub triangle_picture : List ℕ
-triangle_picture = codes "<svg xmlns='http://www.w3.org/2000/svg' viewBox='0 0 1000 1050'"
-    ++ codes " font-family='sans-serif' font-size='14'>\n"
-    ++ codes "<style>polyline,path{vector-effect:non-scaling-stroke}</style>\n"
-    ++ codes "<rect width='1000' height='1050' fill='white'/>\n"
-    ++ codes "<svg x='20' y='56' width='960' height='960' overflow='visible'"
-    ++ codes " preserveAspectRatio='xMinYMin' viewBox='0 0 3 4.5'>\n"
-    ++ codes "<path stroke='black' stroke-width='3' d='M0,0h1'/>\n"
-    ++ codes "</svg>\n"
+triangle_picture = codes "<svg xmlns='http://www.w3.org/2000/svg' font-family='sans-serif' font-size='14' viewBox='0 0"
+    ++ codes " 1000 1300'>\n"
+    ++ codes "<rect width='1000' height='1300' fill='white'/>\n"
+    ++ codes "<text x='20' y='25'>sheet.vec</text>\n"
+    ++ codes "<path fill='none' stroke='black' stroke-width='2' d='M970,30v-22m-5,8l5,-8l5,8'/>\n"
+    ++ codes "<text x='965' y='46'>N</text>\n"
     ++ codes "<text x='20' y='50'>1 unit(s)</text>\n"
-    ++ codes "<svg x='20' y='70' width='960' height='960' overflow='visible'"
-    ++ codes " preserveAspectRatio='xMinYMin' viewBox='0 0 3 4.5'>\n"
-    ++ codes "<g fill-rule='evenodd' fill-opacity='0.2'>\n"
-    ++ codes "<path fill='#777777' d='M 0,4.5 3,4.5 3,0 0,4.5 0,4.5Z'><title>PFE F1 PGE;FAC_id</title></path>\n"
+    ++ codes "<svg x='20' y='58' width='960' height='1200' overflow='visible' preserveAspectRatio='xMinYMin'"
+    ++ codes " viewBox='0 0 3 4.5'>\n"
+    ++ codes "<path fill='none' stroke='black' stroke-width='0.011253' d='M0,0h1'/>\n"
+    ++ codes "</svg>\n"
+    ++ codes "<svg x='20' y='68' width='960' height='1200' overflow='visible' preserveAspectRatio='xMinYMin'"
+    ++ codes " viewBox='0 0 3 4.5'>\n"
+    ++ codes "<g fill='none' fill-rule='evenodd' fill-opacity='0.5' pointer-events='all'>\n"
+    ++ codes "<path d='M 0,4.5 3,4.5 3,0 0,4.5 0,4.5Z'><title>PFE F1 PGE;FAC_id</title></path>\n"
     ++ codes "</g>\n"
-    ++ codes "<g fill='none' stroke-width='1.5' stroke-linejoin='round'>\n"
-    ++ codes "<polyline points=' 0,4.5 3,4.5 3,0 0,4.5' stroke='#777777'><title>PAR A1 PGE;ARC_id</title></polyline>\n"
+    ++ codes "<g fill='none' stroke-linejoin='round' stroke='#777777' stroke-width='0.003751'>\n"
+    ++ codes "<polyline points=' 0,4.5 3,4.5 3,0 0,4.5'><title>PAR A1 PGE;ARC_id</title></polyline>\n"
     ++ codes "</g>\n"
-    ++ codes "<g fill='none' stroke-width='5' stroke-linecap='round'>\n"
-    ++ codes "<path d='M 0,4.5h0' stroke='#777777'><title>PNO N1 PGE;NOD_id</title></path>\n"
+    ++ codes "<g fill='none' stroke-linejoin='round' stroke='#0072B2' stroke-width='0.007502'>\n"
+    ++ codes "</g>\n"
+    ++ codes "<g fill='none' stroke-linejoin='round' stroke='#D55E00' stroke-width='0.007502'"
+    ++ codes " stroke-dasharray='0.022506'>\n"
+    ++ codes "</g>\n"
+    ++ codes "<g fill='#777777' stroke='#777777' stroke-width='0.003751'>\n"
+    ++ codes "<circle cx='0' cy='4.5' r='0.007502'><title>PNO N1 PGE;NOD_id</title></circle>\n"
+    ++ codes "</g>\n"
+    ++ codes "<g fill='white' stroke='#D55E00' stroke-width='0.003751'>\n"
+    ++ codes "</g>\n"
+    ++ codes "<g fill='#0072B2' stroke='#0072B2' stroke-width='0.003751'>\n"
     ++ codes "</g>\n"
     ++ codes "</svg>\n"
+    ++ codes "<g text-anchor='middle' font-size='12'>\n"
+    ++ codes "<text x='419' y='667' dy='0.35em'>A&amp;12</text>\n"
+    ++ codes "</g>\n"
     ++ codes "</svg>\n"
 
 -- ---- two sheets of nodes
@@ -101,8 +118,11 @@ known_node x y = pointed_record Pno 1 (known_point x y ∷ [])
 abbrev pub nodes_of_a : Sheet
 nodes_of_a = record {
   plan = record { cse = None; list = known_node 0 0 ∷ known_node 10000000 0 ∷ stone 20000000 5000000 ∷ [] };
+  name = codes "a.vec";
   identifiers = codes "N1" ∷ codes "N2" ∷ codes "N3" ∷ [];
-  marks = mark.Plain ∷ mark.OnlyFirst ∷ mark.Changed ∷ [];
+  marks = mark.Plain ∷ mark.OnlyFirst ∷ mark.Before ∷ [];
+  tints = [];
+  labels = [];
 }
 
 -- Of B the stone is that of A; the first and the last node are new, and the one between them is the first of A, so that
@@ -113,51 +133,164 @@ nodes_of_b = record {
     cse = None;
     list = stone 20000000 8000000 ∷ known_node 7250000 500000 ∷ known_node 0 0 ∷ known_node 3000000 8000000 ∷ [];
   };
+  name = codes "b<2>.vec";
   identifiers = codes "M1" ∷ codes "M2" ∷ codes "M3" ∷ codes "M4" ∷ [];
-  marks = mark.Changed ∷ mark.OnlySecond ∷ mark.Hidden ∷ mark.OnlySecond ∷ [];
+  marks = mark.After ∷ mark.OnlySecond ∷ mark.Hidden ∷ mark.OnlySecond ∷ [];
+  tints = [];
+  labels = [];
 }
 
 -- their picture
 abbrev pub picture_of_nodes : List ℕ
-picture_of_nodes = codes "<svg xmlns='http://www.w3.org/2000/svg' viewBox='0 0 1000 1050'"
-    ++ codes " font-family='sans-serif' font-size='14'>\n"
-    ++ codes "<style>polyline,path{vector-effect:non-scaling-stroke}</style>\n"
-    ++ codes "<rect width='1000' height='1050' fill='white'/>\n"
-    ++ codes "<path stroke-width='4' d='M20,20h30' stroke='#D55E00'/><text x='56' y='25'>only in A</text>\n"
-    ++ codes "<path stroke-width='4' d='M160,20h30' stroke='#0072B2'/><text x='196' y='25'>only in B</text>\n"
-    ++ codes "<path stroke-width='4' d='M300,20h30' stroke='#E69F00'/><text x='336' y='25'>changed</text>\n"
-    ++ codes "<path stroke-width='4' d='M440,20h30' stroke='#777777'/><text x='476' y='25'>in both</text>\n"
-    ++ codes "<svg x='20' y='56' width='960' height='960' overflow='visible'"
-    ++ codes " preserveAspectRatio='xMinYMin' viewBox='0 0 20 8'>\n"
-    ++ codes "<path stroke='black' stroke-width='3' d='M0,0h10'/>\n"
+picture_of_nodes = codes "<svg xmlns='http://www.w3.org/2000/svg' font-family='sans-serif' font-size='14' viewBox='0 0"
+    ++ codes " 1000 544'>\n"
+    ++ codes "<rect width='1000' height='544' fill='white'/>\n"
+    ++ codes "<path fill='none' stroke-width='2' d='M20,20h30' stroke='#D55E00' stroke-dasharray='6'/>\n"
+    ++ codes "<text x='60' y='25'>A: a.vec, records only here: 1</text>\n"
+    ++ codes "<path fill='none' stroke-width='2' d='M20,40h30' stroke='#0072B2'/>\n"
+    ++ codes "<text x='60' y='45'>B: b&lt;2&gt;.vec, records only here: 2</text>\n"
+    ++ codes "<path fill='none' stroke-width='2' d='M20,60h30' stroke='#777777'/>\n"
+    ++ codes "<text x='60' y='65'>records changed: 1; grey: the same in both</text>\n"
+    ++ codes "<rect x='20' y='73' width='30' height='14' fill='#F0E442' fill-opacity='0.5'/>\n"
+    ++ codes "<text x='60' y='85'>an outline, an object or a link changed</text>\n"
+    ++ codes "<path fill='none' stroke='black' stroke-width='2' d='M970,30v-22m-5,8l5,-8l5,8'/>\n"
+    ++ codes "<text x='965' y='46'>N</text>\n"
+    ++ codes "<text x='20' y='110'>10 unit(s)</text>\n"
+    ++ codes "<svg x='20' y='118' width='960' height='384' overflow='visible' preserveAspectRatio='xMinYMin'"
+    ++ codes " viewBox='0 0 20 8'>\n"
+    ++ codes "<path fill='none' stroke='black' stroke-width='0.062502' d='M0,0h10'/>\n"
     ++ codes "</svg>\n"
-    ++ codes "<text x='20' y='50'>10 unit(s)</text>\n"
-    ++ codes "<svg x='20' y='70' width='960' height='960' overflow='visible'"
-    ++ codes " preserveAspectRatio='xMinYMin' viewBox='0 0 20 8'>\n"
-    ++ codes "<g fill-rule='evenodd' fill-opacity='0.2'>\n"
+    ++ codes "<svg x='20' y='128' width='960' height='384' overflow='visible' preserveAspectRatio='xMinYMin'"
+    ++ codes " viewBox='0 0 20 8'>\n"
+    ++ codes "<g fill='none' fill-rule='evenodd' fill-opacity='0.5' pointer-events='all'>\n"
     ++ codes "</g>\n"
-    ++ codes "<g fill='none' stroke-width='1.5' stroke-linejoin='round'>\n"
+    ++ codes "<g fill='none' stroke-linejoin='round' stroke='#777777' stroke-width='0.020834'>\n"
     ++ codes "</g>\n"
-    ++ codes "<g fill='none' stroke-width='5' stroke-linecap='round'>\n"
-    ++ codes "<path d='M 0,8h0' stroke='#777777'><title>PNO N1 PGE;NOD_id</title></path>\n"
-    ++ codes "<path d='M 10,8h0' stroke='#D55E00'><title>PNO N2 PGE;NOD_id</title></path>\n"
-    ++ codes "<path d='M 20,3h0' stroke='#E69F00'><title>PNO N3 PGE;BOR_id</title></path>\n"
-    ++ codes "<path d='M 20,0h0' stroke='#E69F00'><title>PNO M1 PGE;BOR_id</title></path>\n"
-    ++ codes "<path d='M 7.25,7.5h0' stroke='#0072B2'><title>PNO M2 PGE;NOD_id</title></path>\n"
-    ++ codes "<path d='M 3,0h0' stroke='#0072B2'><title>PNO M4 PGE;NOD_id</title></path>\n"
+    ++ codes "<g fill='none' stroke-linejoin='round' stroke='#0072B2' stroke-width='0.041668'>\n"
+    ++ codes "</g>\n"
+    ++ codes "<g fill='none' stroke-linejoin='round' stroke='#D55E00' stroke-width='0.041668'"
+    ++ codes " stroke-dasharray='0.125004'>\n"
+    ++ codes "</g>\n"
+    ++ codes "<g fill='#777777' stroke='#777777' stroke-width='0.020834'>\n"
+    ++ codes "<circle cx='0' cy='8' r='0.041668'><title>PNO N1 PGE;NOD_id</title></circle>\n"
+    ++ codes "</g>\n"
+    ++ codes "<g fill='white' stroke='#D55E00' stroke-width='0.020834'>\n"
+    ++ codes "<circle cx='10' cy='8' r='0.10417'><title>PNO N2 PGE;NOD_id, only in A</title></circle>\n"
+    ++ codes "<circle cx='20' cy='3' r='0.10417'><title>PNO N3 PGE;BOR_id, as it was in A</title></circle>\n"
+    ++ codes "</g>\n"
+    ++ codes "<g fill='#0072B2' stroke='#0072B2' stroke-width='0.020834'>\n"
+    ++ codes "<circle cx='20' cy='0' r='0.062502'><title>PNO M1 PGE;BOR_id, as it is in B</title></circle>\n"
+    ++ codes "<circle cx='7.25' cy='7.5' r='0.062502'><title>PNO M2 PGE;NOD_id, only in B</title></circle>\n"
+    ++ codes "<circle cx='3' cy='0' r='0.062502'><title>PNO M4 PGE;NOD_id, only in B</title></circle>\n"
     ++ codes "</g>\n"
     ++ codes "</svg>\n"
+    ++ codes "<g text-anchor='middle' font-size='12'>\n"
+    ++ codes "</g>\n"
+    ++ codes "</svg>\n"
+
+-- ---- faces that are tinted
+
+abbrev pub arc_of : List Point → PlanRecord
+arc_of points = pointed_record Par 0 points
+
+-- Of A the first arc goes round the first face, which B has not; it has another corner in B. The second arc doesn't
+-- close, and the second face is on its left. A node lies far off.
+abbrev pub faces_of_a : Sheet
+faces_of_a = record {
+  plan = record {
+    cse = None;
+    list = pointed_record Pno 2 (known_point 500000000 0 ∷ [])
+        ∷ arc_of (known_point 0 0 ∷ known_point 4000000 0 ∷ known_point 4000000 3000000 ∷ known_point 0 0 ∷ [])
+        ∷ arc_of (known_point 4000000 0 ∷ known_point 8000000 0 ∷ []) ∷ pointed_record Pfe 1 []
+        ∷ pointed_record Pfe 1 [] ∷ link_of_two 5 Left 1 3 ∷ link_of_two 5 Left 2 4 ∷ [];
+  };
+  name = codes "a.vec";
+  identifiers = codes "N9" ∷ codes "A1" ∷ codes "A2" ∷ codes "F1" ∷ codes "F2" ∷ codes "L1" ∷ codes "L2" ∷ [];
+  marks = mark.Plain ∷ mark.Before ∷ mark.Plain ∷ mark.OnlyFirst ∷ mark.Plain ∷ mark.Plain ∷ mark.Plain ∷ [];
+  tints = false ∷ false ∷ false ∷ true ∷ true ∷ [];
+  labels = [] ∷ [] ∷ [] ∷ codes "12" ∷ [];
+}
+
+abbrev pub faces_of_b : Sheet
+faces_of_b = record {
+  plan = record {
+    cse = None;
+    list = arc_of (known_point 0 0 ∷ known_point 4000000 0 ∷ known_point 4000000 4000000 ∷ known_point 0 0 ∷ []) ∷ [];
+  };
+  name = codes "b.vec";
+  identifiers = codes "B1" ∷ [];
+  marks = mark.After ∷ [];
+  tints = [];
+  labels = [];
+}
+
+-- their picture
+abbrev pub picture_of_faces : List ℕ
+picture_of_faces = codes "<svg xmlns='http://www.w3.org/2000/svg' font-family='sans-serif' font-size='14' viewBox='0 0"
+    ++ codes " 1000 640'>\n"
+    ++ codes "<rect width='1000' height='640' fill='white'/>\n"
+    ++ codes "<path fill='none' stroke-width='2' d='M20,20h30' stroke='#D55E00' stroke-dasharray='6'/>\n"
+    ++ codes "<text x='60' y='25'>A: a.vec, records only here: 1</text>\n"
+    ++ codes "<path fill='none' stroke-width='2' d='M20,40h30' stroke='#0072B2'/>\n"
+    ++ codes "<text x='60' y='45'>B: b.vec, records only here: 0</text>\n"
+    ++ codes "<path fill='none' stroke-width='2' d='M20,60h30' stroke='#777777'/>\n"
+    ++ codes "<text x='60' y='65'>records changed: 1; grey: the same in both</text>\n"
+    ++ codes "<rect x='20' y='73' width='30' height='14' fill='#F0E442' fill-opacity='0.5'/>\n"
+    ++ codes "<text x='60' y='85'>an outline, an object or a link changed</text>\n"
+    ++ codes "<path fill='none' stroke='black' stroke-width='2' d='M970,30v-22m-5,8l5,-8l5,8'/>\n"
+    ++ codes "<text x='965' y='46'>N</text>\n"
+    ++ codes "<text x='20' y='110'>1 unit(s)</text>\n"
+    ++ codes "<svg x='20' y='118' width='960' height='480' overflow='visible' preserveAspectRatio='xMinYMin'"
+    ++ codes " viewBox='0 0 8 4'>\n"
+    ++ codes "<path fill='none' stroke='black' stroke-width='0.025002' d='M0,0h1'/>\n"
+    ++ codes "</svg>\n"
+    ++ codes "<svg x='20' y='128' width='960' height='480' overflow='visible' preserveAspectRatio='xMinYMin'"
+    ++ codes " viewBox='0 0 8 4'>\n"
+    ++ codes "<g fill='none' fill-rule='evenodd' fill-opacity='0.5' pointer-events='all'>\n"
+    ++ codes "<path fill='#F0E442' d='M 0,4 4,4 4,1 0,4 0,4Z'><title>PFE F1 PGE;FAC_id, only in"
+    ++ codes " A</title></path>\n"
+    ++ codes "<path fill='none' stroke='#F0E442' stroke-width='0.066672' d='M 4,4 8,4'><title>PFE F2"
+    ++ codes " PGE;FAC_id, not filled, since its arcs do not close</title></path>\n"
+    ++ codes "</g>\n"
+    ++ codes "<g fill='none' stroke-linejoin='round' stroke='#777777' stroke-width='0.008334'>\n"
+    ++ codes "<polyline points=' 4,4 8,4'><title>PAR A2 PGE;ARC_id</title></polyline>\n"
+    ++ codes "</g>\n"
+    ++ codes "<g fill='none' stroke-linejoin='round' stroke='#0072B2' stroke-width='0.016668'>\n"
+    ++ codes "<polyline points=' 0,4 4,4 4,0 0,4'><title>PAR B1 PGE;ARC_id, as it is in B</title></polyline>\n"
+    ++ codes "</g>\n"
+    ++ codes "<g fill='none' stroke-linejoin='round' stroke='#D55E00' stroke-width='0.016668'"
+    ++ codes " stroke-dasharray='0.050004'>\n"
+    ++ codes "<polyline points=' 0,4 4,4 4,1 0,4'><title>PAR A1 PGE;ARC_id, as it was in A</title></polyline>\n"
+    ++ codes "</g>\n"
+    ++ codes "<g fill='#777777' stroke='#777777' stroke-width='0.008334'>\n"
+    ++ codes "</g>\n"
+    ++ codes "<g fill='white' stroke='#D55E00' stroke-width='0.008334'>\n"
+    ++ codes "</g>\n"
+    ++ codes "<g fill='#0072B2' stroke='#0072B2' stroke-width='0.008334'>\n"
+    ++ codes "</g>\n"
+    ++ codes "</svg>\n"
+    ++ codes "<g text-anchor='middle' font-size='12'>\n"
+    ++ codes "<text x='259' y='427' dy='0.35em'>12</text>\n"
+    ++ codes "</g>\n"
+    ++ codes "<text x='20' y='630'>far off: PNO N9 PGE;NOD_id;</text>\n"
     ++ codes "</svg>\n"
 
 -- ---- a sheet without records
 
 abbrev pub blank_sheet : Sheet
-blank_sheet = record { plan = record { cse = None; list = [] }; identifiers = []; marks = [] }
+blank_sheet = record {
+  plan = record { cse = None; list = [] };
+  name = codes "sheet.vec";
+  identifiers = [];
+  marks = [];
+  tints = [];
+  labels = [];
+}
 
--- its picture: the page alone
+-- its picture: the page with the name of the file
 abbrev pub blank_picture : List ℕ
-blank_picture = codes "<svg xmlns='http://www.w3.org/2000/svg' viewBox='0 0 1000 1050'"
-    ++ codes " font-family='sans-serif' font-size='14'>\n"
-    ++ codes "<style>polyline,path{vector-effect:non-scaling-stroke}</style>\n"
-    ++ codes "<rect width='1000' height='1050' fill='white'/>\n"
+blank_picture = codes "<svg xmlns='http://www.w3.org/2000/svg' font-family='sans-serif' font-size='14' viewBox='0 0"
+    ++ codes " 1000 40'>\n"
+    ++ codes "<rect width='1000' height='40' fill='white'/>\n"
+    ++ codes "<text x='20' y='25'>sheet.vec</text>\n"
     ++ codes "</svg>\n"

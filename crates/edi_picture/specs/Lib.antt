@@ -4,6 +4,8 @@ pub mod Frames
 pub mod Titles
 pub mod Elements
 pub mod Faces
+pub mod Labels
+pub mod Legends
 pub mod Pictures
 pub mod Laws
 pub mod Known

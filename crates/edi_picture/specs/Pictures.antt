@@ -1,100 +1,100 @@
 -- Pictures of sheets.
-use Rattle.std.specs.Prelude.{◌≡◌, ℕ, nat_lt, List, [], ◌++◌, length, Option, Some, None, if◌then◌else◌, codes}
+use Rattle.std.specs.Prelude.{◌≡◌, ℕ, ◌+◌, List, [], ◌++◌, Option, Some, None, codes}
 use Rattle.std.specs.List.{flat_map}
-use Rattle.edi_line.specs.Number.{size_text}
 use Rattle.edi_schema.specs.Classes.{Classes}
-use Rattle.edi_plan.specs.Extents.{IsExtentIfAny}
 use Rattle.edi_plan.specs.declared.extent.Extent.{Extent}
 use Rattle.edi_picture.specs.Elements.{arcs_of, nodes_of}
 use Rattle.edi_picture.specs.Faces.{faces_of}
-use Rattle.edi_picture.specs.Frames.{IsBar, side_length}
-use Rattle.edi_picture.specs.Marks.{colour}
-use Rattle.edi_picture.specs.Sheets.{Sheet, all_points}
-use Rattle.edi_picture.specs.declared.mark.Mark.{Mark}
-use Rattle.edi_picture.specs.declared.mark.Mark.TheVariants.{Plain, OnlyFirst, OnlySecond, Changed}
+use Rattle.edi_picture.specs.Frames.{IsBar, IsFrame, pixels, plan_height, side_length}
+use Rattle.edi_picture.specs.Labels.{labels_of}
+use Rattle.edi_picture.specs.Legends.{bar_text, far_text, head_text, inset_text, legend_height, legend_text, tail_text}
+use Rattle.edi_picture.specs.Marks.{colour, filling, line_width}
+use Rattle.edi_picture.specs.Sheets.{Sheet}
+use Rattle.edi_picture.specs.declared.mark.Ink.{Ink}
+use Rattle.edi_picture.specs.declared.mark.Ink.TheVariants.{Grey, Old, New}
 
--- ---- the page: what stands round the plan
+-- ---- the plan, in layers
 
-abbrev pub head_text : List ℕ
-head_text =
-    codes "<svg xmlns='http://www.w3.org/2000/svg' viewBox='0 0 1000 1050' font-family='sans-serif' font-size='14'>\n"
-    ++ codes "<style>polyline,path{vector-effect:non-scaling-stroke}</style>\n"
-    ++ codes "<rect width='1000' height='1050' fill='white'/>\n"
+abbrev pub group_end : List ℕ
+group_end = codes "</g>\n"
 
-abbrev pub tail_text : List ℕ
-tail_text = codes "</svg>\n"
-
--- words of the legend, from this x
-abbrev pub legend_words : List ℕ → List ℕ → List ℕ
-legend_words x words = codes "<text x='" ++ x ++ codes "' y='25'>" ++ words ++ codes "</text>\n"
-
--- a line in the colour of a mark, and what it says, from this x and that one
-abbrev pub legend_entry : Mark → List ℕ → List ℕ → List ℕ → List ℕ
-legend_entry mark line text words =
-    codes "<path stroke-width='4' d='M" ++ line ++ codes ",20h30' stroke='" ++ colour mark ++ codes "'/>"
-    ++ legend_words text words
-
-abbrev pub legend_entries : List ℕ
-legend_entries =
-    legend_entry OnlyFirst (codes "20") (codes "56") (codes "only in A")
-    ++ legend_entry OnlySecond (codes "160") (codes "196") (codes "only in B")
-    ++ legend_entry Changed (codes "300") (codes "336") (codes "changed")
-    ++ legend_entry Plain (codes "440") (codes "476") (codes "in both")
-
--- the legend, where there are two sheets
-abbrev pub legend_text : List Sheet → List ℕ
-legend_text sheets = if nat_lt 1 (length sheets) then legend_entries else []
-
--- ---- the plan
-
--- the width and the height of the frame, in units of the file
-abbrev pub sides_text : Extent → List ℕ
-sides_text f = size_text (side_length f.x) ++ codes " " ++ size_text (side_length f.y)
-
--- an inner picture of the size of the frame, so far below the top
-abbrev pub inset_text : Extent → List ℕ → List ℕ
-inset_text f top = codes "<svg x='20' y='" ++ top
-    ++ codes "' width='960' height='960' overflow='visible' preserveAspectRatio='xMinYMin' viewBox='0 0 "
-    ++ (sides_text f ++ codes "'>\n")
-
--- how many units a bar is long, in words
-abbrev pub bar_words : ℕ → List ℕ
-bar_words bar = codes "<text x='20' y='50'>" ++ size_text bar ++ codes " unit(s)</text>\n"
-
--- a bar of this length, with those words
-abbrev pub bar_text : Extent → ℕ → List ℕ
-bar_text f bar = inset_text f (codes "56")
-    ++ codes "<path stroke='black' stroke-width='3' d='M0,0h" ++ size_text bar ++ codes "'/>\n</svg>\n" ++ bar_words bar
-
--- all faces, then all arcs, and then all nodes, each of the sheets in their order
+-- the faces of all sheets
 abbrev pub faces_text : Classes → Extent → List Sheet → List ℕ
-faces_text s f sheets =
-    codes "<g fill-rule='evenodd' fill-opacity='0.2'>\n" ++ flat_map (faces_of s f) sheets ++ codes "</g>\n"
+faces_text s f sheets = codes "<g fill='none' fill-rule='evenodd' fill-opacity='0.5' pointer-events='all'>\n"
+    ++ flat_map (faces_of s f) sheets ++ group_end
 
-abbrev pub arcs_text : Classes → Extent → List Sheet → List ℕ
-arcs_text s f sheets = codes "<g fill='none' stroke-width='1.5' stroke-linejoin='round'>\n"
-    ++ flat_map (arcs_of s f) sheets ++ codes "</g>\n"
+-- lines of what was are dashed
+abbrev pub dashes : Extent → Ink → List ℕ
+dashes f Grey = codes "'>\n"
+dashes f Old = codes "' stroke-dasharray='" ++ pixels f 6 ++ codes "'>\n"
+dashes f New = codes "'>\n"
 
-abbrev pub nodes_text : Classes → Extent → List Sheet → List ℕ
-nodes_text s f sheets = codes "<g fill='none' stroke-width='5' stroke-linecap='round'>\n"
-    ++ flat_map (nodes_of s f) sheets ++ codes "</g>\n"
+abbrev pub arcs_begin : Extent → Ink → List ℕ
+arcs_begin f ink = codes "<g fill='none' stroke-linejoin='round' stroke='" ++ colour ink
+    ++ codes "' stroke-width='" ++ pixels f (line_width ink)
 
-abbrev pub plan_text : Classes → Extent → List Sheet → List ℕ
-plan_text s f sheets =
-    inset_text f (codes "70") ++ faces_text s f sheets ++ arcs_text s f sheets ++ nodes_text s f sheets ++ tail_text
+-- the arcs of all sheets in an ink
+abbrev pub arcs_text : Classes → Extent → List Sheet → Ink → List ℕ
+arcs_text s f sheets ink =
+    arcs_begin f ink ++ dashes f ink ++ flat_map (arcs_of s f ink) sheets ++ group_end
+
+abbrev pub nodes_begin : Ink → List ℕ
+nodes_begin ink = codes "<g fill='" ++ filling ink ++ codes "' stroke='" ++ colour ink
+
+abbrev pub rim_text : Extent → List ℕ
+rim_text f = codes "' stroke-width='" ++ pixels f 1 ++ codes "'>\n"
+
+-- the nodes of all sheets in an ink
+abbrev pub nodes_text : Classes → Extent → List Sheet → Ink → List ℕ
+nodes_text s f sheets ink =
+    nodes_begin ink ++ rim_text f ++ flat_map (nodes_of s f ink) sheets ++ group_end
+
+-- what both sheets have lies below what the second has, and that below what the first has, whose dashes and rings
+-- don't cover it
+abbrev pub all_arcs : Classes → Extent → List Sheet → List ℕ
+all_arcs s f sheets = arcs_text s f sheets Grey ++ arcs_text s f sheets New ++ arcs_text s f sheets Old
+
+abbrev pub all_nodes : Classes → Extent → List Sheet → List ℕ
+all_nodes s f sheets = nodes_text s f sheets Grey ++ nodes_text s f sheets Old ++ nodes_text s f sheets New
+
+abbrev pub layers : Classes → Extent → List Sheet → List ℕ
+layers s f sheets = faces_text s f sheets ++ all_arcs s f sheets ++ all_nodes s f sheets
+
+-- the layers in an inner picture, so far below the top
+abbrev pub plan_text : Classes → Extent → List Sheet → ℕ → List ℕ
+plan_text s f sheets top = inset_text f top ++ layers s f sheets ++ tail_text
+
+-- what is written on the faces of all sheets
+abbrev pub labels_text : Extent → List Sheet → ℕ → List ℕ
+labels_text f sheets top =
+    codes "<g text-anchor='middle' font-size='12'>\n" ++ flat_map (labels_of f top) sheets ++ group_end
 
 -- ---- the whole
 
--- what is drawn in a frame: the bar, which is as the width of the frame says, and the plan
-abbrev pub IsDrawnIn : Classes → List Sheet → Option Extent → List ℕ → Type 0
-IsDrawnIn s sheets None drawn = drawn ≡ []
-IsDrawnIn s sheets (Some f) drawn =
-    (bar : ℕ) × IsBar (side_length f.x) bar × (drawn ≡ bar_text f bar ++ plan_text s f sheets)
+-- how far below the top the plan begins, and where it ends
+abbrev pub plan_top : List Sheet → ℕ
+plan_top sheets = legend_height sheets + 28
 
--- The picture of some sheets: the head, the legend, what is drawn in the frame of all their points, and the end.
+abbrev pub plan_bottom : List Sheet → Extent → ℕ
+plan_bottom sheets f = plan_top sheets + plan_height f
+
+-- the bar, the plan with what is written on it, and the line of what is far off
+abbrev pub drawn_text : Classes → List Sheet → Extent → ℕ → List ℕ
+drawn_text s sheets f bar = bar_text f (legend_height sheets + 10) bar ++ plan_text s f sheets (plan_top sheets)
+    ++ labels_text f sheets (plan_top sheets) ++ far_text s f sheets (plan_bottom sheets f + 22)
+
+-- the head of a page so high, and the legend
+abbrev pub page_top : List Sheet → ℕ → List ℕ
+page_top sheets height = head_text height ++ legend_text sheets
+
+-- a page: that alone where there is no frame; else, below it, what is drawn with the bar that fits the frame
+abbrev pub IsPage : Classes → List Sheet → Option Extent → List ℕ → Type 0
+IsPage s sheets None text = text ≡ page_top sheets (legend_height sheets) ++ tail_text
+IsPage s sheets (Some f) text = (bar : ℕ) × IsBar (side_length f.x) bar
+    × (text ≡ page_top sheets (plan_bottom sheets f + 32) ++ drawn_text s sheets f bar ++ tail_text)
+
+-- the picture of some sheets: the page with the frame that holds their points
 pub record IsPicture (s : Classes) (sheets : List Sheet) (text : List ℕ) : Type 0 where
   pub frame : Option Extent
-  pub drawn : List ℕ
-  pub is_frame : IsExtentIfAny (all_points sheets) frame
-  pub is_drawn : IsDrawnIn s sheets frame drawn
-  pub is_text : text ≡ head_text ++ legend_text sheets ++ drawn ++ tail_text
+  pub is_frame : IsFrame sheets frame
+  pub is_page : IsPage s sheets frame text

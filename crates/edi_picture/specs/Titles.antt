@@ -6,7 +6,8 @@ use Rattle.edi_record.specs.Shapes.{kind_code}
 use Rattle.edi_record.specs.declared.name.Name.{Name}
 use Rattle.edi_schema.specs.Classes.{Classes}
 use Rattle.edi_plan.specs.Plans.{record_at}
-use Rattle.edi_picture.specs.Sheets.{Sheet, class_name, identifier_at}
+use Rattle.edi_picture.specs.Marks.{mark_words}
+use Rattle.edi_picture.specs.Sheets.{Sheet, class_name, identifier_at, mark_at}
 
 -- the marks of XML, `&`, `<` and `>`
 abbrev pub ampersand : ℕ
@@ -45,5 +46,16 @@ abbrev pub record_title : Classes → Sheet → ℕ → List ℕ
 record_title s sheet k = kind_code (record_at sheet.plan k).kind ++ codes " "
     ++ escaped_text (identifier_at sheet k) ++ codes " " ++ class_title (class_name s (record_at sheet.plan k).class)
 
-abbrev pub title_text : Classes → Sheet → ℕ → List ℕ
-title_text s sheet k = codes "<title>" ++ record_title s sheet k ++ codes "</title>"
+-- that, what its mark says, and these words
+abbrev pub title_text : Classes → Sheet → ℕ → List ℕ → List ℕ
+title_text s sheet k words =
+    codes "<title>" ++ record_title s sheet k ++ mark_words (mark_at sheet k) ++ words ++ codes "</title>"
+
+-- ---- names of files
+
+-- a byte of the name of a file: as it is if it is ASCII, and else a question mark
+abbrev pub name_character : ℕ → List ℕ
+name_character c = if nat_le c tilde then escaped c else codes "?"
+
+abbrev pub name_text : List ℕ → List ℕ
+name_text name = flat_map name_character name

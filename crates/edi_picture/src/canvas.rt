@@ -1,9 +1,11 @@
-//! What is drawn of the records of a sheet.
+//! What is drawn of the arcs and nodes of a sheet.
 
-ghost use Rattle.std.specs.Prelude.{◌≡◌, ◌++◌, OnOk};
-ghost use Rattle.edi_picture.specs.Elements.{spot_text};
+ghost use Rattle.std.specs.Prelude.{◌≡◌, ◌++◌, ◌≤◌, OnOk};
+ghost use Rattle.edi_picture.specs.Elements.{across_text, dot_place, dot_size, down_text, spot_text};
+ghost use Rattle.edi_picture.specs.Frames.{pixels};
 
-use crate::frame::distance_between;
+use crate::frame::{distance_between, is_outside, pixel};
+use crate::mark::Ink;
 use crate::shown::Shown;
 use crate::titles::push_title;
 use crate::writing::put;
@@ -13,14 +15,55 @@ use edi_record::{Kind, Point};
 use edi_schema::Schema;
 use std::alloc::AllocError;
 
+/// Appends how far a point is to the right of the least x.
+fn push_across(text: &mut Vec<u8>, frame: &Extent, point: &Point) -> Result<(), AllocError>
+    ensures { OnOk result (text.new.items ≡ text.old.items ++ across_text frame.now point.now) }
+{
+    push_millionths(text, distance_between(point.x, frame.x.least))
+}
+
+/// Appends how far it is below the greatest y.
+fn push_down(text: &mut Vec<u8>, frame: &Extent, point: &Point) -> Result<(), AllocError>
+    ensures { OnOk result (text.new.items ≡ text.old.items ++ down_text frame.now point.now) }
+{
+    push_millionths(text, distance_between(frame.y.greatest, point.y))
+}
+
 /// Appends a space and a point.
 pub(crate) fn push_spot(text: &mut Vec<u8>, frame: &Extent, point: &Point) -> Result<(), AllocError>
     ensures { OnOk result (text.new.items ≡ text.old.items ++ spot_text frame.now point.now) }
 {
     text.push(b' ')?;
-    push_millionths(text, distance_between(point.x, frame.x.least))?;
+    push_across(text, frame, point)?;
     text.push(b',')?;
-    push_millionths(text, distance_between(frame.y.greatest, point.y))
+    push_down(text, frame, point)
+}
+
+/// Appends so many pixels, in units of the file.
+pub(crate) fn push_pixels(text: &mut Vec<u8>, frame: &Extent, count: u64) -> Result<(), AllocError>
+    requires { count ≤ 12 }
+    ensures { OnOk result (text.new.items ≡ text.old.items ++ pixels frame.now count) }
+{
+    push_millionths(text, count * pixel(frame))
+}
+
+/// Appends the middle of a dot.
+fn push_dot_place(text: &mut Vec<u8>, frame: &Extent, point: &Point) -> Result<(), AllocError>
+    ensures { OnOk result (text.new.items ≡ text.old.items ++ dot_place frame.now point.now) }
+{
+    put(text, b"<circle cx='")?;
+    push_across(text, frame, point)?;
+    put(text, b"' cy='")?;
+    push_down(text, frame, point)
+}
+
+/// Appends how large it is.
+fn push_dot_size(text: &mut Vec<u8>, frame: &Extent, ink: Ink) -> Result<(), AllocError>
+    ensures { OnOk result (text.new.items ≡ text.old.items ++ dot_size frame.now ink) }
+{
+    put(text, b"' r='")?;
+    push_pixels(text, frame, ink.node_radius())?;
+    put(text, b"'>")
 }
 
 /// What is drawn stands in this frame, and its classes are of this schema.
@@ -31,11 +74,12 @@ pub(crate) struct Canvas<'a> {
 }
 
 impl<'a> Canvas<'a> {
-    ghost use Rattle.std.specs.Prelude.{◌≡◌, ◌++◌, OnOk};
+    ghost use Rattle.std.specs.Prelude.{◌≡◌, ◌++◌, [], OnOk};
     ghost use Rattle.std.specs.List.{flat_map};
     ghost use Rattle.edi_plan.specs.Agreeing.{HasClasses};
     ghost use Rattle.edi_plan.specs.Plans.{IsPlace, record_at};
-    ghost use Rattle.edi_picture.specs.Elements.{arc_element, arc_text, arcs_of, node_element, node_text, nodes_of, said_text, spots_text};
+    ghost use Rattle.edi_picture.specs.Elements.{arc_element, arc_text, arcs_of, dot_element, dot_text, node_text, nodes_of, spots_text};
+    ghost use Rattle.edi_picture.specs.Titles.{title_text};
 
     /// Appends the points of a record.
     pub(crate) fn push_spots(
@@ -53,71 +97,132 @@ impl<'a> Canvas<'a> {
         Ok(())
     }
 
-    /// Appends the colour and the title of a record.
-    fn push_said(&self, text: &mut Vec<u8>, sheet: &Shown<'_>, place: u32) -> Result<(), AllocError>
-        requires classes { HasClasses self.now.schema.now sheet.now.plan }
-        requires place { IsPlace sheet.now.plan place }
-        ensures { OnOk result (text.new.items ≡ text.old.items ++ said_text self.now.schema.now sheet.now place) }
-    {
-        put(text, b"' stroke='")?;
-        put(text, sheet.mark(place).colour())?;
-        put(text, b"'>")?;
-        push_title(text, self.schema, sheet, place)
-    }
-
     /// Appends an arc: a line through its points.
-    fn push_arc(&self, text: &mut Vec<u8>, sheet: &Shown<'_>, place: u32) -> Result<(), AllocError>
+    fn push_line(&self, text: &mut Vec<u8>, sheet: &Shown<'_>, place: u32) -> Result<(), AllocError>
         requires classes { HasClasses self.now.schema.now sheet.now.plan }
         requires place { IsPlace sheet.now.plan place }
         ensures { OnOk result (text.new.items
-            ≡ text.old.items ++ arc_text self.now.schema.now self.now.frame sheet.now place) }
+            ≡ text.old.items ++ arc_element self.now.schema.now self.now.frame sheet.now place) }
     {
-        if sheet.mark(place).is_hidden() {
-            return Ok(());
-        }
         put(text, b"<polyline points='")?;
         self.push_spots(text, sheet, place)?;
-        self.push_said(text, sheet, place)?;
+        put(text, b"'>")?;
+        push_title(text, self.schema, sheet, place, b"")?;
         put(text, b"</polyline>\n")
     }
 
-    /// Appends a node: a line of no length, whose round ends make a dot.
-    fn push_node(&self, text: &mut Vec<u8>, sheet: &Shown<'_>, place: u32) -> Result<(), AllocError>
+    /// Appends an arc, if it is drawn in an ink.
+    fn push_arc(
+        &self,
+        text: &mut Vec<u8>,
+        ink: Ink,
+        sheet: &Shown<'_>,
+        place: u32,
+    ) -> Result<(), AllocError>
         requires classes { HasClasses self.now.schema.now sheet.now.plan }
         requires place { IsPlace sheet.now.plan place }
         ensures { OnOk result (text.new.items
-            ≡ text.old.items ++ node_text self.now.schema.now self.now.frame sheet.now place) }
+            ≡ text.old.items ++ arc_text self.now.schema.now self.now.frame ink sheet.now place) }
     {
-        if sheet.mark(place).is_hidden() {
-            return Ok(());
+        if sheet.mark(place).is_drawn_in(ink) {
+            self.push_line(text, sheet, place)
+        } else {
+            Ok(())
         }
-        put(text, b"<path d='M")?;
-        self.push_spots(text, sheet, place)?;
-        put(text, b"h0")?;
-        self.push_said(text, sheet, place)?;
-        put(text, b"</path>\n")
     }
 
-    /// Appends the arcs of the sheet.
-    pub(crate) fn push_arcs(&self, text: &mut Vec<u8>, sheet: &Shown<'_>) -> Result<(), AllocError>
-        requires { HasClasses self.now.schema.now sheet.now.plan }
+    /// Appends a dot at a point of a node, if it lies in the frame.
+    fn push_dot(
+        &self,
+        text: &mut Vec<u8>,
+        ink: Ink,
+        sheet: &Shown<'_>,
+        place: u32,
+        point: &Point,
+    ) -> Result<(), AllocError>
+        requires classes { HasClasses self.now.schema.now sheet.now.plan }
+        requires place { IsPlace sheet.now.plan place }
         ensures { OnOk result (text.new.items
-            ≡ text.old.items ++ arcs_of self.now.schema.now self.now.frame sheet.now) }
+            ≡ text.old.items ++ dot_text self.now.schema.now self.now.frame ink sheet.now place point.now) }
     {
-        for place in sheet.plan().places(Kind::Par) {
-            self.push_arc(text, sheet, *place)?;
+        if is_outside(&self.frame, point) {
+            return Ok(());
+        }
+        push_dot_place(text, &self.frame, point)?;
+        push_dot_size(text, &self.frame, ink)?;
+        push_title(text, self.schema, sheet, place, b"")?;
+        put(text, b"</circle>\n")
+    }
+
+    /// Appends the dots of a node.
+    fn push_dots(
+        &self,
+        text: &mut Vec<u8>,
+        ink: Ink,
+        sheet: &Shown<'_>,
+        place: u32,
+    ) -> Result<(), AllocError>
+        requires classes { HasClasses self.now.schema.now sheet.now.plan }
+        requires place { IsPlace sheet.now.plan place }
+        ensures { OnOk result (text.new.items ≡ text.old.items
+            ++ flat_map (dot_text self.now.schema.now self.now.frame ink sheet.now place) (record_at sheet.now.plan place).points) }
+    {
+        for point in sheet.plan().points(place) {
+            self.push_dot(text, ink, sheet, place, point)?;
         }
         Ok(())
     }
 
-    /// Appends the nodes of the sheet.
-    pub(crate) fn push_nodes(&self, text: &mut Vec<u8>, sheet: &Shown<'_>) -> Result<(), AllocError>
+    /// Appends a node, if it is drawn in an ink.
+    fn push_node(
+        &self,
+        text: &mut Vec<u8>,
+        ink: Ink,
+        sheet: &Shown<'_>,
+        place: u32,
+    ) -> Result<(), AllocError>
+        requires classes { HasClasses self.now.schema.now sheet.now.plan }
+        requires place { IsPlace sheet.now.plan place }
+        ensures { OnOk result (text.new.items
+            ≡ text.old.items ++ node_text self.now.schema.now self.now.frame ink sheet.now place) }
+    {
+        if sheet.mark(place).is_drawn_in(ink) {
+            self.push_dots(text, ink, sheet, place)
+        } else {
+            Ok(())
+        }
+    }
+
+    /// Appends the arcs of the sheet that are drawn in an ink.
+    pub(crate) fn push_arcs(
+        &self,
+        text: &mut Vec<u8>,
+        ink: Ink,
+        sheet: &Shown<'_>,
+    ) -> Result<(), AllocError>
         requires { HasClasses self.now.schema.now sheet.now.plan }
         ensures { OnOk result (text.new.items
-            ≡ text.old.items ++ nodes_of self.now.schema.now self.now.frame sheet.now) }
+            ≡ text.old.items ++ arcs_of self.now.schema.now self.now.frame ink sheet.now) }
+    {
+        for place in sheet.plan().places(Kind::Par) {
+            self.push_arc(text, ink, sheet, *place)?;
+        }
+        Ok(())
+    }
+
+    /// Appends the nodes of the sheet that are drawn in an ink.
+    pub(crate) fn push_nodes(
+        &self,
+        text: &mut Vec<u8>,
+        ink: Ink,
+        sheet: &Shown<'_>,
+    ) -> Result<(), AllocError>
+        requires { HasClasses self.now.schema.now sheet.now.plan }
+        ensures { OnOk result (text.new.items
+            ≡ text.old.items ++ nodes_of self.now.schema.now self.now.frame ink sheet.now) }
     {
         for place in sheet.plan().places(Kind::Pno) {
-            self.push_node(text, sheet, *place)?;
+            self.push_node(text, ink, sheet, *place)?;
         }
         Ok(())
     }

@@ -1,17 +1,22 @@
-//! The faces, the arcs and the nodes of sheets.
+//! The faces, the arcs, the nodes and the labels of sheets.
 
-ghost use Rattle.std.specs.Prelude.{◌≡◌, ◌++◌, OnOk};
+ghost use Rattle.std.specs.Prelude.{◌≡◌, ◌≤◌, ◌++◌, OnOk};
 ghost use Rattle.std.specs.List.{flat_map};
 ghost use Rattle.edi_picture.specs.Elements.{arcs_of, nodes_of};
 ghost use Rattle.edi_picture.specs.Faces.{faces_of};
-ghost use Rattle.edi_picture.specs.Pictures.{arcs_text, faces_text, nodes_text, plan_text};
+ghost use Rattle.edi_picture.specs.Labels.{labels_of};
+ghost use Rattle.edi_picture.specs.Pictures.{all_arcs, all_nodes, arcs_begin, arcs_text, dashes, faces_text, labels_text, layers, nodes_begin, nodes_text, plan_text, rim_text};
 ghost use Rattle.edi_picture.specs.Sheets.{AllHaveClasses};
+ghost use Rattle.edi_picture.specs.declared.mark.Ink.TheVariants.{Old};
 
-use crate::canvas::Canvas;
+use crate::canvas::{Canvas, push_pixels};
 use crate::faces::push_faces;
+use crate::labels::push_labels;
 use crate::legend::push_inset;
+use crate::mark::Ink;
 use crate::shown::Shown;
 use crate::writing::put;
+use edi_plan::Extent;
 use std::alloc::{AllocError, Global};
 
 /// Appends the faces of all sheets.
@@ -31,34 +36,36 @@ fn push_all_faces(
     Ok(())
 }
 
-/// Appends the arcs of all sheets.
+/// Appends the arcs of all sheets that are drawn in an ink.
 fn push_all_arcs(
     canvas: &Canvas<'_>,
     text: &mut Vec<u8>,
     sheets: &[Shown<'_>],
+    ink: Ink,
 ) -> Result<(), AllocError>
     requires { AllHaveClasses canvas.now.schema.now sheets.now }
     ensures { OnOk result (text.new.items
-        ≡ text.old.items ++ flat_map (arcs_of canvas.now.schema.now canvas.now.frame) sheets.now) }
+        ≡ text.old.items ++ flat_map (arcs_of canvas.now.schema.now canvas.now.frame ink) sheets.now) }
 {
     for sheet in sheets {
-        canvas.push_arcs(text, sheet)?;
+        canvas.push_arcs(text, ink, sheet)?;
     }
     Ok(())
 }
 
-/// Appends the nodes of all sheets.
+/// Appends the nodes of all sheets that are drawn in an ink.
 fn push_all_nodes(
     canvas: &Canvas<'_>,
     text: &mut Vec<u8>,
     sheets: &[Shown<'_>],
+    ink: Ink,
 ) -> Result<(), AllocError>
     requires { AllHaveClasses canvas.now.schema.now sheets.now }
     ensures { OnOk result (text.new.items
-        ≡ text.old.items ++ flat_map (nodes_of canvas.now.schema.now canvas.now.frame) sheets.now) }
+        ≡ text.old.items ++ flat_map (nodes_of canvas.now.schema.now canvas.now.frame ink) sheets.now) }
 {
     for sheet in sheets {
-        canvas.push_nodes(text, sheet)?;
+        canvas.push_nodes(text, ink, sheet)?;
     }
     Ok(())
 }
@@ -74,49 +81,128 @@ fn push_face_layer(
     ensures { OnOk result (text.new.items
         ≡ text.old.items ++ faces_text canvas.now.schema.now canvas.now.frame sheets.now) }
 {
-    put(text, b"<g fill-rule='evenodd' fill-opacity='0.2'>\n")?;
+    put(
+        text,
+        b"<g fill='none' fill-rule='evenodd' fill-opacity='0.5' pointer-events='all'>\n",
+    )?;
     push_all_faces(alloc, canvas, text, sheets)?;
     put(text, b"</g>\n")
 }
 
-/// Appends the arcs of all sheets, with how they are drawn.
+/// Appends the colour and the width of lines in an ink.
+fn push_arcs_begin(text: &mut Vec<u8>, frame: &Extent, ink: Ink) -> Result<(), AllocError>
+    ensures { OnOk result (text.new.items ≡ text.old.items ++ arcs_begin frame.now ink) }
+{
+    put(text, b"<g fill='none' stroke-linejoin='round' stroke='")?;
+    put(text, ink.colour())?;
+    put(text, b"' stroke-width='")?;
+    push_pixels(text, frame, ink.line_width())
+}
+
+/// Appends how long dashes are.
+fn push_dash_length(text: &mut Vec<u8>, frame: &Extent) -> Result<(), AllocError>
+    ensures { OnOk result (text.new.items ≡ text.old.items ++ dashes frame.now Old) }
+{
+    put(text, b"' stroke-dasharray='")?;
+    push_pixels(text, frame, 6)?;
+    put(text, b"'>\n")
+}
+
+/// Appends whether they are dashed.
+fn push_dashes(text: &mut Vec<u8>, frame: &Extent, ink: Ink) -> Result<(), AllocError>
+    ensures { OnOk result (text.new.items ≡ text.old.items ++ dashes frame.now ink) }
+{
+    match ink {
+        Ink::Old => push_dash_length(text, frame),
+        Ink::Grey | Ink::New => put(text, b"'>\n"),
+    }
+}
+
+/// Appends the arcs of all sheets in an ink, with how they are drawn.
 fn push_arc_layer(
     canvas: &Canvas<'_>,
     text: &mut Vec<u8>,
     sheets: &[Shown<'_>],
+    ink: Ink,
 ) -> Result<(), AllocError>
     requires { AllHaveClasses canvas.now.schema.now sheets.now }
     ensures { OnOk result (text.new.items
-        ≡ text.old.items ++ arcs_text canvas.now.schema.now canvas.now.frame sheets.now) }
+        ≡ text.old.items ++ arcs_text canvas.now.schema.now canvas.now.frame sheets.now ink) }
 {
-    put(
-        text,
-        b"<g fill='none' stroke-width='1.5' stroke-linejoin='round'>\n",
-    )?;
-    push_all_arcs(canvas, text, sheets)?;
+    push_arcs_begin(text, &canvas.frame, ink)?;
+    push_dashes(text, &canvas.frame, ink)?;
+    push_all_arcs(canvas, text, sheets, ink)?;
     put(text, b"</g>\n")
 }
 
-/// Appends the nodes of all sheets, with how they are drawn.
+/// Appends the colours of nodes in an ink.
+fn push_nodes_begin(text: &mut Vec<u8>, ink: Ink) -> Result<(), AllocError>
+    ensures { OnOk result (text.new.items ≡ text.old.items ++ nodes_begin ink) }
+{
+    put(text, b"<g fill='")?;
+    put(text, ink.filling())?;
+    put(text, b"' stroke='")?;
+    put(text, ink.colour())
+}
+
+/// Appends how wide their rims are.
+fn push_rim(text: &mut Vec<u8>, frame: &Extent) -> Result<(), AllocError>
+    ensures { OnOk result (text.new.items ≡ text.old.items ++ rim_text frame.now) }
+{
+    put(text, b"' stroke-width='")?;
+    push_pixels(text, frame, 1)?;
+    put(text, b"'>\n")
+}
+
+/// Appends the nodes of all sheets in an ink, with how they are drawn.
 fn push_node_layer(
+    canvas: &Canvas<'_>,
+    text: &mut Vec<u8>,
+    sheets: &[Shown<'_>],
+    ink: Ink,
+) -> Result<(), AllocError>
+    requires { AllHaveClasses canvas.now.schema.now sheets.now }
+    ensures { OnOk result (text.new.items
+        ≡ text.old.items ++ nodes_text canvas.now.schema.now canvas.now.frame sheets.now ink) }
+{
+    push_nodes_begin(text, ink)?;
+    push_rim(text, &canvas.frame)?;
+    push_all_nodes(canvas, text, sheets, ink)?;
+    put(text, b"</g>\n")
+}
+
+/// Appends the arcs: those that both sheets have below those of the second, and these below those of the first.
+fn push_arc_layers(
     canvas: &Canvas<'_>,
     text: &mut Vec<u8>,
     sheets: &[Shown<'_>],
 ) -> Result<(), AllocError>
     requires { AllHaveClasses canvas.now.schema.now sheets.now }
     ensures { OnOk result (text.new.items
-        ≡ text.old.items ++ nodes_text canvas.now.schema.now canvas.now.frame sheets.now) }
+        ≡ text.old.items ++ all_arcs canvas.now.schema.now canvas.now.frame sheets.now) }
 {
-    put(
-        text,
-        b"<g fill='none' stroke-width='5' stroke-linecap='round'>\n",
-    )?;
-    push_all_nodes(canvas, text, sheets)?;
-    put(text, b"</g>\n")
+    push_arc_layer(canvas, text, sheets, Ink::Grey)?;
+    push_arc_layer(canvas, text, sheets, Ink::New)?;
+    push_arc_layer(canvas, text, sheets, Ink::Old)
 }
 
-/// Appends the plan.
-pub(crate) fn push_plan(
+/// Appends the nodes: those of the second sheet above the wider ones of the first.
+fn push_node_layers(
+    canvas: &Canvas<'_>,
+    text: &mut Vec<u8>,
+    sheets: &[Shown<'_>],
+) -> Result<(), AllocError>
+    requires { AllHaveClasses canvas.now.schema.now sheets.now }
+    ensures { OnOk result (text.new.items
+        ≡ text.old.items ++ all_nodes canvas.now.schema.now canvas.now.frame sheets.now) }
+{
+    push_node_layer(canvas, text, sheets, Ink::Grey)?;
+    push_node_layer(canvas, text, sheets, Ink::Old)?;
+    push_node_layer(canvas, text, sheets, Ink::New)
+}
+
+/// Appends all of these.
+fn push_layers(
     alloc: Global,
     canvas: &Canvas<'_>,
     text: &mut Vec<u8>,
@@ -124,11 +210,59 @@ pub(crate) fn push_plan(
 ) -> Result<(), AllocError>
     requires { AllHaveClasses canvas.now.schema.now sheets.now }
     ensures { OnOk result (text.new.items
-        ≡ text.old.items ++ plan_text canvas.now.schema.now canvas.now.frame sheets.now) }
+        ≡ text.old.items ++ layers canvas.now.schema.now canvas.now.frame sheets.now) }
 {
-    push_inset(text, &canvas.frame, b"70")?;
     push_face_layer(alloc, canvas, text, sheets)?;
-    push_arc_layer(canvas, text, sheets)?;
-    push_node_layer(canvas, text, sheets)?;
+    push_arc_layers(canvas, text, sheets)?;
+    push_node_layers(canvas, text, sheets)
+}
+
+/// Appends the plan, so far below the top.
+pub(crate) fn push_plan(
+    alloc: Global,
+    canvas: &Canvas<'_>,
+    text: &mut Vec<u8>,
+    sheets: &[Shown<'_>],
+    top: u64,
+) -> Result<(), AllocError>
+    requires { AllHaveClasses canvas.now.schema.now sheets.now }
+    ensures { OnOk result (text.new.items
+        ≡ text.old.items ++ plan_text canvas.now.schema.now canvas.now.frame sheets.now top) }
+{
+    push_inset(text, &canvas.frame, top)?;
+    push_layers(alloc, canvas, text, sheets)?;
     put(text, b"</svg>\n")
+}
+
+/// Appends what is written on the faces of each sheet.
+fn push_each_label(
+    alloc: Global,
+    text: &mut Vec<u8>,
+    frame: &Extent,
+    top: u64,
+    sheets: &[Shown<'_>],
+) -> Result<(), AllocError>
+    requires { top ≤ 1000 }
+    ensures { OnOk result (text.new.items ≡ text.old.items ++ flat_map (labels_of frame.now top) sheets.now) }
+{
+    for sheet in sheets {
+        push_labels(alloc, text, frame, top, sheet)?;
+    }
+    Ok(())
+}
+
+/// Appends what is written on the faces of all sheets, where the plan begins so far below the top.
+pub(crate) fn push_label_layer(
+    alloc: Global,
+    canvas: &Canvas<'_>,
+    text: &mut Vec<u8>,
+    sheets: &[Shown<'_>],
+    top: u64,
+) -> Result<(), AllocError>
+    requires { top ≤ 1000 }
+    ensures { OnOk result (text.new.items ≡ text.old.items ++ labels_text canvas.now.frame sheets.now top) }
+{
+    put(text, b"<g text-anchor='middle' font-size='12'>\n")?;
+    push_each_label(alloc, text, &canvas.frame, top, sheets)?;
+    put(text, b"</g>\n")
 }

@@ -7,6 +7,7 @@ mod ends;
 mod faces;
 mod frame;
 pub mod known;
+mod labels;
 pub mod laws;
 mod layers;
 mod legend;
@@ -14,8 +15,9 @@ pub mod mark;
 mod rounds;
 pub mod shown;
 mod titles;
+mod widening;
 mod writing;
 
 pub use drawing::picture;
 pub use mark::Mark;
-pub use shown::Shown;
+pub use shown::{Looks, Shown};

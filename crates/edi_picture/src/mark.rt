@@ -1,42 +1,128 @@
 //! How records are told apart in a picture.
 
 ghost use Rattle.std.specs.Prelude.{◌≡◌};
-ghost use Rattle.edi_picture.specs.Marks.{colour, is_hidden as hides};
+ghost use Rattle.edi_picture.specs.Marks.{colour, filling, is_before as before, is_drawn_in as inks, is_hidden as hides, is_only_first as only_first, is_only_second as only_second, line_width, mark_words, node_radius};
 
-/// What a picture says of a record, by the colour in which it is drawn.
+/// What a picture says of a record.
 #[derive(Clone, Copy, PartialEq, Eq)]
 pub enum Mark {
-    /// Nothing: the record of a sheet that stands alone, or one that both sheets have. It is grey.
+    /// Nothing: the record of a sheet that stands alone, or one that both sheets have.
     Plain,
-    /// The first sheet alone has it. It is vermilion.
+    /// The first sheet alone has it.
     OnlyFirst,
-    /// The second sheet alone has it. It is blue.
+    /// The second sheet alone has it.
     OnlySecond,
-    /// Both sheets have it, and it differs. It is orange.
-    Changed,
+    /// Both sheets have it, it differs, and this is how the first has it.
+    Before,
+    /// Both sheets have it, it differs, and this is how the second has it.
+    After,
     /// It is not drawn.
     Hidden,
 }
 
-impl Mark {
+/// In what a record is drawn: the colour, and the kind of line or dot.
+#[derive(Clone, Copy)]
+pub(crate) enum Ink {
+    /// Thin and grey: what is the same in both sheets, or stands alone.
+    Grey,
+    /// Vermilion, dashed, and nodes as rings: what only the first sheet has, or had so.
+    Old,
+    /// Blue: what only the second sheet has, or has so.
+    New,
+}
+
+impl Ink {
     /// The colour, as SVG spells it.
     pub(crate) fn colour(self) -> &'static [u8]
         ensures { result.now ≡ colour self }
     {
         match self {
-            Mark::Plain | Mark::Hidden => b"#777777",
-            Mark::OnlyFirst => b"#D55E00",
-            Mark::OnlySecond => b"#0072B2",
-            Mark::Changed => b"#E69F00",
+            Ink::Grey => b"#777777",
+            Ink::Old => b"#D55E00",
+            Ink::New => b"#0072B2",
+        }
+    }
+
+    /// How nodes are filled.
+    pub(crate) fn filling(self) -> &'static [u8]
+        ensures { result.now ≡ filling self }
+    {
+        match self {
+            Ink::Grey => b"#777777",
+            Ink::Old => b"white",
+            Ink::New => b"#0072B2",
+        }
+    }
+
+    /// How many pixels lines are wide.
+    pub(crate) fn line_width(self) -> u64
+        ensures { result ≡ line_width self }
+    {
+        match self {
+            Ink::Grey => 1,
+            Ink::Old | Ink::New => 2,
+        }
+    }
+
+    /// How many pixels it is from the middle of a node to its rim.
+    pub(crate) fn node_radius(self) -> u64
+        ensures { result ≡ node_radius self }
+    {
+        match self {
+            Ink::Grey => 2,
+            Ink::Old => 5,
+            Ink::New => 3,
+        }
+    }
+}
+
+impl Mark {
+    /// Whether records of this mark are drawn in an ink.
+    pub(crate) fn is_drawn_in(self, ink: Ink) -> bool
+        ensures { result ≡ inks ink self }
+    {
+        match (ink, self) {
+            (Ink::Grey, Mark::Plain) => true,
+            (Ink::Old, Mark::OnlyFirst | Mark::Before) => true,
+            (Ink::New, Mark::OnlySecond | Mark::After) => true,
+            _ => false,
         }
     }
 
     pub(crate) fn is_hidden(self) -> bool
         ensures { result ≡ hides self }
     {
+        self == Mark::Hidden
+    }
+
+    pub(crate) fn is_only_first(self) -> bool
+        ensures { result ≡ only_first self }
+    {
+        self == Mark::OnlyFirst
+    }
+
+    pub(crate) fn is_only_second(self) -> bool
+        ensures { result ≡ only_second self }
+    {
+        self == Mark::OnlySecond
+    }
+
+    pub(crate) fn is_before(self) -> bool
+        ensures { result ≡ before self }
+    {
+        self == Mark::Before
+    }
+
+    /// What it says, behind a title.
+    pub(crate) fn words(self) -> &'static [u8]
+        ensures { result.now ≡ mark_words self }
+    {
         match self {
-            Mark::Hidden => true,
-            Mark::Plain | Mark::OnlyFirst | Mark::OnlySecond | Mark::Changed => false,
+            Mark::Plain | Mark::Hidden => b"",
+            Mark::OnlyFirst => b", only in A",
+            Mark::OnlySecond => b", only in B",
+            Mark::Before => b", as it was in A",
+            Mark::After => b", as it is in B",
         }
     }
 }

@@ -6,19 +6,31 @@ use crate::mark::Mark;
 use edi_plan::Plan;
 use std::marker::Model;
 
-/// A plan that is drawn, with the identifier and the mark of each of its records, by their places.
+/// How the records of a plan are drawn, by their places.
+#[derive(Drop)]
+pub struct Looks {
+    pub marks: Vec<Mark>,
+    /// Which faces are tinted.
+    pub tints: Vec<bool>,
+    /// What is written on faces, in the character set of the sheet.
+    pub labels: Vec<Vec<u8>>,
+}
+
+/// A plan that is drawn, with the name of its file, the identifiers of its records and how they are drawn.
 pub struct Shown<'a> {
     plan: &'a Plan,
+    name: &'a [u8],
     identifiers: Vec<&'a [u8]>,
-    marks: Vec<Mark>,
+    looks: Looks,
 }
 
 impl Drop for Shown<'_> {
     fn drop(self) {
         let Shown {
             plan: _,
+            name: _,
             identifiers: _,
-            marks: _,
+            looks: _,
         } = self;
     }
 }
@@ -31,28 +43,42 @@ impl<'a> Model for Shown<'a> {
 
     ghost view = { λ s. record {
       plan = s.plan.now;
+      name = s.name.now;
       identifiers = map (λ i. i.now) s.identifiers.items;
-      marks = s.marks.items;
+      marks = s.looks.marks.items;
+      tints = s.looks.tints.items;
+      labels = map (λ l. l.items) s.looks.labels.items;
     } };
 }
 
 impl<'a> Shown<'a> {
-    ghost use Rattle.edi_plan.specs.Plans.{IsPlace, record_at};
-    ghost use Rattle.edi_picture.specs.Sheets.{identifier_at, mark_at};
+    ghost use Rattle.std.specs.Prelude.{count_by};
+    ghost use Rattle.edi_picture.specs.Marks.{is_before, is_only_first, is_only_second};
+    ghost use Rattle.edi_picture.specs.Sheets.{identifier_at, label_at, mark_at, tint_at};
 
-    /// A plan, the identifiers of its records as their file has them, and the marks of its records, each in file order.
-    /// A record that has no identifier here is drawn with an empty one; one that has no mark here is not drawn.
-    pub fn new(plan: &'a Plan, identifiers: Vec<&'a [u8]>, marks: Vec<Mark>) -> Shown<'a>
+    /// A plan, the name of its file, the identifiers of its records as their file has them, and how they are drawn, each
+    /// in file order. A record that has no identifier here is drawn with an empty one; one that has no mark here is not
+    /// drawn; a face that has no tint or label here has none.
+    pub fn new(
+        plan: &'a Plan,
+        name: &'a [u8],
+        identifiers: Vec<&'a [u8]>,
+        looks: Looks,
+    ) -> Shown<'a>
         ensures { result ≡ record {
           plan = plan.now;
+          name = name.now;
           identifiers = map (λ i. i.now) identifiers.entry.items;
-          marks = marks.items;
+          marks = looks.marks.items;
+          tints = looks.tints.items;
+          labels = map (λ l. l.items) looks.labels.items;
         } }
     {
         Shown {
             plan,
+            name,
             identifiers,
-            marks,
+            looks,
         }
     }
 
@@ -61,6 +87,13 @@ impl<'a> Shown<'a> {
         ensures { result.now ≡ self.now.plan }
     {
         self.plan
+    }
+
+    /// The name of the file.
+    pub(crate) fn name(&self) -> &[u8]
+        ensures { result.now ≡ self.now.name }
+    {
+        self.name
     }
 
     /// The identifier of a record.
@@ -77,9 +110,62 @@ impl<'a> Shown<'a> {
     pub(crate) fn mark(&self, place: u32) -> Mark
         ensures { result ≡ mark_at self.now place }
     {
-        match self.marks.get(place as usize) {
+        match self.looks.marks.get(place as usize) {
             Some(mark) => *mark,
             None => Mark::Hidden,
         }
+    }
+
+    /// Whether a face is tinted.
+    pub(crate) fn is_tinted(&self, place: u32) -> bool
+        ensures { result ≡ tint_at self.now place }
+    {
+        match self.looks.tints.get(place as usize) {
+            Some(tint) => *tint,
+            None => false,
+        }
+    }
+
+    /// What is written on a face.
+    pub(crate) fn label(&self, place: u32) -> &[u8]
+        ensures { result.now ≡ label_at self.now place }
+    {
+        match self.looks.labels.get(place as usize) {
+            Some(label) => label.as_slice(),
+            None => b"",
+        }
+    }
+
+    /// How many records only the first sheet has, by their marks.
+    pub(crate) fn only_first_count(&self) -> usize
+        ensures { result ≡ count_by is_only_first self.now.marks }
+    {
+        self.looks
+            .marks
+            .iter()
+            .filter(|mark| mark.is_only_first())
+            .count()
+    }
+
+    /// How many only the second has.
+    pub(crate) fn only_second_count(&self) -> usize
+        ensures { result ≡ count_by is_only_second self.now.marks }
+    {
+        self.looks
+            .marks
+            .iter()
+            .filter(|mark| mark.is_only_second())
+            .count()
+    }
+
+    /// How many differ, as the first has them.
+    pub(crate) fn changed_count(&self) -> usize
+        ensures { result ≡ count_by is_before self.now.marks }
+    {
+        self.looks
+            .marks
+            .iter()
+            .filter(|mark| mark.is_before())
+            .count()
     }
 }

@@ -3,8 +3,9 @@
 ghost use Rattle.std.specs.Prelude.{◌≡◌, ◌++◌, ◌<◌, OnOk, codes, decimal};
 ghost use Rattle.edi_plan.specs.Plans.{IsPlace, record_at};
 ghost use Rattle.edi_plan.specs.Agreeing.{HasClasses};
-ghost use Rattle.edi_picture.specs.Sheets.{class_name};
-ghost use Rattle.edi_picture.specs.Titles.{class_title, escaped, escaped_text, record_title, title_text};
+ghost use Rattle.edi_picture.specs.Marks.{mark_words};
+ghost use Rattle.edi_picture.specs.Sheets.{class_name, mark_at};
+ghost use Rattle.edi_picture.specs.Titles.{class_title, escaped, escaped_text, name_character, name_text, record_title, title_text};
 
 use crate::shown::Shown;
 use crate::writing::put;
@@ -37,7 +38,7 @@ fn push_escaped(text: &mut Vec<u8>, byte: u8) -> Result<(), AllocError>
 }
 
 /// Appends bytes, so that they can stand in XML.
-fn push_escaped_text(text: &mut Vec<u8>, bytes: &[u8]) -> Result<(), AllocError>
+pub(crate) fn push_escaped_text(text: &mut Vec<u8>, bytes: &[u8]) -> Result<(), AllocError>
     ensures { OnOk result (text.new.items ≡ text.old.items ++ escaped_text bytes.now) }
 {
     for byte in bytes {
@@ -56,7 +57,7 @@ fn push_class(text: &mut Vec<u8>, class: &Name) -> Result<(), AllocError>
 }
 
 /// Appends the type, the identifier and the class of a record.
-fn push_name(
+pub(crate) fn push_name(
     text: &mut Vec<u8>,
     schema: &Schema,
     sheet: &Shown<'_>,
@@ -74,18 +75,55 @@ fn push_name(
     push_class(text, schema.name(plan.scp(place)))
 }
 
-/// Appends the title of a record, which browsers show where the pointer rests on it.
+/// Appends what the mark of a record says, these words, and the end of a title.
+fn push_title_end(
+    text: &mut Vec<u8>,
+    sheet: &Shown<'_>,
+    place: u32,
+    words: &[u8],
+) -> Result<(), AllocError>
+    ensures { OnOk result (text.new.items
+        ≡ text.old.items ++ mark_words (mark_at sheet.now place) ++ words.now ++ codes "</title>") }
+{
+    put(text, sheet.mark(place).words())?;
+    put(text, words)?;
+    put(text, b"</title>")
+}
+
+/// Appends the title of a record, which browsers show where the pointer rests on it, with these words.
 pub(crate) fn push_title(
     text: &mut Vec<u8>,
     schema: &Schema,
     sheet: &Shown<'_>,
     place: u32,
+    words: &[u8],
 ) -> Result<(), AllocError>
     requires classes { HasClasses schema.now sheet.now.plan }
     requires place { IsPlace sheet.now.plan place }
-    ensures { OnOk result (text.new.items ≡ text.old.items ++ title_text schema.now sheet.now place) }
+    ensures { OnOk result (text.new.items ≡ text.old.items ++ title_text schema.now sheet.now place words.now) }
 {
     put(text, b"<title>")?;
     push_name(text, schema, sheet, place)?;
-    put(text, b"</title>")
+    push_title_end(text, sheet, place, words)
+}
+
+/// Appends a byte of the name of a file.
+fn push_name_character(text: &mut Vec<u8>, byte: u8) -> Result<(), AllocError>
+    ensures { OnOk result (text.new.items ≡ text.old.items ++ name_character byte) }
+{
+    if byte <= b'~' {
+        push_escaped(text, byte)
+    } else {
+        put(text, b"?")
+    }
+}
+
+/// Appends the name of a file.
+pub(crate) fn push_file_name(text: &mut Vec<u8>, name: &[u8]) -> Result<(), AllocError>
+    ensures { OnOk result (text.new.items ≡ text.old.items ++ name_text name.now) }
+{
+    for byte in name {
+        push_name_character(text, *byte)?;
+    }
+    Ok(())
 }

@@ -12,7 +12,7 @@ use Rattle.edi_outcome.specs.Status.{status_of_fault}
 use Rattle.edi_answers.specs.Paths.{names_of_paths}
 use Rattle.edi_answers.specs.Effects.{Effects, Inputs, Stream}
 use Rattle.edi_answers.specs.SheetRuns.{IsPairPut, IsPairReplaced, OfPair, PairFileFault, PutPairFault}
-use Rattle.edicad.specs.Made.{IsPictureOfPair, ShowsDifference}
+use Rattle.edicad.specs.Made.{IsPictureOfPair, ShowsDifference, names_of_pair}
 use Rattle.edi_answers.specs.Statuses.{Answers, IsSaid, IsUnsaid, pair_paths_of}
 use Rattle.edicad.specs.Statuses.{IsDiffStatus, IsPictureStatus}
 use Rattle.edi_outcome.specs.declared.outcome.Outcome.TheVariants as outcome
@@ -70,18 +70,18 @@ module _ (run : Effects) (out err : Stream) (kinds : KindCodes) (files : PairFil
 
 -- a picture that was drawn shows what differs
 pub shown : (inputs : Inputs) (kinds : KindCodes) (files : PairFiles) (form : TextForm) (drawn : DrawnDifference)
-    → OfPair inputs files (λ s d a b. IsDrawnDifferenceUnder kinds s d a b form drawn)
-    → OfPair inputs files (λ s d a b. ShowsDifference kinds form drawn.difference s d a b drawn.picture.items)
+    → OfPair inputs files (λ s d a b. IsDrawnDifferenceUnder kinds (names_of_pair files) s d a b form drawn)
+    → OfPair inputs files (λ s d a b. ShowsDifference kinds (names_of_pair files) form drawn.difference s d a b drawn.picture.items)
 shown inputs kinds files form drawn h = pair_map inputs files _ _ (λ s d a b under. (drawn, under, refl, refl)) h
 
 pub shown_of_some : (inputs : Inputs) (kinds : KindCodes) (files : PairFiles) (form : TextForm) (difference : Difference) (bytes : List ℕ)
-    → OfPair inputs files (λ s d a b. ShowsDifference kinds form difference s d a b bytes) → OfPair inputs files (λ s d a b. IsPictureOfPair kinds form s d a b bytes)
+    → OfPair inputs files (λ s d a b. ShowsDifference kinds (names_of_pair files) form difference s d a b bytes) → OfPair inputs files (λ s d a b. IsPictureOfPair kinds (names_of_pair files) form s d a b bytes)
 shown_of_some inputs kinds files form difference bytes h = pair_map inputs files _ _ (λ s d a b shows. (difference, shows)) h
 
 -- the same with a picture that is put
 module _ (run : Effects) (out err : Stream) (kinds : KindCodes) (files : PairFiles) (form : TextForm) (path : List ℕ) (s : ℕ)
-    (replaced : IsPairReplaced run (IsPictureOfPair kinds form) files path) where
-  pub drawn_status : (difference : Difference) → IsPairPut run (ShowsDifference kinds form difference) files path
+    (replaced : IsPairReplaced run (IsPictureOfPair kinds (names_of_pair files) form) files path) where
+  pub drawn_status : (difference : Difference) → IsPairPut run (ShowsDifference kinds (names_of_pair files) form difference) files path
       → IsPutAs difference.same s → (s < 3 → Answers out err difference.text.items) → (s ≡ 4 → IsUnsaid out err) → IsPictureStatus run out err kinds files form path s
   drawn_status difference h status written unsaid = record {
     tried = inr (inl (were_four run.inputs files _ h.1));
@@ -96,7 +96,7 @@ module _ (run : Effects) (out err : Stream) (kinds : KindCodes) (files : PairFil
     replaced = replaced;
   }
 
-  pub undrawn_status : (e : RunFault) → PutPairFault run (IsPictureOfPair kinds form) kinds files path e
+  pub undrawn_status : (e : RunFault) → PutPairFault run (IsPictureOfPair kinds (names_of_pair files) form) kinds files path e
       → IsSaid run.why out err (outcome.Fault e) (pair_paths_of files path) s → IsPictureStatus run out err kinds files form path s
   undrawn_status e h said = record {
     tried = put_pair_tried run _ kinds files path e h;

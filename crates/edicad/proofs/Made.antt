@@ -13,7 +13,7 @@ use Rattle.edicad.specs.Made.{IsMadeOf, OfMade}
 use Rattle.edi_answers.proofs.Made.{files_map, were_there}
 
 module _ (inputs : Inputs) (product : Product) (kinds : KindCodes) (files : SheetFiles) (items bytes : List ℕ) (is : bytes ≡ items)
-    (form : OfFiles inputs files (λ s d v. IsMadeOf product kinds s d v items)) where
+    (form : OfFiles inputs files (λ s d v. IsMadeOf product kinds files.vec.now s d v items)) where
   -- what holds of the bytes holds of what was made
   pub of_made : (P : List ℕ → Type 0) → P bytes → OfMade inputs product kinds files P
   of_made P h = files_map inputs files _ _ (λ s d v f. (items, f, subst P is h)) form
@@ -31,8 +31,8 @@ module _ (inputs : Inputs) (product : Product) (kinds : KindCodes) (files : Shee
 
   -- whole bytes are all that was made
   pub whole : (out : List ℕ) (Spare : List ℕ → Type 0) (path : List ℕ) (c : Option (List ℕ)) → IsWholeOrNew out Spare (λ b. b ≡ bytes) path c
-      → IsWholeOrNew out Spare (λ b. OfFiles inputs files (λ s d v. IsMadeOf product kinds s d v b)) path c
+      → IsWholeOrNew out Spare (λ b. OfFiles inputs files (λ s d v. IsMadeOf product kinds files.vec.now s d v b)) path c
   whole out Spare path c h =
       ⊎_elim
-      (λ w. inl (w.0, (w.1.0, subst (λ b. OfFiles inputs files (λ s d v. IsMadeOf product kinds s d v b)) (sym (w.1.1 ∙ is)) form, w.1.2)))
+      (λ w. inl (w.0, (w.1.0, subst (λ b. OfFiles inputs files (λ s d v. IsMadeOf product kinds files.vec.now s d v b)) (sym (w.1.1 ∙ is)) form, w.1.2)))
       (λ new. inr new) h

@@ -5,8 +5,10 @@ use Rattle.edi_compare.specs.declared.fault.RunFault.{RunFault}
 use Rattle.edi_compare.specs.declared.fault.RunFault.TheVariants.{Write}
 use Rattle.edi_compare.specs.Runs.{BeforeWriting, IsCanonOf}
 use Rattle.edi_diff.specs.declared.differing.Difference.{Difference}
+use Rattle.edi_drawing.specs.Drawn.{FileNames}
 use Rattle.edi_drawing.specs.Runs.{IsDrawnDifferenceUnder, IsPictureUnder}
 use Rattle.edi_drawing.specs.declared.drawn.DrawnDifference.{DrawnDifference}
+use Rattle.edi_words.specs.declared.words.PairFiles.{PairFiles}
 use Rattle.edi_words.specs.declared.words.SheetFiles.{SheetFiles}
 use Rattle.edi_files.specs.declared.product.Product.{Product}
 use Rattle.edi_files.specs.declared.product.Product.TheVariants.{Canonical, Picture}
@@ -14,14 +16,14 @@ use Rattle.edi_answers.specs.Effects.{Effects, Inputs}
 use Rattle.edi_answers.specs.SheetRuns.{FileFault, IsApart, Meets, OfFiles}
 use Rattle.edi_diff.specs.declared.form.TextForm.{TextForm}
 
--- the bytes are what is made of a sheet: its canonical file, or its picture
-abbrev pub IsMadeOf : Product → KindCodes → List ℕ → List ℕ → List ℕ → List ℕ → Type 0
-IsMadeOf Canonical kinds s d v bytes = IsCanonOf kinds s d v bytes
-IsMadeOf Picture kinds s d v bytes = IsPictureUnder kinds s d v bytes
+-- the bytes are what is made of a sheet of this name: its canonical file, or its picture
+abbrev pub IsMadeOf : Product → KindCodes → List ℕ → List ℕ → List ℕ → List ℕ → List ℕ → Type 0
+IsMadeOf Canonical kinds name s d v bytes = IsCanonOf kinds s d v bytes
+IsMadeOf Picture kinds name s d v bytes = IsPictureUnder kinds name s d v bytes
 
 -- what is made of the sheet, of which this holds
 abbrev pub OfMade : Inputs → Product → KindCodes → SheetFiles → (List ℕ → Type 0) → Type 0
-OfMade inputs product kinds files P = OfFiles inputs files (λ s d v. (bytes : List ℕ) × IsMadeOf product kinds s d v bytes × P bytes)
+OfMade inputs product kinds files P = OfFiles inputs files (λ s d v. (bytes : List ℕ) × IsMadeOf product kinds files.vec.now s d v bytes × P bytes)
 
 -- OUT is one of the inputs, and none of them
 abbrev pub IsInput : (List ℕ → List ℕ → Bool → Type 0) → SheetFiles → List ℕ → Type 0
@@ -44,13 +46,18 @@ PutFault run product kinds files out e =
 
 -- at each moment OUT has the file that it had, or the whole of what is made of the sheet
 abbrev pub IsReplaced : Effects → Product → KindCodes → SheetFiles → List ℕ → Type 0
-IsReplaced run product kinds files out = run.Replaces out (λ bytes. OfFiles run.inputs files (λ s d v. IsMadeOf product kinds s d v bytes))
+IsReplaced run product kinds files out = run.Replaces out (λ bytes. OfFiles run.inputs files (λ s d v. IsMadeOf product kinds files.vec.now s d v bytes))
 
--- this differs between the two sheets, and the bytes are a picture that shows it
-abbrev pub ShowsDifference : KindCodes → TextForm → Difference → List ℕ → List ℕ → List ℕ → List ℕ → List ℕ → Type 0
-ShowsDifference kinds form difference s d a b bytes =
-    (drawn : DrawnDifference) × IsDrawnDifferenceUnder kinds s d a b form drawn × (drawn.difference ≡ difference) × (drawn.picture.items ≡ bytes)
+-- the names of the files of two sheets, as they were given
+abbrev pub names_of_pair : PairFiles → FileNames
+names_of_pair files = record { first = files.first.now; second = files.second.now }
+
+-- this differs between the two sheets of these names, and the bytes are a picture that shows it
+abbrev pub ShowsDifference : KindCodes → FileNames → TextForm → Difference → List ℕ → List ℕ → List ℕ → List ℕ → List ℕ → Type 0
+ShowsDifference kinds names form difference s d a b bytes =
+    (drawn : DrawnDifference) × IsDrawnDifferenceUnder kinds names s d a b form drawn × (drawn.difference ≡ difference) × (drawn.picture.items ≡ bytes)
 
 -- the bytes are a picture that shows what differs between the two sheets
-abbrev pub IsPictureOfPair : KindCodes → TextForm → List ℕ → List ℕ → List ℕ → List ℕ → List ℕ → Type 0
-IsPictureOfPair kinds form s d a b bytes = (difference : Difference) × ShowsDifference kinds form difference s d a b bytes
+abbrev pub IsPictureOfPair : KindCodes → FileNames → TextForm → List ℕ → List ℕ → List ℕ → List ℕ → List ℕ → Type 0
+IsPictureOfPair kinds names form s d a b bytes =
+    (difference : Difference) × ShowsDifference kinds names form difference s d a b bytes

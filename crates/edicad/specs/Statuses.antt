@@ -11,7 +11,7 @@ use Rattle.edi_words.specs.Requests.{IsAsked}
 use Rattle.edi_answers.specs.Effects.{Effects, Inputs, Stream}
 use Rattle.edi_answers.specs.Misuses.{shows_words}
 use Rattle.edi_answers.specs.SheetRuns.{FileFault, IsPairInput, IsPairPut, IsPairReplaced, OfFiles, OfPair, PairFileFault, PutPairFault}
-use Rattle.edicad.specs.Made.{IsInput, IsPictureOfPair, IsPut, IsReplaced, OfMade, PutFault, ShowsDifference}
+use Rattle.edicad.specs.Made.{IsInput, IsPictureOfPair, IsPut, IsReplaced, OfMade, PutFault, ShowsDifference, names_of_pair}
 use Rattle.edi_words.specs.declared.words.PairFiles.{PairFiles}
 use Rattle.edi_words.specs.declared.words.SheetFiles.{SheetFiles}
 use Rattle.edi_words.specs.declared.words.Request.{Request}
@@ -79,7 +79,7 @@ pub record IsDiffStatus (run : Effects) (out err : Stream) (kinds : KindCodes) (
 -- difference went out
 abbrev pub TellsDrawnDifference : Effects → Stream → Stream → KindCodes → PairFiles → TextForm → List ℕ → Bool → Type 0
 TellsDrawnDifference run out err kinds files form path same =
-    (difference : Difference) × IsPairPut run (ShowsDifference kinds form difference) files path × (difference.same ≡ same) × Answers out err difference.text.items
+    (difference : Difference) × IsPairPut run (ShowsDifference kinds (names_of_pair files) form difference) files path × (difference.same ≡ same) × Answers out err difference.text.items
 
 -- The same of a run that also puts a picture of what differs at a path. On a refusal nothing in the folder has changed; and whatever the
 -- status is, the picture is there, or such a fault says what became of the path.
@@ -88,6 +88,6 @@ pub record IsPictureStatus (run : Effects) (out err : Stream) (kinds : KindCodes
   pub different : s ≡ 1 → TellsDrawnDifference run out err kinds files form path false
   pub means : MeansStatus (TellsDrawnDifference run out err kinds files form path true)
       (OfPair run.inputs files (SaysPairRefusal (Answers out err) kinds) × run.untouched)
-      (λ e. PutPairFault run (IsPictureOfPair kinds form) kinds files path e × Prints out []) run.why (pair_paths_of files path) out err s
-  pub leaves : IsPairPut run (IsPictureOfPair kinds form) files path ⊎ ((e : RunFault) × PutPairFault run (IsPictureOfPair kinds form) kinds files path e)
-  pub replaced : IsPairReplaced run (IsPictureOfPair kinds form) files path
+      (λ e. PutPairFault run (IsPictureOfPair kinds (names_of_pair files) form) kinds files path e × Prints out []) run.why (pair_paths_of files path) out err s
+  pub leaves : IsPairPut run (IsPictureOfPair kinds (names_of_pair files) form) files path ⊎ ((e : RunFault) × PutPairFault run (IsPictureOfPair kinds (names_of_pair files) form) kinds files path e)
+  pub replaced : IsPairReplaced run (IsPictureOfPair kinds (names_of_pair files) form) files path

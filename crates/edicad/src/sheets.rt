@@ -10,14 +10,14 @@ ghost use Rattle.edi_outcome.specs.Words.{FaultHasNames};
 ghost use Rattle.edi_outcome.specs.Status.{status_of_fault};
 ghost use Rattle.edi_answers.specs.Effects.{effects, inputs};
 ghost use Rattle.edi_answers.specs.SheetRuns.{FileFault, IsPairPut, IsPairReplaced, OfFiles, OfPair, PairFileFault, PutPairFault};
-ghost use Rattle.edicad.specs.Made.{IsInput, IsMadeOf, IsNoInput, IsPictureOfPair, IsPut, IsReplaced, OfMade, PutFault, ShowsDifference};
+ghost use Rattle.edicad.specs.Made.{IsInput, IsMadeOf, IsNoInput, IsPictureOfPair, IsPut, IsReplaced, OfMade, PutFault, ShowsDifference, names_of_pair};
 
 use edi_answers::classes::{Kept, read_classes};
 use edi_answers::pair_inputs::{PairInputs, open_pair};
 use edi_answers::sheets::{is_pair_input, meets, opened};
 use edi_compare::{RunFault, canon_of};
 use edi_diff::{Difference, TextForm, run_diff};
-use edi_drawing::{DrawnDifference, run_draw, run_draw_difference};
+use edi_drawing::{DrawnDifference, FileNames, run_draw, run_draw_difference};
 use edi_files::{Folder, Product, output};
 use edi_line::{ByteIn, ByteOut};
 use edi_schema::Kinds;
@@ -132,11 +132,11 @@ pub fn draw_difference<F: Folder>(
     note: &mut Vec<u8>,
 ) -> Result<Difference, RunFault>
     ensures ok { IfOk result (λ difference. IsPairPut (effects F.Folder F.Reader.ByteIn F.Sink.ByteOut F.NewFile.ByteOut folder.old folder.new)
-        (ShowsDifference kinds.now form difference) files.now out.now) }
+        (ShowsDifference kinds.now (names_of_pair files.now) form difference) files.now out.now) }
     ensures err { IfErr result (PutPairFault (effects F.Folder F.Reader.ByteIn F.Sink.ByteOut F.NewFile.ByteOut folder.old folder.new)
-        (IsPictureOfPair kinds.now form) kinds.now files.now out.now) }
+        (IsPictureOfPair kinds.now (names_of_pair files.now) form) kinds.now files.now out.now) }
     ensures replaced { IsPairReplaced (effects F.Folder F.Reader.ByteIn F.Sink.ByteOut F.NewFile.ByteOut folder.old folder.new)
-        (IsPictureOfPair kinds.now form) files.now out.now }
+        (IsPictureOfPair kinds.now (names_of_pair files.now) form) files.now out.now }
     ensures names { IfErr result (λ e. FaultHasNames e 5) }
     ensures noted { IfOk result (λ _. GivesNote (inputs F.Folder F.Reader.ByteIn folder.old) kinds.now files.now.scd.now note.new.items) }
     ensures unnoted { IfErr result (λ e. HasNoteOf (inputs F.Folder F.Reader.ByteIn folder.old) kinds.now files.now.scd.now (status_of_fault e)
@@ -169,7 +169,7 @@ fn drawn_difference<F: Folder>(
     note: &mut Vec<u8>,
 ) -> Result<DrawnDifference, RunFault>
     ensures ok { IfOk result (λ drawn. OfPair (inputs F.Folder F.Reader.ByteIn folder.now) files.now
-        (λ s d a b. IsDrawnDifferenceUnder kinds.now s d a b form drawn)) }
+        (λ s d a b. IsDrawnDifferenceUnder kinds.now (names_of_pair files.now) s d a b form drawn)) }
     ensures err { IfErr result (PairFileFault (inputs F.Folder F.Reader.ByteIn folder.now) kinds.now files.now (λ _. ⊥)) }
     ensures names { IfErr result (λ e. FaultHasNames e 5) }
     ensures noted { IfOk result (λ _. GivesNote (inputs F.Folder F.Reader.ByteIn folder.now) kinds.now files.now.scd.now note.new.items) }
@@ -184,9 +184,14 @@ fn drawn_difference<F: Folder>(
         mut second,
     } = pair;
     let mut kept = Kept::new(&classes);
+    let names = FileNames {
+        first: files.first,
+        second: files.second,
+    };
     run_draw_difference(
         alloc,
         kinds.kinds(),
+        &names,
         &mut kept,
         &mut dic,
         &mut first,
@@ -220,7 +225,7 @@ fn make<F: Folder>(
     note: &mut Vec<u8>,
 ) -> Result<Vec<u8>, RunFault>
     ensures ok { IfOk result (λ bytes. OfFiles (inputs F.Folder F.Reader.ByteIn folder.now) files.now
-        (λ s d v. IsMadeOf product kinds.now s d v bytes.items)) }
+        (λ s d v. IsMadeOf product kinds.now files.now.vec.now s d v bytes.items)) }
     ensures err { IfErr result (FileFault (inputs F.Folder F.Reader.ByteIn folder.now) kinds.now files.now (λ _. ⊥)) }
     ensures names { IfErr result (λ e. FaultHasNames e 4) }
     ensures noted { IfOk result (λ _. GivesNote (inputs F.Folder F.Reader.ByteIn folder.now) kinds.now files.now.scd.now note.new.items) }
@@ -232,26 +237,35 @@ fn make<F: Folder>(
     let mut vec = opened(folder, files.vec, 3)?;
     let classes = read_classes(alloc, kinds, files.scd, &mut scd, note)?;
     let mut kept = Kept::new(&classes);
-    made_of(alloc, product, kinds.kinds(), &mut kept, &mut dic, &mut vec)
+    made_of(
+        alloc,
+        product,
+        kinds.kinds(),
+        files.vec,
+        &mut kept,
+        &mut dic,
+        &mut vec,
+    )
 }
 
-// What is made of the sheet of three inputs.
+// What is made of the sheet of three inputs, of this name.
 fn made_of<S: ByteIn, D: ByteIn, V: ByteIn>(
     alloc: Global,
     product: Product,
     kinds: &Kinds<'_>,
+    name: &str,
     scd: &mut S,
     dic: &mut D,
     vec: &mut V,
 ) -> Result<Vec<u8>, RunFault>
     ensures ok { IfOk result (λ bytes. IfThreeKnown (S.contents scd.old) (D.contents dic.old) (V.contents vec.old)
-        (λ s d v. IsMadeOf product kinds.now s d v bytes.items)) }
+        (λ s d v. IsMadeOf product kinds.now name.now s d v bytes.items)) }
     ensures err { IfErr result (FilesFault kinds.now
         (seen S.ByteIn scd.old scd.new) (seen D.ByteIn dic.old dic.new) (seen V.ByteIn vec.old vec.new) (λ _. ⊥)) }
 {
     match product {
         Product::Canonical => canon_of(alloc, kinds, scd, dic, vec),
-        Product::Picture => run_draw(alloc, kinds, scd, dic, vec),
+        Product::Picture => run_draw(alloc, kinds, name, scd, dic, vec),
     }
 }
 

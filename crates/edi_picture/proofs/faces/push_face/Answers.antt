@@ -7,5 +7,5 @@ use Rattle.edi_picture.proofs.faces.push_face.Goals as goal
 pub ends_of_arcs-requires : goal.ends_of_arcs-requires
 ends_of_arcs-requires c = round_there c.plan.result.now c.args.face c.args.arcs.now (c.requires.arcs ∙ ap (λ (p : Drawing). arcs_round p c.args.face) (sym c.plan.ensures))
 
-pub push_closed-requires-clause-arcs : goal.push_closed-requires-clause-arcs
-push_closed-requires-clause-arcs c = round_there c.args.sheet.now.plan c.args.face c.args.arcs.now c.requires.arcs
+pub push_by_ends-requires-clause-arcs : goal.push_by_ends-requires-clause-arcs
+push_by_ends-requires-clause-arcs c = round_there c.args.sheet.now.plan c.args.face c.args.arcs.now c.requires.arcs

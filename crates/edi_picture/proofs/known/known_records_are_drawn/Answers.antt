@@ -11,5 +11,11 @@ pub returns-clause-arc : goal.returns-clause-arc
 unfolding size_text fraction_digits digits
 returns-clause-arc c = refl
 
+pub returns-clause-ink : goal.returns-clause-ink
+returns-clause-ink c = refl
+
+pub returns-clause-far : goal.returns-clause-far
+returns-clause-far c = refl
+
 pub returns-clause-hidden : goal.returns-clause-hidden
 returns-clause-hidden c = refl

@@ -23,7 +23,7 @@ returns-clause-ok g c =
       c.in_ok-dic.ensures.ok,
       c.in_ok-vec.ensures.ok,
       three_kept c.kinds.result.now c.args.kinds.now c.kinds.ensures _ (contents c.in_ok-scd.scd) c.in_ok-classes.classes.items (c.new-kept.ensures ∙ ap Some c.deref.ensures.value) c.in_ok-classes.ensures.all
-          (contents c.in_ok-dic.dic) (contents c.in_ok-vec.vec) (λ l s d b. IsMadeOf c.args.product l s d b v.items) h,
+          (contents c.in_ok-dic.dic) (contents c.in_ok-vec.vec) (λ l s d b. IsMadeOf c.args.product l c.args.files.now.vec.now s d b v.items) h,
     ))
     c.made_of.ensures.ok
 

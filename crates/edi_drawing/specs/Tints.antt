@@ -1,0 +1,53 @@
+-- Which records are tinted where two sheets are drawn.
+use Rattle.std.specs.Prelude.{ℕ, ◌&&◌, ◌||◌, Bool, true, false, List, Option, Some, None, length, nat_lt, slice_index_or}
+use Rattle.std.specs.List.{list_any}
+use Rattle.edi_record.specs.declared.record.Kind.TheVariants.{Lnk}
+use Rattle.edi_plan.specs.Places.{places_of}
+use Rattle.edi_plan.specs.Plans.{Drawing, record_at}
+use Rattle.edi_picture.specs.declared.mark.Mark.{Mark}
+use Rattle.edi_picture.specs.declared.mark.Mark.TheVariants.{Plain, OnlyFirst, OnlySecond, Before, After, Hidden}
+use Rattle.edi_drawing.specs.Labels.{names}
+use Rattle.edi_drawing.specs.Marked.{Compared, first_marks, same_of, second_marks}
+
+-- a record isn't in both sheets as it is
+abbrev pub stands_out : Mark → Bool
+stands_out Plain = false
+stands_out OnlyFirst = true
+stands_out OnlySecond = true
+stands_out Before = true
+stands_out After = true
+stands_out Hidden = false
+
+-- the same of the record at a place
+abbrev pub is_out : List Mark → ℕ → Bool
+is_out marks k = stands_out (slice_index_or marks k Hidden)
+
+-- a link isn't in both sheets as it is, or something isn't that it names
+abbrev pub links_out : List Mark → Drawing → ℕ → Bool
+links_out marks p link = is_out marks link || list_any (λ e. is_out marks e.target) (record_at p link).ends
+
+-- such a link names the record at a place
+abbrev pub touches : List Mark → Drawing → ℕ → ℕ → Bool
+touches marks p k link = names p k link && links_out marks p link
+
+abbrev pub is_touched : List Mark → Drawing → ℕ → Bool
+is_touched marks p k = nat_lt k (length p.list) && list_any (touches marks p k) (places_of Lnk p)
+
+-- the same of a record that another may be
+abbrev pub is_touched_there : List Mark → Drawing → Option ℕ → Bool
+is_touched_there marks q None = false
+is_touched_there marks q (Some j) = is_touched marks q j
+
+-- A record of the first sheet is tinted if only that has it; and if both have it as it is, and it is touched in one.
+-- Where it became another the one that it became is tinted.
+abbrev pub tint_by : Mark → Bool → Bool
+tint_by Plain touched = touched
+tint_by OnlyFirst touched = true
+tint_by OnlySecond touched = false
+tint_by Before touched = false
+tint_by After touched = false
+tint_by Hidden touched = false
+
+abbrev pub first_tint : Compared → ℕ → Bool
+first_tint c i = tint_by (slice_index_or (first_marks c) i Hidden)
+    (is_touched (first_marks c) c.first.accepted i || is_touched_there (second_marks c) c.second.accepted (same_of c i))

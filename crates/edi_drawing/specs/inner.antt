@@ -1,0 +1,3 @@
+-- What the public contracts do not reach.
+pub mod Labels
+pub mod Tints

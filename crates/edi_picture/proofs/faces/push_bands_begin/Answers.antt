@@ -1,0 +1,12 @@
+use Rattle.std.proofs.Common.{codes}
+use Rattle.std.proofs.lemmas.Result.{on_ok_weaker}
+use Rattle.edi_picture.specs.Frames.{pixels}
+use Rattle.edi_picture.proofs.Joined.{joined3}
+use Rattle.edi_picture.proofs.faces.push_bands_begin.Goals as goal
+
+pub returns : goal.returns
+returns c = on_ok_weaker c.put-2.result
+    (joined3 c.args.text.now.items (codes "<path fill='none' stroke='#F0E442' stroke-width='") (pixels c.args.canvas.now.frame 8) (codes "' d='")
+    c.put.new.text.items c.push_pixels.new.text.items c.put-2.new.text.items
+    c.in_ok-put.ensures c.in_ok-push_pixels.ensures)
+    c.put-2.ensures

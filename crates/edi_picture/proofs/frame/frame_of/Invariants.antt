@@ -1,7 +1,0 @@
-use Rattle.std.proofs.Common.{take}
-use Rattle.edi_plan.specs.Extents.{IsExtentIfAny}
-use Rattle.edi_picture.specs.Sheets.{all_points}
-use Rattle.edi_picture.proofs.frame.frame_of.Given as goal
-
-abbrev pub invariant-loop-sheet : goal.invariant-loop-sheet
-invariant-loop-sheet l = IsExtentIfAny (all_points (take l.sheet-index l.fn.sheets)) l.found
