@@ -1,9 +1,10 @@
 //! Where a record of a name can stand, without a hash.
 
 ghost use Rattle.std.specs.Prelude.{◌≡◌, ℕ, ◌+◌, ◌%◌, ◌<◌, ◌≤◌, ◌↔◌, true, false, Some, length, IsTrue, IfOk, IfSome};
+ghost use Rattle.std.specs.List.{fold};
 ghost use Rattle.edi_line.specs.Bytes.{most_records};
 ghost use Rattle.edi_record.specs.Records.{is_link};
-ghost use Rattle.edi_plan.specs.inner.Hints.{three_bytes as number_at, last_bytes as number_in, start_of, kind_slot as slot_of_kind, window_of, first_named as first_in, found, HasAll};
+ghost use Rattle.edi_plan.specs.inner.Hints.{three_bytes as number_at, with_bits as bits_added, last_bytes as number_in, start_of, kind_slot as slot_of_kind, window_of, first_named as first_in, found, HasAll};
 ghost use Rattle.edi_plan.specs.inner.LinkNames.{LinksDiffer};
 ghost use Rattle.edi_plan.specs.inner.Names.{named};
 ghost use Rattle.edi_plan.specs.PlanOf.{place_named};
@@ -35,19 +36,34 @@ fn three_bytes(text: &[u8], at: usize) -> u64
     last_bits(text[at]) * 100 + last_bits(text[at + 1]) * 10 + last_bits(text[at + 2])
 }
 
-/// The last six bytes of an identifier, or three if it has fewer, read as digits of a number.
+/// A number with the last four bits of a byte as its next digit.
+fn with_bits(number: u64, byte: u8) -> u64
+    ensures { result ≡ bits_added number byte }
+{
+    number.wrapping_mul(10).wrapping_add(last_bits(byte))
+}
+
+/// The bytes of a short text, read as digits of a number.
+fn all_bytes(text: &[u8]) -> u64
+    ensures { result ≡ fold bits_added 0 text.now }
+{
+    let mut number: u64 = 0;
+    for byte in text {
+        number = with_bits(number, *byte);
+    }
+    number
+}
+
+/// The last six bytes of a text, or all if it has fewer, read as digits of a number. Six are read without a loop.
 #[tactic(auto, unfolding(crate::specs::inner::Hints::last_bytes))]
 pub(crate) fn last_bytes(text: &[u8]) -> u64
     ensures { result ≡ number_in text.now }
 {
     let len = text.len();
-    if len < HALF {
-        0
-    } else if len < LAST {
-        three_bytes(text, len - HALF)
-    } else {
-        three_bytes(text, len - LAST) * 1000 + three_bytes(text, len - HALF)
+    if len < LAST {
+        return all_bytes(text);
     }
+    three_bytes(text, len - LAST) * 1000 + three_bytes(text, len - HALF)
 }
 
 /// Which of the eight slots of a number come first for a type.

@@ -13,9 +13,6 @@ use edi_record::{Extra, Kind, Point, Stops};
 use edi_schema::{ClassRef, Role};
 use std::alloc::{AllocError, Global};
 
-// How many elements a list has room for from the start, at most.
-const MOST_ROOM: usize = 1024;
-
 /// A record but for its parts, and where these end in the lists. They begin where those of the record before end.
 #[derive(Clone, Copy)]
 pub(crate) struct Head {
@@ -82,13 +79,6 @@ fn append_points(list: &mut Vec<Point>, part: &[Point]) -> Result<u32, AllocErro
     place_of(list.len())
 }
 
-/// An empty list with room for as many elements as another has, unless these are very many.
-fn room_like<T>(alloc: Global, other: &Vec<T>) -> Result<Vec<T>, AllocError>
-    ensures { IfOk result (λ list. list.items ≡ []) }
-{
-    Vec::with_capacity(alloc, other.len().min(MOST_ROOM))
-}
-
 /// A list with no room for more.
 fn shrunk<T>(mut list: Vec<T>) -> Vec<T>
     ensures { result.items ≡ list.items }
@@ -118,20 +108,6 @@ impl RecordBlock {
             attributes: Vec::new(alloc),
             extras: Vec::new(alloc),
             ends: Vec::new(alloc),
-        })
-    }
-
-    /// No records yet, with room for as many as another block has, and for as much of each sort: a list that grows is copied again and again.
-    pub(crate) fn like(alloc: Global, other: &RecordBlock) -> Result<RecordBlock, AllocError>
-        ensures none { IfOk result (λ block. records_in block ≡ []) }
-        ensures within { IfOk result ArePartsWithin }
-    {
-        Ok(RecordBlock {
-            heads: room_like(alloc, &other.heads)?,
-            points: room_like(alloc, &other.points)?,
-            attributes: room_like(alloc, &other.attributes)?,
-            extras: room_like(alloc, &other.extras)?,
-            ends: room_like(alloc, &other.ends)?,
         })
     }
 

@@ -56,7 +56,7 @@ impl RecordList {
         ensures records { OnOk result (records_of self.new ≡ records_of self.old) }
         ensures within { OnOk result (AreWithin self.new) }
     {
-        let next = RecordBlock::like(self.alloc, &self.last)?;
+        let next = RecordBlock::with_capacity(self.alloc, BLOCK)?;
         let last = mem::replace(&mut self.last, next);
         self.closed.push(last.closed())?;
         Ok(())

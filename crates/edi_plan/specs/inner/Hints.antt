@@ -1,5 +1,6 @@
 -- Where a record of a name can stand.
 use Rattle.std.specs.Prelude.{◌≡◌, ℕ, ◌+◌, ◌-◌, ◌*◌, ◌%◌, ◌^◌, ◌<◌, Bool, false, List, [], ◌∷◌, length, nat_lt, Option, None, Some, slice_get, slice_index, slice_range, if◌then◌else◌}
+use Rattle.std.specs.List.{fold}
 use Rattle.edi_record.specs.Records.{is_link}
 use Rattle.edi_record.specs.Shapes.{kind_code}
 use Rattle.edi_record.specs.declared.name.Name.{Name}
@@ -14,9 +15,13 @@ use Rattle.edi_plan.specs.declared.name_slots.NameHints.{NameHints}
 abbrev pub three_bytes : List ℕ → ℕ → ℕ
 three_bytes text at = (slice_index text at % 16) * 100 + (slice_index text (at + 1) % 16) * 10 + slice_index text (at + 2) % 16
 
--- the last six bytes as digits of a number, or the last three where there are fewer, or 0
+-- the number with the last four bits of a byte as its next digit
+abbrev pub with_bits : ℕ → ℕ → ℕ
+with_bits number byte = ((number * 10) % 2 ^ 64 + byte % 16) % 2 ^ 64
+
+-- the last six bytes as digits of a number, or all where there are fewer
 unfoldable pub last_bytes : List ℕ → ℕ
-last_bytes text = if nat_lt (length text) 3 then 0 else if nat_lt (length text) 6 then three_bytes text (length text - 3) else three_bytes text (length text - 6) * 1000 + three_bytes text (length text - 3)
+last_bytes text = if nat_lt (length text) 6 then fold with_bits 0 text else three_bytes text (length text - 6) * 1000 + three_bytes text (length text - 3)
 
 abbrev pub kind_slot : Kind → ℕ
 kind_slot Pno = 0
