@@ -12,8 +12,10 @@ use std::alloc::{AllocError, Global};
 // How many finders there are: a prime, so that each of the last bytes of an identifier counts.
 const FINDERS: usize = 31;
 
-/// Finders of classes, one for each of some groups of names. Few names fall into one group, and mostly one alone: then its finder looks
-/// at that one's class first, whatever came in between. The attributes of objects come in no order.
+/// Finders of classes, one for each of some groups of names. Few names fall into one group, and mostly one alone: then
+/// its finder looks at that one's class first, whatever came in between. The attributes of objects come in no order,
+/// and with one finder for all nearly each was looked up by a hash: of a check of 101,899 records that took 9 million
+/// instructions more.
 #[derive(Drop)]
 pub(crate) struct ClassFinders<'a> {
     pub(crate) finders: Vec<ClassFinder<'a>>,

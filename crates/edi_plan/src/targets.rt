@@ -93,7 +93,8 @@ fn place_near(records: &SheetRecords, last: u32, name: &RecordNameRef<'_>) -> Op
     }
 }
 
-/// The place of the first record of a name that is in a table. Where no two records have one name, any of that name is the first.
+/// The place of the first record of a name that is in a table. Where no two records have one name, any of that name is
+/// the first.
 fn tabled_place(
     records: &SheetRecords,
     names: &Names<'_>,

@@ -21,7 +21,8 @@ with_bits number byte = ((number * 10) % 2 ^ 64 + byte % 16) % 2 ^ 64
 
 -- the last six bytes as digits of a number, or all where there are fewer
 unfoldable pub last_bytes : List ℕ → ℕ
-last_bytes text = if nat_lt (length text) 6 then fold with_bits 0 text else three_bytes text (length text - 6) * 1000 + three_bytes text (length text - 3)
+last_bytes text = if nat_lt (length text) 6 then fold with_bits 0 text else
+    three_bytes text (length text - 6) * 1000 + three_bytes text (length text - 3)
 
 abbrev pub kind_slot : Kind → ℕ
 kind_slot Pno = 0
@@ -57,8 +58,10 @@ found list hints kind rid = first_named list (record { rty = kind_code kind; rid
 
 -- each of the first so many records that is no link is found by its name
 abbrev pub HasFirst : ℕ → List Record → NameHints → Type 0
-HasFirst n list hints = (k : ℕ) (r : Record) → k < n → slice_get list k ≡ Some r → is_link r.kind ≡ false → found list hints r.kind r.rid ≡ Some k
+HasFirst n list hints = (k : ℕ) (r : Record) → k < n → slice_get list k ≡ Some r
+    → is_link r.kind ≡ false → found list hints r.kind r.rid ≡ Some k
 
 -- and each record that is no link
 abbrev pub HasAll : List Record → NameHints → Type 0
-HasAll list hints = (k : ℕ) (r : Record) → slice_get list k ≡ Some r → is_link r.kind ≡ false → found list hints r.kind r.rid ≡ Some k
+HasAll list hints = (k : ℕ) (r : Record) → slice_get list k ≡ Some r
+    → is_link r.kind ≡ false → found list hints r.kind r.rid ≡ Some k
