@@ -13,7 +13,8 @@ use Rattle.edi_plan.specs.declared.name_slots.NameHints.{NameHints}
 
 -- three bytes of a text from a place on, each by its last four bits, as digits of a number
 abbrev pub three_bytes : List ℕ → ℕ → ℕ
-three_bytes text at = (slice_index text at % 16) * 100 + (slice_index text (at + 1) % 16) * 10 + slice_index text (at + 2) % 16
+three_bytes text at =
+    (slice_index text at % 16) * 100 + (slice_index text (at + 1) % 16) * 10 + slice_index text (at + 2) % 16
 
 -- the number with the last four bits of a byte as its next digit
 abbrev pub with_bits : ℕ → ℕ → ℕ
@@ -50,11 +51,13 @@ is_named_at list name place = is_named name (slice_get list place)
 -- the first of these places at which a record of this name stands
 unfoldable pub first_named : List Record → Name → List ℕ → Option ℕ
 first_named list name [] = None
-first_named list name (place ∷ places) = if is_named_at list name place then Some place else first_named list name places
+first_named list name (place ∷ places) =
+    if is_named_at list name place then Some place else first_named list name places
 
 -- what stands in the slots of a name under this name
 abbrev pub found : List Record → NameHints → Kind → List ℕ → Option ℕ
-found list hints kind rid = first_named list (record { rty = kind_code kind; rid = rid }) (window_of hints.slots.items kind rid)
+found list hints kind rid =
+    first_named list (record { rty = kind_code kind; rid = rid }) (window_of hints.slots.items kind rid)
 
 -- each of the first so many records that is no link is found by its name
 abbrev pub HasFirst : ℕ → List Record → NameHints → Type 0
