@@ -3,6 +3,9 @@ pub mod RecordLists
 pub mod Done
 pub mod LinkNames
 pub mod Names
+pub mod Hints
+pub mod Finders
+pub mod Found
 pub mod Resolving
 pub mod SideTable
 pub mod Targets

@@ -2,9 +2,13 @@
 #![tactic(auto)]
 
 pub mod attributes;
+mod class_finders;
 pub mod extent;
 pub mod fault;
 pub mod laws;
+mod name_hints;
+mod name_places;
+mod name_slots;
 mod names;
 mod places;
 pub mod plan;

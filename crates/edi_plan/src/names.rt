@@ -8,6 +8,8 @@ ghost use Rattle.edi_hash.specs.Keys.{keyed_by};
 ghost use Rattle.edi_record.specs.Shapes.{stated_at};
 ghost use Rattle.edi_plan.specs.PlanOf.{own_name};
 ghost use Rattle.edi_plan.specs.inner.Names.{named, place_in, is_tabled as tabled_test, tabled, IsPut, AreNamesOf, IsFirstRepeatIfAny};
+ghost use Rattle.edi_plan.specs.inner.Targets.{HasNameAt};
+ghost use Rattle.edi_plan.specs.inner.Hints.{is_named_at};
 ghost use Rattle.edi_plan.specs.inner.LinkNames.{with_digit, end_number, LinksDiffer};
 
 use edi_hash::{KeyNames, NameHash};
@@ -60,6 +62,15 @@ pub(crate) fn name_at(records: &SheetRecords, place: usize) -> RecordNameRef<'_>
     }
 }
 
+/// Whether the record at a place has this name.
+pub(crate) fn has_name(records: &SheetRecords, place: u32, name: &RecordNameRef<'_>) -> bool
+    ensures has { result ≡ true → HasNameAt records.now (named name.now) place }
+    ensures is { result ≡ is_named_at records.now (named name.now) place }
+{
+    let place = place as usize;
+    place < records.len() && name_at(records, place) == *name
+}
+
 /// A number with a digit more, or 0 behind any other byte.
 fn with_digit(number: u64, byte: u8) -> u64
     ensures { result ≡ with_digit number byte }
@@ -84,7 +95,7 @@ fn end_number(rid: &[u8]) -> u64
 }
 
 /// Whether the numbers of the links rise, as they do in most sheets. Then no two links have one identifier.
-fn links_rise(records: &SheetRecords) -> bool
+pub(crate) fn links_rise(records: &SheetRecords) -> bool
     ensures { result ≡ true → LinksDiffer records.now }
 {
     let mut least: u64 = 0;
@@ -102,7 +113,7 @@ fn links_rise(records: &SheetRecords) -> bool
 }
 
 /// Whether a name goes into the table. Nothing looks links up, so where these are known to differ theirs stay out.
-fn is_tabled(links_rise: bool, kind: Kind) -> bool
+pub(crate) fn is_tabled(links_rise: bool, kind: Kind) -> bool
     ensures { result ≡ tabled_test links_rise kind }
 {
     !(links_rise && kind.is_link())
@@ -123,8 +134,9 @@ fn hash_of(links_rise: bool, records: &SheetRecords) -> NameHash
 }
 
 /// How many names go into the table.
-fn count_tabled(links_rise: bool, records: &SheetRecords) -> usize
-    ensures { result ≡ length (tabled links_rise records.now) }
+pub(crate) fn count_tabled(links_rise: bool, records: &SheetRecords) -> usize
+    ensures count { result ≡ length (tabled links_rise records.now) }
+    ensures few { result ≤ length records.now }
 {
     let mut count: usize = 0;
     for place in 0..records.len() {

@@ -10,10 +10,12 @@ ghost use Rattle.edi_plan.specs.inner.Done.{IsDone};
 ghost use Rattle.edi_plan.specs.PlanOf.{StatesPlanRecord};
 ghost use Rattle.edi_record.specs.RecordRefusal.{IsRecordRefusal};
 ghost use Rattle.edi_plan.specs.ReferenceRules.{BreaksReferenceRule};
+ghost use Rattle.edi_plan.specs.inner.Finders.{AreOf};
 ghost use Rattle.edi_plan.specs.inner.Resolving.{is_elsewhere, leaves, reference_tests, role_of_link, AreGiven, Gives, AreReferences, IsPlanned, IsUnresolved, LacksClass, Resolves};
 ghost use Rattle.edi_plan.specs.inner.SideTable.{link_join, HaveEntries, IsNoted};
 ghost use Rattle.edi_plan.specs.inner.RecordLists.{records_of, AreWithin};
 
+use crate::class_finders::ClassFinders;
 use crate::fault::{RefFault, Unresolved};
 use crate::planned::PlannedRecord;
 use crate::record::{PlanAttribute, PlanEnd};
@@ -48,12 +50,15 @@ fn is_attribute_type(rty: &Text) -> bool
 }
 
 /// The class of an attribute under a schema, if it is one of type `ATT` there.
-fn attribute_class(schema: &Schema, name: &Name) -> Option<ClassRef>
-    ensures { MatchOption result ((name.now.rty ≢ codes "ATT") ⊎ (place_of schema.now name.now ≡ None))
+fn attribute_class(schema: &Schema, classes: &mut ClassFinders<'_>, name: &Name) -> Option<ClassRef>
+    requires { AreOf schema.now classes.old }
+    ensures class { MatchOption result ((name.now.rty ≢ codes "ATT") ⊎ (place_of schema.now name.now ≡ None))
         (λ class. (name.now.rty ≡ codes "ATT") × (place_of schema.now name.now ≡ Some class) × (class < length schema.now)) }
+    ensures same { AreOf schema.now classes.new }
 {
+    let _ = schema;
     if is_attribute_type(&name.rty) {
-        schema.class(name)
+        classes.class(name)
     } else {
         None
     }
@@ -68,6 +73,7 @@ fn owned(text: &Text) -> Result<Option<Text>, AllocError>
 }
 
 /// A text that may be absent, with memory of its own. Nearly each is absent, and then nothing is made ready for a copy.
+#[inline(always)]
 fn copied(text: &Option<Text>) -> Result<Option<Text>, AllocError>
     ensures { IfOk result (λ copy. copy ≡ text.now) }
 {
@@ -78,11 +84,17 @@ fn copied(text: &Option<Text>) -> Result<Option<Text>, AllocError>
 }
 
 /// An attribute under a schema that has this class for it; or rule 303, where it has none.
-fn plan_attribute(schema: &Schema, attribute: &Attribute) -> Result<PlanAttribute, Unresolved>
+fn plan_attribute(
+    schema: &Schema,
+    classes: &mut ClassFinders<'_>,
+    attribute: &Attribute,
+) -> Result<PlanAttribute, Unresolved>
+    requires { AreOf schema.now classes.old }
     ensures ok { IfOk result (Resolves schema.now attribute.now) }
     ensures err { IfErr result (IsUnresolved (λ rule. (rule ≡ 303) × LacksClass schema.now attribute.now)) }
+    ensures same { AreOf schema.now classes.new }
 {
-    let Some(class) = attribute_class(schema, &attribute.atp) else {
+    let Some(class) = attribute_class(schema, classes, &attribute.atp) else {
         return Err(Unresolved::Broken(303));
     };
     Ok(PlanAttribute {
@@ -95,15 +107,18 @@ fn plan_attribute(schema: &Schema, attribute: &Attribute) -> Result<PlanAttribut
 /// The attributes under a schema, in a list that is empty; or rule 303, where one has no class there.
 fn plan_attributes(
     schema: &Schema,
+    classes: &mut ClassFinders<'_>,
     attributes: &[Attribute],
     mut done: Vec<PlanAttribute>,
 ) -> Result<Vec<PlanAttribute>, Unresolved>
-    requires { done.items ≡ [] }
+    requires empty { done.items ≡ [] }
+    requires schema { AreOf schema.now classes.old }
     ensures ok { IfOk result (λ done. AllZip (Resolves schema.now) attributes.now done.items) }
     ensures err { IfErr result (IsUnresolved (λ rule. (rule ≡ 303) × Any (LacksClass schema.now) attributes.now)) }
+    ensures same { AreOf schema.now classes.new }
 {
     for attribute in attributes {
-        done.push(plan_attribute(schema, attribute)?)?;
+        done.push(plan_attribute(schema, classes, attribute)?)?;
     }
     Ok(done)
 }
@@ -185,14 +200,17 @@ fn plan_record<'a>(
     targets: &[Option<Target>],
     sides: &mut [ByRole<Option<u32>>],
     class: Option<ClassRef>,
+    classes: &mut ClassFinders<'_>,
     record: &RecordRef<'a>,
     spare: SpareParts,
 ) -> Result<PlannedRecord<'a>, Unresolved>
+    requires schema { AreOf schema.now classes.old }
     requires class { class ≡ place_of schema.now record.now.scp }
     requires within { IfSome class (λ class. class < length schema.now) }
     requires long { length targets.now ≡ length record.now.ends }
     requires entries { HaveEntries sides.old targets.now }
     ensures planned { IfOk result (IsPlanned schema.now targets.now record.now) }
+    ensures same { AreOf schema.now classes.new }
     ensures noted { OnOk result (IsNoted sides.old (role_of_link schema.now record.now) (link_join (role_of_link schema.now record.now) targets.now) sides.new) }
     ensures sound { OnOk result (first_broken (reference_tests schema.now subset.now targets.now sides.old record.now) ≡ None) }
     ensures least { IfErr result (IsUnresolved (λ rule. first_broken (reference_tests schema.now subset.now targets.now sides.old record.now) ≡ Some rule)) }
@@ -200,7 +218,7 @@ fn plan_record<'a>(
     let Some(class) = class else {
         return Err(Unresolved::Broken(302));
     };
-    let attributes = plan_attributes(schema, record.attributes(), spare.attributes)?;
+    let attributes = plan_attributes(schema, classes, record.attributes(), spare.attributes)?;
     if leaves_subset(subset, record.ends()) {
         return Err(Unresolved::Broken(304));
     }
@@ -265,6 +283,7 @@ pub(crate) fn plan_records(
     let mut sides = without_links(alloc, records.len())?;
     let mut targets = references.targets.as_slice();
     let mut classes = ClassFinder::new(schema);
+    let mut attribute_classes = ClassFinders::new(alloc, schema)?;
     let mut spare = SpareParts::new(alloc);
     let mut rest = records.into_rest();
     let mut place = 0;
@@ -280,6 +299,7 @@ pub(crate) fn plan_records(
             own,
             &mut sides,
             class,
+            &mut attribute_classes,
             &record,
             spare,
         ) {

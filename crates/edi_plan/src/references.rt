@@ -5,7 +5,7 @@ ghost use Rattle.edi_line.specs.Bytes.{most_records};
 ghost use Rattle.edi_plan.specs.Plans.{first_of};
 ghost use Rattle.edi_plan.specs.inner.Resolving.{first_subset, AreReferences};
 
-use crate::names::Names;
+use crate::name_places::NamePlaces;
 use crate::targets::{Target, targets};
 use edi_line::Text;
 use edi_record::{End, SheetRecords};
@@ -71,9 +71,9 @@ impl References {
         requires { length records.now ≤ most_records }
         ensures { IfOk result (AreReferences records.now) }
     {
-        let names = Names::among(alloc, records)?;
+        let names = NamePlaces::among(alloc, records)?;
         Ok(References {
-            repeat: names.repeat,
+            repeat: names.repeat(),
             targets: targets(alloc, &names, records)?,
             subset: subset_of(alloc, records)?,
         })

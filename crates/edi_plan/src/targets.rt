@@ -4,11 +4,13 @@ ghost use Rattle.std.specs.Prelude.{◌≡◌, ◌++◌, List, IfOk, IfSome, OnO
 ghost use Rattle.std.specs.List.{AllZip};
 ghost use Rattle.edi_record.specs.declared.record.End.{End as Ends};
 ghost use Rattle.edi_plan.specs.inner.Names.{named, AreNamesOf, IsFirstRepeatIfAny};
+ghost use Rattle.edi_plan.specs.inner.Found.{FindsAll};
 ghost use Rattle.edi_plan.specs.PlanOf.{place_named};
 ghost use Rattle.edi_record.specs.Records.{is_link};
 ghost use Rattle.edi_plan.specs.inner.Targets.{target_kind, HasNameAt, IsTargetIfAny, AreTargets};
 
-use crate::names::{Names, RecordNameRef, name_at};
+use crate::name_places::NamePlaces;
+use crate::names::{Names, RecordNameRef, has_name};
 use edi_record::{End, Kind, SheetRecords};
 use std::alloc::{AllocError, Global};
 
@@ -76,14 +78,6 @@ impl LastNamed {
     }
 }
 
-/// Whether the record at a place has this name.
-fn has_name(records: &SheetRecords, place: u32, name: &RecordNameRef<'_>) -> bool
-    ensures { result ≡ true → HasNameAt records.now (named name.now) place }
-{
-    let place = place as usize;
-    place < records.len() && name_at(records, place) == *name
-}
-
 /// The place of a record of this name, if it is this one or the next.
 fn place_near(records: &SheetRecords, last: u32, name: &RecordNameRef<'_>) -> Option<u32>
     ensures { IfSome result (HasNameAt records.now (named name.now)) }
@@ -99,8 +93,9 @@ fn place_near(records: &SheetRecords, last: u32, name: &RecordNameRef<'_>) -> Op
     }
 }
 
-/// The place of the first record of a name. Where no two records have one name, any of that name is the first.
-fn place_of(
+/// The place of the first record of a name that is in a table. Where no two records have one name, any of that name is
+/// the first.
+fn tabled_place(
     records: &SheetRecords,
     names: &Names<'_>,
     last: u32,
@@ -119,15 +114,31 @@ fn place_of(
     names.places.get(name).copied()
 }
 
+/// The place of the first record of a name.
+fn place_of(
+    records: &SheetRecords,
+    names: &NamePlaces<'_>,
+    last: u32,
+    name: &RecordNameRef<'_>,
+) -> Option<u32>
+    requires no_link { is_link name.now.kind ≡ false }
+    requires names { FindsAll records.now names.now }
+    ensures { result ≡ place_named records.now (named name.now) }
+{
+    match names {
+        NamePlaces::Hinted(hints) => hints.place(records, name),
+        NamePlaces::Tabled(names) => tabled_place(records, names, last, name),
+    }
+}
+
 /// The node, arc, face or object that an end names.
 fn target_of(
     records: &SheetRecords,
-    names: &Names<'_>,
+    names: &NamePlaces<'_>,
     last: LastNamed,
     end: &End,
 ) -> Option<Target>
-    requires names { AreNamesOf records.now names.now }
-    requires repeat { IsFirstRepeatIfAny records.now names.now.repeat }
+    requires { FindsAll records.now names.now }
     ensures { IsTargetIfAny records.now end.now result }
 {
     let kind = kind_coded(end.target.rty.as_slice())?;
@@ -144,11 +155,10 @@ fn add_targets(
     targets: &mut Vec<Option<Target>>,
     last: &mut LastNamed,
     records: &SheetRecords,
-    names: &Names<'_>,
+    names: &NamePlaces<'_>,
     ends: &[End],
 ) -> Result<(), AllocError>
-    requires names { AreNamesOf records.now names.now }
-    requires repeat { IsFirstRepeatIfAny records.now names.now.repeat }
+    requires { FindsAll records.now names.now }
     ensures { OnOk result ((before : List Ends) → AllZip (IsTargetIfAny records.now) before targets.old.items → AllZip (IsTargetIfAny records.now) (before ++ ends.now) targets.new.items) }
 {
     for end in ends {
@@ -162,11 +172,10 @@ fn add_targets(
 /// The targets of all ends of all records, in their order.
 pub(crate) fn targets(
     alloc: Global,
-    names: &Names<'_>,
+    names: &NamePlaces<'_>,
     records: &SheetRecords,
 ) -> Result<Vec<Option<Target>>, AllocError>
-    requires names { AreNamesOf records.now names.now }
-    requires repeat { IsFirstRepeatIfAny records.now names.now.repeat }
+    requires { FindsAll records.now names.now }
     ensures { IfOk result (λ targets. AreTargets records.now records.now targets.items) }
 {
     let mut targets = Vec::new(alloc);

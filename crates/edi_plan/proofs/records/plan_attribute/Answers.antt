@@ -6,9 +6,9 @@ pub returns-clause-ok : goal.returns-clause-ok
 returns-clause-ok c =
     let s = c.args.schema.now in
     let a = c.args.attribute.now in
-    let class = c.in-Some.ensures.1 in
+    let class = c.in-Some.ensures.class.1 in
     let number = ap (λ o. unwrap_or o false) c.is_number.ensures ∙ sym (number_at_place s a.atp c.in-Some.class class) in
     record {
-      type = c.in-Some.ensures.0;
+      type = c.in-Some.ensures.class.0;
       states = record { class = class; set = c.in_ok-copied.ensures; value = value_stated s a.atp c.is_number.result a.atv c.in_ok-value_of.field-0 number c.in_ok-value_of.ensures };
     }

@@ -85,6 +85,7 @@ loop-record-preserved c =
     let states = record_stated s list r c.split_at.result.0.now c.in-Ok.planned own c.in-Ok.ensures.planned in
     record {
       same = c.class-class.ensures.same ∙ i.same;
+      finders = c.in-Ok.ensures.same;
       within = c.in_ok-spare-in-Ok.ensures.within;
       there = let there = slice_get_within list place r here in omega (arith, there);
       rest = one_left_less list c.loop-record.rest _ place i.rest c.advance.ensures;
@@ -113,6 +114,7 @@ nothing_of Plain = refl
 pub loop-record-init : goal.loop-record-init
 loop-record-init c = record {
   same = c.new-classes.ensures;
+  finders = c.in_ok-attribute_classes.ensures;
   within = c.in_ok-list.ensures.within;
   there = omega arith;
   rest = c.into_rest-rest.ensures;

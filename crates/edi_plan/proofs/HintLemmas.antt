@@ -1,0 +1,111 @@
+-- Records that are found by their names.
+use Rattle.std.proofs.Common.{◌≡◌, ℕ, zero, suc, add-one, ◌+◌, ◌<◌, ◌≤◌, ◌⊎◌, inl, inr, Bool, true, false, List, [], ◌∷◌, length, drop, slice_index_or, Option, None, Some, if◌then◌else◌, slice_get, refl, sym, ap, ◌∙◌, subst, arith}
+use Rattle.std.proofs.lemmas.Bool.{cases_lt}
+use Rattle.std.proofs.lemmas.Option.{slice_get_within}
+use Rattle.edi_record.specs.Records.{is_link}
+use Rattle.edi_record.specs.Shapes.{kind_code}
+use Rattle.edi_record.specs.declared.name.Name.{Name}
+use Rattle.edi_record.specs.declared.record.Kind.{Kind}
+use Rattle.edi_record.specs.declared.record.Record.{Record}
+use Rattle.edi_schema.proofs.Names.{same_name}
+use Rattle.edi_plan.specs.PlanOf.{own_name, place_named}
+use Rattle.edi_plan.specs.inner.Hints.{is_named, is_named_at, first_named, found, HasFirst, HasAll}
+use Rattle.edi_plan.specs.inner.LinkNames.{LinksDiffer}
+use Rattle.edi_plan.specs.inner.Names.{RepeatsAt}
+use Rattle.edi_plan.specs.inner.Targets.{HasNameAt}
+use Rattle.edi_plan.specs.declared.name_slots.NameHints.{NameHints}
+use Rattle.edi_plan.proofs.NameLemmas.{coded_kind, has_name}
+use Rattle.edi_plan.proofs.TargetLemmas.{only_named}
+
+same_some : {X : Type 0} {a b : X} → Some a ≡ Some b → a ≡ b
+same_some h = cc
+
+module _ (list : List Record) (name : Name) where
+  pub named_there : (place : ℕ) → is_named_at list name place ≡ true → HasNameAt list name place
+  named_there place t = go (slice_get list place) refl t
+    where
+      go : (o : Option Record) → slice_get list place ≡ o → is_named name o ≡ true → HasNameAt list name place
+      go None at h = cc
+      go (Some r) at h = record { there = r; here = at; is = same_name (own_name r) name h }
+
+  pub first_there : (places : List ℕ) (place : ℕ) → first_named list name places ≡ Some place → HasNameAt list name place
+  unfolding first_named
+  first_there [] place h = cc
+  first_there (p ∷ ps) place h = go (is_named_at list name p) refl h (first_there ps place)
+    where
+      go : (b : Bool) → is_named_at list name p ≡ b → (if b then Some p else first_named list name ps) ≡ Some place → (first_named list name ps ≡ Some place → HasNameAt list name place) → HasNameAt list name place
+      go true t e more = subst (HasNameAt list name) (same_some e) (named_there p t)
+      go false t e more = more e
+
+  -- what is left of the places goes on with the next of them
+  cut_next : (places : List ℕ) (i : ℕ) → i < length places
+      → first_named list name (drop i places) ≡ (if is_named_at list name (slice_index_or places i 0) then Some (slice_index_or places i 0) else first_named list name (drop (suc i) places))
+  unfolding first_named
+  cut_next [] i less = absurd (omega (arith, less))
+  cut_next (p ∷ ps) zero less = refl
+  cut_next (p ∷ ps) (suc i) less = cut_next ps i (omega (arith, less))
+
+  pub first_cut : (places : List ℕ) (i : ℕ) → i < length places
+      → first_named list name (drop i places) ≡ (if is_named_at list name (slice_index_or places i 0) then Some (slice_index_or places i 0) else first_named list name (drop (i + 1) places))
+  first_cut places i less =
+      cut_next places i less ∙ ap (λ n. if is_named_at list name (slice_index_or places i 0) then Some (slice_index_or places i 0) else first_named list name (drop n places)) (sym (add-one i))
+
+  pub first_none : (places : List ℕ) (i : ℕ) → length places ≤ i → first_named list name (drop i places) ≡ None
+  unfolding first_named
+  first_none [] zero past = refl
+  first_none [] (suc i) past = refl
+  first_none (p ∷ ps) zero past = absurd (omega (arith, past))
+  first_none (p ∷ ps) (suc i) past = first_none ps i (omega (arith, past))
+
+module _ (list : List Record) (hints : NameHints) (differ : LinksDiffer list) (all : HasAll list hints) where
+  pub no_repeats : (k : ℕ) → ¬ (RepeatsAt list k)
+  no_repeats k d = go (is_link d.2.kind) refl
+    where
+      kind : d.1.kind ≡ d.2.kind
+      kind = coded_kind d.1.kind d.2.kind (ap (λ (n : Name). n.rty) d.6)
+
+      rid : d.1.rid ≡ d.2.rid
+      rid = ap (λ (n : Name). n.rid) d.6
+
+      go : (b : Bool) → is_link d.2.kind ≡ b → ⊥
+      go true link = differ d.0 k d.1 d.2 d.3 d.4 d.5 (ap is_link kind ∙ link) link rid
+      go false other =
+          let one : found list hints d.1.kind d.1.rid ≡ Some d.0 = all d.0 d.1 d.4 (ap is_link kind ∙ other) in
+          let two : found list hints d.2.kind d.2.rid ≡ Some k = all k d.2 d.5 other in
+          let both : found list hints d.1.kind d.1.rid ≡ found list hints d.2.kind d.2.rid = λ i. found list hints (kind i) (rid i) in
+          let same : d.0 ≡ k = same_some (sym one ∙ (both ∙ two)) in
+          absurd (omega (arith, d.3, same))
+
+  pub found_named : (k : Kind) (rid : List ℕ) → is_link k ≡ false → found list hints k rid ≡ place_named list (record { rty = kind_code k; rid = rid })
+  found_named k rid no_link = go (found list hints k rid) refl
+    where
+      name : Name
+      name = record { rty = kind_code k; rid = rid }
+
+      none : found list hints k rid ≡ None → (o : Option ℕ) → place_named list name ≡ o → found list hints k rid ≡ o
+      none e None at = e
+      none e (Some place) at =
+          let there = has_name list name place at in
+          let kinds : there.0.kind ≡ k = coded_kind there.0.kind k (ap (λ (n : Name). n.rty) there.2) in
+          let rids : there.0.rid ≡ rid = ap (λ (n : Name). n.rid) there.2 in
+          let here : found list hints there.0.kind there.0.rid ≡ Some place = all place there.0 there.1 (ap is_link kinds ∙ no_link) in
+          let both : found list hints there.0.kind there.0.rid ≡ found list hints k rid = λ i. found list hints (kinds i) (rids i) in
+          sym both ∙ here
+
+      go : (o : Option ℕ) → found list hints k rid ≡ o → found list hints k rid ≡ place_named list name
+      go (Some place) e = e ∙ sym (only_named list name None place no_repeats refl (first_there list name _ place e))
+      go None e = none e (place_named list name) refl
+
+-- one record more is found
+pub first_more : (list : List Record) (hints : NameHints) (n : ℕ) (r : Record) → slice_get list n ≡ Some r → HasFirst n list hints → (is_link r.kind ≡ false → found list hints r.kind r.rid ≡ Some n) → HasFirst (n + 1) list hints
+first_more list hints n r here before one k q less at other = go (cases_lt k n)
+  where
+    go : (k < n) ⊎ (n ≤ k) → found list hints q.kind q.rid ≡ Some k
+    go (inl below) = before k q below at other
+    go (inr past) =
+        let e : k ≡ n = omega arith in
+        let same : r ≡ q = same_some (sym here ∙ (ap (slice_get list) (sym e) ∙ at)) in
+        subst (λ (x : Record). found list hints x.kind x.rid ≡ Some k) same (one (ap is_link (ap (λ (x : Record). x.kind) same) ∙ other) ∙ ap Some (sym e))
+
+pub all_found : (list : List Record) (hints : NameHints) (n : ℕ) → length list ≤ n → HasFirst n list hints → HasAll list hints
+all_found list hints n past first k r at other = let within = slice_get_within list k r at in first k r (omega arith) at other

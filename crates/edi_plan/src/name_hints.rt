@@ -1,0 +1,194 @@
+//! Where a record of a name can stand, without a hash.
+
+ghost use Rattle.std.specs.Prelude.{◌≡◌, ℕ, ◌+◌, ◌%◌, ◌<◌, ◌≤◌, ◌↔◌, true, false, Some, length, IsTrue, IfOk, IfSome};
+ghost use Rattle.std.specs.List.{fold};
+ghost use Rattle.edi_line.specs.Bytes.{most_records};
+ghost use Rattle.edi_record.specs.Records.{is_link};
+ghost use Rattle.edi_plan.specs.inner.Hints.{three_bytes as number_at, with_bits as bits_added, last_bytes as number_in, start_of, kind_slot as slot_of_kind, window_of, first_named as first_in, found, HasAll};
+ghost use Rattle.edi_plan.specs.inner.LinkNames.{LinksDiffer};
+ghost use Rattle.edi_plan.specs.inner.Names.{named};
+ghost use Rattle.edi_plan.specs.PlanOf.{place_named};
+
+use crate::name_slots::{FREE, NameHints, WINDOW};
+use crate::names::{RecordNameRef, count_tabled, has_name, is_tabled, name_at};
+use edi_record::{Kind, SheetRecords};
+use std::alloc::{AllocError, Global};
+
+// How many bytes at the end of an identifier decide where its slots begin.
+const LAST: usize = 6;
+
+const HALF: usize = 3;
+
+/// The last four bits of a byte: of a digit its number.
+fn last_bits(byte: u8) -> u64
+    ensures value { result ≡ byte % 16 }
+    ensures few { result < 16 }
+{
+    u64::from(byte % 16)
+}
+
+/// Three bytes of a text from a place on, read as digits of a number.
+fn three_bytes(text: &[u8], at: usize) -> u64
+    requires { at + 3 ≤ length text.now }
+    ensures value { result ≡ number_at text.now at }
+    ensures few { result < 2000 }
+{
+    last_bits(text[at]) * 100 + last_bits(text[at + 1]) * 10 + last_bits(text[at + 2])
+}
+
+/// A number with the last four bits of a byte as its next digit.
+fn with_bits(number: u64, byte: u8) -> u64
+    ensures { result ≡ bits_added number byte }
+{
+    number.wrapping_mul(10).wrapping_add(last_bits(byte))
+}
+
+/// The bytes of a short text, read as digits of a number.
+fn all_bytes(text: &[u8]) -> u64
+    ensures { result ≡ fold bits_added 0 text.now }
+{
+    let mut number: u64 = 0;
+    for byte in text {
+        number = with_bits(number, *byte);
+    }
+    number
+}
+
+/// The last six bytes of a text, or all if it has fewer, read as digits of a number. Six are read without a loop.
+#[tactic(auto, unfolding(crate::specs::inner::Hints::last_bytes))]
+pub(crate) fn last_bytes(text: &[u8]) -> u64
+    ensures { result ≡ number_in text.now }
+{
+    let len = text.len();
+    if len < LAST {
+        return all_bytes(text);
+    }
+    three_bytes(text, len - LAST) * 1000 + three_bytes(text, len - HALF)
+}
+
+/// Which of the eight slots of a number come first for a type.
+fn kind_slot(kind: Kind) -> u64
+    ensures { result ≡ slot_of_kind kind }
+{
+    match kind {
+        Kind::Pno => 0,
+        Kind::Par => 2,
+        Kind::Pfe => 4,
+        Kind::Fea | Kind::Lnk => 6,
+    }
+}
+
+/// The first of these places at which a record of this name stands.
+fn first_named(records: &SheetRecords, places: &[u32], name: &RecordNameRef<'_>) -> Option<u32>
+    ensures { result ≡ first_in records.now (named name.now) places.now }
+{
+    for place in places {
+        if has_name(records, *place, name) {
+            return Some(*place);
+        }
+    }
+    None
+}
+
+fn is_at(found: Option<u32>, place: u32) -> bool
+    ensures { IsTrue result ↔ (found ≡ Some place) }
+{
+    match found {
+        Some(other) => other == place,
+        None => false,
+    }
+}
+
+impl NameHints {
+    /// Where the slots of a name begin.
+    #[tactic(auto, unfolding(crate::specs::inner::Hints::start_of))]
+    fn start(&self, name: &RecordNameRef<'_>) -> usize
+        ensures start { result ≡ start_of (length self.now.slots.items) name.now.kind name.now.rid.now }
+        ensures within { result + 8 ≤ length self.now.slots.items }
+    {
+        let starts = (self.slots.len() - WINDOW + 1) as u64;
+        let number = last_bytes(name.rid)
+            .wrapping_mul(WINDOW as u64)
+            .wrapping_add(kind_slot(name.kind));
+        (number % starts) as usize
+    }
+
+    /// The slots of a name.
+    fn window(&self, name: &RecordNameRef<'_>) -> &[u32]
+        ensures { result.now ≡ window_of self.now.slots.items name.now.kind name.now.rid.now }
+    {
+        let start = self.start(name);
+        &self.slots[start..start + WINDOW]
+    }
+
+    /// The place in the slots of a name at which a record of this name stands.
+    fn find(&self, records: &SheetRecords, name: &RecordNameRef<'_>) -> Option<u32>
+        ensures { result ≡ found records.now self.now name.now.kind name.now.rid.now }
+    {
+        first_named(records, self.window(name), name)
+    }
+
+    /// Puts a place into a free slot of a name, if it has one.
+    fn put(&mut self, name: &RecordNameRef<'_>, place: u32) -> bool {
+        let start = self.start(name);
+        for at in start..start + WINDOW {
+            if self.slots[at] == FREE {
+                self.slots[at] = place;
+                return true;
+            }
+        }
+        false
+    }
+
+    /// The places of all records but links, each in a slot of its name; or nothing, if a name has no slot left.
+    fn of_all(alloc: Global, records: &SheetRecords) -> Result<Option<NameHints>, AllocError>
+        requires { length records.now ≤ most_records }
+    {
+        let mut hints = NameHints::with_room(alloc, count_tabled(true, records))?;
+        for place in 0..records.len() {
+            let name = name_at(records, place);
+            if is_tabled(true, name.kind) && !hints.put(&name, place as u32) {
+                return Ok(None);
+            }
+        }
+        Ok(Some(hints))
+    }
+
+    /// Whether each record but the links is found by its name.
+    fn find_all(&self, records: &SheetRecords) -> bool
+        requires { length records.now ≤ most_records }
+        ensures { result ≡ true → HasAll records.now self.now }
+    {
+        for place in 0..records.len() {
+            let name = name_at(records, place);
+            if is_tabled(true, name.kind) && !is_at(self.find(records, &name), place as u32) {
+                return false;
+            }
+        }
+        true
+    }
+
+    /// The places of all records but links, if each of these is found by its name. Then no two of them have one name.
+    pub(crate) fn among(
+        alloc: Global,
+        records: &SheetRecords,
+    ) -> Result<Option<NameHints>, AllocError>
+        requires { length records.now ≤ most_records }
+        ensures { IfOk result (λ hints. IfSome hints (HasAll records.now)) }
+    {
+        match NameHints::of_all(alloc, records)? {
+            Some(hints) if hints.find_all(records) => Ok(Some(hints)),
+            _ => Ok(None),
+        }
+    }
+
+    /// The place of the record of a name.
+    pub(crate) fn place(&self, records: &SheetRecords, name: &RecordNameRef<'_>) -> Option<u32>
+        requires no_link { is_link name.now.kind ≡ false }
+        requires links { LinksDiffer records.now }
+        requires all { HasAll records.now self.now }
+        ensures { result ≡ place_named records.now (named name.now) }
+    {
+        self.find(records, name)
+    }
+}

@@ -1,0 +1,34 @@
+//! The slots in which hints of where names stand lie.
+
+ghost use Rattle.std.specs.Prelude.{◌≤◌, length};
+ghost use Rattle.edi_line.specs.Bytes.{most_records};
+
+use std::alloc::{AllocError, Global};
+
+// How many slots are looked at for a name.
+pub(crate) const WINDOW: usize = 8;
+
+// How many slots there are for a name.
+const SLOTS: usize = 4;
+
+// What a free slot has: the place of no record.
+pub(crate) const FREE: u32 = u32::MAX;
+
+/// Places of records in slots. The last bytes of an identifier, read as a number, say where its eight slots begin, so
+/// identifiers that are numbered stand apart; others may not, and then there are no hints. Whoever chooses names can
+/// do no more than that.
+#[derive(Drop)]
+pub(crate) struct NameHints {
+    pub(crate) slots: Vec<u32>,
+    pub ghost long: { 8 ≤ length slots.items },
+}
+
+impl NameHints {
+    /// Free slots for so many names.
+    pub(crate) fn with_room(alloc: Global, names: usize) -> Result<NameHints, AllocError>
+        requires { names ≤ most_records }
+    {
+        let slots = vec![in alloc; FREE; names * SLOTS + WINDOW]?;
+        Ok(NameHints { slots })
+    }
+}
