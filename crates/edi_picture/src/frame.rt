@@ -7,9 +7,8 @@ ghost use Rattle.edi_picture.specs.Frames.{IsBar, IsFrame, distance, is_beyond, 
 ghost use Rattle.edi_picture.specs.Sheets.{all_points, arc_points, arc_points_of};
 
 use crate::shown::Shown;
-use crate::widening::extent_with_point;
 use edi_line::Num;
-use edi_plan::{Extent, Plan, Span};
+use edi_plan::{Extent, Plan, Span, extent_with_point};
 use edi_record::{Kind, Point};
 
 /// How far two coordinates are apart, in millionths of the file's unit.

@@ -15,7 +15,6 @@ pub mod mark;
 mod rounds;
 pub mod shown;
 mod titles;
-mod widening;
 mod writing;
 
 pub use drawing::picture;

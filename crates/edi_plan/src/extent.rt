@@ -73,7 +73,7 @@ impl Span {
 }
 
 /// The extent of some points and one more.
-fn with_point(found: Option<Extent>, point: &Point) -> Extent
+pub fn extent_with_point(found: Option<Extent>, point: &Point) -> Extent
     ensures { (points : List Points) → IsExtentIfAny points found → IsExtent (points ++ point.now ∷ []) result }
 {
     match found {
@@ -94,7 +94,7 @@ fn with_points(found: Option<Extent>, points: &[Point]) -> Option<Extent>
 {
     let mut found = found;
     for point in points {
-        found = Some(with_point(found, point));
+        found = Some(extent_with_point(found, point));
     }
     found
 }

@@ -23,7 +23,7 @@ mod spare_parts;
 mod targets;
 
 pub use attributes::sorted_attributes;
-pub use extent::{Extent, Span, extent_of, extent_with};
+pub use extent::{Extent, Span, extent_of, extent_with, extent_with_point};
 pub use fault::RefFault;
 pub use plan::Plan;
 pub use record::{PlanAttribute, PlanEnd, PlanRecord};

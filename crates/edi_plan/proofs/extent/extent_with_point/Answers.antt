@@ -1,6 +1,6 @@
 use Rattle.edi_plan.specs.Extents.{all_x, all_y}
 use Rattle.edi_plan.proofs.Spans.{more_points, some_extent}
-use Rattle.edi_picture.proofs.widening.extent_with_point.Goals as goal
+use Rattle.edi_plan.proofs.extent.extent_with_point.Goals as goal
 
 pub returns-in-Some : goal.returns-in-Some
 returns-in-Some c = λ points h.

@@ -1,9 +1,0 @@
-use Rattle.edi_plan.specs.Extents.{all_x, all_y}
-use Rattle.edi_plan.proofs.Spans.{more_points, some_extent}
-use Rattle.edi_plan.proofs.extent.with_point.Goals as goal
-
-pub returns-in-Some : goal.returns-in-Some
-returns-in-Some c = λ points h.
-    let old = some_extent points c.args.found c.in-Some.extent c.in-Some.is h in
-    more_points points c.args.point.now (record { x = c.widened.result; y = c.widened-in-Some.result })
-    (c.widened.ensures (all_x points) old.x) (c.widened-in-Some.ensures (all_y points) old.y)
