@@ -24,3 +24,6 @@ returns-in-Misused-clause-answer g c =
     let out = written g.O.ByteOut c.args.out.now c.args.out.now in
     let err = written g.E.ByteOut c.args.err.now c.misused.new.err in
     rw c.in-Misused.is (refl, misused_status out err c.in-Misused.misuse c.misused.result (appends_nothing (g.O.ByteOut.contents c.args.out.now)) c.misused.ensures)
+
+pub returns-in-CheckList-clause-answer : goal.returns-in-CheckList-clause-answer
+returns-in-CheckList-clause-answer g c = rw c.in-CheckList.is (refl, c.check_list.ensures.answer)
