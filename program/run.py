@@ -41,7 +41,7 @@ BUILDS = ("edicad", "edicad.by-rattle")
 # What is tried, and how many checks each part makes of one build. A part that makes another number has failed, since a check
 # was lost, or wasn't made. Who adds or takes away checks or cases on purpose changes the number here.
 PARTS = {
-    "cases": 3413,
+    "cases": 3428,
     "words": 221,
     "files": 79,
     "standard streams": 51,
@@ -57,7 +57,7 @@ PARTS = {
     "paired": 183,
     "differences": 106,
     "presentations": 120,
-    "pictures": 105,
+    "pictures": 115,
     "explains partners": 5,
     "explains hints": 15,
     "explains lengths": 9,

@@ -1,5 +1,5 @@
 -- What people call records on a plan.
-use Rattle.std.specs.Prelude.{ℕ, ◌==◌, ◌&&◌, ◌||◌, Bool, not, List, [], ◌∷◌, ◌++◌, Option, Some, None, bytes_eq, codes, find, length, map, nat_lt, take, unwrap_or, if◌then◌else◌}
+use Rattle.std.specs.Prelude.{ℕ, ◌==◌, ◌&&◌, ◌||◌, Bool, not, List, [], ◌∷◌, ◌++◌, Option, Some, None, bytes_eq, codes, find, length, map, nat_le, nat_lt, take, unwrap_or, if◌then◌else◌}
 use Rattle.std.specs.List.{list_any}
 use Rattle.std.specs.Option.{option_map_or}
 use Rattle.edi_record.specs.declared.record.Kind.TheVariants.{Lnk}
@@ -44,9 +44,13 @@ link_label s p link = option_map_or (λ k. object_label s (record_at p k))
 abbrev pub names : Drawing → ℕ → ℕ → Bool
 names p k link = list_any (λ e. e.target == k) (record_at p link).ends
 
--- a link calls the record at a place something
+-- a link names at most four records: so do those of parcels, and those of communes and sections mostly name more
+abbrev pub names_few : Drawing → ℕ → Bool
+names_few p link = nat_le (length (record_at p link).ends) 4
+
+-- such a link calls the record at a place something
 abbrev pub calls : Classes → Drawing → ℕ → ℕ → Bool
-calls s p k link = names p k link && is_something (link_label s p link)
+calls s p k link = names p k link && (names_few p link && is_something (link_label s p link))
 
 -- what the first link that does so calls it
 abbrev pub label_of : Classes → Drawing → ℕ → List ℕ

@@ -21,6 +21,10 @@ use std::alloc::{AllocError, Global};
 /// name costs no more.
 const MOST_SOUGHT: usize = 32;
 
+/// How many records a link may name that says what they are called: those of parcels name few, and those of communes
+/// and sections mostly more.
+const MOST_NAMED: usize = 4;
+
 /// How many bytes of a value stand in a label.
 const MOST_SHOWN: usize = 40;
 
@@ -143,8 +147,9 @@ fn call_all(callers: &mut Vec<Option<u32>>, schema: &Schema, plan: &Plan, link: 
     ensures each { (k : ℕ) → k < length callers.old.items → slice_index_or callers.new.items k None
         ≡ option_or (slice_index_or callers.old.items k None) (if calls schema.now plan.now k link then Some link else None) }
 {
-    if !link_label(schema, plan, link).is_empty() {
-        note_all(callers, plan.ends(link), link);
+    let ends = plan.ends(link);
+    if ends.len() <= MOST_NAMED && !link_label(schema, plan, link).is_empty() {
+        note_all(callers, ends, link);
     }
 }
 
