@@ -9,7 +9,7 @@ use Rattle.edi_picture.specs.Pictures.{IsPicture}
 use Rattle.edi_picture.specs.Sheets.{Sheet}
 use Rattle.edi_picture.specs.declared.mark.Mark.TheVariants.{Plain}
 use Rattle.edi_drawing.specs.Labels.{both_labels, label_of, label_there}
-use Rattle.edi_drawing.specs.Marked.{Compared, drawn_sheet, first_marks, of_each, same_of, second_marks}
+use Rattle.edi_drawing.specs.Marked.{Compared, drawn_sheet, first_marks, of_each, twin_of, second_marks}
 use Rattle.edi_drawing.specs.Tints.{first_tint}
 use Rattle.edi_drawing.specs.declared.drawn.DrawnDifference.{DrawnDifference}
 
@@ -24,7 +24,7 @@ plain_sheet s name sheet = drawn_sheet name sheet (of_each (λ k. Plain) sheet.a
 abbrev pub first_label : Classes → Compared → ℕ → List ℕ
 first_label s c i =
     if first_tint c i
-    then both_labels (label_of s c.first.accepted i) (label_there s c.second.accepted (same_of c i))
+    then both_labels (label_of s c.first.accepted i) (label_there s c.second.accepted (twin_of c i))
     else []
 
 abbrev pub first_sheet : Classes → List ℕ → Compared → Sheet

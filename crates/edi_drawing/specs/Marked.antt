@@ -43,8 +43,8 @@ abbrev pub second_marks : Compared → List Mark
 second_marks c = of_each (second_mark c.unchanged c.became) c.second.accepted
 
 -- the record of the second sheet that one of the first is, if any
-abbrev pub same_of : Compared → ℕ → Option ℕ
-same_of c i = slice_index_or c.unchanged.to i None
+abbrev pub twin_of : Compared → ℕ → Option ℕ
+twin_of c i = slice_index_or c.unchanged.to i None
 
 -- ---- sheets
 

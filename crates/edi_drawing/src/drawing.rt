@@ -8,7 +8,7 @@ ghost use Rattle.edi_drawing.specs.Drawn.{IsDrawnDifference, IsPictureOfFile};
 
 use crate::drawn::DrawnDifference;
 use crate::names::FileNames;
-use crate::pair::Pair;
+use crate::pair::SheetPair;
 use crate::pictures::{picture_of, picture_of_both};
 use edi_compare::{CompareFault, Fault};
 use edi_diff::{TextForm, find_differences};
@@ -52,7 +52,7 @@ pub(crate) fn draw_difference_from(
 {
     schema.keeps();
     let found = find_differences(alloc, schema, a, b, form)?;
-    let pair = Pair {
+    let pair = SheetPair {
         first: &found.first,
         second: &found.second,
         unchanged: &found.unchanged,

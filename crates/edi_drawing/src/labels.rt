@@ -11,7 +11,7 @@ ghost use Rattle.edi_drawing.specs.Marked.{of_each};
 ghost use Rattle.edi_drawing.specs.Tints.{first_tint};
 ghost use Rattle.edi_drawing.specs.inner.Labels.{AreCallers};
 
-use crate::pair::{Pair, entry_at};
+use crate::pair::{SheetPair, entry_at};
 use edi_plan::{Plan, PlanAttribute, PlanEnd};
 use edi_record::{Kind, Value};
 use edi_schema::Schema;
@@ -256,7 +256,7 @@ fn label_there<'a>(
 fn first_label(
     alloc: Global,
     schema: &Schema,
-    pair: &Pair<'_>,
+    pair: &SheetPair<'_>,
     callers: &Callers,
     is_tinted: bool,
     place: u32,
@@ -272,7 +272,7 @@ fn first_label(
         return Ok(Vec::new(alloc));
     }
     let here = label_of(schema, pair.plan(), &callers.first, place);
-    let there = label_there(schema, pair.other(), &callers.second, pair.same_of(place));
+    let there = label_there(schema, pair.other(), &callers.second, pair.twin_of(place));
     both_labels(alloc, here, there)
 }
 
@@ -280,7 +280,7 @@ fn first_label(
 pub(crate) fn first_labels(
     alloc: Global,
     schema: &Schema,
-    pair: &Pair<'_>,
+    pair: &SheetPair<'_>,
     tints: &[bool],
 ) -> Result<Vec<Vec<u8>>, AllocError>
     requires first { Agrees schema.now pair.now.first.accepted }

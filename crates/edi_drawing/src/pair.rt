@@ -19,14 +19,14 @@ pub(crate) fn entry_at(list: &[Option<u32>], place: u32) -> Option<u32>
 
 /// Two sheets, and what is unchanged of the first in the second and what became of it there.
 #[derive(Drop)]
-pub(crate) struct Pair<'a> {
+pub(crate) struct SheetPair<'a> {
     pub(crate) first: &'a LocatedSheet,
     pub(crate) second: &'a LocatedSheet,
     pub(crate) unchanged: &'a Matching,
     pub(crate) became: &'a Matching,
 }
 
-impl<'a> Model for Pair<'a> {
+impl<'a> Model for SheetPair<'a> {
     ghost use Rattle.edi_drawing.specs.Marked.{Compared};
 
     ghost Value = { Compared };
@@ -39,9 +39,9 @@ impl<'a> Model for Pair<'a> {
     } };
 }
 
-impl<'a> Pair<'a> {
+impl<'a> SheetPair<'a> {
     ghost use Rattle.std.specs.Prelude.{◌≡◌};
-    ghost use Rattle.edi_drawing.specs.Marked.{same_of};
+    ghost use Rattle.edi_drawing.specs.Marked.{twin_of};
 
     /// The plan of the first sheet.
     pub(crate) fn plan(&self) -> &'a Plan
@@ -58,8 +58,8 @@ impl<'a> Pair<'a> {
     }
 
     /// The record of the second sheet that one of the first is, if any.
-    pub(crate) fn same_of(&self, place: u32) -> Option<u32>
-        ensures { result ≡ same_of self.now place }
+    pub(crate) fn twin_of(&self, place: u32) -> Option<u32>
+        ensures { result ≡ twin_of self.now place }
     {
         entry_at(self.unchanged.to.as_slice(), place)
     }

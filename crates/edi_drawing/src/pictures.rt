@@ -9,7 +9,7 @@ use crate::identifiers::identifiers_of;
 use crate::labels::{first_labels, labels_of};
 use crate::marks::{first_marks, one_mark_each, second_marks};
 use crate::names::FileNames;
-use crate::pair::Pair;
+use crate::pair::SheetPair;
 use crate::tints::{all_tinted, first_tints};
 use edi_picture::{Looks, Mark, Shown, picture};
 use edi_report::LocatedSheet;
@@ -46,7 +46,7 @@ fn first_shown<'a>(
     alloc: Global,
     schema: &Schema,
     name: &'a str,
-    pair: &Pair<'a>,
+    pair: &SheetPair<'a>,
 ) -> Result<Shown<'a>, AllocError>
     requires first { Agrees schema.now pair.now.first.accepted }
     requires second { Agrees schema.now pair.now.second.accepted }
@@ -70,7 +70,7 @@ fn second_shown<'a>(
     alloc: Global,
     schema: &Schema,
     name: &'a str,
-    pair: &Pair<'a>,
+    pair: &SheetPair<'a>,
 ) -> Result<Shown<'a>, AllocError>
     requires { Agrees schema.now pair.now.second.accepted }
     ensures { IfOk result (λ shown. shown ≡ second_sheet schema.now name.now pair.now) }
@@ -90,7 +90,7 @@ pub(crate) fn picture_of_both(
     alloc: Global,
     schema: &Schema,
     names: &FileNames<'_>,
-    pair: &Pair<'_>,
+    pair: &SheetPair<'_>,
 ) -> Result<Vec<u8>, AllocError>
     requires first { HasClasses schema.now pair.now.first.accepted }
     requires second { HasClasses schema.now pair.now.second.accepted }

@@ -3,12 +3,12 @@
 ghost use Rattle.std.specs.Prelude.{◌≡◌, ◌<◌, ◌||◌, ◌==◌, IfOk, ℕ, false, length, map, slice_index_or, true};
 ghost use Rattle.std.specs.List.{list_any, range_with_len};
 ghost use Rattle.edi_plan.specs.Plans.{IsPlace};
-ghost use Rattle.edi_drawing.specs.Marked.{first_marks, of_each, same_of, second_marks};
+ghost use Rattle.edi_drawing.specs.Marked.{first_marks, of_each, twin_of, second_marks};
 ghost use Rattle.edi_drawing.specs.Tints.{first_tint, is_out, links_out, stands_out, tint_by, touches};
 ghost use Rattle.edi_drawing.specs.inner.Tints.{AreTouched};
 ghost use Rattle.edi_picture.specs.declared.mark.Mark.TheVariants.{Hidden};
 
-use crate::pair::Pair;
+use crate::pair::SheetPair;
 use edi_picture::Mark;
 use edi_plan::{Plan, PlanEnd};
 use edi_record::Kind;
@@ -140,13 +140,13 @@ struct TouchedRecords {
 }
 
 /// Whether a record of the first sheet is tinted.
-fn is_tinted(pair: &Pair<'_>, mark: Mark, touched: &TouchedRecords, place: u32) -> bool
+fn is_tinted(pair: &SheetPair<'_>, mark: Mark, touched: &TouchedRecords, place: u32) -> bool
     requires mark { mark ≡ slice_index_or (first_marks pair.now) place Hidden }
     requires first { AreTouched (first_marks pair.now) pair.now.first.accepted touched.now.first.items }
     requires second { AreTouched (second_marks pair.now) pair.now.second.accepted touched.now.second.items }
     ensures { result ≡ first_tint pair.now place }
 {
-    let there = match pair.same_of(place) {
+    let there = match pair.twin_of(place) {
         Some(target) => is_marked(&touched.second, target),
         None => false,
     };
@@ -156,7 +156,7 @@ fn is_tinted(pair: &Pair<'_>, mark: Mark, touched: &TouchedRecords, place: u32) 
 /// Which records of the first sheet are tinted, by the marks of both.
 pub(crate) fn first_tints(
     alloc: Global,
-    pair: &Pair<'_>,
+    pair: &SheetPair<'_>,
     marks: &[Mark],
     others: &[Mark],
 ) -> Result<Vec<bool>, AllocError>

@@ -190,8 +190,8 @@ picture_of_nodes = codes "<svg xmlns='http://www.w3.org/2000/svg' font-family='s
 
 -- ---- faces that are tinted
 
-abbrev pub arc_of : List Point → PlanRecord
-arc_of points = pointed_record Par 0 points
+abbrev pub known_arc : List Point → PlanRecord
+known_arc points = pointed_record Par 0 points
 
 -- Of A the first arc goes round the first face, which B has not; it has another corner in B. The second arc doesn't
 -- close, and the second face is on its left. A node lies far off.
@@ -200,8 +200,8 @@ faces_of_a = record {
   plan = record {
     cse = None;
     list = pointed_record Pno 2 (known_point 500000000 0 ∷ [])
-        ∷ arc_of (known_point 0 0 ∷ known_point 4000000 0 ∷ known_point 4000000 3000000 ∷ known_point 0 0 ∷ [])
-        ∷ arc_of (known_point 4000000 0 ∷ known_point 8000000 0 ∷ []) ∷ pointed_record Pfe 1 []
+        ∷ known_arc (known_point 0 0 ∷ known_point 4000000 0 ∷ known_point 4000000 3000000 ∷ known_point 0 0 ∷ [])
+        ∷ known_arc (known_point 4000000 0 ∷ known_point 8000000 0 ∷ []) ∷ pointed_record Pfe 1 []
         ∷ pointed_record Pfe 1 [] ∷ link_of_two 5 Left 1 3 ∷ link_of_two 5 Left 2 4 ∷ [];
   };
   name = codes "a.vec";
@@ -215,7 +215,7 @@ abbrev pub faces_of_b : Sheet
 faces_of_b = record {
   plan = record {
     cse = None;
-    list = arc_of (known_point 0 0 ∷ known_point 4000000 0 ∷ known_point 4000000 4000000 ∷ known_point 0 0 ∷ []) ∷ [];
+    list = known_arc (known_point 0 0 ∷ known_point 4000000 0 ∷ known_point 4000000 4000000 ∷ known_point 0 0 ∷ []) ∷ [];
   };
   name = codes "b.vec";
   identifiers = codes "B1" ∷ [];

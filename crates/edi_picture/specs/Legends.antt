@@ -10,7 +10,7 @@ use Rattle.edi_plan.specs.declared.extent.Extent.{Extent}
 use Rattle.edi_picture.specs.Frames.{is_outside, pixels, plan_height, side_length}
 use Rattle.edi_picture.specs.Marks.{colour, is_before, is_hidden, is_only_first, is_only_second}
 use Rattle.edi_picture.specs.Sheets.{Sheet, mark_at}
-use Rattle.edi_picture.specs.Titles.{name_text, record_title}
+use Rattle.edi_picture.specs.Titles.{file_name_text, record_title}
 use Rattle.edi_picture.specs.declared.mark.Ink.{Ink}
 use Rattle.edi_picture.specs.declared.mark.Ink.TheVariants.{Grey, Old, New}
 
@@ -49,7 +49,7 @@ legend_row y ink words = sample y ink ++ codes "<text x='60" ++ words_at (y + 5)
 -- a sheet by a letter and the name of its file, and how many of its records the other sheet hasn't
 abbrev pub sheet_words : List ℕ → Sheet → ℕ → List ℕ
 sheet_words letter sheet count =
-    letter ++ name_text sheet.name ++ codes ", records only here: " ++ decimal count
+    letter ++ file_name_text sheet.name ++ codes ", records only here: " ++ decimal count
 
 abbrev pub first_words : Sheet → List ℕ
 first_words sheet = sheet_words (codes "A: ") sheet (count_by is_only_first sheet.marks)
@@ -73,7 +73,7 @@ legend_of_two first second =
 -- the name of the file of a sheet that is drawn alone; and where there are two, what the inks say
 abbrev pub legend_text : List Sheet → List ℕ
 legend_text [] = []
-legend_text (sheet ∷ []) = codes "<text x='20" ++ words_at 25 (name_text sheet.name)
+legend_text (sheet ∷ []) = codes "<text x='20" ++ words_at 25 (file_name_text sheet.name)
 legend_text (first ∷ second ∷ sheets) = legend_of_two first second
 
 -- how far below the top the legend ends

@@ -25,13 +25,13 @@ is_new Before = false
 is_new After = true
 is_new Hidden = false
 
-abbrev pub is_plain : Mark → Bool
-is_plain Plain = true
-is_plain OnlyFirst = false
-is_plain OnlySecond = false
-is_plain Before = false
-is_plain After = false
-is_plain Hidden = false
+abbrev pub is_unmarked : Mark → Bool
+is_unmarked Plain = true
+is_unmarked OnlyFirst = false
+is_unmarked OnlySecond = false
+is_unmarked Before = false
+is_unmarked After = false
+is_unmarked Hidden = false
 
 abbrev pub is_hidden : Mark → Bool
 is_hidden Plain = false
@@ -78,7 +78,7 @@ mark_words Hidden = []
 
 -- the records of this mark are drawn in this ink
 abbrev pub is_drawn_in : Ink → Mark → Bool
-is_drawn_in Grey mark = is_plain mark
+is_drawn_in Grey mark = is_unmarked mark
 is_drawn_in Old mark = is_old mark
 is_drawn_in New mark = is_new mark
 
@@ -95,10 +95,10 @@ filling Old = codes "white"
 filling New = codes "#0072B2"
 
 -- how many pixels lines are wide, and how many it is from the middle of a node to its rim
-abbrev pub line_width : Ink → ℕ
-line_width Grey = 1
-line_width Old = 2
-line_width New = 2
+abbrev pub stroke_width : Ink → ℕ
+stroke_width Grey = 1
+stroke_width Old = 2
+stroke_width New = 2
 
 abbrev pub node_radius : Ink → ℕ
 node_radius Grey = 2

@@ -8,7 +8,7 @@ use Rattle.edi_picture.specs.Faces.{faces_of}
 use Rattle.edi_picture.specs.Frames.{IsBar, IsFrame, pixels, plan_height, side_length}
 use Rattle.edi_picture.specs.Labels.{labels_of}
 use Rattle.edi_picture.specs.Legends.{bar_text, far_text, head_text, inset_text, legend_height, legend_text, tail_text}
-use Rattle.edi_picture.specs.Marks.{colour, filling, line_width}
+use Rattle.edi_picture.specs.Marks.{colour, filling, stroke_width}
 use Rattle.edi_picture.specs.Sheets.{Sheet}
 use Rattle.edi_picture.specs.declared.mark.Ink.{Ink}
 use Rattle.edi_picture.specs.declared.mark.Ink.TheVariants.{Grey, Old, New}
@@ -31,7 +31,7 @@ dashes f New = codes "'>\n"
 
 abbrev pub arcs_begin : Extent → Ink → List ℕ
 arcs_begin f ink = codes "<g fill='none' stroke-linejoin='round' stroke='" ++ colour ink
-    ++ codes "' stroke-width='" ++ pixels f (line_width ink)
+    ++ codes "' stroke-width='" ++ pixels f (stroke_width ink)
 
 -- the arcs of all sheets in an ink
 abbrev pub arcs_text : Classes → Extent → List Sheet → Ink → List ℕ

@@ -57,5 +57,5 @@ title_text s sheet k words =
 abbrev pub name_character : ℕ → List ℕ
 name_character c = if nat_le c tilde then escaped c else codes "?"
 
-abbrev pub name_text : List ℕ → List ℕ
-name_text name = flat_map name_character name
+abbrev pub file_name_text : List ℕ → List ℕ
+file_name_text name = flat_map name_character name

@@ -96,7 +96,7 @@ fn push_arcs_begin(text: &mut Vec<u8>, frame: &Extent, ink: Ink) -> Result<(), A
     put(text, b"<g fill='none' stroke-linejoin='round' stroke='")?;
     put(text, ink.colour())?;
     put(text, b"' stroke-width='")?;
-    push_pixels(text, frame, ink.line_width())
+    push_pixels(text, frame, ink.stroke_width())
 }
 
 /// Appends how long dashes are.

@@ -7,7 +7,7 @@ ghost use Rattle.edi_plan.specs.Plans.{IsPlace};
 ghost use Rattle.edi_picture.specs.Legends.{bar_below, bar_line, bar_text, bar_words, changed_words, far_line, far_name, far_names, far_text, first_words, head_text, inset_height, inset_text, is_far, legend_height, legend_of_two, legend_row, legend_text, north_text, sample, sample_end, sample_place, second_words, sheet_words, sides_text, tint_row, words_at};
 ghost use Rattle.edi_picture.specs.Sheets.{AllHaveClasses};
 ghost use Rattle.edi_picture.specs.declared.mark.Ink.TheVariants.{Grey, New, Old};
-ghost use Rattle.edi_picture.specs.Titles.{name_text};
+ghost use Rattle.edi_picture.specs.Titles.{file_name_text};
 
 use crate::canvas::{Canvas, push_pixels};
 use crate::frame::{is_outside, plan_height, side};
@@ -178,7 +178,7 @@ fn push_legend_of_two(
 /// Appends the name of the file of a sheet that is drawn alone.
 fn push_name_alone(alloc: Global, text: &mut Vec<u8>, sheet: &Shown<'_>) -> Result<(), AllocError>
     ensures { OnOk result (text.new.items
-        ≡ text.old.items ++ (codes "<text x='20" ++ words_at 25 (name_text sheet.now.name))) }
+        ≡ text.old.items ++ (codes "<text x='20" ++ words_at 25 (file_name_text sheet.now.name))) }
 {
     let mut words = Vec::new(alloc);
     push_file_name(&mut words, sheet.name())?;

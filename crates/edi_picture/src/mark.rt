@@ -1,7 +1,7 @@
 //! How records are told apart in a picture.
 
 ghost use Rattle.std.specs.Prelude.{◌≡◌};
-ghost use Rattle.edi_picture.specs.Marks.{colour, filling, is_before as before, is_drawn_in as inks, is_hidden as hides, is_only_first as only_first, is_only_second as only_second, line_width, mark_words, node_radius};
+ghost use Rattle.edi_picture.specs.Marks.{colour, filling, is_before as before, is_drawn_in as inks, is_hidden as hides, is_only_first as only_first, is_only_second as only_second, stroke_width, mark_words, node_radius};
 
 /// What a picture says of a record.
 #[derive(Clone, Copy, PartialEq, Eq)]
@@ -55,8 +55,8 @@ impl Ink {
     }
 
     /// How many pixels lines are wide.
-    pub(crate) fn line_width(self) -> u64
-        ensures { result ≡ line_width self }
+    pub(crate) fn stroke_width(self) -> u64
+        ensures { result ≡ stroke_width self }
     {
         match self {
             Ink::Grey => 1,

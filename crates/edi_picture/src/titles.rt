@@ -5,7 +5,7 @@ ghost use Rattle.edi_plan.specs.Plans.{IsPlace, record_at};
 ghost use Rattle.edi_plan.specs.Agreeing.{HasClasses};
 ghost use Rattle.edi_picture.specs.Marks.{mark_words};
 ghost use Rattle.edi_picture.specs.Sheets.{class_name, mark_at};
-ghost use Rattle.edi_picture.specs.Titles.{class_title, escaped, escaped_text, name_character, name_text, record_title, title_text};
+ghost use Rattle.edi_picture.specs.Titles.{class_title, escaped, escaped_text, name_character, file_name_text, record_title, title_text};
 
 use crate::shown::Shown;
 use crate::writing::put;
@@ -120,7 +120,7 @@ fn push_name_character(text: &mut Vec<u8>, byte: u8) -> Result<(), AllocError>
 
 /// Appends the name of a file.
 pub(crate) fn push_file_name(text: &mut Vec<u8>, name: &[u8]) -> Result<(), AllocError>
-    ensures { OnOk result (text.new.items ≡ text.old.items ++ name_text name.now) }
+    ensures { OnOk result (text.new.items ≡ text.old.items ++ file_name_text name.now) }
 {
     for byte in name {
         push_name_character(text, *byte)?;
