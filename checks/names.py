@@ -19,21 +19,27 @@ TYPE = re.compile(r" *(?:pub(?:\([^)]*\))? )?(?:struct|enum|trait) (\w+)")
 
 
 def lines_of(pattern):
-    """The lines of the files of a pattern, each with its file and the line behind it."""
+    """The lines of the files of a pattern, each with its file and the next that doesn't go on with it."""
     for path in sorted(glob.glob(os.path.join(ROOT, pattern), recursive=True)):
         with open(path, encoding="utf-8") as file:
             lines = file.read().split("\n")
-        for line, behind in zip(lines, lines[1:] + [""]):
-            yield os.path.relpath(path, ROOT), line, behind
+        for number, line in enumerate(lines):
+            yield os.path.relpath(path, ROOT), line, behind(lines, number)
 
 
-def defined(line, behind):
+def behind(lines, number):
+    """The next line that doesn't go on with this one, which it would if it stood deeper."""
+    depth = len(lines[number]) - len(lines[number].lstrip())
+    return next((line for line in lines[number + 1 :] if len(line) - len(line.lstrip()) <= depth), "")
+
+
+def defined(line, following):
     """The name that a line of antt begins to define, if it does. A field has a type too, but no clause behind it."""
     start = DEFINED.match(line)
     if start:
         return start[1]
     signed = SIGNED.match(line)
-    if signed and re.match(signed[1] + re.escape(signed[2]) + r"(?= )(?! :)", behind):
+    if signed and re.match(signed[1] + re.escape(signed[2]) + r"(?= )(?! :)", following):
         return signed[2]
     return None
 
@@ -41,8 +47,8 @@ def defined(line, behind):
 def definitions():
     """For each defined name the files of public specs that define it."""
     found = {}
-    for path, line, behind in lines_of("crates/*/specs/**/*.antt"):
-        name = defined(line, behind)
+    for path, line, following in lines_of("crates/*/specs/**/*.antt"):
+        name = defined(line, following)
         if name and "/specs/inner/" not in path:
             found.setdefault(name, set()).add(path)
     return found

@@ -2,7 +2,7 @@
 """Writes docs/TRUSTED.md: every definition that the headline's contracts reach, file by file, from the headline down.
 
     checks/reach.py            writes the page, and prints how much each contract reaches
-    checks/reach.py --check    fails if the page isn't what it would write
+    checks/reach.py --check    fails if the page isn't what it would write, or a definition has no sentence
 
 A definition reaches those that it names, and a type of the code reaches the types of its fields. Read are the crates'
 specs/ (specs/inner/ too) and the structs and enums of their sources.
@@ -119,7 +119,7 @@ class Base:
     def read_types(self, crate, path, text):
         for start in re.finditer(r"^(?:pub(?:\(crate\))? )?(?:struct|enum) (\w+)[^{;]*\{\n(.*?)^\}", text, re.M | re.S):
             lines = [line for line in start[0].split("\n") if not line.strip().startswith(("//", "#"))]
-            self.types[crate, start[1]] = Definition(crate, "src", start[1], "", lines, path)
+            self.types[crate, start[1]] = Definition(crate, "src", start[1], comment_before(text[: start.start()]), lines, path)
 
     def find(self, crate, module, name):
         if module.startswith("declared"):
@@ -163,6 +163,12 @@ class Base:
         return list(seen.values())
 
 
+def comment_before(text):
+    """The doc comment at the end of a text, behind which attributes may stand."""
+    found = re.search(r"((?:^///.*\n)+)(?:^#\[.*\n)*\Z", text, re.M)
+    return " ".join(line[3:].strip() for line in found[1].split("\n")).strip() if found else ""
+
+
 def count(items):
     specs = [item for item in items if item.module != "src"]
     files = len({item.path for item in specs})
@@ -173,7 +179,7 @@ def count(items):
 
 def page(base):
     out = ["# What the claims rest on", "",
-           "Every definition that the contracts of five calls reach, file by file, from the claim down. Made by",
+           "Every definition that the contracts of six calls reach, file by file, from the claim down. Made by",
            "`checks/reach.py`; the gate checks that it is current. [AUDIT.md](AUDIT.md) says how to read it.", ""]
     listed = set()
     for call, what, roots in CLAIMS:
@@ -197,9 +203,18 @@ def key_of(item):
     return item.crate, item.module, item.name
 
 
+def without_sentence(base):
+    """The definitions on the page over which no comment stands."""
+    reached = [item for _, _, roots in CLAIMS for item in base.reached(roots)]
+    return sorted({f"{item.path}: {item.name}" for item in reached if not item.comment})
+
+
 def main():
     base = Base()
     text = page(base)
+    bare = without_sentence(base)
+    if bare:
+        sys.exit("these have no sentence:\n" + "\n".join(bare))
     path = os.path.join(ROOT, "docs/TRUSTED.md")
     if "--check" in sys.argv[1:]:
         with open(path, encoding="utf-8") as file:

@@ -146,9 +146,9 @@ edicad_answer edicad_digest(edicad_schema *schema, const uint8_t *sheet, size_t 
 /* What a sheet holds, or why it is refused, as lines of text (docs/USING.md, "explain").
  * EDICAD_DONE: text holds how many records of each type there are, the least and the greatest
  * coordinates, and the character set. EDICAD_REFUSED: text holds where the broken line or record
- * stands in the file, its identifier, the rule in words, and the earlier record that the rule
- * speaks of. Its lines name the file by name, which has any bytes; those that a terminal could act
- * on are shown by escapes. Else text is empty. */
+ * stands in the file, its identifier, the rule in words, the earlier record that the rule speaks
+ * of, and the zone with which the record breaks it. Its lines name the file by name, which has any
+ * bytes; those that a terminal could act on are shown by escapes. Else text is empty. */
 edicad_answer edicad_explain(edicad_schema *schema, const uint8_t *sheet, size_t length,
                              const uint8_t *name, size_t name_length, edicad_bytes *text);
 

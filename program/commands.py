@@ -604,9 +604,9 @@ def helped(text, part):
 # What each exit status means, as the help says it, and as the manual page does.
 STATUSES = {
     "0": ("accepted, the same, or a file that pairs",
-          "The sheet is accepted, the two state the same plan, or the file pairs them; of hash and delivery, each sheet has a digest; of changed and hash --check, each digest is the same."),
-    "1": ("different, or a file that doesn't pair", "The two sheets state different plans, or the file doesn't pair them; of changed and hash --check, a digest is new, gone or another."),
-    "2": ("refused", "The schema, a sheet, the file of a pairing or a list of digests is refused."),
+          "The sheet is accepted, the two state the same plan, or the file pairs them; of hash and delivery, each sheet has a digest; of changed, hash --check and delivery --check, each digest is the same."),
+    "1": ("different, or a file that doesn't pair", "The two sheets state different plans, or the file doesn't pair them; of changed, hash --check and delivery --check, a digest is new, gone or another."),
+    "2": ("refused", "The schema, a sheet, the file of a pairing, a list of digests or a manifest is refused."),
     "3": ("wrong words", "The words of the command are wrong."),
     "4": ("a file can't be read or written", "A file can't be read or written."),
     "5": ("out of memory", "Memory ran out."),

@@ -1,6 +1,11 @@
 """What `explain` says of sheets and schemas: the place, the earlier record, hints, and what an accepted sheet holds; and of rules."""
+import bz2
+import gzip
+import io
 import os
 import re
+import tarfile
+import zipfile
 
 from classes import described, refused
 from room import unread
@@ -15,7 +20,7 @@ def explains(room, sheet):
     report = room.report
     room.write("v", sheet)
     classes, left_out = described(b"s", room.read("s"), CODES), b"quality zones left out: 0\nremarks left out: 0\n"
-    held = b"accepted\nnodes: 1\narcs: 0\nfaces: 0\nobjects: 0\nlinks: 0\nx: 10.5 to 10.5\ny: 20 to 20\ncharacter set: IRV\n" + classes + left_out
+    held = b"accepted\nnodes: 1\narcs: 0\nfaces: 0\nobjects: 0\nlinks: 0\nx: 10.5 to 10.5\ny: 20 to 20\ncharacter set: IRV\nclass PGE NOD_id: 1\n" + classes + left_out
     room.expect("what an accepted sheet holds", ["explain", "s", "d", "v"], (0, held, b""))
     room.expect("the sheet on standard input, explained", ["explain", "s", "d", "-"], (0, held, b""), room.read("v"))
     room.write("empty", "BOMT 01:X\nEOMT 00:\n")
@@ -25,14 +30,18 @@ def explains(room, sheet):
     spread = "BOMT 01:X\n" + node.format(1, "a", 8, "-0.50") + node.format(1, "b", 4, "7") + "EOMT 00:\n"
     room.write("spread", spread)
     report.holds("the extent has decimals", b"\nx: -0.5 to 7\ny: 0 to 0\n" in room.run(["explain", "s", "d", "spread"])[1])
+    feature = "RTYSA03:FEA\nRIDSA01:{0}\nSCPCP27:EDAB01;SeSD;OBJ;PARCELLE_id\nATPCP22:EDAB01;SeSD;ATT;NOM_id\nATVSA01:{0}\n"
+    room.write("classes", "BOMT 01:X\n" + node.format(1, "a", 4, "7") + feature.format("o") + node.format(1, "b", 4, "8") + "EOMT 00:\n")
+    counted = [it for it in room.run(["explain", "s", "d", "classes"])[1].split(b"\n") if it.startswith(b"class ")]
+    report.check("how many records have each class", counted, [b"class OBJ PARCELLE_id: 1", b"class PGE NOD_id: 2"])
     room.write("two", "BOMT 01:X\n" + node.format(1, "a", 4, "7") + "\n" + node.format(2, "bb", 4, "8") + node.format(1, "a", 4, "9") + "EOMT 00:\n")
-    named = ("refused 301 record 3\ntwo:11: PNO a: type and identifier of an earlier record [301]\ntwo:2: PNO a: the earlier record [301]\n").encode()
+    named = ("refused 301 record 3\ntwo:11: PNO a: type and identifier of an earlier record [301]\ntwo:2: PNO a: the earlier record [301]\ntwo:12: RID a: the identifier [301]\n").encode()
     room.expect("a record with the name of an earlier one", ["explain", "s", "d", "two"], (2, named, b""))
     dashed = named.replace(b"two:", b"standard input:")
     room.expect("the same from standard input", ["explain", "s", "d", "-"], (2, dashed, b""), room.read("two"))
     room.write("equal", "BOMT 01:X\n" + node.format(1, "a", 4, "7") + node.format(1, "b", 4, "8") + node.format(1, "c", 4, "7") + "EOMT 00:\n")
     node_line = b"a node with the position, class, attributes and extras of an earlier node [403]\n"
-    room.expect("a node equal to an earlier one", ["explain", "s", "d", "equal"], (2, b"refused 403 record 3\nequal:10: PNO c: " + node_line + b"equal:2: PNO a: the earlier node [403]\n", b""))
+    room.expect("a node equal to an earlier one", ["explain", "s", "d", "equal"], (2, b"refused 403 record 3\nequal:10: PNO c: " + node_line + b"equal:2: PNO a: the earlier node [403]\nequal:13: COR 7;0;: the position [403]\n", b""))
     arc = "RTYSA03:PAR\nRIDSA01:{0}\nSCPCP22:EDAB01;SeSD;PGE;ARC_id\nCORCC04:{1};0;\nCORCC04:{2};0;\n"
     room.write("arcs", "BOMT 01:X\n" + arc.format("a", 1, 2) + arc.format("b", 2, 1) + "EOMT 00:\n")
     arcs = b"refused 405 record 2\narcs:7: PAR b: an arc with an earlier arc's points, in either direction [405]\narcs:2: PAR a: the earlier arc [405]\n"
@@ -40,7 +49,7 @@ def explains(room, sheet):
     room.write("cut", "BOMT 01:X\nRTYSA03:PNO\n")
     room.expect("a rule of lines", ["explain", "s", "d", "cut"], (2, b"refused 106 line 3\ncut:3: there is no EOM [106]\n", b""))
     room.write("twice", room.read("s").replace(b"RIDSA06:FAC_id", b"RIDSA06:NOD_id"))
-    twice = b"refused scd 602 record 3\ntwice:7: PGE NOD_id: type and identifier of an earlier record of the file [602]\ntwice:3: PGE NOD_id: the earlier record [602]\n"
+    twice = b"refused scd 602 record 3\ntwice:7: PGE NOD_id: type and identifier of an earlier record of the file [602]\ntwice:3: PGE NOD_id: the earlier record [602]\ntwice:8: RID NOD_id: the identifier [602]\n"
     room.expect("a refused schema", ["explain", "twice", "d", "v"], (2, twice, b""))
     for name, command in (("s", ["x", "d", "v"]), ("d", ["s", "x", "v"]), ("v", ["s", "d", "x"])):
         room.expect(f"explain without {name}", ["explain", *command], (4, b"", unread("x")))
@@ -139,6 +148,7 @@ def explains_hints(room, sheet):
         lines = [it for it in out.decode("latin-1").split("\n") if it.startswith("hint: ")]
         report.check(name, (status, lines, err), (2, wanted, b""))
 
+    cut = " seems to be cut: its last line has no end"
     mark, end = " begins with a byte order mark, which has to go", " ends in a byte 0x1A, which has to go"
     room.write("marked", b"\xef\xbb\xbf" + room.read("v"))
     room.write("closed", room.read("v") + b"\x1a")
@@ -161,9 +171,32 @@ def explains_hints(room, sheet):
     room.write("odd first", "BOMT 01:X\nRTYSA03:XXX\nRTYSA03:GTS\nRIDSA01:a\nEOMT 00:\n")
     hinted("a known type behind one that isn't known", ["s", "d", "odd first"], [])
     room.write("short", "BOMT 01:X\nRTYSA03:GT")
-    hinted("a type of two bytes", ["s", "d", "short"], [])
+    hinted("a type of two bytes", ["s", "d", "short"], ["hint: short" + cut])
     room.write("cut", "BOMT 01:X\nRTYSA03:PNO\n")
     hinted("nothing to hint at", ["s", "d", "cut"], [])
+    room.write("head", "BOMT 01:X\nRTYS")
+    hinted("a file that was cut in a head", ["s", "d", "head"], ["hint: head" + cut])
+    room.write("classes", "BOMT 01:X\nRTYSA03:OB")
+    hinted("classes that were cut", ["classes", "d", "v"], ["hint: classes" + cut])
+    room.write("behind", "BOMT 01:X\nRTYSA03:PN\nEOMT 00:")
+    hinted("a line in front of the last that is too short", ["s", "d", "behind"], [])
+    room.write("more", "BOMT 01:X\nRTYSA03:PNOX")
+    hinted("a last line that is too long", ["s", "d", "more"], [])
+    room.write("whole", "BOMT 01:X\nRTYSA03:PN\n")
+    hinted("a last line that has its end", ["s", "d", "whole"], [])
+    sheet = room.read("v")
+    tar = io.BytesIO()
+    with tarfile.open(fileobj=tar, mode="w") as archive:
+        archive.add(os.path.join(room.folder, "v"), "BZ.VEC")
+    zipped = io.BytesIO()
+    with zipfile.ZipFile(zipped, "w") as archive:
+        archive.writestr("v", sheet)
+    unpack, take, turned = " is packed with {0}: unpack it first", " is a {0} archive: take the files out of it first", " seems to have been turned into UTF-16, so take the file as it was delivered"
+    forms = (("bzip2", bz2.compress(sheet), unpack), ("gzip", gzip.compress(sheet), unpack), ("tar", tar.getvalue(), take), ("ZIP", zipped.getvalue(), take))
+    for form, packed, words in (*forms, ("UTF-16", b"\xff\xfe" + sheet.decode("latin-1").encode("utf-16-le"), turned), ("UTF-16 BE", b"\xfe\xff\0B", turned)):
+        room.write("packed", packed + b"\n\x1a")
+        hinted(f"a sheet in {form}", ["s", "d", "packed"], ["hint: packed" + words.format(form)])
+        hinted(f"a dictionary in {form}", ["s", "packed", "v"], ["hint: packed" + words.format(form)])
 
 
 def explains_lengths(room):
@@ -189,6 +222,66 @@ def explains_lengths(room):
     room.write("classes", room.read("s").replace(b"\n", "\nREMT 03:\u00e9t\u00e9\n".encode("utf-8"), 1))
     status, out, err = room.run(["explain", "classes", "d", "counted"])
     room.report.check("classes that were turned into UTF-8", (status, out.split(b"\n")[0], out.endswith(b" [103]\nhint: classes" + hint), err), (2, b"refused scd 103 line 2", True, b""))
+
+
+def explains_zones(room):
+    """The zone with which a record breaks a rule."""
+    front, end = "BOMT 01:X\n", "EOMT 00:\n"
+    pointer = "EDAB01;SeSD;{0}"
+    one = lambda code, value: f"{code}SA{len(value):02}:{value}\n"
+    record = lambda rty, *zones: one("RTY", rty) + "".join(one(*zone) for zone in zones)
+    rid, node, arc, link = ("RID", "a"), ("SCP", pointer.format("PGE;NOD_id")), ("SCP", pointer.format("PGE;ARC_id")), ("SCP", pointer.format("REL;INI_id"))
+    at, ends = ("COR", "7;0;"), (("FTP", "EDAB01;SeT1;PAR;c"), ("FTP", "EDAB01;SeT1;PNO;a"))
+    named = ("ATP", pointer.format("ATT;NOM_id"))
+
+    def said(name, records, rule, line):
+        """What stands behind the line of the record, and that of an earlier one."""
+        room.write("z", front + records + end)
+        status, out, err = room.run(["explain", "s", "d", "z"])
+        lines = out.decode().split("\n")[:-1]
+        zone = [it for it in lines[2:] if ": the earlier " not in it and ": the first link " not in it]
+        room.report.check(name, (status, lines[0].split()[1], zone, err), (2, str(rule), [f"z:{line} [{rule}]"] if line else [], b""))
+
+    said("no RID", record("PNO", node, at), 202, None)
+    said("an RID with a semicolon", record("PNO", ("RID", "a;b"), node, at), 202, "3: RID a;b: no identifier, or a second one")
+    said("a second RID", record("PNO", rid, node, at, ("RID", "b")), 202, "6: RID b: no identifier, or a second one")
+    said("an SCP with a part less", record("PNO", rid, ("SCP", "SeSD;PGE;NOD_id"), at), 203, "4: SCP SeSD;PGE;NOD_id: no pointer, or a second class")
+    said("a second SCP", record("PNO", rid, node, node, at), 203, "5: SCP EDAB01;SeSD;PGE;NOD_id: no pointer, or a second class")
+    said("an ATP that is no pointer", record("PNO", rid, node, at, named, ("ATP", "x")), 204, "7: ATP x: no pointer")
+    said("an ATV with no open attribute", record("PNO", rid, node, at, ("ATV", "x")), 204, None)
+    said("a count of attributes", record("PNO", rid, node, at, ("ATC", "02"), named), 205, "6: ATC 02: not the count, or a second one; there are 1")
+    said("a second count", record("PAR", rid, arc, ("PTC", "02"), at, at, ("PTC", "2")), 205, "8: PTC 2: not the count, or a second one; there are 2")
+    said("a count that is no number", record("LNK", rid, link, ("FTC", "+2"), *ends), 205, "5: FTC +2: not the count, or a second one; there are 2")
+    said("a count of points of no arc", record("PNO", rid, node, ("PTC", "9"), at, ("ATC", "1")), 205, "7: ATC 1: not the count, or a second one; there are 0")
+    said("a comma for a point", record("PNO", rid, node, ("COR", "7,5;0;")), 206, "5: COR 7,5;0;: no position, or a second one of a node")
+    said("a point of an arc with four numbers", record("PAR", rid, arc, at, ("COR", "1;2;3;4"), at), 206, "6: COR 1;2;3;4: no position, or a second one of a node")
+    said("a second position of a node", record("PNO", rid, node, at, ("COR", "1;2;3")), 206, "6: COR 1;2;3: no position, or a second one of a node")
+    said("a node without a position", record("PNO", rid, node), 206, None)
+    said("an arc of one point", record("PAR", rid, arc, at), 206, None)
+    said("an end that is no pointer", record("LNK", rid, link, ends[0], ("FTP", "PAR;c")), 207, "6: FTP PAR;c: no pointer")
+    said("a link of one end", record("LNK", rid, link, ends[0]), 207, None)
+    said("an identifier of an earlier record", record("PNO", rid, node, at) + record("PNO", node, at, rid), 301, "9: RID a: the identifier")
+    said("a class that there is none of", record("PNO", rid, ("SCP", pointer.format("PGE;X")), at), 302, "4: SCP EDAB01;SeSD;PGE;X: the class")
+    said("an attribute that there is no class of", record("PNO", rid, node, at, named, ("ATP", pointer.format("ATT;X"))), 303, "7: ATP EDAB01;SeSD;ATT;X: no class of an attribute")
+    said("a class that is none of attributes", record("PNO", rid, node, at, ("ATP", node[1])), 303, "6: ATP EDAB01;SeSD;PGE;NOD_id: no class of an attribute")
+    joined = record("PNO", rid, node, at) + record("PAR", ("RID", "c"), arc, at, ("COR", "1;2;"))
+    said("an end of another subset than the other", joined + record("LNK", rid, ("SCP", pointer.format("REL;ARC_id")), ends[0], ("FTP", "EDAB01;SeT2;PNO;a")), 302, "13: SCP EDAB01;SeSD;REL;ARC_id: the class")
+    said("an end of another subset than that before it", joined + record("LNK", rid, link, ends[0], ("FTP", "EDAB01;SeT2;PNO;a")), 304, "15: FTP EDAB01;SeT2;PNO;a: another lot or subset")
+    other = record("LNK", ("RID", "b"), link, ends[0], ("FTP", "EDAB02;SeT1;PNO;a"))
+    said("an end of another lot than the first", joined + record("LNK", rid, link, *ends) + other, 304, "20: FTP EDAB02;SeT1;PNO;a: another lot or subset")
+    said("a node that is equal to an earlier one", record("PNO", rid, node, at) + record("PNO", ("RID", "b"), node, at), 403, "9: COR 7;0;: the position")
+    initial, final = ("SCP", pointer.format("REL;INI_id")), ("SCP", pointer.format("REL;FIN_id"))
+    line = record("PAR", ("RID", "c"), arc, ("COR", "1;1"), ("COR", "2;2"), ("COR", "3;3"))
+    said("an arc that begins elsewhere", record("PNO", rid, node, at) + line + record("LNK", rid, initial, *ends), 401, "9: COR 1;1: the first point")
+    said("an arc that ends elsewhere", record("PNO", rid, node, at) + line + record("LNK", rid, final, *ends), 402, "11: COR 3;3: the last point")
+    said("a value of two lines", record("PNO", ("RID", "a"), node, ("COR", "7,"))  + "NEXT 02:5;\n", 206, "5: COR 7,5;: no position, or a second one of a node")
+    room.write("words", front + record("DIA", rid) + end)
+    room.write("classes", front + record("ATT", rid, ("DIP", "EDAB01;SeSD;DIA;b"), ("DIP", "x")) + end)
+    status, out, err = room.run(["explain", "classes", "words", "z"])
+    room.report.check("a class without a word", (status, out.split(b"\n")[2], err), (2, b"classes:4: DIP EDAB01;SeSD;DIA;b: the word of the class [603]", b""))
+    room.write("nameless", front + record("DIA", ("RID", "a;b")) + end)
+    status, out, err = room.run(["explain", "classes", "nameless", "z"])
+    room.report.check("a word without a name", (status, out.split(b"\n")[2], err), (2, b"nameless:3: RID a;b: no identifier, or a second one [601]", b""))
 
 
 def page_text(name):

@@ -198,6 +198,72 @@ def tinted(picture):
     return [it[2].split(" ")[1] for it in drawn(picture) if it[0] == "PFE" and it[4]]
 
 
+def record(kind, identifier, name, *zones):
+    """The lines of a record of this type and class."""
+    return [f"RTYSA03:{kind}", f"RIDSA{len(identifier):02}:{identifier}", pointer("SCP", "SeSD", name), *zones]
+
+
+def pointer(code, subset, name):
+    value = f"EDAB01;{subset};{name}"
+    return f"{code}CP{len(value):02}:{value}"
+
+
+def link(identifier, name, ends):
+    """A link of this class between ends, each as `PNO;Noeud_1`."""
+    return record("LNK", identifier, f"REL;{name}", f"FTCSN02:{len(ends):02}", *[pointer("FTP", "SeT1", it) for it in ends], "ATCSN02:00", "QACSN02:00")
+
+
+def position(x, y):
+    value = f"+{x}.00;+{y}.00;"
+    return f"CORCC{len(value):02}:{value}"
+
+
+def parcel_of_section(at):
+    """A triangle of one arc, with its node, its face and the links of these."""
+    node, arc, face = f"PNO;Noeud_{at}", f"PAR;Arc_{at}", f"PFE;Face_{at}"
+    x, none = 20 * at, ["ATCSN02:00", "QACSN02:00"]
+    corners = [position(x, 0), position(x + 10, 0), position(x + 5, 5), position(x, 0)]
+    return [
+        record("PNO", f"Noeud_{at}", "PGE;NOD_id", corners[0], *none),
+        record("PAR", f"Arc_{at}", "PGE;ARC_id", "TYPSN01:1", "PTCSN02:04", *corners, *none),
+        record("PFE", f"Face_{at}", "PGE;FAC_id", *none),
+        link(f"Start_{at}", "INI_id", [arc, node]),
+        link(f"End_{at}", "FIN_id", [arc, node]),
+        link(f"Side_{at}", "GCH_id", [arc, face]),
+    ]
+
+
+def section(count, name):
+    """So many parcels, and a section of this name of which all are parts by one link."""
+    attributes = ["ATCSN02:01", pointer("ATP", "SeSD", "ATT;NOM_id"), f"ATVSA{len(name):02}:{name}", "QACSN02:00"]
+    records = [it for at in range(1, count + 1) for it in parcel_of_section(at)]
+    records.append(record("FEA", "Section", "OBJ;PARCELLE_id", "CNCSN02:00", *attributes))
+    records.append(link("Parts", "CMP_id", ["FEA;Section"] + [f"PFE;Face_{at}" for at in range(1, count + 1)]))
+    lines = ["BOMT 12:EDAB01T1.VEC", "CSET 03:IRV", *[line for it in records for line in it], "EOMT 00:"]
+    return "".join(line + "\n" for line in lines)
+
+
+# two sections, each of so many parcels and of a name, and which faces are tinted where they are drawn. A link of a section of three
+# parcels names four records, and so a change of the section is one of each parcel
+SECTIONS = [
+    ((3, "A"), (3, "B"), ["Face_1", "Face_2", "Face_3"]),
+    ((4, "A"), (4, "B"), []),
+    ((4, "A"), (5, "A"), ["Face_5"]),
+    ((5, "A"), (4, "B"), ["Face_5"]),
+]
+
+
+def sections(room):
+    """Which parcels are tinted where their section changed."""
+    for first, second, faces in SECTIONS:
+        room.write("a3", section(*first))
+        room.write("b3", section(*second))
+        name = f"a section of {first} and of {second}"
+        room.expect(f"{name}: they differ", ["diff", "--brief", "--picture", "p", "s", "d", "a3", "b3"], (1, *room.run(["diff", "--brief", "s", "d", "a3", "b3"])[1:]))
+        room.report.check(f"{name}: which parcels are tinted", sorted(tinted(room.read("p"))), faces)
+        os.remove(room.path("p"))
+
+
 def differing(room, sheets):
     """A picture of what differs: with the lines of diff, for both answers, and for none where there is another."""
     report = room.report
@@ -209,6 +275,7 @@ def differing(room, sheets):
         room.run(["diff", "--picture", "p", *sheets])
         report.check(f"what is tinted and written for {second}", (tinted(room.read("p")), labels(room.read("p"))), TINTED[second])
         room.write("b", room.read("b2"))
+    sections(room)
     room.write("p", "kept")
     room.expect("a picture to -", ["diff", "--picture", "-", *sheets], (3, b"", b"--picture takes a file, and not -\n"))
     for words in (["bad", "d", "a", "b"], ["s", "bad", "a", "b"], ["s", "d", "bad", "bad"], ["s", "d", "a", "bad"], ["--kinds", "XA,XB,XC,IND", *sheets], ["s", "d", "a", "x"], ["s", "d", "a", "."]):

@@ -25,9 +25,10 @@ from cases import all_cases, named, read_cases
 from changed import changes
 from delivered import deliveries
 from commands import differences, files, hashes, kinds_noted, manual, pairings, shown, standard_streams, terminal, words
-from explained import explains, explains_hints, explains_kinds, explains_lengths, explains_partners, explains_rules
+from explained import explains, explains_hints, explains_kinds, explains_lengths, explains_partners, explains_rules, explains_zones
 from held import held
 from hostile import full_disk, hostile_folders, kills, most_records
+from manifested import manifests
 from paired import paired
 from pictured import pictures
 from preloaded import made_files, refused_growths
@@ -48,20 +49,22 @@ PARTS = {
     "shown": 8,
     "hashes": 34,
     "deliveries": 36,
+    "manifests": 110,
     "changes": 35,
     "lists held": 29,
     "kinds noted": 31,
-    "explains": 76,
+    "explains": 77,
     "explains kinds": 16,
     "pairings": 115,
     "paired": 183,
     "differences": 106,
     "presentations": 120,
-    "pictures": 115,
+    "pictures": 123,
     "explains partners": 5,
-    "explains hints": 15,
+    "explains hints": 32,
     "explains lengths": 9,
     "explains rules": 96,
+    "explains zones": 31,
     "manual": 26,
     "terminal": 3,
     "hostile folders": 11,
@@ -89,6 +92,7 @@ def works():
         "shown": shown,
         "hashes": lambda room: hashes(room, sheet, canonical),
         "deliveries": deliveries,
+        "manifests": manifests,
         "changes": changes,
         "lists held": lambda room: held(room, sheet, canonical),
         "kinds noted": lambda room: kinds_noted(room, sheet, canonical),
@@ -103,6 +107,7 @@ def works():
         "explains hints": lambda room: explains_hints(room, sheet),
         "explains lengths": explains_lengths,
         "explains rules": explains_rules,
+        "explains zones": explains_zones,
         "manual": manual,
         "terminal": terminal,
         "hostile folders": lambda room: hostile_folders(room, sheet),

@@ -1,9 +1,9 @@
 //! Files of cases.
 //!
-//! A file of cases is text. A line `--` stands between two blocks, a line `==` between two inputs of a block, and a line
-//! `->` before what is wanted. The first line of a block is its title. The first block of a file has the name of a call
-//! for a title; its inputs are an explanation and what all cases of the file share. A backslash at the end of a line joins the next line to
-//! it, so an input can end without a line feed.
+//! A file of cases is text. A line `--` stands between two blocks, a line `==` between two inputs of a block, and a
+//! line `->` before what is wanted. The first line of a block is its title. The first block of a file has the name of a
+//! call for a title; its inputs are an explanation and what all cases of the file share. A backslash at the end of a
+//! line joins the next line to it, so an input can end without a line feed.
 
 use anyhow::{Context, Result};
 use std::alloc::{AllocError, Global};

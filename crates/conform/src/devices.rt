@@ -35,8 +35,8 @@ fn push_length(answer: Result<Vec<u8>, ReadFault>, text: &mut String) -> Result<
     }
 }
 
-/// What `put_all` answers, and what went out. The first input is three numbers: the room of the writer, the bytes that a
-/// write takes at most, and the write that fails (0: none). The second input is the bytes.
+/// What `put_all` answers, and what went out. The first input is three numbers: the room of the writer, the bytes that
+/// a write takes at most, and the write that fails (0: none). The second input is the bytes.
 pub(crate) fn push_written(
     alloc: Global,
     case: &Case<'_>,
@@ -79,8 +79,8 @@ pub(crate) fn push_interrupted(alloc: Global, text: &mut String) -> Result<(), A
     text.push_str("\n")
 }
 
-/// How many bytes went out to a writer of the standard library that has room, whether they are those of the case, and how
-/// many to one with room for four bytes.
+/// How many bytes went out to a writer of the standard library that has room, whether they are those of the case, and
+/// how many to one with room for four bytes.
 pub(crate) fn push_passed_on(
     alloc: Global,
     case: &Case<'_>,

@@ -13,7 +13,8 @@ pub(crate) fn push_cut(alloc: Global, file: &str, text: &mut String) -> Result<(
     push_answer(zones(alloc, file.as_bytes()), text)
 }
 
-/// What a feed answers to each piece, of which each is an input, and what it answers at the end: the zones, or the refusal.
+/// What a feed answers to each piece, of which each is an input, and what it answers at the end: the zones, or the
+/// refusal.
 pub(crate) fn push_fed(
     alloc: Global,
     case: &Case<'_>,
@@ -26,7 +27,8 @@ pub(crate) fn push_fed(
     answers(alloc, &pieces, text)
 }
 
-/// The zones of a file, or its refusal; and in which pieces it is answered otherwise, of all two into which it can be cut.
+/// The zones of a file, or its refusal; and in which pieces it is answered otherwise, of all two into which it can be
+/// cut.
 pub(crate) fn push_in_pieces(
     alloc: Global,
     case: &Case<'_>,

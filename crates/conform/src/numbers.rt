@@ -5,7 +5,8 @@ use crate::text::push_bytes;
 use edi_line::Num;
 use std::alloc::{AllocError, Global};
 
-/// Of each line of the input: the millionths of the number that it spells, its plain and its signed spelling, or `none`.
+/// Of each line of the input: the millionths of the number that it spells, its plain and its signed spelling, or
+/// `none`.
 pub(crate) fn push_numbers(
     alloc: Global,
     case: &Case<'_>,

@@ -11,8 +11,8 @@ use edi_schema::{SchemaFault, Source};
 use edi_write::Written;
 use std::alloc::{AllocError, Global};
 
-/// The line of an outcome, and its status. The first input is the outcome, in words; the second has the names of the inputs in
-/// their order and of the output last, a line each.
+/// The line of an outcome, and its status. The first input is the outcome, in words; the second has the names of the
+/// inputs in their order and of the output last, a line each.
 pub(crate) fn push_outcome(
     alloc: Global,
     case: &Case<'_>,
@@ -64,7 +64,8 @@ fn outcome_of(alloc: Global, case: &Case<'_>) -> Result<Option<Outcome>, AllocEr
     }
 }
 
-// Why a file doesn't pair: by a node in the line of this number, by a node to which none goes, or by the character sets.
+// Why a file doesn't pair: by a node in the line of this number, by a node to which none goes, or by the character
+// sets.
 fn unpaired_of(alloc: Global, case: &Case<'_>) -> Result<Unpaired, AllocError> {
     match word(case, 1) {
         "unlike" => {

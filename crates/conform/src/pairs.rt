@@ -75,8 +75,8 @@ fn push_run(
     }
 }
 
-/// The pairing that `compare` finds: the record of the second sheet, from 1, that each record of the first goes to, with
-/// an `r` behind it where that is an arc to reverse.
+/// The pairing that `compare` finds: the record of the second sheet, from 1, that each record of the first goes to,
+/// with an `r` behind it where that is an arc to reverse.
 pub(crate) fn push_paired(
     alloc: Global,
     schema: &Schema,

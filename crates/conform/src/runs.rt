@@ -80,8 +80,8 @@ struct Ran {
     writes: u64,
 }
 
-/// Whether each run over the files of a sheet stops at each read that fails: it names that input, reads no later one and
-/// writes nothing.
+/// Whether each run over the files of a sheet stops at each read that fails: it names that input, reads no later one
+/// and writes nothing.
 pub(crate) fn push_reads(
     alloc: Global,
     setting: &Setting<'_>,

@@ -12,7 +12,8 @@ use edi_schema::{ClassRef, Role, Schema};
 use std::alloc::{AllocError, Global};
 
 /// What the schema of a schema file, a dictionary and four codes says of the classes that begin the lines of the wanted
-/// answer: `TYPE;IDENTIFIER ROLE PARTNER LETTER number`, or `text` last, or `none` behind the name. Classes rise by name.
+/// answer: `TYPE;IDENTIFIER ROLE PARTNER LETTER number`, or `text` last, or `none` behind the name. Classes rise by
+/// name.
 pub(crate) fn push_schema(
     alloc: Global,
     setting: &Setting<'_>,

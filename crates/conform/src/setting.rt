@@ -15,8 +15,8 @@ pub struct Setting<'a> {
 }
 
 impl<'a> Setting<'a> {
-    /// The setting that the head of a file of cases gives: behind the explanation a schema file and a dictionary, and the
-    /// codes for an answer. Cases that need no schema give none.
+    /// The setting that the head of a file of cases gives: behind the explanation a schema file and a dictionary, and
+    /// the codes for an answer. Cases that need no schema give none.
     pub(crate) fn of(alloc: Global, shared: &'a Case<'_>) -> Result<Setting<'a>> {
         let scd = shared.input(1);
         let dic = shared.input(2);

@@ -14,7 +14,8 @@ use Rattle.edi_line.specs.LineRules.{BreaksLineRule}
 use Rattle.edi_line.specs.Refusal.{IsUnbroken}
 use Rattle.edi_compare.specs.Runs.{IsProperSchemaFault, IfThreeKnown}
 use Rattle.edi_compare.specs.declared.fault.Fault.{Fault}
-use Rattle.edi_explain.specs.Explained.{DescribesPlan, ExplainsSchema, ExplainsSheet}
+use Rattle.edi_explain.specs.ClassCounts.{DescribesSheet}
+use Rattle.edi_explain.specs.Explained.{ExplainsSchema, ExplainsSheet}
 use Rattle.edi_explain.specs.Hints.{AreHintsOfSheet}
 use Rattle.edi_explain.specs.KindLines.{DescribesKinds}
 use Rattle.edi_explain.specs.Skipped.{DescribesSkipped}
@@ -36,7 +37,7 @@ module _ (kinds : KindCodes) (files : SheetFiles) (scd dic b : List ℕ) (said :
 
   module _ (s : Classes) (good : IsGoodSchema scd dic kinds s) where
     pub accepted_said : (p : Drawing) → IsAccepted s b → IsPlanOfFile s b p
-        → (said ≡ true) × ((lines : List ℕ) × DescribesPlan p lines × (text ≡ ended (codes "accepted") ++ lines)) → Tells
+        → (said ≡ true) × ((lines : List ℕ) × DescribesSheet s p lines × (text ≡ ended (codes "accepted") ++ lines)) → Tells
     accepted_said p accepted plan h = yes h.0 (s, p, h.1.0, good, accepted, plan, h.1.1, h.1.2)
 
     pub sheet_said : (f : Fault) (name : List ℕ) → name ≡ input_name files.vec.now → IsRefusal s b f

@@ -44,21 +44,24 @@ pub record Effects : Type 1 where
   pub Puts : List ℕ → List ℕ → Type 0
   -- why so many of these bytes went to a path, and no more
   pub Stops : List ℕ → ℕ → List ℕ → Type 0
-  -- If the folder tells what interruptions leave: at each moment a path has the file that it had, or a whole one of this kind, and no
-  -- other file that was there has changed, but for drafts of runs that were stopped.
+  -- If the folder tells what interruptions leave: at each moment a path has the file that it had, or a whole one of
+  -- this kind, and no other file that was there has changed, but for drafts of runs that were stopped.
   pub Replaces : List ℕ → (List ℕ → Type 0) → Type 0
   -- nothing in the folder has changed
   pub untouched : Type 0
 
 -- the effects on a folder, by what it is before and after
-abbrev pub effects : {F R S N M : Type 0} → folder.Ghosts F R S N M → byte_in.Ghosts R → byte_out.Ghosts S → byte_out.Ghosts N → F → F → Effects
+abbrev pub effects : {F R S N M : Type 0} → folder.Ghosts F R S N M → byte_in.Ghosts R → byte_out.Ghosts S
+    → byte_out.Ghosts N → F → F → Effects
 effects {S = S} {N = N} g r s n before after = record {
   inputs = inputs g r before;
   is_one = g.is_one before;
   why = g.why after;
   Puts = λ path. Reaches S (g.holds after path) (g.sinks before path) (g.ends after path) s.contents;
-  Stops = λ path. Stops S (IsUnmade N (g.unwritable after path) n.has_failed) (g.sinks before path) s.contents s.has_failed;
-  Replaces = λ path IsMade. g.tells before → Goes (g.moment before) (g.moment after) (g.left_since before) (g.left_since after)
+  Stops =
+      λ path. Stops S (IsUnmade N (g.unwritable after path) n.has_failed) (g.sinks before path) s.contents s.has_failed;
+  Replaces =
+      λ path IsMade. g.tells before → Goes (g.moment before) (g.moment after) (g.left_since before) (g.left_since after)
       (IsWholeOrNew path (IsSpare (g.is_stray before) (g.moment before) (g.left_since before)) IsMade);
   untouched = after ≡ before;
 }

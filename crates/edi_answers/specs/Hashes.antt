@@ -38,7 +38,8 @@ IsDigestOf s b digest = (c : List ℕ) × IsFormOf s b c × (digest ≡ sha256 c
 
 -- sheets of one plan have one digest
 abbrev pub OnePlanOneDigest : Type 0
-OnePlanOneDigest = (s : Classes) (a b x y : List ℕ) → IsSchema s → IsDigestOf s a x → IsDigestOf s b y → StateSame s a b → x ≡ y
+OnePlanOneDigest =
+    (s : Classes) (a b x y : List ℕ) → IsSchema s → IsDigestOf s a x → IsDigestOf s b y → StateSame s a b → x ≡ y
 
 -- sheets with one digest state one plan, or their canonical files are two and share their SHA-256
 abbrev pub OneDigestOnePlan : Type 0
@@ -53,12 +54,14 @@ HashFault inputs s path e =
     (λ n. (n ≡ 3) × HasFailedAt inputs path)
     (λ n. (n ≡ 3) × HoldsTooMuch inputs path)
     (λ _. ⊥)
-    (λ f. (contents : Option (List ℕ)) × Gives inputs path contents × IfSome contents (λ b. IsProper f × IsRefusal s b f))
+    (λ f. (contents : Option (List ℕ)) × Gives inputs path contents
+    × IfSome contents (λ b. IsProper f × IsRefusal s b f))
     (λ _. ⊥) (λ _. ⊥))
 
 -- what came of the sheet of a path: the digest of its canonical file, or why it has none
 abbrev pub IsAnswerOf : Inputs → Classes → List ℕ → Result (List ℕ) RunFault → Type 0
-IsAnswerOf inputs s path (Ok digest) = (contents : Option (List ℕ)) × Gives inputs path contents × IfSome contents (λ b. IsDigestOf s b digest)
+IsAnswerOf inputs s path (Ok digest) =
+    (contents : Option (List ℕ)) × Gives inputs path contents × IfSome contents (λ b. IsDigestOf s b digest)
 IsAnswerOf inputs s path (Err e) = HashFault inputs s path e
 
 -- the bytes of escapes, `n` and `r`
@@ -105,14 +108,20 @@ pub record Step : Type 0 where
   pub err : List ℕ
   pub status : ℕ
 
--- What a sheet adds: its digest's line, or its fault's line on errors, and then that of the fault's reason; without memory for
--- the lines, words that say so.
+-- What a sheet adds: its digest's line, or its fault's line on errors, and then that of the fault's reason; without
+-- memory for the lines, words that say so.
 abbrev pub IsStep : Inputs → Why → Classes → List ℕ → Step → Type 0
 IsStep inputs why s path step =
-    ((digest : List ℕ) × IsAnswerOf inputs s path (Ok digest) × (step ≡ record { out = digest_line digest path; err = []; status = 0 }))
+    ((digest : List ℕ) × IsAnswerOf inputs s path (Ok digest)
+    × (step ≡ record { out = digest_line digest path; err = []; status = 0 }))
     ⊎ (((e : RunFault) × (reason : Option Reason) × IsAnswerOf inputs s path (Err e) × IsReasonOf why e path reason
-    × (step ≡ record { out = []; err = fault_line e path ++ reason_line (escaped_name path) reason; status = status_of_fault e }))
-    ⊎ ((answer : Result (List ℕ) RunFault) × IsAnswerOf inputs s path answer × (step ≡ record { out = []; err = ended (codes "out of memory"); status = 5 })))
+    × (step ≡ record {
+      out = [];
+      err = fault_line e path ++ reason_line (escaped_name path) reason;
+      status = status_of_fault e;
+    }))
+    ⊎ ((answer : Result (List ℕ) RunFault) × IsAnswerOf inputs s path answer
+    × (step ≡ record { out = []; err = ended (codes "out of memory"); status = 5 })))
 
 -- the greatest status
 abbrev pub worst_of : List Step → ℕ
@@ -128,18 +137,21 @@ said_err steps = flat_map (λ (step : Step). step.err) steps
 -- Each sheet was answered, in order: the streams got what the sheets add, and the status is the greatest of theirs.
 abbrev pub AreAnswered : Inputs → Why → Classes → Stream → Stream → List (List ℕ) → ℕ → Type 0
 AreAnswered inputs why s out err paths status =
-    (steps : List Step) × AllZip (IsStep inputs why s) paths steps × Prints out (said_out steps) × Warns err (said_err steps) × (status ≡ worst_of steps)
+    (steps : List Step) × AllZip (IsStep inputs why s) paths steps × Prints out (said_out steps)
+    × Warns err (said_err steps) × (status ≡ worst_of steps)
 
 -- Each sheet before that of a path was answered, and the output failed in the line of that one.
 abbrev pub IsCutOff : Inputs → Why → Classes → Stream → Stream → List (List ℕ) → ℕ → Type 0
 IsCutOff inputs why s out err paths status =
-    (done : List (List ℕ)) × (path : List ℕ) × (more : List (List ℕ)) × (steps : List Step) × (digest : List ℕ) × (count : ℕ)
+    (done : List (List ℕ)) × (path : List ℕ) × (more : List (List ℕ)) × (steps : List Step) × (digest : List ℕ)
+    × (count : ℕ)
     × (paths ≡ done ++ path ∷ more) × AllZip (IsStep inputs why s) done steps × IsAnswerOf inputs s path (Ok digest)
     × Prints out (said_out steps ++ take count (digest_line digest path)) × IsTrue out.failed
     × Warns err (said_err steps ++ ended (codes "cannot write standard output")) × (status ≡ 4)
 
 abbrev pub AnswersAll : Inputs → Why → Classes → Stream → Stream → List (List ℕ) → ℕ → Type 0
-AnswersAll inputs why s out err paths status = AreAnswered inputs why s out err paths status ⊎ IsCutOff inputs why s out err paths status
+AnswersAll inputs why s out err paths status =
+    AreAnswered inputs why s out err paths status ⊎ IsCutOff inputs why s out err paths status
 
 -- the line of a schema: `schema `, and then as that of a sheet its digest, and the name of its file of classes
 abbrev pub schema_line : Classes → List ℕ → List ℕ
@@ -169,7 +181,8 @@ AnswersUnder inputs why s out err files with_schema status =
 abbrev pub GivesSchema : Inputs → KindCodes → ManyFiles → Classes → List ℕ → Type 0
 GivesSchema inputs kinds files s note = (scd dic : Option (List ℕ)) × Gives inputs files.scd.now scd
     × Gives inputs files.dic.now dic × IfBothKnown scd dic (λ a b. IsGoodSchema a b kinds s)
-    × NamesSomeKinds (escaped_name files.scd.now) note × IfSome scd (λ a. IsNote kinds a (escaped_name files.scd.now) note)
+    × NamesSomeKinds (escaped_name files.scd.now) note
+    × IfSome scd (λ a. IsNote kinds a (escaped_name files.scd.now) note)
 
 -- the path of an input of two
 abbrev pub schema_path_at : ManyFiles → ℕ → List ℕ
@@ -177,14 +190,16 @@ schema_path_at files n = if n == 1 then files.scd.now else files.dic.now
 
 -- the two files of the schema, where their contents are known, are refused
 abbrev pub RefusesFiles : Inputs → KindCodes → ManyFiles → SchemaRefusal → Type 0
-RefusesFiles inputs kinds files f = (scd dic : Option (List ℕ)) × Gives inputs files.scd.now scd × Gives inputs files.dic.now dic
+RefusesFiles inputs kinds files f =
+    (scd dic : Option (List ℕ)) × Gives inputs files.scd.now scd × Gives inputs files.dic.now dic
     × IfBothKnown scd dic (λ a b. RefusesSchema kinds a b f)
 
--- Why there is no schema. One of the two files is missing; or both were opened, and this one failed or is too long, or the
--- schema is refused.
+-- Why there is no schema. One of the two files is missing; or both were opened, and this one failed or is too long, or
+-- the schema is refused.
 abbrev pub LoadFault : Inputs → KindCodes → ManyFiles → RunFault → Type 0
 LoadFault inputs kinds files e =
-    ((n : ℕ) × OfTwo n (IsThere inputs files.scd.now) (IsMissing inputs files.scd.now) (IsMissing inputs files.dic.now) × (e ≡ Read n))
+    ((n : ℕ) × OfTwo n (IsThere inputs files.scd.now) (IsMissing inputs files.scd.now) (IsMissing inputs files.dic.now)
+    × (e ≡ Read n))
     ⊎ (IsThere inputs files.scd.now × IsThere inputs files.dic.now × MatchFault e
     (λ n. (1 ≤ n) × (n ≤ 2) × HasFailedAt inputs (schema_path_at files n))
     (λ n. (1 ≤ n) × (n ≤ 2) × HoldsTooMuch inputs (schema_path_at files n))
@@ -210,18 +225,20 @@ schema_fault_path files (First f) = []
 schema_fault_path files (Second f) = []
 schema_fault_path files (Write w) = []
 
--- what standard error was told of a fault at a path, and the status: its line, and then that of its reason; or that there is no memory
--- for them
+-- what standard error was told of a fault at a path, and the status: its line, and then that of its reason; or that
+-- there is no memory for them
 abbrev pub TellsFault : Why → Stream → RunFault → List ℕ → ℕ → Type 0
 TellsFault why err e path s =
-    ((s ≡ status_of_fault e) × ((reason : Option Reason) × IsReasonOf why e path reason × Warns err (fault_line e path ++ reason_line (escaped_name path) reason)))
+    ((s ≡ status_of_fault e) × ((reason : Option Reason) × IsReasonOf why e path reason
+    × Warns err (fault_line e path ++ reason_line (escaped_name path) reason)))
     ⊎ ((s ≡ 5) × LacksMemory err)
 
--- The status of a run over many sheets. The schema is loaded, the errors got the note on its kinds first, and each sheet
--- was answered under it, behind its line where that is asked for, or the output failed; or there is none, which is said of
--- its file, and the output got nothing.
+-- The status of a run over many sheets. The schema is loaded, the errors got the note on its kinds first, and each
+-- sheet was answered under it, behind its line where that is asked for, or the output failed; or there is none, which
+-- is said of its file, and the output got nothing.
 abbrev pub IsHashStatus : Effects → Stream → Stream → KindCodes → ManyFiles → Bool → ℕ → Type 0
 IsHashStatus run out err kinds files with_schema status =
     ((s : Classes) × (note : List ℕ) × GivesSchema run.inputs kinds files s note
     × InTurn err (λ e. Notes e note) (λ e. AnswersUnder run.inputs run.why s out e files with_schema status))
-    ⊎ ((e : RunFault) × LoadFault run.inputs kinds files e × TellsFault run.why err e (schema_fault_path files e) status × Prints out [])
+    ⊎ ((e : RunFault) × LoadFault run.inputs kinds files e × TellsFault run.why err e (schema_fault_path files e) status
+    × Prints out [])

@@ -7,7 +7,7 @@ use Rattle.edi_words.specs.declared.words.BadKinds.{BadKinds as BadCodes}
 use Rattle.edi_words.specs.declared.words.KindsFault.{KindsFault}
 use Rattle.edi_words.specs.declared.words.KindsFault.TheVariants.{Count, Empty, Twice}
 use Rattle.edi_words.specs.declared.words.Misuse.{Misuse}
-use Rattle.edi_words.specs.declared.words.Misuse.TheVariants.{BadKinds, TwoStandard, NoSheet, NothingHashed, ListAndMore, StandardPairing, StandardPicture}
+use Rattle.edi_words.specs.declared.words.Misuse.TheVariants.{BadKinds, TwoStandard, NoSheet, NothingHashed, ListAndMore, StandardPairing, StandardPicture, NotOneManifest}
 
 -- what is wrong with codes, in words
 abbrev pub kinds_fault_words : KindsFault → List ℕ
@@ -17,7 +17,9 @@ kinds_fault_words (Twice code) = shown_bytes code.now ++ codes " is there twice"
 
 -- the line for codes that are bad, and then that of what was given
 abbrev pub bad_kinds_lines : BadCodes → List ℕ
-bad_kinds_lines bad = ended (misuse_text (BadKinds bad)) ++ ended (codes "edicad: --kinds " ++ shown_bytes bad.given.now ++ codes ": " ++ kinds_fault_words bad.fault)
+bad_kinds_lines bad =
+    ended (misuse_text (BadKinds bad))
+    ++ ended (codes "edicad: --kinds " ++ shown_bytes bad.given.now ++ codes ": " ++ kinds_fault_words bad.fault)
 
 -- what is said of words that can't be meant
 abbrev pub misuse_lines : Misuse → List ℕ
@@ -28,6 +30,7 @@ misuse_lines NothingHashed = ended (misuse_text NothingHashed)
 misuse_lines ListAndMore = ended (misuse_text ListAndMore)
 misuse_lines StandardPairing = ended (misuse_text StandardPairing)
 misuse_lines StandardPicture = ended (misuse_text StandardPicture)
+misuse_lines NotOneManifest = ended (misuse_text NotOneManifest)
 
 -- whether that shows what was given, which takes memory
 abbrev pub shows_words : Misuse → Bool
@@ -38,7 +41,10 @@ shows_words NothingHashed = false
 shows_words ListAndMore = false
 shows_words StandardPairing = false
 shows_words StandardPicture = false
+shows_words NotOneManifest = false
 
 -- what is said of words that are not all UTF-8
 abbrev pub not_text_lines : List ℕ
-not_text_lines = ended (codes "error: the words are not all UTF-8") ++ ended (codes "edicad: name such a file by a link whose name is, or read it by - from standard input")
+not_text_lines =
+    ended (codes "error: the words are not all UTF-8")
+    ++ ended (codes "edicad: name such a file by a link whose name is, or read it by - from standard input")

@@ -8,7 +8,7 @@ use Rattle.edi_explain.specs.KindLines.{NameLacking, lacking_words}
 use Rattle.edi_files.specs.Reasons.{ended}
 use Rattle.edi_shown.specs.Shown.{shown_bytes}
 use Rattle.edi_words.specs.declared.words.Request.{Request}
-use Rattle.edi_words.specs.declared.words.Request.TheVariants.{Bundle, Check, Canon, Pair, Hash, CheckList, Delivery, Explain, Rule, Draw, Changed, Misused, Answered}
+use Rattle.edi_words.specs.declared.words.Request.TheVariants.{Bundle, Check, Canon, Pair, Hash, CheckList, Delivery, Manifest, CheckManifest, Explain, Rule, Draw, Changed, Misused, Answered}
 use Rattle.edi_answers.specs.Effects.{Inputs, Stream}
 use Rattle.edi_answers.specs.Paths.{input_name}
 use Rattle.edi_answers.specs.SheetRuns.{Gives}
@@ -29,20 +29,22 @@ IsNote kinds scd name note = (words : List ℕ) × NameLacking kinds scd words �
 
 -- the note on a file of classes that may break a rule of lines: then there is none
 abbrev pub IsNoteOn : KindCodes → List ℕ → List ℕ → List ℕ → Type 0
-IsNoteOn kinds scd name note = (IsUnbroken (BreaksLineRule scd) × IsNote kinds scd name note) ⊎ (¬ (IsUnbroken (BreaksLineRule scd)) × (note ≡ []))
+IsNoteOn kinds scd name note =
+    (IsUnbroken (BreaksLineRule scd) × IsNote kinds scd name note) ⊎ (¬ (IsUnbroken (BreaksLineRule scd)) × (note ≡ []))
 
 -- a note on a file of classes by this name, whatever it holds: the line on some of the four kinds, or nothing
 abbrev pub NamesSomeKinds : List ℕ → List ℕ → Type 0
 NamesSomeKinds name note = (some : ByRole Bool) × (note ≡ note_line name (lacking_words some))
 
--- The note on the file of classes of a path, by its name: that on its contents, where they are known; and where they are
--- not, one that names some of the four kinds, or none.
+-- The note on the file of classes of a path, by its name: that on its contents, where they are known; and where they
+-- are not, one that names some of the four kinds, or none.
 abbrev pub GivesNote : Inputs → KindCodes → List ℕ → List ℕ → Type 0
 GivesNote inputs kinds path note = (contents : Option (List ℕ)) × Gives inputs path contents
     × NamesSomeKinds (shown_bytes (input_name path)) note
     × IfSome contents (λ scd. IsNoteOn kinds scd (shown_bytes (input_name path)) note)
 
--- a place for the note has that of the file of classes of a path, or what it had where the status says that there is no answer
+-- a place for the note has that of the file of classes of a path, or what it had where the status says that there is no
+-- answer
 abbrev pub HasNoteOf : Inputs → KindCodes → List ℕ → ℕ → List ℕ → List ℕ → Type 0
 HasNoteOf inputs kinds path status old new = GivesNote inputs kinds path new ⊎ ((2 < status) × (new ≡ old))
 
@@ -50,8 +52,8 @@ HasNoteOf inputs kinds path status old new = GivesNote inputs kinds path new ⊎
 abbrev pub IsNotedAs : Inputs → KindCodes → List ℕ → ℕ → List ℕ → Type 0
 IsNotedAs inputs kinds path status note = GivesNote inputs kinds path note ⊎ ((2 < status) × (note ≡ []))
 
--- The note behind the answer to a request that ends with this status: on the file of classes of one or two sheets. `hash` and
--- `delivery` say theirs first, and `explain` says the class of each kind.
+-- The note behind the answer to a request that ends with this status: on the file of classes of one or two sheets.
+-- `hash` and `delivery` say theirs first, and `explain` says the class of each kind.
 abbrev pub IsNoteOf : Inputs → Request → ℕ → List ℕ → Type 0
 IsNoteOf inputs Bundle status note = note ≡ []
 IsNoteOf inputs (Check kinds files) status note = IsNotedAs inputs kinds files.scd.now status note
@@ -60,6 +62,8 @@ IsNoteOf inputs (Pair kinds files what) status note = IsNotedAs inputs kinds fil
 IsNoteOf inputs (Hash kinds files with_schema) status note = note ≡ []
 IsNoteOf inputs (CheckList kinds files list) status note = note ≡ []
 IsNoteOf inputs (Delivery kinds paths) status note = note ≡ []
+IsNoteOf inputs (Manifest kinds path file) status note = note ≡ []
+IsNoteOf inputs (CheckManifest kinds path manifest) status note = note ≡ []
 IsNoteOf inputs (Explain kinds files) status note = note ≡ []
 IsNoteOf inputs (Rule word) status note = note ≡ []
 IsNoteOf inputs (Draw kinds files out) status note = IsNotedAs inputs kinds files.scd.now status note

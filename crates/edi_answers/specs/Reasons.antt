@@ -40,7 +40,8 @@ IsReason why (Fault e) paths reason = IsReasonOf why e (path_of_fault e paths) r
 -- the line on so many bytes that a stream of this path took before it failed, where it took any
 abbrev pub taken_line : List ℕ → ℕ → List ℕ
 taken_line path count = if count == 0 then []
-    else ended (codes "edicad: " ++ shown_bytes (output_name path) ++ codes ": the first " ++ decimal count ++ codes " bytes were written")
+    else ended (codes "edicad: " ++ shown_bytes (output_name path) ++ codes ": the first " ++ decimal count
+    ++ codes " bytes were written")
 
 -- that line of a fault at a path: only writing leaves a part
 abbrev pub length_line : RunFault → List ℕ → List ℕ
@@ -65,4 +66,5 @@ length_line_for (Fault e) paths = length_line e (path_of_fault e paths)
 -- the line of an outcome, then that of its reason, then that of how much was written
 abbrev pub lines_for : Outcome → List (List ℕ) → Option Reason → List ℕ
 lines_for outcome paths reason =
-    (ended (words_for outcome (names_of_paths paths)) ++ reason_line (shown_bytes (path_for outcome paths)) reason) ++ length_line_for outcome paths
+    (ended (words_for outcome (names_of_paths paths)) ++ reason_line (shown_bytes (path_for outcome paths)) reason)
+    ++ length_line_for outcome paths

@@ -41,5 +41,9 @@ EachUntil AnswerTo StopAt (x ∷ xs) out err s =
     StopAt x out err s ⊎ OneThenOther (AnswerTo x) (EachUntil AnswerTo StopAt xs) out err s
 
 -- the errors got these lines, with this status; or there was no memory for them
+abbrev pub ErrorsSay : List ℕ → ℕ → Stream → ℕ → Type 0
+ErrorsSay lines status err s = ((s ≡ status) × Notes err lines) ⊎ ((s ≡ 5) × LacksMemory err)
+
+-- and the output got nothing
 abbrev pub SaysLines : List ℕ → ℕ → Reply
-SaysLines lines status out err s = Prints out [] × (((s ≡ status) × Notes err lines) ⊎ ((s ≡ 5) × LacksMemory err))
+SaysLines lines status out err s = Prints out [] × ErrorsSay lines status err s

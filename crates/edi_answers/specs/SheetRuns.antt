@@ -34,7 +34,9 @@ IsMissing inputs path = (is_standard_path path ≡ false) × inputs.closed path
 
 -- a fact of what the three files hold, where it is known
 abbrev pub OfFiles : Inputs → SheetFiles → (List ℕ → List ℕ → List ℕ → Type 0) → Type 0
-OfFiles inputs files P = (s d v : Option (List ℕ)) × Gives inputs files.scd.now s × Gives inputs files.dic.now d × Gives inputs files.vec.now v × IfThreeKnown s d v P
+OfFiles inputs files P =
+    (s d v : Option (List ℕ)) × Gives inputs files.scd.now s × Gives inputs files.dic.now d
+    × Gives inputs files.vec.now v × IfThreeKnown s d v P
 
 -- all three were opened
 abbrev pub AreThere : Inputs → SheetFiles → Type 0
@@ -53,8 +55,8 @@ path_at files n = if n == 1 then files.scd.now else if n == 2 then files.dic.now
 abbrev pub HoldsTooMuch : Inputs → List ℕ → Type 0
 HoldsTooMuch inputs path = (contents : Option (List ℕ)) × Gives inputs path contents × IsTooLong contents
 
--- Why a run over the files has no answer. One of the three is missing; or all were opened, and this one failed or is too
--- long, the schema or the sheet is refused, or so many bytes went out before the writer failed.
+-- Why a run over the files has no answer. One of the three is missing; or all were opened, and this one failed or is
+-- too long, the schema or the sheet is refused, or so many bytes went out before the writer failed.
 abbrev pub FileFault : Inputs → KindCodes → SheetFiles → (ℕ → Type 0) → RunFault → Type 0
 FileFault inputs kinds files W e =
     ((n : ℕ) × FirstMissing inputs files n × (e ≡ Read n))
@@ -65,8 +67,8 @@ FileFault inputs kinds files W e =
     (λ f. OfFiles inputs files (λ s d v. RefusesSheet kinds s d v f))
     (λ _. ⊥) W)
 
--- Why a run over the bundle on standard input, which may hold these contents, has no answer: it failed or is too long, the
--- schema or the sheet is refused, or so many bytes went out before the writer failed.
+-- Why a run over the bundle on standard input, which may hold these contents, has no answer: it failed or is too long,
+-- the schema or the sheet is refused, or so many bytes went out before the writer failed.
 abbrev pub StandardFault : Inputs → Option (List ℕ) → (ℕ → Type 0) → RunFault → Type 0
 StandardFault inputs contents W e = MatchFault e
     (λ n. (n ≡ 1) × ((device : ℕ) × inputs.is_input device × inputs.failed device))
@@ -84,27 +86,36 @@ IsApart is_one out path = (is_standard_path path ≡ true) ⊎ ((path ≢ out) �
 
 -- a fact of what the four files of two sheets hold, where it is known
 abbrev pub OfPair : Inputs → PairFiles → (List ℕ → List ℕ → List ℕ → List ℕ → Type 0) → Type 0
-OfPair inputs files P = (s d a b : Option (List ℕ)) × Gives inputs files.scd.now s × Gives inputs files.dic.now d × Gives inputs files.first.now a
+OfPair inputs files P =
+    (s d a b : Option (List ℕ)) × Gives inputs files.scd.now s × Gives inputs files.dic.now d
+    × Gives inputs files.first.now a
     × Gives inputs files.second.now b × IfFourKnown s d a b P
 
 -- all four were opened
 abbrev pub AreFourThere : Inputs → PairFiles → Type 0
 AreFourThere inputs files =
-    IsThere inputs files.scd.now × IsThere inputs files.dic.now × IsThere inputs files.first.now × IsThere inputs files.second.now
+    IsThere inputs files.scd.now × IsThere inputs files.dic.now × IsThere inputs files.first.now
+    × IsThere inputs files.second.now
 
 -- the first of the four that is missing
 abbrev pub FirstOfFourMissing : Inputs → PairFiles → ℕ → Type 0
-FirstOfFourMissing inputs files n = OfFour n (IsThere inputs files.scd.now) (IsThere inputs files.dic.now) (IsThere inputs files.first.now)
-    (IsMissing inputs files.scd.now) (IsMissing inputs files.dic.now) (IsMissing inputs files.first.now) (IsMissing inputs files.second.now)
+FirstOfFourMissing inputs files n =
+    OfFour n (IsThere inputs files.scd.now) (IsThere inputs files.dic.now) (IsThere inputs files.first.now)
+    (IsMissing inputs files.scd.now) (IsMissing inputs files.dic.now) (IsMissing inputs files.first.now)
+    (IsMissing inputs files.second.now)
 
 -- the path of an input
 abbrev pub pair_path_at : PairFiles → ℕ → List ℕ
-pair_path_at files n = if n == 1 then files.scd.now else if n == 2 then files.dic.now else if n == 3 then files.first.now else files.second.now
+pair_path_at files n =
+    if n == 1 then files.scd.now
+    else if n == 2 then files.dic.now
+    else if n == 3 then files.first.now else files.second.now
 
--- A fact for each reason why a run over two sheets that were opened has no answer: this input failed or is too long, the
--- schema is refused, the first sheet is, or the second where the first is accepted, or so many bytes went out before the
--- writer failed.
-abbrev pub MatchPairFault : Inputs → KindCodes → PairFiles → (ℕ → Type 0) → (ℕ → Type 0) → (ℕ → Type 0) → RunFault → Type 0
+-- A fact for each reason why a run over two sheets that were opened has no answer: this input failed or is too long,
+-- the schema is refused, the first sheet is, or the second where the first is accepted, or so many bytes went out
+-- before the writer failed.
+abbrev pub MatchPairFault : Inputs → KindCodes → PairFiles → (ℕ → Type 0) → (ℕ → Type 0) → (ℕ → Type 0) → RunFault
+    → Type 0
 MatchPairFault inputs kinds files R T W e = MatchFault e R T
     (λ f. OfPair inputs files (λ s d a b. RefusesSchema kinds s d f))
     (λ f. OfPair inputs files (λ s d a b. RefusesSheet kinds s d a f))
@@ -123,39 +134,48 @@ PairFileFault inputs kinds files W e =
 -- ---- what is made of two sheets, put at a path
 
 -- what is made of the two sheets, as IsMade says, of which this holds
-abbrev pub OfMadePair : Inputs → (List ℕ → List ℕ → List ℕ → List ℕ → List ℕ → Type 0) → PairFiles → (List ℕ → Type 0) → Type 0
+abbrev pub OfMadePair : Inputs → (List ℕ → List ℕ → List ℕ → List ℕ → List ℕ → Type 0) → PairFiles → (List ℕ → Type 0)
+    → Type 0
 OfMadePair inputs IsMade files P = OfPair inputs files (λ s d a b. (bytes : List ℕ) × IsMade s d a b bytes × P bytes)
 
 -- FILE is one of the inputs, and none of them
 abbrev pub IsPairInput : (List ℕ → List ℕ → Bool → Type 0) → PairFiles → List ℕ → Type 0
 IsPairInput is_one files out =
-    Meets is_one out files.scd.now ⊎ (Meets is_one out files.dic.now ⊎ (Meets is_one out files.first.now ⊎ Meets is_one out files.second.now))
+    Meets is_one out files.scd.now
+    ⊎ (Meets is_one out files.dic.now ⊎ (Meets is_one out files.first.now ⊎ Meets is_one out files.second.now))
 
 abbrev pub IsNoPairInput : (List ℕ → List ℕ → Bool → Type 0) → PairFiles → List ℕ → Type 0
 IsNoPairInput is_one files out =
-    IsApart is_one out files.scd.now × IsApart is_one out files.dic.now × IsApart is_one out files.first.now × IsApart is_one out files.second.now
+    IsApart is_one out files.scd.now × IsApart is_one out files.dic.now × IsApart is_one out files.first.now
+    × IsApart is_one out files.second.now
 
 -- What is made of the two sheets, as IsMade says, is at FILE, which is no input.
 abbrev pub IsPairPut : Effects → (List ℕ → List ℕ → List ℕ → List ℕ → List ℕ → Type 0) → PairFiles → List ℕ → Type 0
 IsPairPut run IsMade files out = IsNoPairInput run.is_one files out × OfMadePair run.inputs IsMade files (run.Puts out)
 
--- Why it is not: FILE is an input, and nothing was opened; or the run has no answer. Nothing in the folder has changed, unless the fault
--- came while writing to FILE.
-abbrev pub PutPairFault : Effects → (List ℕ → List ℕ → List ℕ → List ℕ → List ℕ → Type 0) → KindCodes → PairFiles → List ℕ → RunFault → Type 0
+-- Why it is not: FILE is an input, and nothing was opened; or the run has no answer. Nothing in the folder has changed,
+-- unless the fault came while writing to FILE.
+abbrev pub PutPairFault : Effects → (List ℕ → List ℕ → List ℕ → List ℕ → List ℕ → Type 0) → KindCodes → PairFiles
+    → List ℕ → RunFault → Type 0
 PutPairFault run IsMade kinds files out e =
     (IsPairInput run.is_one files out × (e ≡ Write (record { count = 0 })) × run.untouched)
-    ⊎ (IsNoPairInput run.is_one files out × PairFileFault run.inputs kinds files (λ count. OfMadePair run.inputs IsMade files (run.Stops out count)) e
+    ⊎ (IsNoPairInput run.is_one files out
+    × PairFileFault run.inputs kinds files (λ count. OfMadePair run.inputs IsMade files (run.Stops out count)) e
     × BeforeWriting e run.untouched)
 
 -- at each moment FILE has the file that it had, or the whole of what is made of the two sheets
-abbrev pub IsPairReplaced : Effects → (List ℕ → List ℕ → List ℕ → List ℕ → List ℕ → Type 0) → PairFiles → List ℕ → Type 0
-IsPairReplaced run IsMade files out = run.Replaces out (λ bytes. OfPair run.inputs files (λ s d a b. IsMade s d a b bytes))
+abbrev pub IsPairReplaced : Effects → (List ℕ → List ℕ → List ℕ → List ℕ → List ℕ → Type 0) → PairFiles → List ℕ
+    → Type 0
+IsPairReplaced run IsMade files out =
+    run.Replaces out (λ bytes. OfPair run.inputs files (λ s d a b. IsMade s d a b bytes))
 
 -- ---- the file of a pairing, checked
 
 -- a fact of what the four files of two sheets and that of a pairing hold, where it is known
 abbrev pub OfFive : Inputs → PairFiles → List ℕ → (List ℕ → List ℕ → List ℕ → List ℕ → List ℕ → Type 0) → Type 0
-OfFive inputs files pairing P = (s d a b f : Option (List ℕ)) × Gives inputs files.scd.now s × Gives inputs files.dic.now d × Gives inputs files.first.now a
+OfFive inputs files pairing P =
+    (s d a b f : Option (List ℕ)) × Gives inputs files.scd.now s × Gives inputs files.dic.now d
+    × Gives inputs files.first.now a
     × Gives inputs files.second.now b × Gives inputs pairing f × IfFiveKnown s d a b f P
 
 -- all five were opened
@@ -164,14 +184,15 @@ AreFiveThere inputs files pairing = AreFourThere inputs files × IsThere inputs 
 
 -- the first of the five that is missing
 abbrev pub FirstOfFiveMissing : Inputs → PairFiles → List ℕ → ℕ → Type 0
-FirstOfFiveMissing inputs files pairing n = FirstOfFourMissing inputs files n ⊎ ((n ≡ 5) × AreFourThere inputs files × IsMissing inputs pairing)
+FirstOfFiveMissing inputs files pairing n =
+    FirstOfFourMissing inputs files n ⊎ ((n ≡ 5) × AreFourThere inputs files × IsMissing inputs pairing)
 
 -- the path of an input
 abbrev pub verify_path_at : PairFiles → List ℕ → ℕ → List ℕ
 verify_path_at files pairing n = if n == 5 then pairing else pair_path_at files n
 
--- Why the check of a pairing's file has no answer, but for a file that states no pairing. One of the five is missing; or all
--- were opened.
+-- Why the check of a pairing's file has no answer, but for a file that states no pairing. One of the five is missing;
+-- or all were opened.
 abbrev pub VerifyFileFault : Inputs → KindCodes → PairFiles → List ℕ → RunFault → Type 0
 VerifyFileFault inputs kinds files pairing e =
     ((n : ℕ) × FirstOfFiveMissing inputs files pairing n × (e ≡ Read n))

@@ -60,7 +60,8 @@ Warns stream text = GoesOut stream.before stream.after stream.failed text
 
 -- a stream got the line of an outcome and then that of its reason, or it has failed
 abbrev pub WarnsWhy : Why → Stream → Outcome → List (List ℕ) → Type 0
-WarnsWhy why stream outcome paths = (reason : Option Reason) × IsReason why outcome paths reason × Warns stream (lines_for outcome paths reason)
+WarnsWhy why stream outcome paths =
+    (reason : Option Reason) × IsReason why outcome paths reason × Warns stream (lines_for outcome paths reason)
 
 -- standard output got the text, and standard error nothing
 abbrev pub Answers : Stream → Stream → List ℕ → Type 0
@@ -90,15 +91,18 @@ abbrev pub pair_paths_of : PairFiles → List ℕ → List (List ℕ)
 pair_paths_of files out = files.scd.now ∷ files.dic.now ∷ files.first.now ∷ files.second.now ∷ out ∷ []
 
 abbrev pub verify_paths_of : PairFiles → List ℕ → List (List ℕ)
-verify_paths_of files pairing = files.scd.now ∷ files.dic.now ∷ files.first.now ∷ files.second.now ∷ pairing ∷ codes "-" ∷ []
+verify_paths_of files pairing =
+    files.scd.now ∷ files.dic.now ∷ files.first.now ∷ files.second.now ∷ pairing ∷ codes "-" ∷ []
 
--- What a status of a run says: 0 that it is done, 2 that something is refused, 4 that a file could not be read or written,
--- and why if that is known, or the output failed, 5 that memory ran out: then the output got nothing, or there was no memory to say such a
--- fault. The last two are said on the stream of errors.
-pub record MeansStatus (Done Refused : Type 0) (IsFault : RunFault → Type 0) (why : Why) (paths : List (List ℕ)) (out err : Stream) (s : ℕ) : Type 0 where
+-- What a status of a run says: 0 that it is done, 2 that something is refused, 4 that a file could not be read or
+-- written, and why if that is known, or the output failed, 5 that memory ran out: then the output got nothing, or there
+-- was no memory to say such a fault. The last two are said on the stream of errors.
+pub record MeansStatus (Done Refused : Type 0) (IsFault : RunFault → Type 0) (why : Why) (paths : List (List ℕ))
+    (out err : Stream) (s : ℕ) : Type 0 where
   pub done : s ≡ 0 → Done
   pub refused : s ≡ 2 → Refused
-  pub failed : s ≡ 4 → IsUnsaid out err ⊎ ((e : RunFault) × IsFault e × (status_of_fault e ≡ 4) × WarnsWhy why err (outcome.Fault e) paths)
+  pub failed : s ≡ 4 → IsUnsaid out err
+      ⊎ ((e : RunFault) × IsFault e × (status_of_fault e ≡ 4) × WarnsWhy why err (outcome.Fault e) paths)
   pub memory : s ≡ 5 → LacksMemory err × (Prints out [] ⊎ ((e : RunFault) × IsFault e × (status_of_fault e ≡ 4)))
 
 -- the schema or the sheet is refused, and this was said of it
@@ -113,18 +117,22 @@ AreTried inputs files = AreThere inputs files ⊎ ((n : ℕ) × FirstMissing inp
 
 -- The status of a run over files, with what the streams have before and after: 0 only of an accepted sheet, 2 only of a
 -- refused one, and each is said. No status comes before the files were opened.
-pub record IsFileStatus (run : Effects) (out err : Stream) (kinds : KindCodes) (files : SheetFiles) (s : ℕ) : Type 0 where
+pub record IsFileStatus (run : Effects) (out err : Stream) (kinds : KindCodes) (files : SheetFiles)
+    (s : ℕ) : Type 0 where
   pub tried : AreTried run.inputs files
   pub means : MeansStatus (OfFiles run.inputs files (IsSheetUnder kinds) × Answers out err (ended (codes "accepted")))
-      (OfFiles run.inputs files (SaysRefusal (Answers out err) kinds)) (λ e. FileFault run.inputs kinds files (λ _. ⊥) e × Prints out [])
+      (OfFiles run.inputs files (SaysRefusal (Answers out err) kinds)) (λ e. FileFault run.inputs kinds files (λ _. ⊥) e
+      × Prints out [])
       run.why (paths_of files (codes "-")) out err s
 
 -- The status of a run over a bundle: 0 only where its canonical file went out, 2 only of a refused sheet.
 abbrev pub IsBundleStatus : Effects → Stream → Stream → ℕ → Type 0
 IsBundleStatus run out err s = (contents : Option (List ℕ)) × run.inputs.standard contents
-    × MeansStatus (IfSome contents (λ b. OfParts b (λ scd dic vec. WritesAll usual_kinds scd dic vec out.before out.after)) × Prints err [])
+    × MeansStatus (IfSome contents (λ b.
+    OfParts b (λ scd dic vec. WritesAll usual_kinds scd dic vec out.before out.after)) × Prints err [])
     (IfSome contents (λ b. OfParts b (SaysRefusal (Answers out err) usual_kinds)))
-    (λ e. StandardFault run.inputs contents (λ count. IsTrue out.failed × IfSome contents (λ b. OfParts b (λ scd dic vec.
+    (λ e. StandardFault run.inputs contents (λ count. IsTrue out.failed
+    × IfSome contents (λ b. OfParts b (λ scd dic vec.
     WritesFirst usual_kinds scd dic vec count out.before out.after))) e × BeforeWriting e (Prints out []))
     run.why (codes "-" ∷ codes "-" ∷ []) out err s
 
@@ -141,35 +149,45 @@ AreFourTried inputs files = AreFourThere inputs files ⊎ ((n : ℕ) × FirstOfF
 
 -- the plans are not the same, and the line at which the canonical files first differ was said
 abbrev pub SaysDifferent : Inputs → Stream → Stream → KindCodes → PairFiles → Type 0
-SaysDifferent inputs out err kinds files = (line : ℕ) × OfPair inputs files (λ scd dic a b. IsVerdictOf kinds scd dic a b (Different line))
+SaysDifferent inputs out err kinds files =
+    (line : ℕ) × OfPair inputs files (λ scd dic a b. IsVerdictOf kinds scd dic a b (Different line))
     × Answers out err (ended (codes "different at line " ++ decimal line))
 
--- The status of a run over two sheets: 0 only where a pairing carries the one plan onto the other, 1 only where the plans
--- are not the same, 2 only where a sheet is refused, and each is said.
-pub record IsCompareStatus (run : Effects) (out err : Stream) (kinds : KindCodes) (files : PairFiles) (s : ℕ) : Type 0 where
+-- The status of a run over two sheets: 0 only where a pairing carries the one plan onto the other, 1 only where the
+-- plans are not the same, 2 only where a sheet is refused, and each is said.
+pub record IsCompareStatus (run : Effects) (out err : Stream) (kinds : KindCodes) (files : PairFiles)
+    (s : ℕ) : Type 0 where
   pub tried : AreFourTried run.inputs files
   pub different : s ≡ 1 → SaysDifferent run.inputs out err kinds files
   pub means : MeansStatus
-      (((pairing : Pairing) × OfPair run.inputs files (λ scd dic a b. IsVerdictOf kinds scd dic a b (Same pairing))) × Answers out err (ended (codes "same")))
-      (OfPair run.inputs files (SaysPairRefusal (Answers out err) kinds)) (λ e. PairFileFault run.inputs kinds files (λ _. ⊥) e × Prints out [])
+      (((pairing : Pairing) × OfPair run.inputs files (λ scd dic a b. IsVerdictOf kinds scd dic a b (Same pairing)))
+      × Answers out err (ended (codes "same")))
+      (OfPair run.inputs files (SaysPairRefusal (Answers out err) kinds))
+      (λ e. PairFileFault run.inputs kinds files (λ _. ⊥) e × Prints out [])
       run.why (pair_paths_of files (codes "-")) out err s
 
--- The same of a run that puts a pairing at a path where the plans are the same. Where they are not, nothing in the folder has changed; and
--- whatever the status is, this is so, or the pairing is there, or such a fault says what became of the path.
-pub record IsPairingStatus (run : Effects) (out err : Stream) (kinds : KindCodes) (files : PairFiles) (path : List ℕ) (s : ℕ) : Type 0 where
+-- The same of a run that puts a pairing at a path where the plans are the same. Where they are not, nothing in the
+-- folder has changed; and whatever the status is, this is so, or the pairing is there, or such a fault says what became
+-- of the path.
+pub record IsPairingStatus (run : Effects) (out err : Stream) (kinds : KindCodes) (files : PairFiles) (path : List ℕ)
+    (s : ℕ) : Type 0 where
   pub tried : IsPairInput run.is_one files path ⊎ AreFourTried run.inputs files
   pub different : s ≡ 1 → SaysDifferent run.inputs out err kinds files × run.untouched
   pub means : MeansStatus (IsPairPut run (IsPairingFileOf kinds) files path × Answers out err (ended (codes "same")))
       (OfPair run.inputs files (SaysPairRefusal (Answers out err) kinds) × run.untouched)
-      (λ e. PutPairFault run (IsPairingFileOf kinds) kinds files path e × Prints out []) run.why (pair_paths_of files path) out err s
-  pub leaves : run.untouched ⊎ (IsPairPut run (IsPairingFileOf kinds) files path ⊎ ((e : RunFault) × PutPairFault run (IsPairingFileOf kinds) kinds files path e))
+      (λ e. PutPairFault run (IsPairingFileOf kinds) kinds files path e
+      × Prints out []) run.why (pair_paths_of files path) out err s
+  pub leaves : run.untouched ⊎ (IsPairPut run (IsPairingFileOf kinds) files path
+      ⊎ ((e : RunFault) × PutPairFault run (IsPairingFileOf kinds) kinds files path e))
   pub replaced : IsPairReplaced run (IsPairingFileOf kinds) files path
 
--- the schema or a sheet is refused, or the pairing's file where both sheets are accepted, and the line of the refusal went out
+-- the schema or a sheet is refused, or the pairing's file where both sheets are accepted, and the line of the refusal
+-- went out
 abbrev pub SaysVerifyRefusal : Inputs → Stream → Stream → KindCodes → PairFiles → List ℕ → Type 0
 SaysVerifyRefusal inputs out err kinds files pairing =
     OfPair inputs files (SaysPairRefusal (Answers out err) kinds)
-    ⊎ ((at : ℕ) × (why : WrongLine) × OfFive inputs files pairing (λ scd dic a b f. RefusesFile kinds scd dic a b f at why)
+    ⊎ ((at : ℕ) × (why : WrongLine)
+    × OfFive inputs files pairing (λ scd dic a b f. RefusesFile kinds scd dic a b f at why)
     × Answers out err (ended (codes "refused pairing line " ++ decimal at ++ codes ": " ++ reason_words why)))
 
 -- the file states a pairing that doesn't carry, and that went out, with the reason
@@ -178,21 +196,25 @@ SaysUnpaired inputs out err kinds files pairing =
     (why : Unpaired) × OfFive inputs files pairing (λ scd dic a b f. IsVerifiedUnder kinds scd dic a b f (Fails why))
     × Answers out err (ended (unpaired_words (input_name pairing) why))
 
--- The status of a run that checks a pairing's file: 0 only where it states a pairing that carries the one plan onto the other,
--- 1 only where it states one that doesn't, 2 only where a sheet or the file is refused, and each is said.
-pub record IsVerifyStatus (run : Effects) (out err : Stream) (kinds : KindCodes) (files : PairFiles) (pairing : List ℕ) (s : ℕ) : Type 0 where
+-- The status of a run that checks a pairing's file: 0 only where it states a pairing that carries the one plan onto the
+-- other, 1 only where it states one that doesn't, 2 only where a sheet or the file is refused, and each is said.
+pub record IsVerifyStatus (run : Effects) (out err : Stream) (kinds : KindCodes) (files : PairFiles) (pairing : List ℕ)
+    (s : ℕ) : Type 0 where
   pub tried : AreFiveThere run.inputs files pairing ⊎ ((n : ℕ) × FirstOfFiveMissing run.inputs files pairing n)
   pub unpaired : s ≡ 1 → SaysUnpaired run.inputs out err kinds files pairing
   pub means : MeansStatus
-      (OfFive run.inputs files pairing (λ scd dic a b f. IsVerifiedUnder kinds scd dic a b f Carries) × Answers out err (ended (codes "pairs")))
-      (SaysVerifyRefusal run.inputs out err kinds files pairing) (λ e. VerifyFileFault run.inputs kinds files pairing e × Prints out [])
+      (OfFive run.inputs files pairing (λ scd dic a b f. IsVerifiedUnder kinds scd dic a b f Carries)
+      × Answers out err (ended (codes "pairs")))
+      (SaysVerifyRefusal run.inputs out err kinds files pairing) (λ e. VerifyFileFault run.inputs kinds files pairing e
+      × Prints out [])
       run.why (verify_paths_of files pairing) out err s
 
 -- the status once the line was printed: that of the outcome, 5 without memory for the line, 4 where it can't be printed
 abbrev pub IsAnsweredAs : ℕ → ℕ → Type 0
 IsAnsweredAs status s = (s ≡ status) ⊎ ((s ≡ 5) ⊎ ((status < 3) × (s ≡ 4)))
 
--- What was said of an outcome, and the status: an answer or a refusal went to standard output, anything else to standard error.
+-- What was said of an outcome, and the status: an answer or a refusal went to standard output, anything else to
+-- standard error.
 pub record IsSaid (why : Why) (out err : Stream) (outcome : Outcome) (paths : List (List ℕ)) (s : ℕ) : Type 0 where
   pub status : IsAnsweredAs (status_for outcome) s
   pub answer : s < 3 → Answers out err (ended (words_for outcome (names_of_paths paths)))
@@ -202,4 +224,5 @@ pub record IsSaid (why : Why) (out err : Stream) (outcome : Outcome) (paths : Li
 
 -- What standard error was told of a fault, and the status.
 abbrev pub IsWarned : Why → Stream → RunFault → List (List ℕ) → ℕ → Type 0
-IsWarned why err e paths s = ((s ≡ status_of_fault e) × WarnsWhy why err (outcome.Fault e) paths) ⊎ ((s ≡ 5) × LacksMemory err)
+IsWarned why err e paths s =
+    ((s ≡ status_of_fault e) × WarnsWhy why err (outcome.Fault e) paths) ⊎ ((s ≡ 5) × LacksMemory err)

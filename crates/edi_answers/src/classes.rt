@@ -54,7 +54,8 @@ impl<'a> ByteIn for Kept<'a> {
     }
 }
 
-/// The bytes of the file of classes, input 1, of which the path is given; and the note on the kinds that have no class there.
+/// The bytes of the file of classes, input 1, of which the path is given; and the note on the kinds that have no class
+/// there.
 pub fn read_classes<R: ByteIn>(
     alloc: Global,
     kinds: &GivenKinds<'_>,
@@ -64,7 +65,8 @@ pub fn read_classes<R: ByteIn>(
 ) -> Result<Vec<u8>, RunFault>
     ensures all { IfOk result (λ classes. IfSome (R.contents reader.old) (λ contents. classes.items ≡ contents)) }
     ensures read { OnOk result (IsRead (seen R.ByteIn reader.old reader.new)) }
-    ensures note { IfOk result (λ classes. IsNoteOn kinds.now classes.items (shown_bytes (input_name path.now)) note.new.items) }
+    ensures note { IfOk result (λ classes.
+        IsNoteOn kinds.now classes.items (shown_bytes (input_name path.now)) note.new.items) }
     ensures err { IfErr result (λ e. MatchFault e (λ n. (n ≡ 1) × HasFailed (seen R.ByteIn reader.old reader.new))
         (λ n. (n ≡ 1) × IsTooLong (R.contents reader.old)) (λ _. ⊥) (λ _. ⊥) (λ _. ⊥) (λ _. ⊥)) }
     ensures unnoted { IfErr result (λ _. note.new.items ≡ note.old.items) }

@@ -22,7 +22,8 @@ pub fn bundle<F: Folder, O: ByteOut, E: ByteOut>(
     err: &mut E,
 ) -> u8
     ensures status { IsSheetStatus result }
-    ensures answer { IsBundleStatus (effects F.Folder F.Reader.ByteIn F.Sink.ByteOut F.NewFile.ByteOut folder.now folder.now)
+    ensures answer { IsBundleStatus
+        (effects F.Folder F.Reader.ByteIn F.Sink.ByteOut F.NewFile.ByteOut folder.now folder.now)
         (written O.ByteOut out.old out.new) (written E.ByteOut err.old err.new) result }
 {
     match sheets::bundle(alloc, folder, out) {
@@ -42,9 +43,11 @@ pub fn check<F: Folder, O: ByteOut, E: ByteOut>(
     note: &mut Vec<u8>,
 ) -> u8
     ensures status { IsSheetStatus result }
-    ensures answer { IsFileStatus (effects F.Folder F.Reader.ByteIn F.Sink.ByteOut F.NewFile.ByteOut folder.now folder.now)
+    ensures answer { IsFileStatus
+        (effects F.Folder F.Reader.ByteIn F.Sink.ByteOut F.NewFile.ByteOut folder.now folder.now)
         (written O.ByteOut out.old out.new) (written E.ByteOut err.old err.new) kinds.now files.now result }
-    ensures note { HasNoteOf (inputs F.Folder F.Reader.ByteIn folder.now) kinds.now files.now.scd.now result note.old.items note.new.items }
+    ensures note { HasNoteOf
+        (inputs F.Folder F.Reader.ByteIn folder.now) kinds.now files.now.scd.now result note.old.items note.new.items }
 {
     let paths = [files.scd, files.dic, files.vec, "-"];
     match sheets::check(alloc, folder, kinds, files, note) {
@@ -68,9 +71,11 @@ pub fn compare_or_pair<F: Folder, O: ByteOut, E: ByteOut>(
     ensures answer { MatchOption pairing.entry ((folder.new ≡ folder.old)
         × IsCompareStatus (effects F.Folder F.Reader.ByteIn F.Sink.ByteOut F.NewFile.ByteOut folder.old folder.new)
         (written O.ByteOut out.old out.new) (written E.ByteOut err.old err.new) kinds.now files.now result)
-        (λ path. IsPairingStatus (effects F.Folder F.Reader.ByteIn F.Sink.ByteOut F.NewFile.ByteOut folder.old folder.new)
+        (λ path. IsPairingStatus
+        (effects F.Folder F.Reader.ByteIn F.Sink.ByteOut F.NewFile.ByteOut folder.old folder.new)
         (written O.ByteOut out.old out.new) (written E.ByteOut err.old err.new) kinds.now files.now path.now result) }
-    ensures note { HasNoteOf (inputs F.Folder F.Reader.ByteIn folder.old) kinds.now files.now.scd.now result note.old.items note.new.items }
+    ensures note { HasNoteOf
+        (inputs F.Folder F.Reader.ByteIn folder.old) kinds.now files.now.scd.now result note.old.items note.new.items }
 {
     match pairing {
         Some(path) => pair(alloc, folder, kinds, files, path, out, err, note),
@@ -89,9 +94,11 @@ fn compare<F: Folder, O: ByteOut, E: ByteOut>(
     note: &mut Vec<u8>,
 ) -> u8
     ensures status { IsPairStatus result }
-    ensures answer { IsCompareStatus (effects F.Folder F.Reader.ByteIn F.Sink.ByteOut F.NewFile.ByteOut folder.now folder.now)
+    ensures answer { IsCompareStatus
+        (effects F.Folder F.Reader.ByteIn F.Sink.ByteOut F.NewFile.ByteOut folder.now folder.now)
         (written O.ByteOut out.old out.new) (written E.ByteOut err.old err.new) kinds.now files.now result }
-    ensures note { HasNoteOf (inputs F.Folder F.Reader.ByteIn folder.now) kinds.now files.now.scd.now result note.old.items note.new.items }
+    ensures note { HasNoteOf
+        (inputs F.Folder F.Reader.ByteIn folder.now) kinds.now files.now.scd.now result note.old.items note.new.items }
 {
     let paths = [files.scd, files.dic, files.first, files.second, "-"];
     let outcome = outcome_of(sheets::compare(alloc, folder, kinds, files, note));
@@ -110,9 +117,11 @@ fn pair<F: Folder, O: ByteOut, E: ByteOut>(
     note: &mut Vec<u8>,
 ) -> u8
     ensures status { IsPairStatus result }
-    ensures answer { IsPairingStatus (effects F.Folder F.Reader.ByteIn F.Sink.ByteOut F.NewFile.ByteOut folder.old folder.new)
+    ensures answer { IsPairingStatus
+        (effects F.Folder F.Reader.ByteIn F.Sink.ByteOut F.NewFile.ByteOut folder.old folder.new)
         (written O.ByteOut out.old out.new) (written E.ByteOut err.old err.new) kinds.now files.now path.now result }
-    ensures note { HasNoteOf (inputs F.Folder F.Reader.ByteIn folder.old) kinds.now files.now.scd.now result note.old.items note.new.items }
+    ensures note { HasNoteOf
+        (inputs F.Folder F.Reader.ByteIn folder.old) kinds.now files.now.scd.now result note.old.items note.new.items }
 {
     let paths = [files.scd, files.dic, files.first, files.second, path];
     let outcome = outcome_of_paired(sheets::pair(alloc, folder, kinds, files, path, note));
@@ -131,9 +140,11 @@ pub fn verify<F: Folder, O: ByteOut, E: ByteOut>(
     note: &mut Vec<u8>,
 ) -> u8
     ensures status { IsPairStatus result }
-    ensures answer { IsVerifyStatus (effects F.Folder F.Reader.ByteIn F.Sink.ByteOut F.NewFile.ByteOut folder.now folder.now)
+    ensures answer { IsVerifyStatus
+        (effects F.Folder F.Reader.ByteIn F.Sink.ByteOut F.NewFile.ByteOut folder.now folder.now)
         (written O.ByteOut out.old out.new) (written E.ByteOut err.old err.new) kinds.now files.now pairing.now result }
-    ensures note { HasNoteOf (inputs F.Folder F.Reader.ByteIn folder.now) kinds.now files.now.scd.now result note.old.items note.new.items }
+    ensures note { HasNoteOf
+        (inputs F.Folder F.Reader.ByteIn folder.now) kinds.now files.now.scd.now result note.old.items note.new.items }
 {
     let paths = [
         files.scd,

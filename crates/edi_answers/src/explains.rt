@@ -7,7 +7,8 @@ ghost use Rattle.edi_line.specs.Refusal.{IsUnbroken};
 ghost use Rattle.edi_schema.specs.SchemaRefusal.{IsSchemaRefusal};
 ghost use Rattle.edi_compare.specs.Refused.{IsProper};
 ghost use Rattle.edi_compare.specs.Runs.{IsProperSchemaFault};
-ghost use Rattle.edi_explain.specs.Explained.{DescribesPlan, ExplainsSchema, ExplainsSheet};
+ghost use Rattle.edi_explain.specs.ClassCounts.{DescribesSheet};
+ghost use Rattle.edi_explain.specs.Explained.{ExplainsSchema, ExplainsSheet};
 ghost use Rattle.edi_explain.specs.Found.{IsFound};
 ghost use Rattle.edi_explain.specs.KindClasses.{codes_of};
 ghost use Rattle.edi_answers.specs.Explains.{DescribesRest, GiveHints, IsExplainStatus, IsRuleStatus, TellsAccepted, TellsCause, TellsPlan, TellsRefusal};
@@ -23,7 +24,7 @@ use crate::report;
 use crate::sheets::opened;
 use edi_compare::{RunFault, read_input};
 use edi_explain::{
-    Found, NamedFile, describe_kinds, describe_plan, describe_skipped, examine, explain_schema,
+    Found, NamedFile, describe_kinds, describe_sheet, describe_skipped, examine, explain_schema,
     explain_sheet, hints_of, page_of, rule_of_word,
 };
 use edi_files::Folder;
@@ -80,7 +81,8 @@ pub fn explain<F: Folder, O: ByteOut, E: ByteOut>(
     err: &mut E,
 ) -> u8
     ensures status { IsSheetStatus result }
-    ensures answer { IsExplainStatus (effects F.Folder F.Reader.ByteIn F.Sink.ByteOut F.NewFile.ByteOut folder.now folder.now)
+    ensures answer { IsExplainStatus
+        (effects F.Folder F.Reader.ByteIn F.Sink.ByteOut F.NewFile.ByteOut folder.now folder.now)
         (written O.ByteOut out.old out.new) (written E.ByteOut err.old err.new) kinds.now files.now result }
 {
     let paths = [files.scd, files.dic, files.vec, "-"];
@@ -93,7 +95,8 @@ pub fn explain<F: Folder, O: ByteOut, E: ByteOut>(
 // Writes what is said, and gives the status.
 fn put_said<O: ByteOut, E: ByteOut>(said: &Account, out: &mut O, err: &mut E) -> u8
     ensures status { (result ≡ 4) ⊎ MatchBool said.now.is_accepted (result ≡ 0) (result ≡ 2) }
-    ensures answer { result < 3 → Appends (O.contents out.old) (O.contents out.new) said.now.text.items × (err.new ≡ err.old) }
+    ensures answer { result < 3
+        → Appends (O.contents out.old) (O.contents out.new) said.now.text.items × (err.new ≡ err.old) }
     ensures unsaid { result ≡ 4 → IsUnsaid (written O.ByteOut out.old out.new) (written E.ByteOut err.old err.new) }
 {
     if put_all(out, &said.text).is_err() {
@@ -110,7 +113,8 @@ fn said<F: Folder>(
     files: &SheetFiles<'_>,
 ) -> Result<Account, RunFault>
     ensures ok { IfOk result (λ said. OfFiles (inputs F.Folder F.Reader.ByteIn folder.now) files.now
-        (λ s d v. MatchBool said.is_accepted (TellsAccepted kinds.now files.now s d v said.text.items) (TellsRefusal kinds.now
+        (λ s d v. MatchBool said.is_accepted
+        (TellsAccepted kinds.now files.now s d v said.text.items) (TellsRefusal kinds.now
         files.now s d v said.text.items))) }
     ensures err { IfErr result (FileFault (inputs F.Folder F.Reader.ByteIn folder.now) kinds.now files.now (λ _. ⊥)) }
     ensures names { IfErr result (λ e. FaultHasNames e 4) }
@@ -137,7 +141,8 @@ fn all_said(
 ) -> Result<Account, AllocError>
     ensures { IfOk result (λ said. MatchBool said.is_accepted (TellsAccepted
         kinds.now files.now bytes.now.scd.items bytes.now.dic.items bytes.now.vec.items said.text.items)
-        (TellsRefusal kinds.now files.now bytes.now.scd.items bytes.now.dic.items bytes.now.vec.items said.text.items)) }
+        (TellsRefusal kinds.now files.now bytes.now.scd.items bytes.now.dic.items bytes.now.vec.items
+        said.text.items)) }
 {
     let mut said = said_of(alloc, kinds, files, bytes)?;
     let lines = lines_behind(alloc, kinds, files, bytes, said.is_accepted)?;
@@ -145,7 +150,8 @@ fn all_said(
     Ok(said)
 }
 
-// The classes of the four kinds, and what is read of an accepted sheet and not compared; or what the files of a refused one hint at.
+// The classes of the four kinds, and what is read of an accepted sheet and not compared; or what the files of a refused
+// one hint at.
 fn lines_behind(
     alloc: Global,
     kinds: &GivenKinds<'_>,
@@ -153,9 +159,11 @@ fn lines_behind(
     bytes: &SheetBytes,
     is_accepted: bool,
 ) -> Result<Vec<u8>, AllocError>
-    requires { IsTrue is_accepted → IsUnbroken (BreaksLineRule bytes.now.scd.items) × IsUnbroken (BreaksLineRule bytes.now.vec.items) }
-    ensures { IfOk result (λ lines. MatchBool is_accepted (DescribesRest kinds.now files.now bytes.now.scd.items bytes.now.vec.items lines.items) (GiveHints
-        files.now bytes.now.scd.items bytes.now.dic.items bytes.now.vec.items lines.items)) }
+    requires { IsTrue is_accepted
+        → IsUnbroken (BreaksLineRule bytes.now.scd.items) × IsUnbroken (BreaksLineRule bytes.now.vec.items) }
+    ensures { IfOk result (λ lines. MatchBool is_accepted
+        (DescribesRest kinds.now files.now bytes.now.scd.items bytes.now.vec.items lines.items)
+        (GiveHints files.now bytes.now.scd.items bytes.now.dic.items bytes.now.vec.items lines.items)) }
 {
     if is_accepted {
         return rest_of_accepted(alloc, kinds, files, bytes);
@@ -186,7 +194,8 @@ fn rest_of_accepted(
 ) -> Result<Vec<u8>, AllocError>
     requires scd { IsUnbroken (BreaksLineRule bytes.now.scd.items) }
     requires vec { IsUnbroken (BreaksLineRule bytes.now.vec.items) }
-    ensures { IfOk result (λ lines. DescribesRest kinds.now files.now bytes.now.scd.items bytes.now.vec.items lines.items) }
+    ensures { IfOk result (λ lines.
+        DescribesRest kinds.now files.now bytes.now.scd.items bytes.now.vec.items lines.items) }
 {
     let scd = NamedFile {
         name: input_name(files.scd),
@@ -211,7 +220,7 @@ fn said_of(
 {
     match Schema::load(alloc, &bytes.scd, &bytes.dic, kinds.kinds()) {
         Ok(schema) => match examine(alloc, &schema, &bytes.vec) {
-            Ok(sound) => said_of_accepted(alloc, sound.plan()),
+            Ok(sound) => said_of_accepted(alloc, &schema, sound.plan()),
             Err(found) => said_of_sheet(alloc, &schema, &bytes.vec, input_name(files.vec), &found),
         },
         Err(fault) => said_of_schema(
@@ -231,12 +240,12 @@ fn said_of(
 }
 
 // What is said of an accepted sheet, by its plan.
-fn said_of_accepted(alloc: Global, plan: &Plan) -> Result<Account, AllocError>
-    ensures { IfOk result (λ said. (said.is_accepted ≡ true) × ((lines : List ℕ) × DescribesPlan plan.now lines
-        × (said.text.items ≡ ended (codes "accepted") ++ lines))) }
+fn said_of_accepted(alloc: Global, schema: &Schema, plan: &Plan) -> Result<Account, AllocError>
+    ensures { IfOk result (λ said. (said.is_accepted ≡ true) × ((lines : List ℕ)
+        × DescribesSheet schema.now plan.now lines × (said.text.items ≡ ended (codes "accepted") ++ lines))) }
 {
     let mut text = Vec::from_slice(alloc, b"accepted\n")?;
-    let lines = describe_plan(alloc, plan)?;
+    let lines = describe_sheet(alloc, schema, plan)?;
     text.extend_from_slice(&lines)?;
     Ok(Account {
         is_accepted: true,
@@ -276,7 +285,8 @@ fn said_of_schema(
 ) -> Result<Account, AllocError>
     requires { IsSchemaRefusal scd.now.bytes.now dic.now.bytes.now (codes_of codes.now) fault.now }
     ensures { IfOk result (λ said. (said.is_accepted ≡ false) × IsProperSchemaFault fault.now × ((lines : List ℕ)
-        × ExplainsSchema (codes_of codes.now) scd.now.bytes.now dic.now.bytes.now scd.now.name.now dic.now.name.now fault.now lines
+        × ExplainsSchema
+        (codes_of codes.now) scd.now.bytes.now dic.now.bytes.now scd.now.name.now dic.now.name.now fault.now lines
         × (said.text.items ≡ ended (schema_text fault.now) ++ lines))) }
 {
     let mut text = line_of_schema(alloc, fault)?;
@@ -296,7 +306,8 @@ pub fn explain_rule<O: ByteOut, E: ByteOut>(
     err: &mut E,
 ) -> u8
     ensures status { IsPageStatus result }
-    ensures answer { IsRuleStatus (written O.ByteOut out.old out.new) (written E.ByteOut err.old err.new) word.now result }
+    ensures answer { IsRuleStatus (written O.ByteOut out.old out.new)
+        (written E.ByteOut err.old err.new) word.now result }
 {
     let Some(text) = rule_of_word(word) else {
         return report::unknown_rule(err);

@@ -41,7 +41,8 @@ pub fn hash<F: Folder, O: ByteOut, E: ByteOut>(
     err: &mut E,
 ) -> u8
     ensures status { IsSheetStatus result }
-    ensures answer { IsHashStatus (effects F.Folder F.Reader.ByteIn F.Sink.ByteOut F.NewFile.ByteOut folder.now folder.now)
+    ensures answer { IsHashStatus
+        (effects F.Folder F.Reader.ByteIn F.Sink.ByteOut F.NewFile.ByteOut folder.now folder.now)
         (written O.ByteOut out.old out.new) (written E.ByteOut err.old err.new) kinds.now files.now with_schema result }
     ensures out_stays { IsTrue (O.has_failed out.old) → IsTrue (O.has_failed out.new) }
     ensures stays { IsTrue (E.has_failed err.old) → IsTrue (E.has_failed err.new) }
@@ -74,7 +75,8 @@ pub fn loaded<F: Folder>(
     kinds: &GivenKinds<'_>,
     files: &ManyFiles<'_>,
 ) -> Result<NotedSchema, RunFault>
-    ensures ok { IfOk result (λ loaded. GivesSchema (inputs F.Folder F.Reader.ByteIn folder.now) kinds.now files.now loaded.schema loaded.note.items) }
+    ensures ok { IfOk result (λ loaded.
+        GivesSchema (inputs F.Folder F.Reader.ByteIn folder.now) kinds.now files.now loaded.schema loaded.note.items) }
     ensures err { IfErr result (LoadFault (inputs F.Folder F.Reader.ByteIn folder.now) kinds.now files.now) }
 {
     let mut scd = opened(folder, files.scd, 1)?;
@@ -97,7 +99,8 @@ fn noted_schema(
 ) -> Result<NotedSchema, RunFault>
     ensures ok { IfOk result (λ noted. IsGoodSchema scd.now dic.now kinds.now noted.schema
         × IsNote kinds.now scd.now (escaped_name files.now.scd.now) noted.note.items) }
-    ensures err { IfErr result (λ e. MatchFault e (λ _. ⊥) (λ _. ⊥) (RefusesSchema kinds.now scd.now dic.now) (λ _. ⊥) (λ _. ⊥) (λ _. ⊥)) }
+    ensures err { IfErr result (λ e.
+        MatchFault e (λ _. ⊥) (λ _. ⊥) (RefusesSchema kinds.now scd.now dic.now) (λ _. ⊥) (λ _. ⊥) (λ _. ⊥)) }
 {
     match load_or_fault(alloc, kinds.kinds(), scd, dic) {
         Ok(schema) => match note_on(alloc, kinds, files, scd) {
@@ -203,7 +206,8 @@ fn answer<F: Folder, O: ByteOut, E: ByteOut>(
     err: &mut E,
 ) -> Result<u8, Written>
     ensures status { IfOk result IsSheetStatus }
-    ensures ok { IfOk result (StepsOn (inputs F.Folder F.Reader.ByteIn folder.now) (F.why folder.now) schema.now path.now
+    ensures ok { IfOk result
+        (StepsOn (inputs F.Folder F.Reader.ByteIn folder.now) (F.why folder.now) schema.now path.now
         (written O.ByteOut out.old out.new) (written E.ByteOut err.old err.new)) }
     ensures err { IfErr result (λ w. StopsAt (inputs F.Folder F.Reader.ByteIn folder.now) schema.now path.now
         (written O.ByteOut out.old out.new) × (err.new ≡ err.old)) }
@@ -306,6 +310,15 @@ fn line_of_schema(alloc: Global, schema: &Schema, name: &[u8]) -> Result<Vec<u8>
     let digest = schema_digest(alloc, schema)?;
     let mut line = Vec::from_slice(alloc, b"schema ")?;
     line.extend_from_slice(&line_of_digest(alloc, &digest, name)?)?;
+    Ok(line)
+}
+
+/// The line of a path, and words about it.
+pub fn line_of_path(alloc: Global, path: &str, words: &[u8]) -> Result<Vec<u8>, AllocError>
+    ensures { IfOk result (λ line. line.items ≡ named_line path.now words.now) }
+{
+    let mut line = Vec::new(alloc);
+    push_named(alloc, &mut line, path.as_bytes(), words)?;
     Ok(line)
 }
 

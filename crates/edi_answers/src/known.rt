@@ -5,8 +5,8 @@ ghost use Rattle.edi_answers.specs.Paths.{names_of_paths};
 
 use edi_compare::laws::equal_exactly_if_same;
 
-/// Sheets of one plan have one digest, and sheets with one digest state one plan unless their canonical files are two that
-/// share a SHA-256.
+/// Sheets of one plan have one digest, and sheets with one digest state one plan unless their canonical files are two
+/// that share a SHA-256.
 pub fn digests_tell_plans()
     ensures one_plan { OnePlanOneDigest }
     ensures one_digest { OneDigestOnePlan }
@@ -24,5 +24,6 @@ pub fn known_digests_are_written()
 /// The paths of some inputs and of an output, and the names that a line has for them.
 pub fn known_paths_are_named()
     ensures files { names_of_paths (codes "a" ∷ codes "b" ∷ codes "o" ∷ []) ≡ codes "a" ∷ codes "b" ∷ codes "o" ∷ [] }
-    ensures streams { names_of_paths (codes "-" ∷ codes "b" ∷ codes "-" ∷ []) ≡ codes "standard input" ∷ codes "b" ∷ codes "standard output" ∷ [] }
+    ensures streams { names_of_paths (codes "-" ∷ codes "b" ∷ codes "-" ∷ [])
+        ≡ codes "standard input" ∷ codes "b" ∷ codes "standard output" ∷ [] }
 {}

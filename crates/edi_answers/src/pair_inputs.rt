@@ -31,13 +31,16 @@ pub fn open_pair<F: Folder>(
     files: &PairFiles<'_>,
     note: &mut Vec<u8>,
 ) -> Result<PairInputs<F::Reader>, RunFault>
-    ensures opened { IfOk result (λ pair. ArePairInputs (inputs F.Folder F.Reader.ByteIn folder.now) F.Reader.ByteIn files.now
+    ensures opened { IfOk result (λ pair.
+        ArePairInputs (inputs F.Folder F.Reader.ByteIn folder.now) F.Reader.ByteIn files.now
         pair.classes.items pair.dic pair.first pair.second) }
-    ensures err { IfErr result (PairFileFault (inputs F.Folder F.Reader.ByteIn folder.now) kinds.now files.now (λ _. ⊥)) }
+    ensures err { IfErr result
+        (PairFileFault (inputs F.Folder F.Reader.ByteIn folder.now) kinds.now files.now (λ _. ⊥)) }
     ensures names { IfErr result (λ e. FaultHasNames e 5) }
     ensures noted { IfOk result (λ _. GivesNote (inputs F.Folder F.Reader.ByteIn folder.now) kinds.now files.now.scd.now
         note.new.items) }
-    ensures unnoted { IfErr result (λ e. HasNoteOf (inputs F.Folder F.Reader.ByteIn folder.now) kinds.now files.now.scd.now
+    ensures unnoted { IfErr result (λ e.
+        HasNoteOf (inputs F.Folder F.Reader.ByteIn folder.now) kinds.now files.now.scd.now
         (status_of_fault e) note.old.items note.new.items) }
 {
     let mut scd = opened(folder, files.scd, 1)?;

@@ -31,9 +31,9 @@ const USAGE_STATUS: u8 = 3;
 
 const REFUSED_STATUS: u8 = 2;
 
-/// Writes the outcome's line where it belongs: answers and refusals to `out`, all else to `err`, with a line that says why
-/// a path can't be read or written where the folder gives a reason. Gives the exit status: that of the outcome, 4 if `out`
-/// fails, which `err` says, and 5 if there is no memory for the lines.
+/// Writes the outcome's line where it belongs: answers and refusals to `out`, all else to `err`, with a line that says
+/// why a path can't be read or written where the folder gives a reason. Gives the exit status: that of the outcome, 4
+/// if `out` fails, which `err` says, and 5 if there is no memory for the lines.
 pub fn answer<F: Folder, O: ByteOut, E: ByteOut>(
     alloc: Global,
     folder: &F,
@@ -66,10 +66,13 @@ fn said<O: ByteOut, E: ByteOut>(
     requires names { HasNames outcome.now (length paths.now) }
     requires small { status_for outcome.now < 3 }
     ensures status { IsAnsweredAs (status_for outcome.now) result }
-    ensures answer { result < 3 → Appends (O.contents out.old) (O.contents out.new) (ended (words_for outcome.now (names_of_paths (texts paths.now))))
+    ensures answer { result < 3
+        → Appends (O.contents out.old) (O.contents out.new)
+        (ended (words_for outcome.now (names_of_paths (texts paths.now))))
         × (err.new ≡ err.old) }
     ensures unsaid { result ≡ 4 → IsUnsaid (written O.ByteOut out.old out.new) (written E.ByteOut err.old err.new) }
-    ensures memory { result ≡ 5 → OnlyLacksMemory (written O.ByteOut out.old out.new) (written E.ByteOut err.old err.new) }
+    ensures memory { result ≡ 5
+        → OnlyLacksMemory (written O.ByteOut out.old out.new) (written E.ByteOut err.old err.new) }
 {
     let Ok(line) = line_by_paths(alloc, outcome, paths) else {
         return out_of_memory(err);
@@ -89,8 +92,8 @@ fn line_by_paths(alloc: Global, outcome: &Outcome, paths: &[&str]) -> Result<Vec
     line_of(alloc, outcome, &names)
 }
 
-/// Says on `err` what a fault is, and why a path can't be read or written where the folder gives a reason. Gives the exit status: that of
-/// the fault, or 5 if there is no memory for the lines.
+/// Says on `err` what a fault is, and why a path can't be read or written where the folder gives a reason. Gives the
+/// exit status: that of the fault, or 5 if there is no memory for the lines.
 pub fn warned<F: Folder, E: ByteOut>(
     alloc: Global,
     folder: &F,
@@ -99,7 +102,8 @@ pub fn warned<F: Folder, E: ByteOut>(
     paths: &[&str],
 ) -> u8
     requires { FaultHasNames fault.now (length paths.now) }
-    ensures { IsWarned (F.why folder.now) (written E.ByteOut err.old err.new) fault.now (texts paths.now) result }
+    ensures said { IsWarned (F.why folder.now) (written E.ByteOut err.old err.new) fault.now (texts paths.now) result }
+    ensures stays { IsTrue (E.has_failed err.old) → IsTrue (E.has_failed err.new) }
 {
     match lines_of(alloc, folder, fault, paths) {
         Ok(lines) => {
@@ -110,7 +114,8 @@ pub fn warned<F: Folder, E: ByteOut>(
     }
 }
 
-// The line of a fault, then that of its reason, if the folder gives one, and then that of how much was written, if any was.
+// The line of a fault, then that of its reason, if the folder gives one, and then that of how much was written, if any
+// was.
 fn lines_of<F: Folder>(
     alloc: Global,
     folder: &F,
@@ -118,7 +123,8 @@ fn lines_of<F: Folder>(
     paths: &[&str],
 ) -> Result<Vec<u8>, AllocError>
     requires { FaultHasNames fault.now (length paths.now) }
-    ensures { IfOk result (λ lines. (reason : Option Reason) × IsReason (F.why folder.now) (Outcome.Fault fault.now) (texts paths.now) reason
+    ensures { IfOk result (λ lines. (reason : Option Reason)
+        × IsReason (F.why folder.now) (Outcome.Fault fault.now) (texts paths.now) reason
         × (lines.items ≡ lines_for (Outcome.Fault fault.now) (texts paths.now) reason)) }
 {
     let mut lines = fault_line_by_paths(alloc, fault, paths)?;
@@ -163,8 +169,8 @@ pub fn unwritten<E: ByteOut>(err: &mut E) -> u8
     WRITE_STATUS
 }
 
-/// Says why words can't be meant, and of codes that are bad what was given. Gives the exit status: 3, or 5 if there is no memory for
-/// the lines.
+/// Says why words can't be meant, and of codes that are bad what was given. Gives the exit status: 3, or 5 if there is
+/// no memory for the lines.
 pub fn misused<E: ByteOut>(alloc: Global, err: &mut E, misuse: Misuse<'_>) -> u8
     ensures { ((result ≡ 3) × Warns (written E.ByteOut err.old err.new) (misuse_lines misuse.entry))
         ⊎ ((result ≡ 5) × IsTrue (shows_words misuse.entry) × LacksMemory (written E.ByteOut err.old err.new)) }
@@ -179,6 +185,10 @@ pub fn misused<E: ByteOut>(alloc: Global, err: &mut E, misuse: Misuse<'_>) -> u8
         Misuse::ListAndMore => wrong_words(err, b"hash --check LIST takes SCD and DIC alone\n"),
         Misuse::StandardPairing => wrong_words(err, b"--pairing takes a file, and not -\n"),
         Misuse::StandardPicture => wrong_words(err, b"--picture takes a file, and not -\n"),
+        Misuse::NotOneManifest => wrong_words(
+            err,
+            b"delivery takes one PATH with --manifest or --check, and not both\n",
+        ),
     }
 }
 

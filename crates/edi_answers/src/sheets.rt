@@ -27,7 +27,8 @@ use std::alloc::Global;
 /// The bundle on standard input, to its canonical file.
 pub fn bundle<F: Folder, O: ByteOut>(alloc: Global, folder: &F, out: &mut O) -> Result<(), RunFault>
     ensures ok { OnOk result ((contents : Option (List ℕ)) × F.standard folder.now contents
-        × IfSome contents (λ b. OfParts b (λ s d v. WritesAll usual_kinds s d v (O.contents out.old) (O.contents out.new)))) }
+        × IfSome contents (λ b.
+        OfParts b (λ s d v. WritesAll usual_kinds s d v (O.contents out.old) (O.contents out.new)))) }
     ensures err { IfErr result (λ e. (contents : Option (List ℕ)) × F.standard folder.now contents
         × StandardFault (inputs F.Folder F.Reader.ByteIn folder.now) contents
         (λ count. IsTrue (O.has_failed out.new) × IfSome contents (λ b. OfParts b (λ s d v.
@@ -50,8 +51,10 @@ pub fn check<F: Folder>(
     ensures ok { OnOk result (OfFiles (inputs F.Folder F.Reader.ByteIn folder.now) files.now (IsSheetUnder kinds.now)) }
     ensures err { IfErr result (FileFault (inputs F.Folder F.Reader.ByteIn folder.now) kinds.now files.now (λ _. ⊥)) }
     ensures names { IfErr result (λ e. FaultHasNames e 4) }
-    ensures noted { OnOk result (GivesNote (inputs F.Folder F.Reader.ByteIn folder.now) kinds.now files.now.scd.now note.new.items) }
-    ensures unnoted { IfErr result (λ e. HasNoteOf (inputs F.Folder F.Reader.ByteIn folder.now) kinds.now files.now.scd.now (status_of_fault e)
+    ensures noted { OnOk result
+        (GivesNote (inputs F.Folder F.Reader.ByteIn folder.now) kinds.now files.now.scd.now note.new.items) }
+    ensures unnoted { IfErr result (λ e.
+        HasNoteOf (inputs F.Folder F.Reader.ByteIn folder.now) kinds.now files.now.scd.now (status_of_fault e)
         note.old.items note.new.items) }
 {
     let mut scd = opened(folder, files.scd, 1)?;
@@ -72,10 +75,13 @@ pub fn compare<F: Folder>(
 ) -> Result<Verdict, RunFault>
     ensures ok { IfOk result (λ verdict. OfPair (inputs F.Folder F.Reader.ByteIn folder.now) files.now
         (λ s d a b. IsVerdictOf kinds.now s d a b verdict)) }
-    ensures err { IfErr result (PairFileFault (inputs F.Folder F.Reader.ByteIn folder.now) kinds.now files.now (λ _. ⊥)) }
+    ensures err { IfErr result
+        (PairFileFault (inputs F.Folder F.Reader.ByteIn folder.now) kinds.now files.now (λ _. ⊥)) }
     ensures names { IfErr result (λ e. FaultHasNames e 5) }
-    ensures noted { IfOk result (λ _. GivesNote (inputs F.Folder F.Reader.ByteIn folder.now) kinds.now files.now.scd.now note.new.items) }
-    ensures unnoted { IfErr result (λ e. HasNoteOf (inputs F.Folder F.Reader.ByteIn folder.now) kinds.now files.now.scd.now (status_of_fault e)
+    ensures noted { IfOk result (λ _.
+        GivesNote (inputs F.Folder F.Reader.ByteIn folder.now) kinds.now files.now.scd.now note.new.items) }
+    ensures unnoted { IfErr result (λ e.
+        HasNoteOf (inputs F.Folder F.Reader.ByteIn folder.now) kinds.now files.now.scd.now (status_of_fault e)
         note.old.items note.new.items) }
 {
     let pair = open_pair(alloc, folder, kinds, files, note)?;
@@ -97,8 +103,8 @@ pub fn compare<F: Folder>(
 }
 
 /// Whether the two sheets of four files state the same plan, with the line at which their canonical files first differ,
-/// counted from 1, if they don't. If they do, a pairing that carries the first plan onto the second goes to a path that is none
-/// of the four; a file is replaced whole or not at all.
+/// counted from 1, if they don't. If they do, a pairing that carries the first plan onto the second goes to a path that
+/// is none of the four; a file is replaced whole or not at all.
 pub fn pair<F: Folder>(
     alloc: Global,
     folder: &mut F,
@@ -110,15 +116,20 @@ pub fn pair<F: Folder>(
     ensures ok { IfOk result (λ line. MatchOption line (IsPairPut
         (effects F.Folder F.Reader.ByteIn F.Sink.ByteOut F.NewFile.ByteOut folder.old folder.new)
         (IsPairingFileOf kinds.now) files.now out.now)
-        (λ at. OfPair (inputs F.Folder F.Reader.ByteIn folder.old) files.now (λ s d a b. IsVerdictOf kinds.now s d a b (Different at))
+        (λ at. OfPair (inputs F.Folder F.Reader.ByteIn folder.old) files.now
+        (λ s d a b. IsVerdictOf kinds.now s d a b (Different at))
         × IsNoPairInput (F.is_one folder.old) files.now out.now × (folder.new ≡ folder.old))) }
-    ensures err { IfErr result (PutPairFault (effects F.Folder F.Reader.ByteIn F.Sink.ByteOut F.NewFile.ByteOut folder.old folder.new)
+    ensures err { IfErr result
+        (PutPairFault (effects F.Folder F.Reader.ByteIn F.Sink.ByteOut F.NewFile.ByteOut folder.old folder.new)
         (IsPairingFileOf kinds.now) kinds.now files.now out.now) }
-    ensures replaced { IsPairReplaced (effects F.Folder F.Reader.ByteIn F.Sink.ByteOut F.NewFile.ByteOut folder.old folder.new)
+    ensures replaced { IsPairReplaced
+        (effects F.Folder F.Reader.ByteIn F.Sink.ByteOut F.NewFile.ByteOut folder.old folder.new)
         (IsPairingFileOf kinds.now) files.now out.now }
     ensures names { IfErr result (λ e. FaultHasNames e 5) }
-    ensures noted { IfOk result (λ _. GivesNote (inputs F.Folder F.Reader.ByteIn folder.old) kinds.now files.now.scd.now note.new.items) }
-    ensures unnoted { IfErr result (λ e. HasNoteOf (inputs F.Folder F.Reader.ByteIn folder.old) kinds.now files.now.scd.now (status_of_fault e)
+    ensures noted { IfOk result (λ _.
+        GivesNote (inputs F.Folder F.Reader.ByteIn folder.old) kinds.now files.now.scd.now note.new.items) }
+    ensures unnoted { IfErr result (λ e.
+        HasNoteOf (inputs F.Folder F.Reader.ByteIn folder.old) kinds.now files.now.scd.now (status_of_fault e)
         note.old.items note.new.items) }
 {
     if is_pair_input(folder, files, out) {
@@ -134,8 +145,8 @@ pub fn pair<F: Folder>(
     }
 }
 
-/// Whether a file states a pairing that carries the plan of the first sheet onto that of the second, and why it doesn't. All five files
-/// are opened before the first is read.
+/// Whether a file states a pairing that carries the plan of the first sheet onto that of the second, and why it
+/// doesn't. All five files are opened before the first is read.
 pub fn verify<F: Folder>(
     alloc: Global,
     folder: &F,
@@ -150,9 +161,12 @@ pub fn verify<F: Folder>(
         files.now pairing.now) (λ at why. OfFive (inputs F.Folder F.Reader.ByteIn folder.now) files.now pairing.now
         (λ s d a b f. RefusesFile kinds.now s d a b f at why))) }
     ensures names { IfErr result (λ e. MatchRun e (λ f. FaultHasNames f 6) (λ _ _. ⊤)) }
-    ensures noted { IfOk result (λ _. GivesNote (inputs F.Folder F.Reader.ByteIn folder.now) kinds.now files.now.scd.now note.new.items) }
-    ensures unnoted { IfErr result (λ e. MatchRun e (λ f. HasNoteOf (inputs F.Folder F.Reader.ByteIn folder.now) kinds.now files.now.scd.now (status_of_fault f)
-        note.old.items note.new.items) (λ _ _. GivesNote (inputs F.Folder F.Reader.ByteIn folder.now) kinds.now files.now.scd.now note.new.items)) }
+    ensures noted { IfOk result (λ _.
+        GivesNote (inputs F.Folder F.Reader.ByteIn folder.now) kinds.now files.now.scd.now note.new.items) }
+    ensures unnoted { IfErr result (λ e. MatchRun e
+        (λ f. HasNoteOf (inputs F.Folder F.Reader.ByteIn folder.now) kinds.now files.now.scd.now (status_of_fault f)
+        note.old.items note.new.items)
+        (λ _ _. GivesNote (inputs F.Folder F.Reader.ByteIn folder.now) kinds.now files.now.scd.now note.new.items)) }
 {
     let mut scd = opened(folder, files.scd, 1)?;
     let mut dic = opened(folder, files.dic, 2)?;
@@ -182,10 +196,13 @@ fn compare_to_file<F: Folder>(
 ) -> Result<Compared, RunFault>
     ensures ok { IfOk result (λ compared. OfPair (inputs F.Folder F.Reader.ByteIn folder.now) files.now
         (λ s d a b. IsComparedUnder kinds.now s d a b compared)) }
-    ensures err { IfErr result (PairFileFault (inputs F.Folder F.Reader.ByteIn folder.now) kinds.now files.now (λ _. ⊥)) }
+    ensures err { IfErr result
+        (PairFileFault (inputs F.Folder F.Reader.ByteIn folder.now) kinds.now files.now (λ _. ⊥)) }
     ensures names { IfErr result (λ e. FaultHasNames e 5) }
-    ensures noted { IfOk result (λ _. GivesNote (inputs F.Folder F.Reader.ByteIn folder.now) kinds.now files.now.scd.now note.new.items) }
-    ensures unnoted { IfErr result (λ e. HasNoteOf (inputs F.Folder F.Reader.ByteIn folder.now) kinds.now files.now.scd.now (status_of_fault e)
+    ensures noted { IfOk result (λ _.
+        GivesNote (inputs F.Folder F.Reader.ByteIn folder.now) kinds.now files.now.scd.now note.new.items) }
+    ensures unnoted { IfErr result (λ e.
+        HasNoteOf (inputs F.Folder F.Reader.ByteIn folder.now) kinds.now files.now.scd.now (status_of_fault e)
         note.old.items note.new.items) }
 {
     let pair = open_pair(alloc, folder, kinds, files, note)?;
@@ -208,9 +225,12 @@ fn compare_to_file<F: Folder>(
 
 /// An input that is there to read.
 pub fn opened<F: Folder>(folder: &F, path: &str, input: u8) -> Result<F::Reader, RunFault>
-    ensures ok { IfOk result (λ file. Gives (inputs F.Folder F.Reader.ByteIn folder.now) path.now (F.Reader.contents file)) }
-    ensures device { IfOk result (λ file. IsDeviceOf (inputs F.Folder F.Reader.ByteIn folder.now) path.now (F.Reader.device file)) }
-    ensures err { IfErr result (λ e. IsMissing (inputs F.Folder F.Reader.ByteIn folder.now) path.now × (e ≡ RunFault.Read input)) }
+    ensures ok { IfOk result (λ file.
+        Gives (inputs F.Folder F.Reader.ByteIn folder.now) path.now (F.Reader.contents file)) }
+    ensures device { IfOk result (λ file.
+        IsDeviceOf (inputs F.Folder F.Reader.ByteIn folder.now) path.now (F.Reader.device file)) }
+    ensures err { IfErr result (λ e. IsMissing (inputs F.Folder F.Reader.ByteIn folder.now) path.now
+        × (e ≡ RunFault.Read input)) }
 {
     if is_standard(path) {
         return Ok(folder.input());
@@ -223,7 +243,8 @@ pub fn opened<F: Folder>(folder: &F, path: &str, input: u8) -> Result<F::Reader,
 
 /// Whether a path is that of an input of a comparison, or leads to its file.
 pub fn is_pair_input<F: Folder>(folder: &F, files: &PairFiles<'_>, out: &str) -> bool
-    ensures { MatchBool result (IsPairInput (F.is_one folder.now) files.now out.now) (IsNoPairInput (F.is_one folder.now) files.now out.now) }
+    ensures { MatchBool result (IsPairInput (F.is_one folder.now) files.now out.now)
+        (IsNoPairInput (F.is_one folder.now) files.now out.now) }
 {
     meets(folder, files.scd, out)
         || meets(folder, files.dic, out)
@@ -233,7 +254,8 @@ pub fn is_pair_input<F: Folder>(folder: &F, files: &PairFiles<'_>, out: &str) ->
 
 /// Whether the path of an input is this one, or leads to its file.
 pub fn meets<F: Folder>(folder: &F, path: &str, out: &str) -> bool
-    ensures { MatchBool result (Meets (F.is_one folder.now) out.now path.now) (IsApart (F.is_one folder.now) out.now path.now) }
+    ensures { MatchBool result (Meets (F.is_one folder.now) out.now path.now)
+        (IsApart (F.is_one folder.now) out.now path.now) }
 {
     if is_standard(path) {
         return false;

@@ -1,4 +1,5 @@
 pub mod Checking
+pub mod LackTold
 pub mod Orders
 pub mod Comparing
 pub mod Digests

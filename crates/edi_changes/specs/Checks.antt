@@ -15,8 +15,9 @@ use Rattle.edi_words.specs.declared.words.ManyFiles.{ManyFiles}
 use Rattle.edi_answers.specs.Effects.{Effects, Stream}
 use Rattle.edi_answers.specs.Hashes.{GivesSchema, IsAnswerOf, LoadFault, TellsFault, named_line, schema_fault_path}
 use Rattle.edi_answers.specs.Replies.{EachUntil, OneThenOther, Reply, SaysLines}
-use Rattle.edi_answers.specs.Statuses.{Answers, Complains, IsUnsaid, LacksMemory, OnlyLacksMemory, Prints, PrintsFirst, Warns}
-use Rattle.edi_answers.specs.WholeInputs.{WholeInputFault, OfWholeInput}
+use Rattle.edi_answers.specs.Statuses.{Answers, Complains, IsUnsaid, OnlyLacksMemory, Prints, PrintsFirst}
+use Rattle.edi_answers.specs.WholeInputs.{OfWholeInput}
+use Rattle.edi_changes.specs.Lacking.{Lacks}
 use Rattle.edi_changes.specs.ListText.{IsListLine, IsNoList, list_text, schema_word}
 use Rattle.edi_changes.specs.declared.list.ListLine.{ListLine}
 
@@ -103,12 +104,9 @@ pub record IsListOf (text : List ℕ) (lines : List ListLine) : Type 0 where
   pub text_is : list_text lines ≡ text
   pub are : AllByRecursion IsListLine lines
 
--- why there is no list at a path, as the errors say, and the status: the input can't be read, or is none
+-- why an input is no list
 abbrev pub LacksList : Effects → Stream → List ℕ → ℕ → Type 0
-LacksList run err path status =
-    ((e : RunFault) × WholeInputFault run.inputs path e × TellsFault run.why err e path status)
-    ⊎ (OfWholeInput run.inputs path IsNoList
-    × (((status ≡ 2) × Warns err (named_line path (codes "no list of digests"))) ⊎ ((status ≡ 5) × LacksMemory err)))
+LacksList = Lacks IsNoList (codes "no list of digests")
 
 -- The status of a run that holds the digests of a list against those that are found; or why there is no list. The list
 -- is read first.

@@ -1,5 +1,6 @@
 pub mod Changes
 pub mod Checks
+pub mod Lacking
 pub mod Laws
 pub mod ListText
 pub mod Stated

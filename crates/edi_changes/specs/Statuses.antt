@@ -1,24 +1,18 @@
 -- What `changed` answers.
 use Rattle.std.specs.Prelude.{◌≡◌, ◌⊎◌, ℕ, List, [], codes}
-use Rattle.edi_compare.specs.declared.fault.RunFault.{RunFault}
 use Rattle.edi_answers.specs.Effects.{Effects, Stream}
-use Rattle.edi_answers.specs.Hashes.{TellsFault, named_line}
-use Rattle.edi_answers.specs.Statuses.{Answers, IsUnsaid, LacksMemory, OnlyLacksMemory, Prints, PrintsFirst, Warns}
-use Rattle.edi_answers.specs.WholeInputs.{WholeInputFault, OfWholeInput}
+use Rattle.edi_answers.specs.Statuses.{Answers, IsUnsaid, OnlyLacksMemory, Prints, PrintsFirst}
+use Rattle.edi_answers.specs.WholeInputs.{OfWholeInput}
 use Rattle.edi_changes.specs.Changes.{AreListChanges}
+use Rattle.edi_changes.specs.Lacking.{Lacks}
 use Rattle.edi_changes.specs.Stated.{StatesDigests, StatesNoDigests}
 use Rattle.edi_changes.specs.Told.{changes_text, status_of_changes}
 use Rattle.edi_changes.specs.declared.changes.Change.{Change}
 use Rattle.edi_changes.specs.declared.entry.Entry.{Entry}
 
--- Why there is no list of digests at a path, as the errors say, and the status: the input can't be read; or it is
--- neither a manifest nor a list.
+-- why an input states no digests
 abbrev pub LacksDigests : Effects → Stream → List ℕ → ℕ → Type 0
-LacksDigests run err path s =
-    ((e : RunFault) × WholeInputFault run.inputs path e × TellsFault run.why err e path s)
-    ⊎ (OfWholeInput run.inputs path StatesNoDigests
-    × (((s ≡ 2) × Warns err (named_line path (codes "neither a manifest nor a list of digests")))
-    ⊎ ((s ≡ 5) × LacksMemory err)))
+LacksDigests = Lacks StatesNoDigests (codes "neither a manifest nor a list of digests")
 
 -- The output got the text of the changes between two lists, and the status is theirs; or the output failed in the text.
 abbrev pub TellsChangesOf : Stream → Stream → List Entry → List Entry → ℕ → Type 0

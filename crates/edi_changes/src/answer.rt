@@ -1,18 +1,18 @@
 //! What `changed` answers.
-ghost use Rattle.std.specs.Prelude.{◌≡◌, ◌⊎◌, ℕ, IfErr, IfOk, codes};
+ghost use Rattle.std.specs.Prelude.{◌≡◌, ◌⊎◌, ℕ, IfErr, IfOk};
 ghost use Rattle.edi_answers.specs.Effects.{effects, inputs, written};
-ghost use Rattle.edi_answers.specs.Hashes.{named_line};
 ghost use Rattle.edi_answers.specs.Statuses.{Answers, IsPairStatus, IsUnsaid, OnlyLacksMemory, PrintsFirst};
 ghost use Rattle.edi_answers.specs.WholeInputs.{OfWholeInput};
-ghost use Rattle.edi_changes.specs.Stated.{StatesDigests};
-ghost use Rattle.edi_changes.specs.Statuses.{ChangesSince, IsChangedStatus, LacksDigests, TellsChangesOf};
-ghost use Rattle.edi_changes.specs.inner.Answering.{IsToldOf, MatchLack};
+ghost use Rattle.edi_changes.specs.Lacking.{MatchLack};
+ghost use Rattle.edi_changes.specs.Stated.{StatesDigests, StatesNoDigests};
+ghost use Rattle.edi_changes.specs.Statuses.{ChangesSince, IsChangedStatus, TellsChangesOf};
+ghost use Rattle.edi_changes.specs.inner.Answering.{IsToldOf};
 
 use crate::changes::changes_of;
 use crate::entry::Entry;
+use crate::lacking::{Lack, tell_lack};
 use crate::stated::read_digests;
 use crate::told::{changes_text, status_of_changes};
-use edi_answers::hashes::{push_named, tell_fault};
 use edi_answers::report;
 use edi_answers::whole::read_whole;
 use edi_compare::RunFault;
@@ -21,7 +21,7 @@ use edi_line::ByteOut;
 use edi_write::put_all;
 use std::alloc::{AllocError, Global};
 
-const REFUSED_STATUS: u8 = 2;
+const NEITHER: &[u8] = b"neither a manifest nor a list of digests";
 
 /// Writes which digests of two inputs are new, gone or changed, and how many. Gives 0 where none is, and else 1; 2
 /// where an input states no digests, 4 where one can't be read or `out` fails, and 5 where memory runs out, which `err`
@@ -41,7 +41,7 @@ pub fn changed<F: Folder, O: ByteOut, E: ByteOut>(
 {
     match entries_at(alloc, folder, before) {
         Ok(old) => changed_since(alloc, folder, old, after, out, err),
-        Err(fault) => tell_lack(alloc, folder, &fault, before, err),
+        Err(lack) => tell_lack(alloc, folder, &lack, before, NEITHER, err),
     }
 }
 
@@ -61,74 +61,24 @@ fn changed_since<F: Folder, O: ByteOut, E: ByteOut>(
 {
     match entries_at(alloc, folder, after) {
         Ok(new) => tell_changes(alloc, old, new, out, err),
-        Err(fault) => tell_lack(alloc, folder, &fault, after, err),
+        Err(lack) => tell_lack(alloc, folder, &lack, after, NEITHER, err),
     }
-}
-
-// Why the input of a path states no digests.
-#[derive(Drop)]
-enum Lack {
-    /// It can't be read.
-    Unread(RunFault),
-    /// It is neither a manifest nor a list.
-    Neither,
 }
 
 // The digests that the input of a path states.
 fn entries_at<F: Folder>(alloc: Global, folder: &F, path: &str) -> Result<Vec<Entry>, Lack>
     ensures ok { IfOk result (λ entries.
         OfWholeInput (inputs F.Folder F.Reader.ByteIn folder.now) path.now (λ b. StatesDigests b entries.items)) }
-    ensures err { IfErr result (MatchLack (inputs F.Folder F.Reader.ByteIn folder.now) path.now) }
+    ensures err { IfErr result (MatchLack StatesNoDigests (inputs F.Folder F.Reader.ByteIn folder.now) path.now) }
 {
     match read_whole(alloc, folder, path) {
         Ok(bytes) => match read_digests(alloc, &bytes) {
             Ok(Some(entries)) => Ok(entries),
-            Ok(None) => Err(Lack::Neither),
+            Ok(None) => Err(Lack::Other),
             Err(error) => Err(Lack::Unread(RunFault::Memory(error))),
         },
         Err(fault) => Err(Lack::Unread(fault)),
     }
-}
-
-// Says why the input of a path states no digests, and gives the status.
-fn tell_lack<F: Folder, E: ByteOut>(
-    alloc: Global,
-    folder: &F,
-    lack: &Lack,
-    path: &str,
-    err: &mut E,
-) -> u8
-    requires { MatchLack (inputs F.Folder F.Reader.ByteIn folder.now) path.now lack.now }
-    ensures status { IsPairStatus result }
-    ensures said { LacksDigests
-        (effects F.Folder F.Reader.ByteIn F.Sink.ByteOut F.NewFile.ByteOut folder.now folder.now)
-        (written E.ByteOut err.old err.new) path.now result }
-{
-    match lack {
-        Lack::Unread(fault) => tell_fault(alloc, folder, fault, path, err),
-        Lack::Neither => match neither_line(alloc, path) {
-            Ok(line) => {
-                report::warn(err, &line);
-                REFUSED_STATUS
-            }
-            Err(_) => report::out_of_memory(err),
-        },
-    }
-}
-
-// The line on an input that is neither a manifest nor a list.
-fn neither_line(alloc: Global, path: &str) -> Result<Vec<u8>, AllocError>
-    ensures { IfOk result (λ line.
-        line.items ≡ named_line path.now (codes "neither a manifest nor a list of digests")) }
-{
-    let mut line = Vec::new(alloc);
-    push_named(
-        alloc,
-        &mut line,
-        path.as_bytes(),
-        b"neither a manifest nor a list of digests",
-    )?;
-    Ok(line)
 }
 
 // Writes what has changed between two lists of digests.

@@ -1,21 +1,24 @@
 //! What `hash --check` answers.
 
-ghost use Rattle.std.specs.Prelude.{◌≡◌, IfErr, IfOk, IsTrue, MatchResult, codes};
+ghost use Rattle.std.specs.Prelude.{◌≡◌, IfErr, IfOk, IsTrue, MatchResult};
 ghost use Rattle.std.proofs.Common.{Ok};
 ghost use Rattle.std.specs.Str.{bytes_eq};
 ghost use Rattle.sha2.specs.Sha256.{sha256};
 ghost use Rattle.edi_schema_text.specs.SchemaText.{text_of_schema};
 ghost use Rattle.edi_answers.specs.Effects.{effects, inputs, written};
-ghost use Rattle.edi_answers.specs.Hashes.{IsAnswerOf, named_line};
+ghost use Rattle.edi_answers.specs.Hashes.{IsAnswerOf};
 ghost use Rattle.edi_answers.specs.Statuses.{IsPairStatus};
 ghost use Rattle.edi_answers.specs.WholeInputs.{OfWholeInput};
-ghost use Rattle.edi_changes.specs.Checks.{AreHeldUnder, AreLinesHeld, FailsInVerdict, GivesVerdict, IsFilePath, IsHeldStatus, IsLineHeld, IsListOf, IsNoFilePath, IsSheetHeld, LacksList};
-ghost use Rattle.edi_changes.specs.inner.Checking.{IsSaidAs, MatchNoDigest, MatchNoList, TellsNoDigest, status_of_said};
+ghost use Rattle.edi_changes.specs.Checks.{AreHeldUnder, AreLinesHeld, FailsInVerdict, GivesVerdict, IsFilePath, IsHeldStatus, IsLineHeld, IsListOf, IsNoFilePath, IsSheetHeld};
+ghost use Rattle.edi_changes.specs.Lacking.{MatchLack};
+ghost use Rattle.edi_changes.specs.ListText.{IsNoList};
+ghost use Rattle.edi_changes.specs.inner.Checking.{IsSaidAs, MatchNoDigest, TellsNoDigest, status_of_said};
 
+use crate::lacking::{Lack, tell_lack};
 use crate::list::ListLine;
 use crate::reading::read_list;
 use crate::verdict::{Said, at_least, say_verdict};
-use edi_answers::hashes::{digest_of, loaded, path_of_schema, push_named, tell_fault};
+use edi_answers::hashes::{digest_of, loaded, path_of_schema, tell_fault};
 use edi_answers::whole::read_whole;
 use edi_answers::{notes, report};
 use edi_compare::RunFault;
@@ -24,18 +27,16 @@ use edi_line::ByteOut;
 use edi_schema::Schema;
 use edi_schema_text::schema_digest;
 use edi_words::{GivenKinds, ManyFiles, is_standard};
-use std::alloc::{AllocError, Global};
+use std::alloc::Global;
 use std::str::from_utf8;
 
 const UNREAD_STATUS: u8 = 4;
 
-const REFUSED_STATUS: u8 = 2;
-
 /// Writes for each line of a list whether its digest is the one that is found: of a sheet that of its canonical file,
 /// and of a schema that of the two files. Why a sheet has none is said to `err`. Gives 0 where each is, and else the
-/// greatest of 1 and of what the sheets have; 2 where the input is no list or something is refused, 4 where one can't be
-/// read or `out` fails, which ends the run, and 5 where memory runs out. The list is read first, and no sheet is opened
-/// before the schema is loaded; the sheets are opened one after the other, and none of them from standard input
+/// greatest of 1 and of what the sheets have; 2 where the input is no list or something is refused, 4 where one can't
+/// be read or `out` fails, which ends the run, and 5 where memory runs out. The list is read first, and no sheet is
+/// opened before the schema is loaded; the sheets are opened one after the other, and none of them from standard input
 /// (docs/FORMAT.md, "Digests").
 pub fn check_list<F: Folder, O: ByteOut, E: ByteOut>(
     alloc: Global,
@@ -53,68 +54,24 @@ pub fn check_list<F: Folder, O: ByteOut, E: ByteOut>(
 {
     match lines_at(alloc, folder, list) {
         Ok(lines) => hold_under(alloc, folder, kinds, files, &lines, out, err),
-        Err(why) => tell_no_list(alloc, folder, &why, list, err),
+        Err(lack) => tell_lack(alloc, folder, &lack, list, b"no list of digests", err),
     }
 }
 
-// Why there is no list at a path.
-#[derive(Drop)]
-enum NoList {
-    /// The input can't be read.
-    Unread(RunFault),
-    /// It is no list.
-    Other,
-}
-
 // The lines of the list at a path.
-fn lines_at<F: Folder>(alloc: Global, folder: &F, path: &str) -> Result<Vec<ListLine>, NoList>
+fn lines_at<F: Folder>(alloc: Global, folder: &F, path: &str) -> Result<Vec<ListLine>, Lack>
     ensures ok { IfOk result (λ lines.
         OfWholeInput (inputs F.Folder F.Reader.ByteIn folder.now) path.now (λ b. IsListOf b lines.items)) }
-    ensures err { IfErr result (MatchNoList (inputs F.Folder F.Reader.ByteIn folder.now) path.now) }
+    ensures err { IfErr result (MatchLack IsNoList (inputs F.Folder F.Reader.ByteIn folder.now) path.now) }
 {
     match read_whole(alloc, folder, path) {
         Ok(bytes) => match read_list(alloc, &bytes) {
             Ok(Some(lines)) => Ok(lines),
-            Ok(None) => Err(NoList::Other),
-            Err(error) => Err(NoList::Unread(RunFault::Memory(error))),
+            Ok(None) => Err(Lack::Other),
+            Err(error) => Err(Lack::Unread(RunFault::Memory(error))),
         },
-        Err(fault) => Err(NoList::Unread(fault)),
+        Err(fault) => Err(Lack::Unread(fault)),
     }
-}
-
-// Says why there is no list at a path, and gives the status.
-fn tell_no_list<F: Folder, E: ByteOut>(
-    alloc: Global,
-    folder: &F,
-    why: &NoList,
-    path: &str,
-    err: &mut E,
-) -> u8
-    requires { MatchNoList (inputs F.Folder F.Reader.ByteIn folder.now) path.now why.now }
-    ensures status { IsPairStatus result }
-    ensures said { LacksList
-        (effects F.Folder F.Reader.ByteIn F.Sink.ByteOut F.NewFile.ByteOut folder.now folder.now)
-        (written E.ByteOut err.old err.new) path.now result }
-{
-    match why {
-        NoList::Unread(fault) => tell_fault(alloc, folder, fault, path, err),
-        NoList::Other => match other_line(alloc, path) {
-            Ok(line) => {
-                report::warn(err, &line);
-                REFUSED_STATUS
-            }
-            Err(_) => report::out_of_memory(err),
-        },
-    }
-}
-
-// The line on an input that is no list.
-fn other_line(alloc: Global, path: &str) -> Result<Vec<u8>, AllocError>
-    ensures { IfOk result (λ line. line.items ≡ named_line path.now (codes "no list of digests")) }
-{
-    let mut line = Vec::new(alloc);
-    push_named(alloc, &mut line, path.as_bytes(), b"no list of digests")?;
-    Ok(line)
 }
 
 // Holds the lines of a list against what is found under the schema of two files.

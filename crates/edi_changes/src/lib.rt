@@ -6,6 +6,7 @@ pub mod changes;
 pub mod checks;
 pub mod entry;
 pub mod known;
+pub mod lacking;
 pub mod laws;
 pub mod list;
 mod merge;

@@ -35,8 +35,8 @@ pub(crate) fn at_least(least: u8, said: Said) -> Said
     }
 }
 
-// The word for a digest that is the one that was found, or isn't.
-fn verdict_word(is_same: bool) -> &'static [u8]
+/// The word for a digest that is the one that was found, or isn't.
+pub fn verdict_word(is_same: bool) -> &'static [u8]
     ensures { result.now ≡ verdict_word is_same }
 {
     if is_same { b"OK" } else { b"FAILED" }

@@ -39,4 +39,5 @@ pub record PairsByNumber (f : NumberedRecords) (m : Labelling) (pairing : Pairin
   pub all_paired : length pairing.to ≡ length f.kinds.items
   pub all_directed : length pairing.turned ≡ length f.kinds.items
   pub to : (i : ℕ) → i < length f.kinds.items → slice_index pairing.to i ≡ namesake f m i
-  pub turned : (i : ℕ) → i < length f.kinds.items → turned_at pairing.turned i ≡ not (beq (turned_at f.turned i) (turned_at m.turned (namesake f m i)))
+  pub turned : (i : ℕ) → i < length f.kinds.items
+      → turned_at pairing.turned i ≡ not (beq (turned_at f.turned i) (turned_at m.turned (namesake f m i)))

@@ -13,16 +13,19 @@ use Rattle.edi_rank.specs.EqualObjects.{BreaksObjectRule}
 use Rattle.edi_compare.specs.PlanOfFile.{IsSheetOf, IsPlanOfFile}
 
 module _ (s : Classes) (b : List ℕ) where
-  -- no rule of lines is broken, of records, of references, of topology
+  -- no rule of lines is broken
   abbrev pub LinesHold : Type 0
   LinesHold = IsUnbroken (BreaksLineRule b)
 
+  -- and none of records
   abbrev pub RecordsHold : Type 0
   RecordsHold = LinesHold × ((zones : List Entry) → IsZonesOf b zones → IsUnbroken (BreaksRecordRule zones))
 
+  -- and none of references
   abbrev pub ReferencesHold : Type 0
   ReferencesHold = RecordsHold × ((sheet : Sheet) → IsSheetOf b sheet → IsUnbroken (BreaksReferenceRule s sheet.list))
 
+  -- and none of topology
   abbrev pub TopologyHolds : Type 0
   TopologyHolds = ReferencesHold × ((p : Drawing) → IsPlanOfFile s b p → IsUnbroken (BreaksTopologyRule p))
 
@@ -30,7 +33,8 @@ module _ (s : Classes) (b : List ℕ) where
   pub data Breaks (rule at : ℕ) : Type 0 where
     of_lines : BreaksLineRule b rule at → Breaks rule at
     of_records : (zones : List Entry) → LinesHold → IsZonesOf b zones → BreaksRecordRule zones rule at → Breaks rule at
-    of_references : (sheet : Sheet) → RecordsHold → IsSheetOf b sheet → BreaksReferenceRule s sheet.list rule at → Breaks rule at
+    of_references : (sheet : Sheet) → RecordsHold → IsSheetOf b sheet → BreaksReferenceRule s sheet.list rule at
+        → Breaks rule at
     of_topology : (p : Drawing) → ReferencesHold → IsPlanOfFile s b p → BreaksTopologyRule p rule at → Breaks rule at
     of_objects : (p : Drawing) → TopologyHolds → IsPlanOfFile s b p → BreaksObjectRule p rule at → Breaks rule at
 

@@ -1,7 +1,8 @@
 -- Why a pairing doesn't carry one plan onto another.
 --
--- `first_uncarried` finds nothing exactly if the pairing carries (`PairingCarries`); otherwise it says why not, by `IsUncarriedBy`: the
--- first record in file order that isn't carried, where nothing that concerns all of them comes first.
+-- `first_uncarried` finds nothing exactly if the pairing carries (`PairingCarries`); otherwise it says why not, by
+-- `IsUncarriedBy`: the first record in file order that isn't carried, where nothing that concerns all of them comes
+-- first.
 use Rattle.std.specs.Prelude.{◌≡◌, ◌≢◌, ℕ, ◌<◌, ◌≤◌, Bool, true, length, map, option_map, slice_index, IsPermutation}
 use Rattle.edi_record.specs.declared.record.Kind.TheVariants.{Par}
 use Rattle.edi_schema.specs.Classes.{Classes, partner_of}
@@ -27,8 +28,10 @@ part_order Extras = 4
 part_order Attributes = 5
 part_order Ends = 6
 
--- what is asked of a part of the record a that is turned or not, if b is to be that record: all of it is `CarriesRecord`, and that arcs alone are turned
+-- what is asked of a part of the record a that is turned or not, if b is to be that record: all of it is
+-- `CarriesRecord`, and that arcs alone are turned
 module _ (s : Classes) (to : ℕ → ℕ) (turned : ℕ → Bool) (i : ℕ) (a b : PlanRecord) where
+  -- the two agree in this part
   abbrev pub AgreeIn : RecordPart → Type 0
   AgreeIn Reversal = turned i ≡ true → a.kind ≡ Par
   AgreeIn Kind = b.kind ≡ a.kind
@@ -36,7 +39,8 @@ module _ (s : Classes) (to : ℕ → ℕ) (turned : ℕ → Bool) (i : ℕ) (a b
   AgreeIn Points = b.points ≡ directed (turned i) a.points
   AgreeIn Extras = b.extras ≡ a.extras
   AgreeIn Attributes = IsPermutation a.attributes b.attributes
-  AgreeIn Ends = (origin_of b ≡ option_map (moved to) (origin_of a)) × IsPermutation (map (moved to) (others_of a)) (others_of b)
+  AgreeIn Ends =
+      (origin_of b ≡ option_map (moved to) (origin_of a)) × IsPermutation (map (moved to) (others_of a)) (others_of b)
 
   -- they differ in this part, and in none before it
   pub record IsFirstUnlike (part : RecordPart) : Type 0 where
@@ -82,6 +86,7 @@ abbrev pub IsUncarriedBy : Classes → Drawing → Drawing → Pairing → Uncar
 IsUncarriedBy s p q pairing Entries = ¬ (HasEntries p pairing)
 IsUncarriedBy s p q pairing CharacterSets = HasEntries p pairing × (q.cse ≢ p.cse)
 IsUncarriedBy s p q pairing (Record i why) =
-    HasEntries p pairing × (q.cse ≡ p.cse) × IsFirstUncarried s (slice_index pairing.to) (turned_at pairing.turned) p q i why
+    HasEntries p pairing × (q.cse ≡ p.cse)
+    × IsFirstUncarried s (slice_index pairing.to) (turned_at pairing.turned) p q i why
 IsUncarriedBy s p q pairing (Unmet j) =
     HasEntries p pairing × (q.cse ≡ p.cse) × IsFirstUnmet s (slice_index pairing.to) (turned_at pairing.turned) p q j

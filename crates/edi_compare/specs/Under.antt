@@ -10,8 +10,8 @@ use Rattle.edi_compare.specs.Runs.{HasFailed, IsRead, IsTooLong, MatchFault, Ref
 abbrev pub OfTwo : ℕ → Type 0 → Type 0 → Type 0 → Type 0
 OfTwo n A P Q = (1 ≤ n) × (n ≤ 2) × (n ≡ 1 → P) × (n ≡ 2 → A × Q)
 
--- Why the two files of a schema give none: the first that can't be read or is too long, or the refusal of the schema. Where
--- the first can't be read, the second is as it was.
+-- Why the two files of a schema give none: the first that can't be read or is too long, or the refusal of the schema.
+-- Where the first can't be read, the second is as it was.
 abbrev pub SchemaFilesFault : KindCodes → Seen → Seen → RunFault → Type 0
 SchemaFilesFault kinds scd dic e = MatchFault e
     (λ n. OfTwo n (IsRead scd) (HasFailed scd × dic.stays) (HasFailed dic))

@@ -42,8 +42,8 @@ pub fn check_pairing(
     }
 }
 
-/// Why a pairing doesn't carry the first plan onto the second, of two sheets that were accepted under this schema, or nothing
-/// where it carries: `check_pairing` is this, without the reason. The only error is want of memory.
+/// Why a pairing doesn't carry the first plan onto the second, of two sheets that were accepted under this schema, or
+/// nothing where it carries: `check_pairing` is this, without the reason. The only error is want of memory.
 pub fn first_uncarried(
     alloc: Global,
     schema: &Schema,
@@ -91,9 +91,21 @@ impl<'a> Model for Pairs<'a> {
 
     ghost Value = { Matching };
 
-    ghost view = { λ p. record { classes = p.schema.now; plan = p.plan.now; other = p.other.now; to = p.to.now; turned = p.turned.now } };
+    ghost view = { λ p. record {
+      classes = p.schema.now;
+      plan = p.plan.now;
+      other = p.other.now;
+      to = p.to.now;
+      turned = p.turned.now;
+    } };
 
-    ghost invariant = { λ p. IsFitting (record { classes = p.schema.now; plan = p.plan.now; other = p.other.now; to = p.to.now; turned = p.turned.now }) };
+    ghost invariant = { λ p. IsFitting (record {
+      classes = p.schema.now;
+      plan = p.plan.now;
+      other = p.other.now;
+      to = p.to.now;
+      turned = p.turned.now;
+    }) };
 }
 
 impl<'a> Pairs<'a> {
@@ -118,7 +130,8 @@ impl<'a> Pairs<'a> {
     fn first_unmarked(&self, marks: &[bool]) -> Option<u32>
         requires { length marks.now ≡ length self.now.other.list }
         ensures { MatchOption result ((j : ℕ) → IsPlace self.now.other j → slice_index_or marks.now j false ≡ true)
-            (λ j. IsPlace self.now.other j × (slice_index_or marks.now j false ≡ false) × ((l : ℕ) → l < j → slice_index_or marks.now l false ≡ true)) }
+            (λ j. IsPlace self.now.other j × (slice_index_or marks.now j false ≡ false)
+            × ((l : ℕ) → l < j → slice_index_or marks.now l false ≡ true)) }
     {
         for place in 0..self.other.len() {
             if !marks[place as usize] {
@@ -172,7 +185,8 @@ impl<'a> Pairs<'a> {
     fn part_unlike(&self, alloc: Global, place: u32) -> Result<Option<RecordPart>, AllocError>
         requires place { IsPlace self.now.plan place }
         requires there { IsPlace self.now.other (slice_index self.now.to place) }
-        ensures { IfOk result (λ part. MatchOption part ((p : Part) → AgreeAt self.now place p) (IsUnlikeAt self.now place)) }
+        ensures { IfOk result (λ part.
+            MatchOption part ((p : Part) → AgreeAt self.now place p) (IsUnlikeAt self.now place)) }
     {
         if let Some(part) = self.body_unlike(place) {
             return Ok(Some(part));
@@ -202,8 +216,8 @@ impl<'a> Pairs<'a> {
         self.to[place as usize]
     }
 
-    /// The first part that needs no order in which a record and the one that it goes to differ: the type, the class, the points and
-    /// the extra zones, and before these whether it may be turned.
+    /// The first part that needs no order in which a record and the one that it goes to differ: the type, the class,
+    /// the points and the extra zones, and before these whether it may be turned.
     fn body_unlike(&self, place: u32) -> Option<RecordPart>
         requires place { IsPlace self.now.plan place }
         requires there { IsPlace self.now.other (slice_index self.now.to place) }

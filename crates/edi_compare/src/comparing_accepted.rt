@@ -17,8 +17,8 @@ use edi_write::write_canon;
 use std::alloc::{AllocError, Global};
 
 /// Whether two sheets that were accepted under this schema state the same plan, as `compare` says it of their files:
-/// `Verdict::Same` with a pairing that carries the first plan onto the second, or `Verdict::Different` with the number of
-/// the first line in which their canonical files differ, where no pairing carries. The only error is want of memory.
+/// `Verdict::Same` with a pairing that carries the first plan onto the second, or `Verdict::Different` with the number
+/// of the first line in which their canonical files differ, where no pairing carries. The only error is want of memory.
 pub fn compare_accepted(
     alloc: Global,
     schema: &Schema,

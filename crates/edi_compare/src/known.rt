@@ -31,8 +31,8 @@ pub fn known_sheets_are_answered()
     ensures nothing { IsRefusal node_classes [] (Line 106 1) }
 {}
 
-/// In a known plan the arc is one that is turned, its four links give it two nodes and two faces, and of the two plain links one
-/// is a piece of the object, its only one.
+/// In a known plan the arc is one that is turned, its four links give it two nodes and two faces, and of the two plain
+/// links one is a piece of the object, its only one.
 pub fn known_arcs_have_sides()
     ensures turned { is_backward turned_arc_plan 2 ≡ true }
     ensures initial { Side turned_arc_plan 2 Initial 0 }
@@ -43,8 +43,8 @@ pub fn known_arcs_have_sides()
     ensures plain { is_piece turned_arc_plan 5 (record_at turned_arc_plan 11) ≡ false }
 {}
 
-/// A sheet of an arc that is turned, between two nodes and with a face on each side, is accepted and has a known canonical
-/// file. Another presentation of it has the same file, and the sheet with its sides exchanged has another.
+/// A sheet of an arc that is turned, between two nodes and with a face on each side, is accepted and has a known
+/// canonical file. Another presentation of it has the same file, and the sheet with its sides exchanged has another.
 pub fn known_arcs_are_answered()
     ensures accepted { IsAccepted arc_classes turned_arc_sheet }
     ensures other_accepted { IsAccepted arc_classes reversed_arc_sheet }
@@ -55,9 +55,9 @@ pub fn known_arcs_are_answered()
     ensures exchanged_form { IsFormOf arc_classes exchanged_sheet exchanged_file }
 {}
 
-/// The sheet of an arc that is turned states the same plan as another presentation of it, in which the arc runs the other
-/// way, by a known pairing. It doesn't state the same plan as the sheet with its sides exchanged, and the canonical
-/// files of the two first differ where a link names a face.
+/// The sheet of an arc that is turned states the same plan as another presentation of it, in which the arc runs the
+/// other way, by a known pairing. It doesn't state the same plan as the sheet with its sides exchanged, and the
+/// canonical files of the two first differ where a link names a face.
 pub fn known_sheets_are_paired()
     ensures plan { IsPlanOfFile arc_classes turned_arc_sheet turned_arc_plan }
     ensures other_plan { IsPlanOfFile arc_classes reversed_arc_sheet reversed_arc_plan }
@@ -70,7 +70,8 @@ pub fn known_sheets_are_paired()
     ensures different_verdict { IsVerdict arc_classes turned_arc_sheet exchanged_sheet (verdict.Different 63) }
 {}
 
-/// A known sheet is refused in each phase, by its first broken rule: of lines, of records, of references, of topology, of objects.
+/// A known sheet is refused in each phase, by its first broken rule: of lines, of records, of references, of topology,
+/// of objects.
 pub fn known_sheets_are_refused()
     ensures lines { IsRefusal node_classes cut_line_sheet (Line 102 1) }
     ensures records { IsRefusal node_classes wrong_count_sheet (Entry 205 1) }

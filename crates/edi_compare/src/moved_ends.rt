@@ -68,7 +68,8 @@ fn same_in_order(
     others: &[PlanEnd],
 ) -> Result<bool, AllocError>
     requires { AllByRecursion (λ e. e.target < length to.now) ends.now }
-    ensures { IfOk result (λ answer. IsTrue answer ↔ IsPermutation (map (moved (slice_index to.now)) ends.now) others.now) }
+    ensures { IfOk result (λ answer. IsTrue answer
+        ↔ IsPermutation (map (moved (slice_index to.now)) ends.now) others.now) }
 {
     let mut moves = moved_ends(alloc, to, ends)?;
     let mut places = placed_ends(alloc, others)?;
@@ -84,7 +85,8 @@ fn same_others(
     others: &[PlanEnd],
 ) -> Result<bool, AllocError>
     requires { AllByRecursion (λ e. e.target < length to.now) ends.now }
-    ensures { IfOk result (λ answer. IsTrue answer ↔ IsPermutation (map (moved (slice_index to.now)) ends.now) others.now) }
+    ensures { IfOk result (λ answer. IsTrue answer
+        ↔ IsPermutation (map (moved (slice_index to.now)) ends.now) others.now) }
 {
     if ends.len() == 1 && others.len() == 1 {
         return Ok(same_end(to, &ends[0], &others[0]));
@@ -100,7 +102,8 @@ pub fn same_ends(
     others: &[PlanEnd],
 ) -> Result<bool, AllocError>
     requires { AllByRecursion (λ e. e.target < length to.now) ends.now }
-    ensures { IfOk result (λ answer. IsTrue answer ↔ ((first_of others.now ≡ option_map (moved (slice_index to.now)) (first_of ends.now))
+    ensures { IfOk result (λ answer. IsTrue answer
+        ↔ ((first_of others.now ≡ option_map (moved (slice_index to.now)) (first_of ends.now))
         × IsPermutation (map (moved (slice_index to.now)) (rest_of ends.now)) (rest_of others.now))) }
 {
     match (ends.split_first(), others.split_first()) {

@@ -52,7 +52,8 @@ pub fn numbered_records(
 /// The types of a plan's records, by place.
 fn kinds_of(alloc: Global, plan: &Plan) -> Result<Vec<Kind>, AllocError>
     ensures length { IfOk result (λ kinds. length kinds.items ≡ length plan.now.list) }
-    ensures each { IfOk result (λ kinds. (k : ℕ) → IsPlace plan.now k → slice_index_or kinds.items k Pno ≡ (record_at plan.now k).kind) }
+    ensures each { IfOk result (λ kinds. (k : ℕ) → IsPlace plan.now k
+        → slice_index_or kinds.items k Pno ≡ (record_at plan.now k).kind) }
 {
     let mut kinds = Vec::with_capacity(alloc, plan.len() as usize)?;
     for place in 0..plan.len() {

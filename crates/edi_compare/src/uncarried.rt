@@ -31,7 +31,8 @@ pub enum RecordPart {
     Reversal,
     /// The type.
     Kind,
-    /// The class, which is exchanged with its partner's where a link of one of the four kinds has an arc that is reversed.
+    /// The class, which is exchanged with its partner's where a link of one of the four kinds has an arc that is
+    /// reversed.
     Class,
     /// The points, which go backwards where their arc is reversed.
     Points,

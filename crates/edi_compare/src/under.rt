@@ -20,10 +20,13 @@ pub fn schema_of<S: ByteIn, D: ByteIn>(
     scd: &mut S,
     dic: &mut D,
 ) -> Result<Schema, RunFault>
-    ensures ok { IfOk result (λ schema. IfBothKnown (S.contents scd.old) (D.contents dic.old) (λ s d. IsGoodSchema s d kinds.now schema)) }
+    ensures ok { IfOk result (λ schema.
+        IfBothKnown (S.contents scd.old) (D.contents dic.old) (λ s d. IsGoodSchema s d kinds.now schema)) }
     ensures read { OnOk result (IsRead (seen S.ByteIn scd.old scd.new) × IsRead (seen D.ByteIn dic.old dic.new)) }
-    ensures err { IfErr result (SchemaFilesFault kinds.now (seen S.ByteIn scd.old scd.new) (seen D.ByteIn dic.old dic.new)) }
-    ensures after { IfErr result (λ e. AfterReading e (IsRead (seen S.ByteIn scd.old scd.new) × IsRead (seen D.ByteIn dic.old dic.new))) }
+    ensures err { IfErr result
+        (SchemaFilesFault kinds.now (seen S.ByteIn scd.old scd.new) (seen D.ByteIn dic.old dic.new)) }
+    ensures after { IfErr result (λ e.
+        AfterReading e (IsRead (seen S.ByteIn scd.old scd.new) × IsRead (seen D.ByteIn dic.old dic.new))) }
 {
     let scd = read_input(alloc, scd, 1)?;
     let dic = read_input(alloc, dic, 2)?;

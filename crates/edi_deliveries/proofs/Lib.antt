@@ -1,5 +1,17 @@
 pub mod Lines
 pub mod Paths
 pub mod Steps
+pub mod Names
+pub mod Held
+pub mod OfParts
+pub mod Told
+pub mod Meeting
+pub mod Zips
+pub mod LastLines
+pub mod Well
+pub mod FoundSteps
+pub mod FoundParts
+pub mod MadeManifests
+pub mod There
 pub mod InFolder
 pub mod NameTables

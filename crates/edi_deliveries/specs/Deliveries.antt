@@ -23,10 +23,10 @@ use Rattle.edi_files.specs.declared.listing.Listing as listing
 use Rattle.edi_files.specs.declared.reason.Reason.TheVariants.{NoFile}
 use Rattle.edi_words.specs.Requests.{is_standard_path}
 use Rattle.edi_words.specs.declared.words.ManyFiles.{ManyFiles}
-use Rattle.edi_answers.specs.Effects.{Effects}
+use Rattle.edi_answers.specs.Effects.{Effects, Inputs, Stream}
 use Rattle.edi_answers.specs.Hashes.{IsHashStatus, TellsFault, escaped_name, named_line}
-pub use Rattle.edi_answers.specs.Replies.{AddsNothing, EachInTurn, OneThenOther, Reply, SaysLines}
-use Rattle.edi_answers.specs.Statuses.{OnlyLacksMemory, Prints}
+pub use Rattle.edi_answers.specs.Replies.{AddsNothing, EachInTurn, ErrorsSay, OneThenOther, Reply, SaysLines}
+use Rattle.edi_answers.specs.Statuses.{LacksMemory, OnlyLacksMemory, Prints}
 use Rattle.edi_answers.specs.WholeInputs.{WholeInputFault, OfWholeInput}
 
 -- ---- folders
@@ -74,7 +74,8 @@ found_path before names file = option_map (λ name. before ++ name) (found_name 
 
 -- the lines on the files of a lot that are missing
 abbrev pub missing_lines : List ℕ → List (List ℕ) → Lot → List ℕ
-missing_lines before names lot = flat_map (λ file. missing_line (before ++ file)) (filter (λ file. is_none (found_name names file)) (files_of lot))
+missing_lines before names lot =
+    flat_map (λ file. missing_line (before ++ file)) (filter (λ file. is_none (found_name names file)) (files_of lot))
 
 -- the classes and the dictionary of a lot, and those of its VEC files that are there
 pub record AreLotFiles (before : List ℕ) (names : List (List ℕ)) (lot : Lot) (files : ManyFiles) : Type 0 where
@@ -85,7 +86,9 @@ pub record AreLotFiles (before : List ℕ) (names : List (List ℕ)) (lot : Lot)
 
 -- the classes or the dictionary of a lot are missing
 abbrev pub LacksSchema : List (List ℕ) → Lot → Type 0
-LacksSchema names lot = (found_name names (file_name lot.name Scd lot.scd) ≡ None) ⊎ (found_name names (file_name lot.name Dic lot.dic) ≡ None)
+LacksSchema names lot =
+    (found_name names (file_name lot.name Scd lot.scd) ≡ None)
+    ⊎ (found_name names (file_name lot.name Dic lot.dic) ≡ None)
 
 -- the names of all the files of lots, as they lie there
 abbrev pub found_names : List (List ℕ) → List Lot → List (List ℕ)
@@ -97,7 +100,8 @@ is_unnamed found name = has_extension (codes "VEC") name && not (list_any (bytes
 
 -- the lines on these
 abbrev pub unnamed_lines : List ℕ → List (List ℕ) → List Lot → List ℕ
-unnamed_lines before names lots = flat_map (λ name. unnamed_line (before ++ name)) (filter (is_unnamed (found_names names lots)) names)
+unnamed_lines before names lots =
+    flat_map (λ name. unnamed_line (before ++ name)) (filter (is_unnamed (found_names names lots)) names)
 
 -- 4 where there are lines on missing files
 abbrev pub status_of_missing : List ℕ → ℕ
@@ -111,7 +115,8 @@ abbrev pub refusal_words : DeliveryFault → List ℕ
 refusal_words (Line (line.Memory e)) = codes "out of memory"
 refusal_words (Line (line.Broken rule at)) = codes "refused thf " ++ decimal rule ++ codes " line " ++ decimal at
 refusal_words (Record (record_fault.Memory e)) = codes "out of memory"
-refusal_words (Record (record_fault.Broken rule at)) = codes "refused thf " ++ decimal rule ++ codes " record " ++ decimal at
+refusal_words (Record (record_fault.Broken rule at)) =
+    codes "refused thf " ++ decimal rule ++ codes " record " ++ decimal at
 
 abbrev pub status_of_refusal : DeliveryFault → ℕ
 status_of_refusal (Line (line.Memory e)) = 5
@@ -126,11 +131,62 @@ thf_names names = filter (has_extension (codes "THF")) names
 -- what is wrong with a folder that hasn't just one
 abbrev pub LacksOneThf : List (List ℕ) → List ℕ → Type 0
 LacksOneThf names words =
-    ((thf_names names ≡ []) × (words ≡ codes "no THF file")) ⊎ ((2 ≤ length (thf_names names)) × (words ≡ codes "more than one THF file"))
+    ((thf_names names ≡ []) × (words ≡ codes "no THF file"))
+    ⊎ ((2 ≤ length (thf_names names)) × (words ≡ codes "more than one THF file"))
 
 -- a path is no folder that can be listed, or stands for standard input
 abbrev pub IsNoFolder : Listings → List ℕ → Type 0
 IsNoFolder listings path = (is_standard_path path ≡ true) ⊎ listings.unlisted path
+
+-- ---- the delivery of a path
+
+-- a delivery that was opened
+pub record Opened : Type 0 where
+  -- the path of its THF file
+  pub thf : List ℕ
+  pub lots : List Lot
+  -- the names in the folder of that file, and what stands before these in paths
+  pub names : List (List ℕ)
+  pub before : List ℕ
+
+-- a path leads to this THF file: it is the path of no folder, and then the file's own, or the file is the only one
+-- there
+abbrev pub LeadsToThf : Listings → List ℕ → List ℕ → Type 0
+LeadsToThf listings path thf =
+    (IsNoFolder listings path × (thf ≡ path))
+    ⊎ ((names : List (List ℕ)) × (name : List ℕ) × listings.lists path names × (thf_names names ≡ name ∷ [])
+    × (thf ≡ with_separator path ++ name))
+
+-- a THF file states the lots of a delivery, and its folder has these names
+pub record IsOpened (inputs : Inputs) (listings : Listings) (d : Opened) : Type 0 where
+  pub lots : OfWholeInput inputs d.thf (λ b. IsDeliveryOf b d.lots)
+  pub names : listings.lists (listed_path (parent_of d.thf)) d.names
+  pub before : d.before ≡ with_separator (parent_of d.thf)
+
+-- a path leads to this delivery
+abbrev pub Opens : Inputs → Listings → List ℕ → Opened → Type 0
+Opens inputs listings path d = LeadsToThf listings path d.thf × IsOpened inputs listings d
+
+-- Why a THF file opens no delivery, as the errors say, and the status: it is refused, or can't be read; or the folder
+-- of its lots can't be listed; or memory ran out.
+abbrev pub OpensNoLots : Effects → Listings → List ℕ → Stream → ℕ → Type 0
+OpensNoLots run listings thf err s =
+    ((f : DeliveryFault) × OfWholeInput run.inputs thf (λ b. IsDeliveryRefusal b f)
+    × ErrorsSay (named_line thf (refusal_words f)) (status_of_refusal f) err s)
+    ⊎ (((e : RunFault) × WholeInputFault run.inputs thf e × TellsFault run.why err e thf s)
+    ⊎ (((lots : List Lot) × OfWholeInput run.inputs thf (λ b. IsDeliveryOf b lots)
+    × listings.unlisted (listed_path (parent_of thf))
+    × TellsFault run.why err (Read 1) (listed_path (parent_of thf)) s)
+    ⊎ ((s ≡ 5) × LacksMemory err)))
+
+-- Why a path leads to no delivery, as the errors say, and the status: its folder has no THF file or several, or the THF
+-- file opens none; or memory ran out.
+abbrev pub OpensNone : Effects → Listings → List ℕ → Stream → ℕ → Type 0
+OpensNone run listings path err s =
+    ((names : List (List ℕ)) × (words : List ℕ) × listings.lists path names × LacksOneThf names words
+    × ErrorsSay (named_line path words) 4 err s)
+    ⊎ (((thf : List ℕ) × LeadsToThf listings path thf × OpensNoLots run listings thf err s)
+    ⊎ ((s ≡ 5) × LacksMemory err))
 
 -- ---- what is replied
 
@@ -144,7 +200,8 @@ module _ (run : Effects) (kinds : KindCodes) where
   -- to a lot: the errors name the files that are missing, and the rest is answered
   abbrev pub IsLotAnswered : List ℕ → List (List ℕ) → Lot → Reply
   IsLotAnswered before names lot =
-      OneThenOther (SaysLines (missing_lines before names lot) (status_of_missing (missing_lines before names lot))) (IsLotHashed before names lot)
+      OneThenOther (SaysLines (missing_lines before names lot) (status_of_missing (missing_lines before names lot)))
+      (IsLotHashed before names lot)
 
   -- to the lots of a delivery: to each in its order, and then the errors name the VEC files that no lot names
   abbrev pub AreLotsAnswered : List ℕ → List (List ℕ) → List Lot → Reply
@@ -152,31 +209,11 @@ module _ (run : Effects) (kinds : KindCodes) where
       OneThenOther (EachInTurn (IsLotAnswered before names) lots) (SaysLines (unnamed_lines before names lots) 0)
 
 module _ (run : Effects) (listings : Listings) (kinds : KindCodes) where
-  -- to lots that lie in the folder of a path, which is listed; or it can't be, or there was no memory for the list
-  abbrev pub IsFolderAnswered : List ℕ → List Lot → Reply
-  IsFolderAnswered parent lots out err s =
-      ((names : List (List ℕ)) × listings.lists (listed_path parent) names × AreLotsAnswered run kinds (with_separator parent) names lots out err s)
-      ⊎ ((listings.unlisted (listed_path parent) × TellsFault run.why err (Read 1) (listed_path parent) s × Prints out [])
-      ⊎ (OnlyLacksMemory out err × (s ≡ 5)))
-
-  -- to a THF file: to its lots; or it is refused or can't be read, which the errors say
-  abbrev pub IsThfAnswered : List ℕ → Reply
-  IsThfAnswered thf out err s =
-      ((lots : List Lot) × OfWholeInput run.inputs thf (λ b. IsDeliveryOf b lots) × IsFolderAnswered (parent_of thf) lots out err s)
-      ⊎ (((f : DeliveryFault) × OfWholeInput run.inputs thf (λ b. IsDeliveryRefusal b f) × SaysLines (named_line thf (refusal_words f)) (status_of_refusal f) out err s)
-      ⊎ ((e : RunFault) × WholeInputFault run.inputs thf e × TellsFault run.why err e thf s × Prints out []))
-
-  -- to a folder with these names: to the only THF file in it; or the errors say that it has none or several, or that memory ran out
-  abbrev pub IsListAnswered : List ℕ → List (List ℕ) → Reply
-  IsListAnswered path names out err s =
-      ((name : List ℕ) × (thf_names names ≡ name ∷ []) × IsThfAnswered (with_separator path ++ name) out err s)
-      ⊎ (((words : List ℕ) × LacksOneThf names words × SaysLines (named_line path words) 4 out err s) ⊎ (OnlyLacksMemory out err × (s ≡ 5)))
-
-  -- to a path: where it is a folder, to that; where it is none, to the THF file that it is; or there was no memory for the paths
+  -- to a path: to the lots of the delivery that it leads to; or it leads to none, which the errors say
   abbrev pub IsPathAnswered : List ℕ → Reply
   IsPathAnswered path out err s =
-      (IsNoFolder listings path × IsThfAnswered path out err s)
-      ⊎ (((names : List (List ℕ)) × listings.lists path names × IsListAnswered path names out err s) ⊎ (OnlyLacksMemory out err × (s ≡ 5)))
+      ((d : Opened) × Opens run.inputs listings path d × AreLotsAnswered run kinds d.before d.names d.lots out err s)
+      ⊎ (OpensNone run listings path err s × Prints out [])
 
   -- to paths, each in its order
   abbrev pub IsDeliveryStatus : List (Bor (List ℕ)) → Reply

@@ -1,3 +1,9 @@
+pub mod Checks
 pub mod Deliveries
+pub mod Digests
+pub mod Found
+pub mod LastLines
 pub mod Laws
+pub mod Manifests
+pub mod Parts
 pub mod inner

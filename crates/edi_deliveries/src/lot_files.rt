@@ -33,8 +33,8 @@ pub(crate) fn path_in(alloc: Global, before: &str, name: &str) -> Result<String,
     Ok(path)
 }
 
-// The path of a file that is there.
-fn found_path(
+/// The path of a file that is there.
+pub(crate) fn found_path(
     alloc: Global,
     before: &str,
     names: &FolderNames<'_>,

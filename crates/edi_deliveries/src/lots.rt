@@ -72,7 +72,8 @@ fn hash_lot<F: Folder, O: ByteOut, E: ByteOut>(
     err: &mut E,
 ) -> u8
     ensures status { IsSheetStatus result }
-    ensures answer { IsLotHashed (effects F.Folder F.Reader.ByteIn F.Sink.ByteOut F.NewFile.ByteOut folder.now folder.now) kinds.now
+    ensures answer { IsLotHashed
+        (effects F.Folder F.Reader.ByteIn F.Sink.ByteOut F.NewFile.ByteOut folder.now folder.now) kinds.now
         before.now (names.now) lot.now (written O.ByteOut out.old out.new) (written E.ByteOut err.old err.new) result }
     ensures out_stays { IsTrue (O.has_failed out.old) → IsTrue (O.has_failed out.new) }
     ensures err_stays { IsTrue (E.has_failed err.old) → IsTrue (E.has_failed err.new) }
@@ -84,8 +85,8 @@ fn hash_lot<F: Folder, O: ByteOut, E: ByteOut>(
     }
 }
 
-// Says which files of a lot are missing, and gives the status of that.
-fn say_missing<E: ByteOut>(
+/// Says which files of a lot are missing, and gives the status of that.
+pub(crate) fn say_missing<E: ByteOut>(
     alloc: Global,
     before: &str,
     names: &FolderNames<'_>,
@@ -125,7 +126,8 @@ fn answer_lot<F: Folder, O: ByteOut, E: ByteOut>(
     err: &mut E,
 ) -> u8
     ensures status { IsSheetStatus result }
-    ensures answer { IsLotAnswered (effects F.Folder F.Reader.ByteIn F.Sink.ByteOut F.NewFile.ByteOut folder.now folder.now) kinds.now
+    ensures answer { IsLotAnswered
+        (effects F.Folder F.Reader.ByteIn F.Sink.ByteOut F.NewFile.ByteOut folder.now folder.now) kinds.now
         before.now (names.now) lot.now (written O.ByteOut out.old out.new) (written E.ByteOut err.old err.new) result }
     ensures out_stays { IsTrue (O.has_failed out.old) → IsTrue (O.has_failed out.new) }
     ensures err_stays { IsTrue (E.has_failed err.old) → IsTrue (E.has_failed err.new) }
@@ -147,8 +149,10 @@ fn answer_each<F: Folder, O: ByteOut, E: ByteOut>(
     err: &mut E,
 ) -> u8
     ensures status { IsSheetStatus result }
-    ensures answer { EachInTurn (IsLotAnswered (effects F.Folder F.Reader.ByteIn F.Sink.ByteOut F.NewFile.ByteOut folder.now folder.now) kinds.now
-        before.now (names.now)) lots.now (written O.ByteOut out.old out.new) (written E.ByteOut err.old err.new) result }
+    ensures answer { EachInTurn (IsLotAnswered
+        (effects F.Folder F.Reader.ByteIn F.Sink.ByteOut F.NewFile.ByteOut folder.now folder.now) kinds.now
+        before.now (names.now)) lots.now (written O.ByteOut out.old out.new)
+        (written E.ByteOut err.old err.new) result }
     ensures out_stays { IsTrue (O.has_failed out.old) → IsTrue (O.has_failed out.new) }
     ensures err_stays { IsTrue (E.has_failed err.old) → IsTrue (E.has_failed err.new) }
 {
@@ -172,7 +176,8 @@ pub(crate) fn answer_lots<F: Folder, O: ByteOut, E: ByteOut>(
     err: &mut E,
 ) -> u8
     ensures status { IsSheetStatus result }
-    ensures answer { AreLotsAnswered (effects F.Folder F.Reader.ByteIn F.Sink.ByteOut F.NewFile.ByteOut folder.now folder.now) kinds.now
+    ensures answer { AreLotsAnswered
+        (effects F.Folder F.Reader.ByteIn F.Sink.ByteOut F.NewFile.ByteOut folder.now folder.now) kinds.now
         before.now (names.now) lots.now (written O.ByteOut out.old out.new) (written E.ByteOut err.old err.new) result }
     ensures out_stays { IsTrue (O.has_failed out.old) → IsTrue (O.has_failed out.new) }
     ensures err_stays { IsTrue (E.has_failed err.old) → IsTrue (E.has_failed err.new) }

@@ -25,7 +25,8 @@ pub(crate) fn say_lines<E: ByteOut>(
     lines: &Result<Vec<u8>, AllocError>,
     status: u8,
 ) -> u8
-    ensures said { MatchResult lines.now (λ lines. (result ≡ status) × Notes (written E.ByteOut err.old err.new) lines.items)
+    ensures said { MatchResult lines.now (λ lines. (result ≡ status)
+        × Notes (written E.ByteOut err.old err.new) lines.items)
         (λ _. (result ≡ 5) × LacksMemory (written E.ByteOut err.old err.new)) }
     ensures stays { IsTrue (E.has_failed err.old) → IsTrue (E.has_failed err.new) }
 {
@@ -89,7 +90,8 @@ fn push_found<'a>(
     lot: &Lot,
 ) -> Result<(), AllocError>
     ensures { OnOk result (map (λ name. name.now) found.new.items
-        ≡ map (λ name. name.now) found.old.items ++ flat_map (λ file. option_to_list (found_name (names.now) file)) (files_of lot.now)) }
+        ≡ map (λ name. name.now) found.old.items
+        ++ flat_map (λ file. option_to_list (found_name (names.now) file)) (files_of lot.now)) }
 {
     let files = lot.files(alloc)?;
     for file in &files {
@@ -100,8 +102,8 @@ fn push_found<'a>(
     Ok(())
 }
 
-// The names of all the files of lots, as they lie there.
-fn found_names<'a>(
+/// The names of all the files of lots, as they lie there.
+pub(crate) fn found_names<'a>(
     alloc: Global,
     names: &FolderNames<'a>,
     lots: &[Lot],

@@ -28,7 +28,8 @@ pub(crate) fn read_thf<F: Folder>(
     folder: &F,
     thf: &str,
 ) -> Result<Delivery, NoDelivery>
-    ensures ok { IfOk result (λ lots. OfWholeInput (inputs F.Folder F.Reader.ByteIn folder.now) thf.now (λ b. IsDeliveryOf b lots)) }
+    ensures ok { IfOk result (λ lots.
+        OfWholeInput (inputs F.Folder F.Reader.ByteIn folder.now) thf.now (λ b. IsDeliveryOf b lots)) }
     ensures err { IfErr result (MatchThf (inputs F.Folder F.Reader.ByteIn folder.now) thf.now) }
 {
     match read_whole(alloc, folder, thf) {

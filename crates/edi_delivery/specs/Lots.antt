@@ -12,9 +12,11 @@ use Rattle.edi_delivery.specs.declared.lot.Lot.{Lot}
 abbrev pub has_type : List ℕ → List Entry → Bool
 has_type code group = bytes_eq (unwrap_or (first (values (codes "RTY") group)) []) code
 
+-- the record of the support
 abbrev pub is_support : List Entry → Bool
 is_support group = has_type (codes "GTS") group
 
+-- a record of a lot
 abbrev pub is_lot : List Entry → Bool
 is_lot group = has_type (codes "GTL") group
 

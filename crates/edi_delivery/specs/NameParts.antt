@@ -7,6 +7,7 @@ use Rattle.edi_line.specs.Bytes.{minus, point}
 use Rattle.edi_delivery.specs.declared.file_name.Extension.{Extension}
 use Rattle.edi_delivery.specs.declared.file_name.Extension.TheVariants.{Scd, Dic, Gen, Geo, Qal, Vec}
 
+-- `_`
 abbrev pub underscore : ℕ
 underscore = 95
 
@@ -39,6 +40,7 @@ abbrev pub is_file_name : List ℕ → Bool
 is_file_name [] = false
 is_file_name (c ∷ cs) = is_word_byte c && (list_all is_file_byte cs && nat_le (length (c ∷ cs)) most_of_file)
 
+-- an extension, with its point
 abbrev pub extension_text : Extension → List ℕ
 extension_text Scd = codes ".SCD"
 extension_text Dic = codes ".DIC"

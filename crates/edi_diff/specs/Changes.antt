@@ -13,8 +13,9 @@ use Rattle.edi_diff.specs.Directions.{RunsBackwards}
 use Rattle.edi_report.specs.Reports.{parts_at}
 use Rattle.edi_report.specs.declared.parts.Parts.{Parts}
 
--- Beside the records of p that are matched, some others go to records of q of their types, which they became; no two go to one.
--- Those of them that are reversed are arcs, and an arc that became another is reversed if it runs the other way.
+-- Beside the records of p that are matched, some others go to records of q of their types, which they became; no two go
+-- to one. Those of them that are reversed are arcs, and an arc that became another is reversed if it runs the other
+-- way.
 pub record AreChanges (p q : Drawing) (unchanged became : Matching) : Type 0 where
   pub all_entered : length became.to ≡ length p.list
   pub all_directed : length became.turned ≡ length p.list
@@ -44,4 +45,6 @@ pub record AreChangedParts (s : Classes) (became : Matching) (i : ℕ) (a b : Pl
 
 -- the parts of each record that changed
 abbrev pub ArePartsOfEach : Classes → Drawing → Drawing → Matching → Matching → List Parts → Type 0
-ArePartsOfEach s p q unchanged became parts = (i j : ℕ) → ¬ (IsMatched unchanged.to i) → GoesTo became.to i j → AreChangedParts s became i (record_at p i) (record_at q j) (parts_at parts i)
+ArePartsOfEach s p q unchanged became parts =
+    (i j : ℕ) → ¬ (IsMatched unchanged.to i) → GoesTo became.to i j
+    → AreChangedParts s became i (record_at p i) (record_at q j) (parts_at parts i)

@@ -20,9 +20,11 @@ abbrev pub report_by : LocatedSheet → LocatedSheet → Matching → Matching �
 report_by first second unchanged became parts =
     record { first = first; second = second; unchanged = unchanged.to; became = became.to; parts = parts }
 
--- The text of what differs in a form, by a matching of the records that are the same: of the other records some became others, and the text
--- names the parts in which these differ. Where it is JSON, a reader finds in it the values of this form.
-pub record IsDifferenceText (s : Classes) (first second : LocatedSheet) (unchanged : Matching) (form : TextForm) (text : List ℕ) : Type 0 where
+-- The text of what differs in a form, by a matching of the records that are the same: of the other records some became
+-- others, and the text names the parts in which these differ. Where it is JSON, a reader finds in it the values of this
+-- form.
+pub record IsDifferenceText (s : Classes) (first second : LocatedSheet) (unchanged : Matching) (form : TextForm)
+    (text : List ℕ) : Type 0 where
   pub became : Matching
   pub parts : List Parts
   pub changes : AreChanges first.accepted second.accepted unchanged became
@@ -30,9 +32,10 @@ pub record IsDifferenceText (s : Classes) (first second : LocatedSheet) (unchang
   pub is_text : text ≡ text_of_form s form (report_by first second unchanged became parts)
   pub is_read : IsReadByForm form (report_by first second unchanged became parts) text
 
--- What differs between two files: the text, by a matching that holds between their plans, that leaves nothing out, of one character set, exactly
--- if these are the same, and leaves out no node and no arc that has a partner, no face together with that on the
--- same side of a matched arc, and no link, each together with one that it is carried onto; and whether the plans are the same.
+-- What differs between two files: the text, by a matching that holds between their plans, that leaves nothing out, of
+-- one character set, exactly if these are the same, and leaves out no node and no arc that has a partner, no face
+-- together with that on the same side of a matched arc, and no link, each together with one that it is carried onto;
+-- and whether the plans are the same.
 pub record IsDifference (s : Classes) (a b : List ℕ) (form : TextForm) (difference : Difference) : Type 0 where
   pub first : LocatedSheet
   pub second : LocatedSheet

@@ -12,10 +12,11 @@ pub record SharesFirst (a b : List Point) (n : ℕ) : Type 0 where
 
 -- how many points two lists share from both ends on
 abbrev pub SharesEnds : List Point → List Point → ℕ → Type 0
-SharesEnds a b n = (first last : ℕ) × SharesFirst a b first × SharesFirst (reverse a) (reverse b) last × (n ≡ first + last)
+SharesEnds a b n =
+    (first last : ℕ) × SharesFirst a b first × SharesFirst (reverse a) (reverse b) last × (n ≡ first + last)
 
--- The points of an arc run the other way than those of the one that it became: backwards it shares more of them with that one, from both
--- ends on. Where it shares as many, each runs as its direction says.
+-- The points of an arc run the other way than those of the one that it became: backwards it shares more of them with
+-- that one, from both ends on. Where it shares as many, each runs as its direction says.
 pub record RunsBackwards (a b : List Point) (turned : Bool) : Type 0 where
   pub ahead : ℕ
   pub back : ℕ

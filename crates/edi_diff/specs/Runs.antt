@@ -10,4 +10,5 @@ use Rattle.edi_diff.specs.declared.form.TextForm.{TextForm}
 
 -- both sheets are accepted under the schema of the two files and the codes, and this is what differs between them
 abbrev pub IsDifferenceUnder : KindCodes → List ℕ → List ℕ → List ℕ → List ℕ → TextForm → Difference → Type 0
-IsDifferenceUnder kinds scd dic a b form difference = (s : Classes) × IsGoodSchema scd dic kinds s × IsAccepted s a × IsAccepted s b × IsDifference s a b form difference
+IsDifferenceUnder kinds scd dic a b form difference =
+    (s : Classes) × IsGoodSchema scd dic kinds s × IsAccepted s a × IsAccepted s b × IsDifference s a b form difference

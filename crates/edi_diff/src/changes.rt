@@ -38,8 +38,9 @@ pub(crate) struct Changes {
     pub(crate) reached: Vec<bool>,
 }
 
-/// The matched records, and beside them those that plainly became others: nodes and arcs by their points, records by their
-/// contents, by what links join them with, and links by their ends. What is taken first settles what comes behind it.
+/// The matched records, and beside them those that plainly became others: nodes and arcs by their points, records by
+/// their contents, by what links join them with, and links by their ends. What is taken first settles what comes behind
+/// it.
 pub(crate) fn changes_between(
     alloc: Global,
     plan: &Plan,
@@ -94,7 +95,8 @@ fn unchanged_alone(alloc: Global, other: &Plan, unchanged: &Matching) -> Result<
 impl Changes {
     /// Lets records become others that are found in one way.
     fn grow(&mut self, alloc: Global, plan: &Plan, other: &Plan, way: Way) -> Result<(), AllocError>
-        ensures { (unchanged : UnchangedMatching) → AreSteps plan.now other.now unchanged self.old.to.items self.old.turned.items self.old.reached.items
+        ensures { (unchanged : UnchangedMatching)
+            → AreSteps plan.now other.now unchanged self.old.to.items self.old.turned.items self.old.reached.items
             → AreSteps plan.now other.now unchanged self.new.to.items self.new.turned.items self.new.reached.items }
     {
         let proposals = self.proposals(alloc, plan, other, way)?;
@@ -127,7 +129,8 @@ impl Changes {
 
     /// Lets each of these records become the other, in this order, if it may.
     fn add_all(&mut self, plan: &Plan, other: &Plan, proposals: &[Proposal])
-        ensures { (unchanged : UnchangedMatching) → AreSteps plan.now other.now unchanged self.old.to.items self.old.turned.items self.old.reached.items
+        ensures { (unchanged : UnchangedMatching)
+            → AreSteps plan.now other.now unchanged self.old.to.items self.old.turned.items self.old.reached.items
             → AreSteps plan.now other.now unchanged self.new.to.items self.new.turned.items self.new.reached.items }
     {
         for proposal in proposals {
@@ -137,7 +140,8 @@ impl Changes {
 
     /// Lets a record become another, if neither is met yet and both are of one type.
     fn add(&mut self, plan: &Plan, other: &Plan, proposal: Proposal)
-        ensures { (unchanged : UnchangedMatching) → AreSteps plan.now other.now unchanged self.old.to.items self.old.turned.items self.old.reached.items
+        ensures { (unchanged : UnchangedMatching)
+            → AreSteps plan.now other.now unchanged self.old.to.items self.old.turned.items self.old.reached.items
             → AreSteps plan.now other.now unchanged self.new.to.items self.new.turned.items self.new.reached.items }
     {
         let i = proposal.place as usize;

@@ -75,7 +75,9 @@ fn changes_with_text(
     requires first_sites { HasSites first.now }
     requires second_sites { HasSites second.now }
     requires holds { MatchingHolds schema.now first.now.accepted second.now.accepted matching.now }
-    ensures { IfOk result (λ reporter. (text : IsDifferenceText schema.now first.now second.now matching.now form reporter.text.items) × (text.became ≡ reporter.became)) }
+    ensures { IfOk result (λ reporter.
+        (text : IsDifferenceText schema.now first.now second.now matching.now form reporter.text.items)
+        × (text.became ≡ reporter.became)) }
 {
     let plan = first.accepted.sound().plan();
     let other = second.accepted.sound().plan();
@@ -101,9 +103,9 @@ fn changes_with_text(
     Ok(ChangesWithText { became, text })
 }
 
-/// What differs between two sheets under a schema, told in this form; or the refusal that `edi_compare::compare`
-/// gives: `CompareFault::First` where the first sheet is refused, `CompareFault::Second` where the first is accepted and
-/// the second is refused.
+/// What differs between two sheets under a schema, told in this form; or the refusal that `edi_compare::compare` gives:
+/// `CompareFault::First` where the first sheet is refused, `CompareFault::Second` where the first is accepted and the
+/// second is refused.
 pub fn diff(
     alloc: Global,
     schema: &Schema,
@@ -142,8 +144,8 @@ pub(crate) fn diff_from(
     Ok(found.difference)
 }
 
-/// What `diff` gives of files that are let go, where they are owned, one after the other; with the sheets and the matching
-/// that it is reported by. The classes of both plans are of the schema.
+/// What `diff` gives of files that are let go, where they are owned, one after the other; with the sheets and the
+/// matching that it is reported by. The classes of both plans are of the schema.
 pub fn find_differences(
     alloc: Global,
     schema: &Schema,

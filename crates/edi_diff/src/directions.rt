@@ -8,8 +8,8 @@ ghost use Rattle.edi_diff.specs.Directions.{RunsBackwards, SharesEnds, SharesFir
 use edi_record::Point;
 use edi_topo::is_forward;
 
-/// Whether the points of an arc run the other way than those of the one that it became: backwards it shares more of them with that one, from
-/// both ends on. Where it shares as many, each runs as its direction says.
+/// Whether the points of an arc run the other way than those of the one that it became: backwards it shares more of
+/// them with that one, from both ends on. Where it shares as many, each runs as its direction says.
 pub(crate) fn runs_backwards(points: &[Point], others: &[Point]) -> bool
     ensures { RunsBackwards points.now others.now result }
 {

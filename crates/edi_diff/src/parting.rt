@@ -50,7 +50,8 @@ pub(crate) fn parts_of(
     compared.all_parts(alloc)
 }
 
-/// Two plans, what is unchanged of the first and what became of it. The targets have 0 for a record that became nothing.
+/// Two plans, what is unchanged of the first and what became of it. The targets have 0 for a record that became
+/// nothing.
 #[derive(Drop)]
 struct PlanComparison<'a> {
     schema: &'a Schema,
@@ -67,16 +68,33 @@ impl<'a> Model for PlanComparison<'a> {
 
     ghost Value = { Comparison };
 
-    ghost view = { λ p. record { classes = p.schema.now; plan = p.plan.now; other = p.other.now; unchanged = p.unchanged.now; to = p.to.now; targets = p.targets.now; turned = p.turned.now } };
+    ghost view = { λ p. record {
+      classes = p.schema.now;
+      plan = p.plan.now;
+      other = p.other.now;
+      unchanged = p.unchanged.now;
+      to = p.to.now;
+      targets = p.targets.now;
+      turned = p.turned.now;
+    } };
 
-    ghost invariant = { λ p. IsComparable (record { classes = p.schema.now; plan = p.plan.now; other = p.other.now; unchanged = p.unchanged.now; to = p.to.now; targets = p.targets.now; turned = p.turned.now }) };
+    ghost invariant = { λ p. IsComparable (record {
+      classes = p.schema.now;
+      plan = p.plan.now;
+      other = p.other.now;
+      unchanged = p.unchanged.now;
+      to = p.to.now;
+      targets = p.targets.now;
+      turned = p.turned.now;
+    }) };
 }
 
 impl<'a> PlanComparison<'a> {
     /// The parts of each record, none for one that is unchanged or became nothing.
     fn all_parts(&self, alloc: Global) -> Result<Vec<Parts>, AllocError>
         ensures { IfOk result (λ parts. (i j : ℕ) → ¬ (IsMatched self.now.unchanged i) → GoesTo self.now.to i j
-            → AreChangedParts self.now.classes (became self.now) i (record_at self.now.plan i) (record_at self.now.other j) (parts_at parts.items i)) }
+            → AreChangedParts self.now.classes (became self.now) i (record_at self.now.plan i)
+            (record_at self.now.other j) (parts_at parts.items i)) }
     {
         let mut parts = Vec::with_capacity(alloc, self.plan.len() as usize)?;
         for place in 0..self.plan.len() {
@@ -89,7 +107,8 @@ impl<'a> PlanComparison<'a> {
     fn parts_at(&self, alloc: Global, place: u32) -> Result<Parts, AllocError>
         requires { IsPlace self.now.plan place }
         ensures { IfOk result (λ parts. (j : ℕ) → ¬ (IsMatched self.now.unchanged place) → GoesTo self.now.to place j
-            → AreChangedParts self.now.classes (became self.now) place (record_at self.now.plan place) (record_at self.now.other j) parts) }
+            → AreChangedParts self.now.classes (became self.now) place (record_at self.now.plan place)
+            (record_at self.now.other j) parts) }
     {
         if self.unchanged[place as usize].is_some() {
             return Ok(NO_PARTS);
@@ -104,7 +123,8 @@ impl<'a> PlanComparison<'a> {
     fn parts_between(&self, alloc: Global, place: u32, target: u32) -> Result<Parts, AllocError>
         requires place { IsPlace self.now.plan place }
         requires target { IsPlace self.now.other target }
-        ensures { IfOk result (AreChangedParts self.now.classes (became self.now) place (record_at self.now.plan place) (record_at self.now.other target)) }
+        ensures { IfOk result (AreChangedParts self.now.classes (became self.now) place (record_at self.now.plan place)
+            (record_at self.now.other target)) }
     {
         let attributes = self.has_same_attributes(alloc, place, target)?;
         let ends = self.has_same_ends(alloc, place, target)?;
@@ -120,7 +140,8 @@ impl<'a> PlanComparison<'a> {
     fn has_same_class(&self, place: u32, target: u32) -> bool
         requires place { IsPlace self.now.plan place }
         requires target { IsPlace self.now.other target }
-        ensures { IsTrue result ↔ ((record_at self.now.other target).class ≡ class_after (partner_of self.now.classes) (turned_at self.now.turned) (record_at self.now.plan place)) }
+        ensures { IsTrue result ↔ ((record_at self.now.other target).class
+            ≡ class_after (partner_of self.now.classes) (turned_at self.now.turned) (record_at self.now.plan place)) }
     {
         self.other.scp(target) == class_turned(self.schema, self.plan, self.turned, place)
     }
@@ -133,7 +154,8 @@ impl<'a> PlanComparison<'a> {
     ) -> Result<bool, AllocError>
         requires place { IsPlace self.now.plan place }
         requires target { IsPlace self.now.other target }
-        ensures { IfOk result (λ answer. IsTrue answer ↔ IsPermutation (record_at self.now.plan place).attributes (record_at self.now.other target).attributes) }
+        ensures { IfOk result (λ answer. IsTrue answer
+            ↔ IsPermutation (record_at self.now.plan place).attributes (record_at self.now.other target).attributes) }
     {
         same_attributes(
             alloc,
@@ -153,7 +175,8 @@ impl<'a> PlanComparison<'a> {
     fn has_same_points(&self, place: u32, target: u32) -> bool
         requires place { IsPlace self.now.plan place }
         requires target { IsPlace self.now.other target }
-        ensures { IsTrue result ↔ ((record_at self.now.other target).points ≡ directed (turned_at self.now.turned place) (record_at self.now.plan place).points) }
+        ensures { IsTrue result ↔ ((record_at self.now.other target).points
+            ≡ directed (turned_at self.now.turned place) (record_at self.now.plan place).points) }
     {
         let turned = self.turned[place as usize];
         same_points(self.plan.points(place), turned, self.other.points(target))
@@ -162,7 +185,8 @@ impl<'a> PlanComparison<'a> {
     fn has_same_ends(&self, alloc: Global, place: u32, target: u32) -> Result<bool, AllocError>
         requires place { IsPlace self.now.plan place }
         requires target { IsPlace self.now.other target }
-        ensures { IfOk result (λ answer. IsTrue answer ↔ HasEndsOf (became self.now) (record_at self.now.plan place) (record_at self.now.other target)) }
+        ensures { IfOk result (λ answer. IsTrue answer
+            ↔ HasEndsOf (became self.now) (record_at self.now.plan place) (record_at self.now.other target)) }
     {
         self.plan.keeps();
         let ends = self.plan.ends(place);

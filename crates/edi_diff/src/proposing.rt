@@ -1,4 +1,5 @@
-//! Which records plainly became others: those that share a key with one record of the other sheet, and with no other record.
+//! Which records plainly became others: those that share a key with one record of the other sheet, and with no other
+//! record.
 
 ghost use Rattle.std.specs.Prelude.{◌≡◌, ◌↔◌, ◌<◌, ◌^◌, ◌++◌, IfOk, IsSorted, IsTrue, OnOk, map, option_map};
 ghost use Rattle.edi_plan.specs.Plans.{IsPlace};
@@ -19,8 +20,8 @@ use std::alloc::{AllocError, Global};
 /// A record of one of two sheets: twice its place, and one more if it is of the second.
 type Code = u64;
 
-/// A record that a link joins with another one, and by which class of link it is joined with what. That other record is named
-/// by its place in the second sheet, whichever of the two it is of.
+/// A record that a link joins with another one, and by which class of link it is joined with what. That other record is
+/// named by its place in the second sheet, whichever of the two it is of.
 type Joined = (Code, (LinkClass, u32));
 
 /// The class of a link, or its kind, which one class has at most.
@@ -150,7 +151,8 @@ impl<'a> Open<'a> {
 
     /// The class of a link as the second sheet has it, where its arc may be reversed.
     fn class(&self, of_second: bool, place: u32) -> LinkClass
-        ensures { IsPlace (plan_of (progress_of self.now) of_second) place → result ≡ class_at (progress_of self.now) of_second place }
+        ensures { IsPlace (plan_of (progress_of self.now) of_second) place
+            → result ≡ class_at (progress_of self.now) of_second place }
     {
         let plan = self.sheet(of_second);
         if place >= plan.len() {
@@ -220,7 +222,8 @@ impl<'a> Open<'a> {
         place: u32,
         with: u32,
     ) -> Result<(), AllocError>
-        ensures { IsPlace (plan_of (progress_of self.now) (is_of_second link)) (place_by link) → OnOk result (joined.new.items ≡ joined.old.items ++ joint_of (progress_of self.now) link place with) }
+        ensures { IsPlace (plan_of (progress_of self.now) (is_of_second link)) (place_by link)
+            → OnOk result (joined.new.items ≡ joined.old.items ++ joint_of (progress_of self.now) link place with) }
     {
         let of_second = is_second(link);
         match (self.name(of_second, place), self.name(of_second, with)) {
@@ -240,7 +243,8 @@ impl<'a> Open<'a> {
         joined: &[Joined],
         code: Code,
     ) -> Result<Option<(Kind, Sequence<(LinkClass, u32)>)>, AllocError>
-        ensures { IsSorted joint_cmp joined.now → IfOk result (λ key. key ≡ joined_key (progress_of self.now) joined.now code) }
+        ensures { IsSorted joint_cmp joined.now
+            → IfOk result (λ key. key ≡ joined_key (progress_of self.now) joined.now code) }
     {
         let plan = self.side(code);
         let place = place_of(code);
@@ -283,7 +287,8 @@ impl<'a> Open<'a> {
         of_second: bool,
         ends: &[PlanEnd],
     ) -> Result<Option<Vec<u32>>, AllocError>
-        ensures { IfOk result (λ names. option_map (λ known. known.items) names ≡ all_known (map (λ end. name_of (progress_of self.now) of_second end.target) ends.now)) }
+        ensures { IfOk result (λ names. option_map (λ known. known.items) names
+            ≡ all_known (map (λ end. name_of (progress_of self.now) of_second end.target) ends.now)) }
     {
         let mut names = Vec::new(alloc);
         for end in ends {

@@ -12,8 +12,8 @@ use edi_line::{ByteIn, FileBytes};
 use edi_schema::Kinds;
 use std::alloc::Global;
 
-/// Reads four files, and answers what differs between the third and the fourth, two sheets under the schema of the first
-/// two, told in this form. All are read before one is looked at, and the second sheet is looked at only if the
+/// Reads four files, and answers what differs between the third and the fourth, two sheets under the schema of the
+/// first two, told in this form. All are read before one is looked at, and the second sheet is looked at only if the
 /// first is accepted. The faults are those of `edi_compare::run_compare`.
 pub fn run_diff<S: ByteIn, D: ByteIn, A: ByteIn, B: ByteIn>(
     alloc: Global,
@@ -24,13 +24,15 @@ pub fn run_diff<S: ByteIn, D: ByteIn, A: ByteIn, B: ByteIn>(
     second: &mut B,
     form: TextForm,
 ) -> Result<Difference, RunFault>
-    ensures ok { IfOk result (λ difference. IfFourKnown (S.contents scd.old) (D.contents dic.old) (A.contents first.old) (B.contents second.old)
+    ensures ok { IfOk result (λ difference.
+        IfFourKnown (S.contents scd.old) (D.contents dic.old) (A.contents first.old) (B.contents second.old)
         (λ s d a b. IsDifferenceUnder kinds.now s d a b form difference)) }
     ensures read { OnOk result (AreFourRead (seen S.ByteIn scd.old scd.new) (seen D.ByteIn dic.old dic.new)
         (seen A.ByteIn first.old first.new) (seen B.ByteIn second.old second.new)) }
     ensures err { IfErr result (ComparingFault kinds.now (seen S.ByteIn scd.old scd.new) (seen D.ByteIn dic.old dic.new)
         (seen A.ByteIn first.old first.new) (seen B.ByteIn second.old second.new)) }
-    ensures after { IfErr result (λ e. AfterReading e (AreFourRead (seen S.ByteIn scd.old scd.new) (seen D.ByteIn dic.old dic.new)
+    ensures after { IfErr result (λ e.
+        AfterReading e (AreFourRead (seen S.ByteIn scd.old scd.new) (seen D.ByteIn dic.old dic.new)
         (seen A.ByteIn first.old first.new) (seen B.ByteIn second.old second.new))) }
 {
     let scd = read_input(alloc, scd, 1)?;
@@ -58,8 +60,10 @@ fn diff_or_fault(
     second: FileBytes<'_>,
     form: TextForm,
 ) -> Result<Difference, RunFault>
-    ensures ok { IfOk result (IsDifferenceUnder kinds.now scd.now dic.now (file_bytes first.entry) (file_bytes second.entry) form) }
-    ensures err { IfErr result (PairFault kinds.now scd.now dic.now (file_bytes first.entry) (file_bytes second.entry)) }
+    ensures ok { IfOk result
+        (IsDifferenceUnder kinds.now scd.now dic.now (file_bytes first.entry) (file_bytes second.entry) form) }
+    ensures err { IfErr result
+        (PairFault kinds.now scd.now dic.now (file_bytes first.entry) (file_bytes second.entry)) }
 {
     let schema = load_or_fault(alloc, kinds, scd, dic)?;
     let difference = diff_from(alloc, &schema, first, second, form)?;

@@ -16,7 +16,8 @@ pub(crate) fn is_same(
     matching: &Matching,
 ) -> Result<bool, AllocError>
     requires { length matching.now.to ≡ length first.now.accepted.list }
-    ensures { IfOk result (λ answer. IsTrue answer ↔ (IsTotal first.now.accepted second.now.accepted matching.now × (second.now.accepted.cse ≡ first.now.accepted.cse))) }
+    ensures { IfOk result (λ answer. IsTrue answer ↔ (IsTotal first.now.accepted second.now.accepted matching.now
+        × (second.now.accepted.cse ≡ first.now.accepted.cse))) }
 {
     let charset = first.accepted.sound().plan().cse();
     if !same_texts(second.accepted.sound().plan().cse(), charset) {

@@ -54,7 +54,8 @@ pub record IsPictureOfFile (s : Classes) (name b picture : List ℕ) : Type 0 wh
 
 -- What differs between two files of these names, and the picture of their sheets, marked by the very matching and
 -- changes that the text of what differs is made from.
-pub record IsDrawnDifference (s : Classes) (names : FileNames) (a b : List ℕ) (form : TextForm) (drawn : DrawnDifference) : Type 0 where
+pub record IsDrawnDifference (s : Classes) (names : FileNames) (a b : List ℕ) (form : TextForm)
+    (drawn : DrawnDifference) : Type 0 where
   pub differs : IsDifference s a b form drawn.difference
   pub compared : Compared
   pub by_first : differs.first ≡ compared.first

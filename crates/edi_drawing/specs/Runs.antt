@@ -16,7 +16,8 @@ pub record IsPictureUnder (kinds : KindCodes) (name scd dic b picture : List ℕ
   pub drawn : IsPictureOfFile schema name b picture
 
 -- both sheets are accepted under that schema, and this is what differs between them, with their picture
-pub record IsDrawnDifferenceUnder (kinds : KindCodes) (names : FileNames) (scd dic a b : List ℕ) (form : TextForm) (drawn : DrawnDifference) : Type 0 where
+pub record IsDrawnDifferenceUnder (kinds : KindCodes) (names : FileNames) (scd dic a b : List ℕ) (form : TextForm)
+    (drawn : DrawnDifference) : Type 0 where
   pub schema : Classes
   pub good : IsGoodSchema scd dic kinds schema
   pub first : IsAccepted schema a

@@ -6,7 +6,7 @@ use Rattle.edi_plan.specs.Places.{places_of}
 use Rattle.edi_plan.specs.Plans.{Drawing, record_at}
 use Rattle.edi_picture.specs.declared.mark.Mark.{Mark}
 use Rattle.edi_picture.specs.declared.mark.Mark.TheVariants.{Plain, OnlyFirst, OnlySecond, Before, After, Hidden}
-use Rattle.edi_drawing.specs.Labels.{names}
+use Rattle.edi_drawing.specs.Labels.{names, names_few}
 use Rattle.edi_drawing.specs.Marked.{Compared, first_marks, twin_of, second_marks}
 
 -- a record isn't in both sheets as it is
@@ -26,9 +26,10 @@ is_out marks k = stands_out (slice_index_or marks k Hidden)
 abbrev pub links_out : List Mark → Drawing → ℕ → Bool
 links_out marks p link = is_out marks link || list_any (λ e. is_out marks e.target) (record_at p link).ends
 
--- such a link names the record at a place
+-- Such a link names the record at a place and few others: a link of a section, of whose parcels one is new, doesn't
+-- touch the others.
 abbrev pub touches : List Mark → Drawing → ℕ → ℕ → Bool
-touches marks p k link = names p k link && links_out marks p link
+touches marks p k link = names p k link && (names_few p link && links_out marks p link)
 
 abbrev pub is_touched : List Mark → Drawing → ℕ → Bool
 is_touched marks p k = nat_lt k (length p.list) && list_any (touches marks p k) (places_of Lnk p)

@@ -25,7 +25,8 @@ pub(crate) fn draw_from(
     bytes: FileBytes<'_>,
 ) -> Result<Vec<u8>, Fault>
     ensures accepted { OnOk result (IsAccepted schema.now (file_bytes bytes.entry)) }
-    ensures picture { IfOk result (λ picture. IsPictureOfFile schema.now name.now (file_bytes bytes.entry) picture.items) }
+    ensures picture { IfOk result (λ picture.
+        IsPictureOfFile schema.now name.now (file_bytes bytes.entry) picture.items) }
     ensures refusal { IfErr result (IsRefusal schema.now (file_bytes bytes.entry)) }
 {
     schema.keeps();
@@ -47,7 +48,8 @@ pub(crate) fn draw_difference_from(
 ) -> Result<DrawnDifference, CompareFault>
     ensures first { OnOk result (IsAccepted schema.now (file_bytes a.entry)) }
     ensures second { OnOk result (IsAccepted schema.now (file_bytes b.entry)) }
-    ensures drawn { IfOk result (IsDrawnDifference schema.now names.now (file_bytes a.entry) (file_bytes b.entry) form) }
+    ensures drawn { IfOk result
+        (IsDrawnDifference schema.now names.now (file_bytes a.entry) (file_bytes b.entry) form) }
     ensures refusal { IfErr result (IsPairRefusal schema.now (file_bytes a.entry) (file_bytes b.entry)) }
 {
     schema.keeps();

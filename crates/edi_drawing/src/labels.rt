@@ -5,7 +5,7 @@ ghost use Rattle.std.specs.List.{AllByRecursion, list_any};
 ghost use Rattle.std.specs.Option.{option_or};
 ghost use Rattle.edi_plan.specs.Agreeing.{Agrees, AttributeAgrees};
 ghost use Rattle.edi_plan.specs.Plans.{IsPlace, is_object, record_at};
-ghost use Rattle.edi_drawing.specs.Labels.{attribute_label, both_labels, calls, is_label, is_something, label_of, label_there, label_value, link_label};
+ghost use Rattle.edi_drawing.specs.Labels.{attribute_label, both_labels, calls, is_label, is_something, label_of, label_there, label_value, link_label, names_few};
 ghost use Rattle.edi_drawing.specs.Drawn.{first_label};
 ghost use Rattle.edi_drawing.specs.Marked.{of_each};
 ghost use Rattle.edi_drawing.specs.Tints.{first_tint};
@@ -21,8 +21,8 @@ use std::alloc::{AllocError, Global};
 /// name costs no more.
 const MOST_SOUGHT: usize = 32;
 
-/// How many records a link may name that says what they are called: those of parcels name few, and those of communes
-/// and sections mostly more.
+/// How many records a link may name that says something of each: those of parcels name few, and those of communes and
+/// sections mostly more.
 const MOST_NAMED: usize = 4;
 
 /// How many bytes of a value stand in a label.
@@ -73,7 +73,8 @@ fn attribute_label<'a>(schema: &Schema, attribute: &'a PlanAttribute) -> &'a [u8
 /// What people call the object of these attributes.
 fn object_label<'a>(schema: &Schema, attributes: &'a [PlanAttribute]) -> &'a [u8]
     requires { AllByRecursion (AttributeAgrees schema.now) attributes.now }
-    ensures { result.now ≡ unwrap_or (find is_something (map (attribute_label schema.now) (take 32 attributes.now))) [] }
+    ensures { result.now
+        ≡ unwrap_or (find is_something (map (attribute_label schema.now) (take 32 attributes.now))) [] }
 {
     for attribute in first_few(attributes, MOST_SOUGHT) {
         let label = attribute_label(schema, attribute);
@@ -117,6 +118,14 @@ fn link_label<'a>(schema: &Schema, plan: &'a Plan, link: u32) -> &'a [u8]
     }
 }
 
+/// Whether a link names so few records that it says something of each.
+pub(crate) fn names_few(plan: &Plan, link: u32) -> bool
+    requires { IsPlace plan.now link }
+    ensures { result ≡ names_few plan.now link }
+{
+    plan.ends(link).len() <= MOST_NAMED
+}
+
 /// Notes a link for a record that has none yet.
 fn note(callers: &mut Vec<Option<u32>>, place: u32, link: u32)
     ensures length { length callers.new.items ≡ length callers.old.items }
@@ -132,7 +141,8 @@ fn note(callers: &mut Vec<Option<u32>>, place: u32, link: u32)
 fn note_all(callers: &mut Vec<Option<u32>>, ends: &[PlanEnd], link: u32)
     ensures length { length callers.new.items ≡ length callers.old.items }
     ensures each { (k : ℕ) → k < length callers.old.items → slice_index_or callers.new.items k None
-        ≡ option_or (slice_index_or callers.old.items k None) (if list_any (λ e. e.target == k) ends.now then Some link else None) }
+        ≡ option_or (slice_index_or callers.old.items k None)
+        (if list_any (λ e. e.target == k) ends.now then Some link else None) }
 {
     for end in ends {
         note(callers, end.target, link);
@@ -145,11 +155,11 @@ fn call_all(callers: &mut Vec<Option<u32>>, schema: &Schema, plan: &Plan, link: 
     requires link { IsPlace plan.now link }
     ensures length { length callers.new.items ≡ length callers.old.items }
     ensures each { (k : ℕ) → k < length callers.old.items → slice_index_or callers.new.items k None
-        ≡ option_or (slice_index_or callers.old.items k None) (if calls schema.now plan.now k link then Some link else None) }
+        ≡ option_or (slice_index_or callers.old.items k None)
+        (if calls schema.now plan.now k link then Some link else None) }
 {
-    let ends = plan.ends(link);
-    if ends.len() <= MOST_NAMED && !link_label(schema, plan, link).is_empty() {
-        note_all(callers, ends, link);
+    if names_few(plan, link) && !link_label(schema, plan, link).is_empty() {
+        note_all(callers, plan.ends(link), link);
     }
 }
 
@@ -205,7 +215,8 @@ pub(crate) fn labels_of(
     plan: &Plan,
 ) -> Result<Vec<Vec<u8>>, AllocError>
     requires { Agrees schema.now plan.now }
-    ensures { IfOk result (λ labels. map (λ l. l.items) labels.items ≡ of_each (label_of schema.now plan.now) plan.now) }
+    ensures { IfOk result (λ labels. map (λ l. l.items) labels.items
+        ≡ of_each (label_of schema.now plan.now) plan.now) }
 {
     let callers = callers_of(alloc, schema, plan)?;
     let mut labels = Vec::new(alloc);

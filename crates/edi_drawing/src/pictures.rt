@@ -25,7 +25,8 @@ pub(crate) fn picture_of(
 ) -> Result<Vec<u8>, AllocError>
     requires classes { HasClasses schema.now sheet.now.accepted }
     requires agrees { Agrees schema.now sheet.now.accepted }
-    ensures { IfOk result (λ picture. IsPicture schema.now (plain_sheet schema.now name.now sheet.now ∷ []) picture.items) }
+    ensures { IfOk result (λ picture.
+        IsPicture schema.now (plain_sheet schema.now name.now sheet.now ∷ []) picture.items) }
 {
     let plan = sheet.accepted.sound().plan();
     let identifiers = identifiers_of(alloc, sheet)?;

@@ -40,7 +40,8 @@ pub fn run_draw<S: ByteIn, D: ByteIn, V: ByteIn>(
 }
 
 /// Reads four files, and answers what differs between the third and the fourth, two sheets under the schema of the
-/// first two, with a picture of both, which have these names. What is reported and the faults are those of `edi_diff::run_diff`.
+/// first two, with a picture of both, which have these names. What is reported and the faults are those of
+/// `edi_diff::run_diff`.
 pub fn run_draw_difference<S: ByteIn, D: ByteIn, A: ByteIn, B: ByteIn>(
     alloc: Global,
     kinds: &Kinds<'_>,

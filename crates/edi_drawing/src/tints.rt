@@ -8,6 +8,7 @@ ghost use Rattle.edi_drawing.specs.Tints.{first_tint, is_out, links_out, stands_
 ghost use Rattle.edi_drawing.specs.inner.Tints.{AreTouched};
 ghost use Rattle.edi_picture.specs.declared.mark.Mark.TheVariants.{Hidden};
 
+use crate::labels::names_few;
 use crate::pair::SheetPair;
 use edi_picture::Mark;
 use edi_plan::{Plan, PlanEnd};
@@ -83,7 +84,7 @@ fn touch_by(touched: &mut Vec<bool>, marks: &[Mark], plan: &Plan, link: u32)
     ensures each { (k : ℕ) → k < length touched.old.items → slice_index_or touched.new.items k false
         ≡ (slice_index_or touched.old.items k false || touches marks.now plan.now k link) }
 {
-    if links_out(marks, plan, link) {
+    if names_few(plan, link) && links_out(marks, plan, link) {
         touch_all(touched, plan.ends(link));
     }
 }

@@ -19,3 +19,8 @@ pub mod Remarks
 pub mod Zipped
 pub mod SitesFound
 pub mod KindRows
+pub mod Passing
+pub mod Feeds
+pub mod Straying
+pub mod Sources
+pub mod ClassCounted

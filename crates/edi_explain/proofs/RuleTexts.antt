@@ -1,5 +1,5 @@
 -- The texts of two lists of rules are those of both.
-use Rattle.std.specs.Prelude.{cond, find, option_map}
+use Rattle.std.specs.Prelude.{cond, option_map}
 use Rattle.std.proofs.Common.{◌≡◌, ℕ, Bool, true, false, ◌||◌, List, [], ◌∷◌, ◌++◌, Option, Some, None, nat_eq, refl, sym, ap, ◌∙◌, subst}
 use Rattle.std.proofs.lemmas.List.Folds.{list_any-append}
 use Rattle.std.specs.Option.{option_or}

@@ -8,11 +8,14 @@ has_zone code (Ok (Some s)) = bytes_eq s.code code
 has_zone code (Ok None) = false
 has_zone code (Err rule) = false
 
--- the one line may not stand before the other: by 107 an EOM before any; by 108 a BOM before a BOM, and a CSE or an RTY before a CSE
+-- the one line may not stand before the other: by 107 an EOM before any; by 108 a BOM before a BOM, and a CSE or an RTY
+-- before a CSE
 abbrev pub bars : ℕ → Reading → Reading → Bool
 bars rule earlier line =
     if rule == 107 then has_zone (codes "EOM") earlier
-    else if rule == 108 then (if has_zone (codes "BOM") line then has_zone (codes "BOM") earlier else has_zone (codes "CSE") line && (has_zone (codes "CSE") earlier || has_zone (codes "RTY") earlier))
+    else if rule == 108
+    then (if has_zone (codes "BOM") line then has_zone (codes "BOM") earlier else has_zone (codes "CSE") line
+    && (has_zone (codes "CSE") earlier || has_zone (codes "RTY") earlier))
     else false
 
 -- the line with the number at may not stand behind the one with the number m; numbers are from 1

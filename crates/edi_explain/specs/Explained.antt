@@ -14,6 +14,7 @@ use Rattle.edi_schema.specs.declared.fault.SchemaFault.TheVariants as schema
 use Rattle.edi_compare.specs.declared.fault.Fault.{Fault}
 use Rattle.edi_compare.specs.declared.fault.Fault.TheVariants.{Memory, Line, Entry}
 use Rattle.edi_plan.specs.Extents.{IsExtentIfAny, points_of}
+use Rattle.edi_explain.specs.Cuts.{ShowsCut, cut_hint}
 use Rattle.edi_explain.specs.Lengths.{CountsCharacters, length_hint}
 use Rattle.edi_explain.specs.KindLines.{ExplainsKinds}
 use Rattle.edi_explain.specs.Lines.{lines_of_line, lines_of_sites, sentence_of}
@@ -22,38 +23,73 @@ use Rattle.edi_explain.specs.Partners.{IsLeastIfAny}
 use Rattle.edi_explain.specs.Refusals.{IsRefusedAt, IsRowRefusedAt}
 use Rattle.edi_explain.specs.Rules.{is_among, rules}
 use Rattle.edi_explain.specs.Texts.{IsRuleText, SaysRule}
+use Rattle.edi_explain.specs.ZoneLines.{ExplainsZone, ExplainsZoneOfSheet}
 use Rattle.edi_plan.specs.declared.extent.Extent.{Extent}
 use Rattle.edi_plan.specs.declared.extent.Span.{Span}
 use Rattle.edi_explain.specs.declared.refused.Refused.{Refused}
 use Rattle.edi_explain.specs.declared.text.RuleText.{RuleText}
 use Rattle.edi_shown.specs.Shown.{shown_bytes}
 
--- The lines that explain the refusal of the file b by a rule of lines: the broken line with the sentence of the rule, the
--- earlier line that bars it, and a hint where 103 is broken since the stated length counts characters.
+-- The lines that explain the refusal of the file b by a rule of lines: the broken line with the sentence of the
+-- rule, the earlier line that bars it, a hint where 103 is broken since the stated length counts characters, and
+-- one where the file was cut.
 abbrev pub ExplainsLine : List ℕ → List ℕ → ℕ → ℕ → List ℕ → Type 0
-ExplainsLine b name rule at lines = (text : Option RuleText) × (earlier : Option ℕ) × (counts : Bool) × IsRuleText rule text × IsLeastIfAny (IsBarredBy b rule at) earlier
-    × (IsTrue counts ↔ ((rule ≡ 103) × CountsCharacters b at)) × (lines ≡ lines_of_line name at earlier (sentence_of text) rule ++ length_hint name counts)
+ExplainsLine b name rule at lines = (text : Option RuleText) × (earlier : Option ℕ) × (counts cut : Bool)
+    × IsRuleText rule text
+    × IsLeastIfAny (IsBarredBy b rule at) earlier × (IsTrue counts ↔ ((rule ≡ 103) × CountsCharacters b at))
+    × (IsTrue cut ↔ ShowsCut b rule at)
+    × (lines ≡ (lines_of_line name at earlier (sentence_of text) rule ++ length_hint name counts)
+    ++ cut_hint name cut)
 
--- The lines that explain the refusal of the sheet b, whose file has this name: those of the broken line; or the record with
--- the sentence of its rule, and then the earlier record that the rule speaks of.
-abbrev pub ExplainsSheet : Classes → List ℕ → List ℕ → Fault → List ℕ → Type 0
-ExplainsSheet s b name (Memory e) lines = ⊥
-ExplainsSheet s b name (Line rule at) lines = ExplainsLine b name rule at lines
-ExplainsSheet s b name (Entry rule at) lines = (text : Option RuleText) × (sites : Refused) × IsRuleText rule text × IsRefusedAt s b rule at sites
+-- Of the refusal of the sheet b, whose file has this name, the lines of the broken line; or the record with the
+-- sentence of its rule, and then the earlier record that the rule speaks of.
+abbrev pub ExplainsPlace : Classes → List ℕ → List ℕ → Fault → List ℕ → Type 0
+ExplainsPlace s b name (Memory e) lines = ⊥
+ExplainsPlace s b name (Line rule at) lines = ExplainsLine b name rule at lines
+ExplainsPlace s b name (Entry rule at) lines = (text : Option RuleText) × (sites : Refused)
+    × IsRuleText rule text × IsRefusedAt s b rule at sites
     × (lines ≡ lines_of_sites name sites (sentence_of text) rule)
+
+-- and, of a record, the zone with which it breaks the rule
+abbrev pub ExplainsZoneOf : Classes → List ℕ → List ℕ → Fault → List ℕ → Type 0
+ExplainsZoneOf s b name (Memory e) lines = lines ≡ []
+ExplainsZoneOf s b name (Line rule at) lines = lines ≡ []
+ExplainsZoneOf s b name (Entry rule at) lines = ExplainsZoneOfSheet s b name rule at lines
+
+-- The lines that explain the refusal of the sheet b, whose file has this name: the place, and then the zone.
+abbrev pub ExplainsSheet : Classes → List ℕ → List ℕ → Fault → List ℕ → Type 0
+ExplainsSheet s b name f lines = (place zone : List ℕ) × ExplainsPlace s b name f place
+    × ExplainsZoneOf s b name f zone × (lines ≡ place ++ zone)
 
 -- the one of two that belongs to a file of a schema
 abbrev pub of_source : Source → List ℕ → List ℕ → List ℕ
 of_source Scd scd dic = scd
 of_source Dic scd dic = dic
 
--- the same of the refusal of two files of a schema under these codes, whose names are given; 604 is of classes of the first file
+-- the same of the refusal of two files of a schema under these codes, whose names are given; 604 is of classes of the
+-- first file
+abbrev pub ExplainsSchemaPlace : KindCodes → List ℕ → List ℕ → List ℕ → List ℕ → SchemaFault → List ℕ → Type 0
+ExplainsSchemaPlace kinds scd dic scd_name dic_name (schema.Memory e) lines = ⊥
+ExplainsSchemaPlace kinds scd dic scd_name dic_name (schema.Line file rule at) lines =
+    ExplainsLine (of_source file scd dic) (of_source file scd_name dic_name) rule at lines
+ExplainsSchemaPlace kinds scd dic scd_name dic_name (schema.Entry file rule at) lines = (text : Option RuleText)
+    × (sites : Refused) × IsRuleText rule text × IsRowRefusedAt (of_source file scd dic) rule at sites
+    × (lines ≡ lines_of_sites (of_source file scd_name dic_name) sites (sentence_of text) rule)
+ExplainsSchemaPlace kinds scd dic scd_name dic_name schema.Kinds lines = ExplainsKinds kinds scd scd_name lines
+
+-- and, of a record, the zone with which it breaks the rule
+abbrev pub ExplainsSchemaZone : List ℕ → List ℕ → List ℕ → List ℕ → SchemaFault → List ℕ → Type 0
+ExplainsSchemaZone scd dic scd_name dic_name (schema.Memory e) lines = lines ≡ []
+ExplainsSchemaZone scd dic scd_name dic_name (schema.Line file rule at) lines = lines ≡ []
+ExplainsSchemaZone scd dic scd_name dic_name (schema.Entry file rule at) lines =
+    ExplainsZone (of_source file scd dic) (of_source file scd_name dic_name) rule at lines
+ExplainsSchemaZone scd dic scd_name dic_name schema.Kinds lines = lines ≡ []
+
+-- the place, and then the zone
 abbrev pub ExplainsSchema : KindCodes → List ℕ → List ℕ → List ℕ → List ℕ → SchemaFault → List ℕ → Type 0
-ExplainsSchema kinds scd dic scd_name dic_name (schema.Memory e) lines = ⊥
-ExplainsSchema kinds scd dic scd_name dic_name (schema.Line file rule at) lines = ExplainsLine (of_source file scd dic) (of_source file scd_name dic_name) rule at lines
-ExplainsSchema kinds scd dic scd_name dic_name (schema.Entry file rule at) lines = (text : Option RuleText) × (sites : Refused) × IsRuleText rule text
-    × IsRowRefusedAt (of_source file scd dic) rule at sites × (lines ≡ lines_of_sites (of_source file scd_name dic_name) sites (sentence_of text) rule)
-ExplainsSchema kinds scd dic scd_name dic_name schema.Kinds lines = ExplainsKinds kinds scd scd_name lines
+ExplainsSchema kinds scd dic scd_name dic_name f lines = (place zone : List ℕ)
+    × ExplainsSchemaPlace kinds scd dic scd_name dic_name f place
+    × ExplainsSchemaZone scd dic scd_name dic_name f zone × (lines ≡ place ++ zone)
 
 -- a sentence behind words, as a line
 abbrev pub worded_line : List ℕ → List ℕ → List ℕ
@@ -69,7 +105,8 @@ count_lines p = count_line p (codes "nodes") Pno ++ count_line p (codes "arcs") 
 
 -- the least and the greatest of some coordinates, behind a word
 abbrev pub span_line : List ℕ → Span → List ℕ
-span_line word span = word ++ codes ": " ++ plain_text span.least ++ codes " to " ++ plain_text span.greatest ++ line_feed ∷ []
+span_line word span =
+    word ++ codes ": " ++ plain_text span.least ++ codes " to " ++ plain_text span.greatest ++ line_feed ∷ []
 
 abbrev pub extent_lines : Option Extent → List ℕ
 extent_lines (Some extent) = span_line (codes "x") extent.x ++ span_line (codes "y") extent.y
@@ -82,11 +119,15 @@ charset_line None = worded_line (codes "character set: ") (codes "none")
 
 -- The lines on an accepted sheet: its records by type, its extent where it has points, and its character set.
 abbrev pub DescribesPlan : Drawing → List ℕ → Type 0
-DescribesPlan p lines = (extent : Option Extent) × IsExtentIfAny (points_of p) extent × (lines ≡ count_lines p ++ extent_lines extent ++ charset_line p.cse)
+DescribesPlan p lines =
+    (extent : Option Extent) × IsExtentIfAny (points_of p) extent
+    × (lines ≡ count_lines p ++ extent_lines extent ++ charset_line p.cse)
 
 -- the reason of a rule, what usually breaks it, and what to do
 abbrev pub reason_lines : RuleText → List ℕ
-reason_lines text = worded_line (codes "Why: ") text.reason.now ++ worded_line (codes "Usual cause: ") text.cause.now ++ worded_line (codes "What to do: ") text.remedy.now
+reason_lines text =
+    worded_line (codes "Why: ") text.reason.now ++ worded_line (codes "Usual cause: ") text.cause.now
+    ++ worded_line (codes "What to do: ") text.remedy.now
 
 -- the page on a rule: its number and its sentence, and those lines
 abbrev pub rule_page : RuleText → List ℕ

@@ -14,7 +14,8 @@ IsEarlierOf s b (Memory e) earlier = earlier ≡ None
 IsEarlierOf s b (Line rule at) earlier = earlier ≡ None
 IsEarlierOf s b (Entry rule at) earlier = IsEarlierIfAny s b rule (at - 1) earlier
 
--- where the record of a fault and the earlier one stand, if that is known; a fault that is at no record has no such places
+-- where the record of a fault and the earlier one stand, if that is known; a fault that is at no record has no such
+-- places
 abbrev pub AreSitesIfAny : Classes → List ℕ → Fault → Option Refused → Type 0
 AreSitesIfAny s b (Memory e) sites = sites ≡ None
 AreSitesIfAny s b (Line rule at) sites = sites ≡ None
@@ -22,4 +23,5 @@ AreSitesIfAny s b (Entry rule at) sites = IfSome sites (IsRefusedAt s b rule at)
 
 -- the refusal of the sheet b, the earlier record that its rule speaks of, and where both stand, if that is known
 abbrev pub IsFound : Classes → List ℕ → Found → Type 0
-IsFound s b found = IsRefusal s b found.fault × IsEarlierOf s b found.fault found.earlier × AreSitesIfAny s b found.fault found.sites
+IsFound s b found =
+    IsRefusal s b found.fault × IsEarlierOf s b found.fault found.earlier × AreSitesIfAny s b found.fault found.sites

@@ -15,7 +15,13 @@ use Rattle.edi_explain.specs.declared.kind_causes.KindsCause.{KindsCause}
 
 -- the codes of the kinds, as they are given
 abbrev pub codes_of : ByRole (Bor (List ℕ)) → KindCodes
-codes_of given = record { initial = given.initial.now; final_node = given.final_node.now; left = given.left.now; right = given.right.now }
+codes_of given =
+    record {
+      initial = given.initial.now;
+      final_node = given.final_node.now;
+      left = given.left.now;
+      right = given.right.now;
+    }
 
 -- the order of the cases
 abbrev pub case_rank : KindsCase → ℕ
@@ -25,7 +31,8 @@ case_rank Barred = 2
 
 -- a case and a kind come before those of a cause: cases go first, then kinds
 abbrev pub IsBefore : KindsCase → Role → KindsCause → Type 0
-IsBefore case role cause = (case_rank case < case_rank cause.case) ⊎ ((case ≡ cause.case) × (role_rank role < role_rank cause.role))
+IsBefore case role cause =
+    (case_rank case < case_rank cause.case) ⊎ ((case ≡ cause.case) × (role_rank role < role_rank cause.role))
 
 -- over the records of the file, which have numbers from 1, and the codes of the kinds
 module _ (groups : List (List Entry)) (kinds : KindCodes) where
@@ -37,8 +44,8 @@ module _ (groups : List (List Entry)) (kinds : KindCodes) where
   abbrev pub IsClassBehind : Role → ℕ → ℕ → Type 0
   IsClassBehind role behind n = (behind < n) × IsClassOf role n
 
-  -- A kind breaks the rule: it has two classes; or it has one, and its partner none; or no pointer can name one, for its type, and
-  -- one can name its partner's.
+  -- A kind breaks the rule: it has two classes; or it has one, and its partner none; or no pointer can name one, for
+  -- its type, and one can name its partner's.
   abbrev pub IsWrong : KindsCase → Role → Type 0
   IsWrong Two role = (m n : ℕ) × (m < n) × IsClassOf role m × IsClassOf role n
   IsWrong Alone role = (n : ℕ) × IsClassOf role n × ((m : ℕ) → ¬ (IsClassOf (exchanged role) m))
@@ -47,7 +54,9 @@ module _ (groups : List (List Entry)) (kinds : KindCodes) where
 
   -- the record that is named, and the place from 0 of an earlier one: the second class and the first, or the only one
   abbrev pub AreClasses : KindsCase → Role → ℕ → Option ℕ → Type 0
-  AreClasses Two role n earlier = (first : ℕ) × IsLeast (IsClassBehind role 0) first × IsLeast (IsClassBehind role first) n × (earlier ≡ Some (first - 1))
+  AreClasses Two role n earlier =
+      (first : ℕ) × IsLeast (IsClassBehind role 0) first × IsLeast (IsClassBehind role first) n
+      × (earlier ≡ Some (first - 1))
   AreClasses Alone role n earlier = IsLeast (IsClassBehind role 0) n × (earlier ≡ None)
   AreClasses Barred role n earlier = IsLeast (IsClassBehind role 0) n × (earlier ≡ None)
 

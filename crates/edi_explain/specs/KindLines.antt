@@ -31,13 +31,16 @@ kind_words Plain = codes "none of the four kinds"
 -- what is said of a class by which a kind breaks rule 604
 abbrev pub wrong_words : KindsCase → Role → List ℕ
 wrong_words Two role = codes "a second class for " ++ kind_words role
-wrong_words Alone role = codes "a class for " ++ kind_words role ++ codes ", and there is none for " ++ kind_words (exchanged role)
-wrong_words Barred role = codes "a class for " ++ kind_words role ++ codes " that no pointer can name, since its type holds ;"
+wrong_words Alone role =
+    codes "a class for " ++ kind_words role ++ codes ", and there is none for " ++ kind_words (exchanged role)
+wrong_words Barred role =
+    codes "a class for " ++ kind_words role ++ codes " that no pointer can name, since its type holds ;"
 
--- The lines that explain the refusal of a file of classes with this name by rule 604: that of the class which breaks it first, with
--- what is wrong, and that of the earlier class of its kind where there are two.
+-- The lines that explain the refusal of a file of classes with this name by rule 604: that of the class which breaks it
+-- first, with what is wrong, and that of the earlier class of its kind where there are two.
 abbrev pub ExplainsKinds : KindCodes → List ℕ → List ℕ → List ℕ → Type 0
-ExplainsKinds kinds scd name lines = (zones : List Entry) × (cause : KindsCause) × (sites : Refused) × IsZonesOf scd zones
+ExplainsKinds kinds scd name lines =
+    (zones : List Entry) × (cause : KindsCause) × (sites : Refused) × IsZonesOf scd zones
     × IsKindsCause (groups_of zones) kinds cause × AreSites zones cause.number cause.earlier sites
     × (lines ≡ lines_of_sites name sites (wrong_words cause.case cause.role) 604)
 
@@ -48,7 +51,9 @@ IsNumberedSite zones None site = site ≡ None
 
 -- where the first class of a kind stands, if the kind has one
 abbrev pub IsClassSite : List Entry → KindCodes → Role → Option RecordSite → Type 0
-IsClassSite zones kinds role site = (number : Option ℕ) × IsLeastIfAny (IsClassBehind (groups_of zones) kinds role 0) number × IsNumberedSite zones number site
+IsClassSite zones kinds role site =
+    (number : Option ℕ) × IsLeastIfAny (IsClassBehind (groups_of zones) kinds role 0) number
+    × IsNumberedSite zones number site
 
 -- FILE:LINE: TYPE IDENTIFIER of a class, or that there is none
 abbrev pub class_place : List ℕ → Option RecordSite → List ℕ
@@ -61,9 +66,12 @@ class_line name role site = kind_words role ++ codes ": " ++ class_place name si
 
 -- The lines on the four kinds: the class of each in a file with this name, or that it has none.
 abbrev pub DescribesKinds : KindCodes → List ℕ → List ℕ → List ℕ → Type 0
-DescribesKinds kinds scd name lines = (zones : List Entry) × (initial final left right : Option RecordSite) × IsZonesOf scd zones
-    × IsClassSite zones kinds Initial initial × IsClassSite zones kinds Final final × IsClassSite zones kinds Left left × IsClassSite zones kinds Right right
-    × (lines ≡ class_line name Initial initial ++ class_line name Final final ++ class_line name Left left ++ class_line name Right right)
+DescribesKinds kinds scd name lines =
+    (zones : List Entry) × (initial final left right : Option RecordSite) × IsZonesOf scd zones
+    × IsClassSite zones kinds Initial initial × IsClassSite zones kinds Final final × IsClassSite zones kinds Left left
+    × IsClassSite zones kinds Right right
+    × (lines ≡ class_line name Initial initial ++ class_line name Final final ++ class_line name Left left
+    ++ class_line name Right right)
 
 -- which of the four kinds have no class among the records of the file
 pub record AreLacking (groups : List (List Entry)) (kinds : KindCodes) (lacking : ByRole Bool) : Type 0 where
@@ -84,9 +92,11 @@ with_lacking words false role = words
 
 abbrev pub lacking_words : ByRole Bool → List ℕ
 lacking_words lacking =
-    with_lacking (with_lacking (with_lacking (with_lacking [] lacking.initial Initial) lacking.final_node Final) lacking.left Left) lacking.right Right
+    with_lacking (with_lacking (with_lacking
+    (with_lacking [] lacking.initial Initial) lacking.final_node Final) lacking.left Left) lacking.right Right
 
 -- The words for the kinds that have no class in a file, with commas between them.
 abbrev pub NameLacking : KindCodes → List ℕ → List ℕ → Type 0
-NameLacking kinds scd words = (zones : List Entry) × (lacking : ByRole Bool) × IsZonesOf scd zones × AreLacking (groups_of zones) kinds lacking
+NameLacking kinds scd words =
+    (zones : List Entry) × (lacking : ByRole Bool) × IsZonesOf scd zones × AreLacking (groups_of zones) kinds lacking
     × (words ≡ lacking_words lacking)

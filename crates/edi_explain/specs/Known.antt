@@ -14,8 +14,12 @@ pub record HasParts (text : RuleText) (rule : ℕ) (sentence reason cause remedy
 
 -- the page on a known rule
 abbrev pub KnownPage : Type 0
-KnownPage = (text : RuleText) → HasParts text 106 (codes "there is no EOM") (codes "A file has an end.") (codes "It was cut.") (codes "Export it again.")
-    → rule_page text ≡ codes "106: there is no EOM\nWhy: A file has an end.\nUsual cause: It was cut.\nWhat to do: Export it again.\n"
+KnownPage =
+    (text : RuleText)
+    → HasParts text 106 (codes "there is no EOM") (codes "A file has an end.") (codes "It was cut.")
+    (codes "Export it again.")
+    → rule_page text
+    ≡ codes "106: there is no EOM\nWhy: A file has an end.\nUsual cause: It was cut.\nWhat to do: Export it again.\n"
 
 -- a node that begins in line 12, and an earlier one that begins in line 3 and has no identifier
 abbrev pub known_sites : Refused

@@ -29,7 +29,8 @@ pub record IsMiscounted (content : List ℕ) : Type 0 where
   pub spelled : content ≡ head ++ (zone.value ++ replicate spaces space)
   pub more : character_count zone.value < length zone.value
 
--- the length that the line with this number states counts the characters of its value, and not the bytes; numbers are from 1
+-- the length that the line with this number states counts the characters of its value, and not the bytes; numbers are
+-- from 1
 pub record CountsCharacters (bytes : List ℕ) (at : ℕ) : Type 0 where
   pub lines : List (List ℕ)
   pub are_lines : IsLinesOf bytes lines
@@ -41,4 +42,7 @@ pub record CountsCharacters (bytes : List ℕ) (at : ℕ) : Type 0 where
 -- that the lengths of a file seem to count characters, if one of them does
 abbrev pub length_hint : List ℕ → Bool → List ℕ
 length_hint name counts =
-    if counts then hint_line name (codes " seems to have been turned into UTF-8: its lengths count characters, so take the file as it was delivered") else []
+    if counts
+    then hint_line name
+    (codes " seems to have been turned into UTF-8: its lengths count characters, so take the file as it was delivered")
+    else []

@@ -6,6 +6,10 @@ pub mod RowPartners
 pub mod Refusals
 pub mod Found
 pub mod Lines
+pub mod BreakingZones
+pub mod AstrayZones
+pub mod ZoneLines
+pub mod Cuts
 pub mod Explained
 pub mod Barring
 pub mod Hints
@@ -15,3 +19,4 @@ pub mod Known
 pub mod KindClasses
 pub mod KindLines
 pub mod inner
+pub mod ClassCounts

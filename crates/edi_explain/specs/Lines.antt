@@ -35,7 +35,8 @@ identifier_text None = []
 -- FILE:LINE: TYPE IDENTIFIER: sentence [RULE]
 abbrev pub record_line : List ℕ → RecordSite → List ℕ → ℕ → List ℕ
 record_line name site sentence rule =
-    position_text name site.line ++ shown_bytes site.rty ++ identifier_text site.rid ++ codes ": " ++ sentence ++ rule_mark rule
+    position_text name site.line ++ shown_bytes site.rty ++ identifier_text site.rid ++ codes ": " ++ sentence
+    ++ rule_mark rule
 
 -- that line of a record, where there is one
 abbrev pub line_of_site : List ℕ → Option RecordSite → List ℕ → ℕ → List ℕ
@@ -60,4 +61,5 @@ earlier_sentence rule =
 
 -- the line of a refused record, and that of the earlier one
 abbrev pub lines_of_sites : List ℕ → Refused → List ℕ → ℕ → List ℕ
-lines_of_sites name sites sentence rule = line_of_site name sites.here sentence rule ++ line_of_site name sites.earlier (earlier_sentence rule) rule
+lines_of_sites name sites sentence rule =
+    line_of_site name sites.here sentence rule ++ line_of_site name sites.earlier (earlier_sentence rule) rule

@@ -23,11 +23,14 @@ IsLeastIfAny P found = MatchOption found ((k : ℕ) → ¬ (P k)) (IsLeast P)
 
 -- of rule 301: an earlier record with the name of the one at this place; places are from 0
 abbrev pub SharesName : List Record → ℕ → ℕ → Type 0
-SharesName list place m = (q r : Record) × (m < place) × (slice_get list m ≡ Some q) × (slice_get list place ≡ Some r) × (own_name q ≡ own_name r)
+SharesName list place m =
+    (q r : Record) × (m < place) × (slice_get list m ≡ Some q) × (slice_get list place ≡ Some r)
+    × (own_name q ≡ own_name r)
 
 -- of rule 304: an earlier link with an end than the record at this place; the first has the first end of all links
 abbrev pub HasEnd : List Record → ℕ → ℕ → Type 0
-HasEnd list place m = (q : Record) × (m < place) × (slice_get list m ≡ Some q) × (0 < length q.ends) × (place < length list)
+HasEnd list place m =
+    (q : Record) × (m < place) × (slice_get list m ≡ Some q) × (0 < length q.ends) × (place < length list)
 
 -- two records have an end each that names one arc
 abbrev pub ShareArc : Classes → List Record → Record → Record → Type 0
@@ -35,7 +38,8 @@ ShareArc s list q r = (a : ℕ) × Any (λ e. Names s list e a Par) q.ends × An
 
 -- of rule 307: an earlier link of the kind of the one at this place, and of an arc of that one
 abbrev pub SharesSide : Classes → List Record → ℕ → ℕ → Type 0
-SharesSide s list place m = (q r : Record) × (role : Role) × (m < place) × (slice_get list m ≡ Some q) × (slice_get list place ≡ Some r)
+SharesSide s list place m =
+    (q r : Record) × (role : Role) × (m < place) × (slice_get list m ≡ Some q) × (slice_get list place ≡ Some r)
     × (role ≢ Plain) × IsLinkOfRole s list q role × IsLinkOfRole s list r role × ShareArc s list q r
 
 -- of rule 403: an earlier node equal to the one at this place
@@ -44,7 +48,8 @@ IsEqualNode p place m = (m < place) × AreEqualNodes p m place
 
 -- of rule 405: an earlier arc with the points of the one at this place, in either direction
 abbrev pub SharesPoints : Drawing → ℕ → ℕ → Type 0
-SharesPoints p place m = (earlier points : List Point) × (m < place) × HasPoints p Par m earlier × HasPoints p Par place points
+SharesPoints p place m =
+    (earlier points : List Point) × (m < place) × HasPoints p Par m earlier × HasPoints p Par place points
     × ((points ≡ earlier) ⊎ (points ≡ reverse earlier))
 
 -- of rule 501: an earlier object equal to the one at this place

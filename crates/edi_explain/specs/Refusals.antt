@@ -13,9 +13,9 @@ use Rattle.edi_explain.specs.Sites.{IsSiteIfAny}
 use Rattle.edi_explain.specs.declared.refused.Refused.{Refused}
 use Rattle.edi_explain.specs.declared.site.RecordSite.{RecordSite}
 
--- The earlier record of a sheet that a rule speaks of at a place, or none; places are from 0. It is the least that breaks
--- the rule with the record at the place: 301 by its name, 304 by its subset, 307 by the side of an arc, 403 as an equal node,
--- 405 as the same arc, 501 as an equal object.
+-- The earlier record of a sheet that a rule speaks of at a place, or none; places are from 0. It is the least that
+-- breaks the rule with the record at the place: 301 by its name, 304 by its subset, 307 by the side of an arc, 403 as
+-- an equal node, 405 as the same arc, 501 as an equal object.
 pub record IsEarlierIfAny (s : Classes) (b : List ℕ) (rule place : ℕ) (found : Option ℕ) : Type 0 where
   pub names : rule ≡ 301 → (sheet : Sheet) × IsSheetOf b sheet × IsLeastIfAny (SharesName sheet.list place) found
   pub subsets : rule ≡ 304 → (sheet : Sheet) × IsSheetOf b sheet × IsLeastIfAny (HasEnd sheet.list place) found
@@ -40,10 +40,15 @@ pub record AreSites (zones : List Entry) (number : ℕ) (earlier : Option ℕ) (
   pub here : IsSiteIfAny zones number sites.here
   pub earlier_site : IsSiteAtIfAny zones earlier sites.earlier
 
--- where the record of a refusal of the sheet b stands, and the earlier record that its rule speaks of; numbers are from 1
+-- where the record of a refusal of the sheet b stands, and the earlier record that its rule speaks of; numbers are from
+-- 1
 abbrev pub IsRefusedAt : Classes → List ℕ → ℕ → ℕ → Refused → Type 0
-IsRefusedAt s b rule number sites = (zones : List Entry) × (earlier : Option ℕ) × IsZonesOf b zones × IsEarlierIfAny s b rule (number - 1) earlier × AreSites zones number earlier sites
+IsRefusedAt s b rule number sites =
+    (zones : List Entry) × (earlier : Option ℕ) × IsZonesOf b zones × IsEarlierIfAny s b rule (number - 1) earlier
+    × AreSites zones number earlier sites
 
 -- the same in a file of a schema
 abbrev pub IsRowRefusedAt : List ℕ → ℕ → ℕ → Refused → Type 0
-IsRowRefusedAt b rule number sites = (zones : List Entry) × (earlier : Option ℕ) × IsZonesOf b zones × IsEarlierRowIfAny zones rule (number - 1) earlier × AreSites zones number earlier sites
+IsRowRefusedAt b rule number sites =
+    (zones : List Entry) × (earlier : Option ℕ) × IsZonesOf b zones × IsEarlierRowIfAny zones rule (number - 1) earlier
+    × AreSites zones number earlier sites

@@ -10,4 +10,6 @@ ShareName group other = (name : Name) × IsNamed group name × IsNamed other nam
 
 -- an earlier record with the name of the one at this place; places are from 0
 abbrev pub SharesRowName : List (List Entry) → ℕ → ℕ → Type 0
-SharesRowName groups place m = (earlier group : List Entry) × (m < place) × (slice_get groups m ≡ Some earlier) × (slice_get groups place ≡ Some group) × ShareName earlier group
+SharesRowName groups place m =
+    (earlier group : List Entry) × (m < place) × (slice_get groups m ≡ Some earlier)
+    × (slice_get groups place ≡ Some group) × ShareName earlier group

@@ -36,4 +36,5 @@ is_among numbers rule = list_any (nat_eq rule) numbers
 
 -- the text of a rule among these, or the number is none of theirs
 abbrev pub IsTextIfAny : List ℕ → ℕ → Option RuleText → Type 0
-IsTextIfAny numbers rule found = MatchOption found (is_among numbers rule ≡ false) (λ text. (is_among numbers rule ≡ true) × (text.rule ≡ rule))
+IsTextIfAny numbers rule found =
+    MatchOption found (is_among numbers rule ≡ false) (λ text. (is_among numbers rule ≡ true) × (text.rule ≡ rule))

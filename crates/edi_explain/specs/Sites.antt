@@ -24,4 +24,5 @@ pub record IsSiteOf (zones : List Entry) (number : ℕ) (site : RecordSite) : Ty
 
 -- where the record with this number stands, or the file has no such record
 abbrev pub IsSiteIfAny : List Entry → ℕ → Option RecordSite → Type 0
-IsSiteIfAny zones number found = MatchOption found ((site : RecordSite) → ¬ (IsSiteOf zones number site)) (IsSiteOf zones number)
+IsSiteIfAny zones number found =
+    MatchOption found ((site : RecordSite) → ¬ (IsSiteOf zones number site)) (IsSiteOf zones number)

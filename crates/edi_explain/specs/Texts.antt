@@ -1,5 +1,5 @@
 -- The rules in words.
-use Rattle.std.specs.Prelude.{◌≡◌, ◌++◌, ℕ, List, [], ◌∷◌, Option, Some, find, nat_eq, option_map, codes}
+use Rattle.std.specs.Prelude.{◌≡◌, ◌++◌, ℕ, List, [], ◌∷◌, Option, find, nat_eq, option_map, codes}
 use Rattle.edi_explain.specs.Rules.{IsTextIfAny, rules}
 use Rattle.edi_explain.specs.declared.text.RuleText.{RuleText}
 
@@ -13,7 +13,13 @@ pub record RuleWords : Type 0 where
 
 -- the words of a text
 abbrev pub words_of_text : RuleText → RuleWords
-words_of_text text = record { rule = text.rule; sentence = text.sentence.now; reason = text.reason.now; cause = text.cause.now; remedy = text.remedy.now }
+words_of_text text = record {
+  rule = text.rule;
+  sentence = text.sentence.now;
+  reason = text.reason.now;
+  cause = text.cause.now;
+  remedy = text.remedy.now;
+}
 
 -- the words of the rule with this number, if it is among these
 abbrev pub words_among : List RuleWords → ℕ → Option RuleWords
@@ -31,70 +37,76 @@ line_texts =
       sentence = codes "a line that isn't skipped has no head in form";
       reason = codes "Each zone of an " ++ edigeo ++ codes " file begins with its code, its nature, its format, the length of its value and a colon; without them nothing says what the line holds.";
       cause = codes "The file was edited by hand, saved in another form or joined from pieces, or it is no " ++ edigeo ++ codes " file.";
-      remedy = codes "Look at the line in a text editor: write its head again, or export the file again.";
+      remedy = codes "Look whether it is the file as it was delivered, unpacked and not stored by an editor, and "
+          ++ codes "fetch it again; if it says the same, tell the producer the line.";
     } ∷
     record {
       rule = 102;
       sentence = codes "fewer bytes follow the head than its length says";
       reason = codes "The head says how many bytes the value has; where fewer are there, part of the value is lost.";
       cause = codes "The line was cut, or a value was shortened by hand and its length was not changed, or the character set was converted, which changes how many bytes a letter takes.";
-      remedy = codes "Write the whole value, or set the two digits before the colon to the count of its bytes.";
+      remedy = codes "Take the file as it was delivered, or fetch it again; if it says the same, tell the producer "
+          ++ codes "the line.";
     } ∷
     record {
       rule = 103;
       sentence = codes "a byte other than a space follows the value";
       reason = codes "The head says how many bytes the value has; what stands behind them would be lost without a word.";
       cause = codes "A value was made longer by hand and its length was not changed, or the character set was converted, or two lines were joined.";
-      remedy = codes "Set the two digits before the colon to the count of the value's bytes, or remove what is too much.";
+      remedy = codes "Take the file as it was delivered, or fetch it again; if it says the same, tell the producer "
+          ++ codes "the line.";
     } ∷
     record {
       rule = 104;
       sentence = codes "NEX with no zone or remark before it";
       reason = codes "A NEX line goes on with the value of the line before it; at the head of a file there is none.";
       cause = codes "The first lines of the file are missing.";
-      remedy = codes "Put the missing lines back, or export the file again.";
+      remedy = codes "Fetch the file again; if it says the same, tell the producer that its first lines are "
+          ++ codes "missing.";
     } ∷
     record {
       rule = 105;
       sentence = codes "the first zone isn't BOM";
       reason = codes "A file begins with BOM, so that a part of a file is not taken for the whole.";
       cause = codes "The first line of the file is missing, or other text stands in front of it.";
-      remedy = codes "Make BOM the first zone, or export the file again.";
+      remedy = codes "Look whether it is the file as it was delivered, and fetch it again; if it says the same, "
+          ++ codes "tell the producer.";
     } ∷
     record {
       rule = 106;
       sentence = codes "there is no EOM";
       reason = codes "A file ends with EOM, so that a file that was cut is not taken for the whole.";
       cause = codes "The file was cut: a transfer stopped, or a disk was full.";
-      remedy = codes "Fetch or export the file again; don't write EOM by hand unless you know that nothing else is missing.";
+      remedy = codes "Fetch the file again; don't write EOM by hand, since something else may be missing too. If "
+          ++ codes "it says the same, tell the producer.";
     } ∷
     record {
       rule = 107;
       sentence = codes "a zone after the first EOM";
       reason = codes "EOM is the end of the file; a zone behind it belongs to no file.";
       cause = codes "Two files were joined, or a zone was added at the end.";
-      remedy = codes "Split the files, or move the zone in front of EOM.";
+      remedy = codes "Give each file by itself, as it was delivered; if it came so, tell the producer both lines.";
     } ∷
     record {
       rule = 108;
       sentence = codes "a BOM after a BOM; a CSE after a CSE or after an RTY";
       reason = codes "A file has one beginning and one character set, and the character set is known before the first record.";
       cause = codes "Two files were joined, or a header was copied into the records.";
-      remedy = codes "Keep one BOM and at most one CSE, both in front of the first RTY.";
+      remedy = codes "Give each file by itself, as it was delivered; if it came so, tell the producer both lines.";
     } ∷
     record {
       rule = 109;
       sentence = codes "a zone other than BOM, CSE, EOM, RTY with no RTY before it";
       reason = codes "Each zone between the header and EOM belongs to a record, and RTY begins one.";
       cause = codes "The RTY of the first record is missing, or the header has a zone that this profile doesn't read.";
-      remedy = codes "Put the missing RTY back, or remove the zone from the header.";
+      remedy = codes "Fetch the file again; if it says the same, tell the producer the line.";
     } ∷
     record {
       rule = 110;
       sentence = codes "the RTY of record 10,000,000";
       reason = codes "A sheet has 9,999,999 records at most, so that every record has a number of its own that fits.";
       cause = codes "Many sheets were joined to one file.";
-      remedy = codes "Split the file by sheets.";
+      remedy = codes "Give each sheet by itself, as it was delivered.";
     } ∷
     []
 
@@ -106,56 +118,60 @@ record_texts =
       sentence = codes "the type isn't one of the five";
       reason = codes "Only nodes, arcs, faces, objects and links make a plan.";
       cause = codes "A record of another file, such as one of the classes, stands in the sheet, or its type is misspelled.";
-      remedy = codes "Correct the value of RTY to PNO, PAR, PFE, FEA or LNK, or move the record to the file it belongs to.";
+      remedy = codes "Look whether the file is the VEC file of the sheet; if it is, tell the producer the line and "
+          ++ codes "the type.";
     } ∷
     record {
       rule = 202;
       sentence = codes "not exactly one RID in form";
       reason = codes "A record is named by its identifier, and pointers are parted by semicolons; without just one identifier that a pointer can hold, links can't name the record.";
       cause = codes "RID is missing, stands twice, is empty, is too long or holds a semicolon.";
-      remedy = codes "Give the record one RID of 1 to 255 bytes without a semicolon.";
+      remedy = codes "Tell the producer the line; a record has one RID of 1 to 255 bytes without a semicolon.";
     } ∷
     record {
       rule = 203;
       sentence = codes "not exactly one SCP that is a pointer";
       reason = codes "The class says what a record is; a record has one.";
       cause = codes "SCP is missing or stands twice, or its value has not just three semicolons.";
-      remedy = codes "Give the record one SCP of the form lot;subset;type;identifier.";
+      remedy = codes "Tell the producer the line; a record has one SCP of the form lot;subset;type;identifier.";
     } ∷
     record {
       rule = 204;
       sentence = codes "an ATP is no pointer; an ATV with no open attribute; a second TEX in one";
       reason = codes "A value or a character set belongs to the attribute that stands before it, and an attribute's class is named by a pointer.";
       cause = codes "The zones ATP, TEX and ATV were put in another order, or ATP is missing or isn't of the form lot;subset;type;identifier.";
-      remedy = codes "Write each attribute as ATP, then TEX or nothing, then ATV.";
+      remedy = codes "Tell the producer the line; an attribute is ATP, then TEX or nothing, then ATV.";
     } ∷
     record {
       rule = 205;
       sentence = codes "ATC, PTC or FTC repeated, not digits, or not the count";
       reason = codes "The counts of attributes, points and ends show that nothing was lost between them.";
       cause = codes "A point, an end or an attribute was added or removed by hand and its count was not changed, or lines are missing.";
-      remedy = codes "Find what is missing, or set the count to what is there.";
+      remedy = codes "Fetch the file again, since lines may be missing; if it says the same, tell the producer the "
+          ++ codes "line of the count.";
     } ∷
     record {
       rule = 206;
       sentence = codes "a COR of a node or arc is no coordinate; a node without exactly one; an arc with fewer than two";
       reason = codes "A node is one position; an arc joins two or more.";
       cause = codes "A COR is missing, stands twice at a node, or isn't two or three numbers parted by semicolons; a number may have too many digits or a comma for its point.";
-      remedy = codes "Write each position as x;y; with a point before the decimals, once for a node and twice or more for an arc.";
+      remedy = codes "Tell the producer the line; a position is x;y; with a point before the decimals, and a node "
+          ++ codes "has one, an arc two or more.";
     } ∷
     record {
       rule = 207;
       sentence = codes "an FTP is no pointer; a link with fewer than two ends; SNS before any FTP, or twice for one";
       reason = codes "A link joins two records or more, which it names by pointers, and a direction belongs to the end before it.";
       cause = codes "An FTP is missing or isn't of the form lot;subset;type;identifier, or SNS stands before the first FTP or twice behind one.";
-      remedy = codes "Give the link two ends or more, each with one SNS at most behind it.";
+      remedy = codes "Tell the producer the line; a link has two ends or more, each with one SNS at most behind "
+          ++ codes "it.";
     } ∷
     record {
       rule = 208;
       sentence = codes "an extra with format `P` and a value that isn't empty";
       reason = codes "A pointer that this profile doesn't know would be lost, and with it something that the sheet says.";
       cause = codes "The producer uses a zone of format P that isn't in the table of zones.";
-      remedy = codes "Empty the zone if nothing depends on it; otherwise such a sheet can't be read.";
+      remedy = codes "Ask the producer what the zone says; a sheet with one that isn't empty can't be read.";
     } ∷
     []
 
@@ -167,49 +183,55 @@ reference_texts =
       sentence = codes "type and identifier of an earlier record";
       reason = codes "Links name records by type and identifier; where two have the same, nobody can say which one is meant.";
       cause = codes "A record was copied and its identifier was not changed, or two sheets were joined.";
-      remedy = codes "Give the later record another identifier, and correct the links that mean it; or remove it if it is a copy.";
+      remedy = codes "Give each sheet by itself, as it was delivered; if it came so, tell the producer both lines.";
     } ∷
     record {
       rule = 302;
       sentence = codes "SCP names no class";
       reason = codes "The class of a record is one of the classes that the SCD file defines.";
       cause = codes "The SCD file belongs to another delivery, or the class is misspelled.";
-      remedy = codes "Use the SCD file that was delivered with the sheet, or correct SCP.";
+      remedy = codes "Use the SCD file that was delivered with the sheet; if it is the one, tell the producer the "
+          ++ codes "line and the class.";
     } ∷
     record {
       rule = 303;
       sentence = codes "an ATP's type isn't ATT, or it names no class";
       reason = codes "The class of an attribute is of type ATT and is one of those that the SCD file defines.";
       cause = codes "The SCD file belongs to another delivery, or the class is misspelled.";
-      remedy = codes "Use the SCD file that was delivered with the sheet, or correct ATP.";
+      remedy = codes "Use the SCD file that was delivered with the sheet; if it is the one, tell the producer the "
+          ++ codes "line and the class.";
     } ∷
     record {
       rule = 304;
       sentence = codes "an end with another lot or subset than the first end of all links";
       reason = codes "All links of a sheet name records of one lot and one subset, those of the sheet itself.";
-      cause = codes "Two sheets were joined, or a link names a record of a neighbouring sheet.";
-      remedy = codes "Correct the lot and the subset of the end to those of the other links, or remove the link.";
+      cause = codes "Two sheets were joined, or a link names a record of another VEC file of the delivery.";
+      remedy = codes "Give each sheet by itself, as it was delivered. A sheet is read alone: one whose links name "
+          ++ codes "records of another VEC file of the delivery can't be read, so ask the producer for sheets "
+          ++ codes "that are whole by themselves.";
     } ∷
     record {
       rule = 305;
       sentence = codes "an end names no node, arc, face or object";
       reason = codes "An end of a link is a node, an arc, a face or an object of the sheet.";
       cause = codes "The record was removed or renamed and its link stayed, the pointer is misspelled, or the record stands in another file.";
-      remedy = codes "Put the record back, correct the pointer, or remove the link.";
+      remedy = codes "Look whether another VEC file of the delivery has the record: a sheet is read alone, so such "
+          ++ codes "a link can't be read. If none has it, tell the producer the line and the name.";
     } ∷
     record {
       rule = 306;
       sentence = codes "a link of a kind that doesn't join one arc to one node (initial, final) or one face (left, right)";
       reason = codes "A link to an initial or a final node joins one arc and one node; a link to a left or a right face joins one arc and one face.";
       cause = codes "The link has the class of another relation, or an end too many, or names a record of another type.";
-      remedy = codes "Correct the class of the link, or its ends; check also that the four codes of --kinds are those of the producer.";
+      remedy = codes "Check that the four codes of --kinds are those of the producer, and that the SCD file is the "
+          ++ codes "one that was delivered with the sheet; if they are, tell the producer the line.";
     } ∷
     record {
       rule = 307;
       sentence = codes "a link of a kind whose arc has an earlier link of that kind";
       reason = codes "An arc has at most one initial node, one final node, one left face and one right face.";
       cause = codes "A link was copied, or an arc was split and the links of its parts were not parted.";
-      remedy = codes "Remove the link that is wrong, or make it name the arc that it belongs to.";
+      remedy = codes "Tell the producer the lines of both links, and ask which of the two holds.";
     } ∷
     []
 
@@ -221,42 +243,46 @@ topology_texts =
       sentence = codes "the initial node isn't at the arc's first point";
       reason = codes "An arc begins where its initial node is.";
       cause = codes "The node or the arc was moved alone, the points of the arc were reversed, or initial and final were exchanged.";
-      remedy = codes "Move the node or the first point of the arc, or exchange the two links.";
+      remedy = codes "Check that the codes of --kinds for initial and final aren't exchanged; if they aren't, tell "
+          ++ codes "the producer the line of the arc.";
     } ∷
     record {
       rule = 402;
       sentence = codes "the final node isn't at the arc's last point";
       reason = codes "An arc ends where its final node is.";
       cause = codes "The node or the arc was moved alone, the points of the arc were reversed, or initial and final were exchanged.";
-      remedy = codes "Move the node or the last point of the arc, or exchange the two links.";
+      remedy = codes "Check that the codes of --kinds for initial and final aren't exchanged; if they aren't, tell "
+          ++ codes "the producer the line of the arc.";
     } ∷
     record {
       rule = 403;
       sentence = codes "a node with the position, class, attributes and extras of an earlier node";
       reason = codes "Two nodes at one position with the same class, attributes and extras are one node that was written twice.";
       cause = codes "Sheets were joined and their nodes were not merged, or a node was copied.";
-      remedy = codes "Keep one of the two nodes, and let the links that name the other name it.";
+      remedy = codes "Tell the producer both lines, and ask for a sheet in which the two nodes are one.";
     } ∷
     record {
       rule = 404;
       sentence = codes "an arc whose points equal their reverse";
       reason = codes "The points of an arc give it a direction; an arc that reads the same both ways has none.";
       cause = codes "The arc runs out and back over the same points, or all its points are one position.";
-      remedy = codes "Remove the arc, or cut it where it turns back.";
+      remedy = codes "Tell the producer the line, and ask for a sheet without the arc, or with one that is cut "
+          ++ codes "where it turns back.";
     } ∷
     record {
       rule = 405;
       sentence = codes "an arc with an earlier arc's points, in either direction";
       reason = codes "Two arcs with the same points are one line that was drawn twice.";
       cause = codes "A common boundary was drawn once for each side, or sheets were joined and their arcs were not merged.";
-      remedy = codes "Keep one of the two arcs, and let the links that name the other name it, with left and right exchanged where it runs the other way.";
+      remedy = codes "Tell the producer both lines, and ask for a sheet in which the two arcs are one.";
     } ∷
     record {
       rule = 406;
       sentence = codes "a face on no side of an arc";
       reason = codes "A face is what arcs bound; without one it has no place in the plan.";
       cause = codes "The links to the left and right faces of its arcs are missing or have other codes than the usual ones, or the face was left over when two parcels were joined.";
-      remedy = codes "Add the links from its arcs, or remove the face. Where the schema has other codes for these links, name them with --kinds.";
+      remedy = codes "Where the schema has other codes for the links to faces, name them with --kinds; else tell "
+          ++ codes "the producer the line of the face.";
     } ∷
     []
 
@@ -268,7 +294,8 @@ object_texts =
       sentence = codes "an object with the class, attributes, extras and pieces of an earlier object";
       reason = codes "Two objects of which the sheet says the same are one object that was written twice.";
       cause = codes "An object was copied, or an object lost the links or attributes that set it apart from another.";
-      remedy = codes "Remove the later object, or give it back the attributes or links that set it apart from the earlier one.";
+      remedy = codes "Tell the producer both lines, and ask which of the two objects holds, or what sets them "
+          ++ codes "apart.";
     } ∷
     []
 
@@ -280,28 +307,30 @@ schema_texts =
       sentence = codes "a record without exactly one RID in form";
       reason = codes "Classes and words are named by type and identifier.";
       cause = codes "RID is missing, stands twice, is empty, is too long or holds a semicolon.";
-      remedy = codes "Give the record one RID of 1 to 255 bytes without a semicolon.";
+      remedy = codes "Tell the producer the line; a record has one RID of 1 to 255 bytes without a semicolon.";
     } ∷
     record {
       rule = 602;
       sentence = codes "type and identifier of an earlier record of the file";
       reason = codes "Classes and words are named by type and identifier; where two have the same, nobody can say which one is meant.";
       cause = codes "A record was copied, or two files were joined.";
-      remedy = codes "Remove one of the two records, or give it another identifier.";
+      remedy = codes "Give each file by itself, as it was delivered; if it came so, tell the producer both lines.";
     } ∷
     record {
       rule = 603;
       sentence = codes "the first DIP of an SCD record is no pointer, or names no DIC record";
       reason = codes "The word of a class says whether its values are numbers; it stands in the DIC file.";
       cause = codes "The DIC file belongs to another delivery, or DIP is misspelled.";
-      remedy = codes "Use the DIC file that was delivered with the SCD file, or correct DIP.";
+      remedy = codes "Use the DIC file that was delivered with the SCD file; if it is the one, tell the producer "
+          ++ codes "the line and the word.";
     } ∷
     record {
       rule = 604;
       sentence = codes "two classes of one kind, or a class of a kind without one of its partner's kind, or a class of a kind whose type holds `;`, so that no pointer can name it, while its partner's type holds none";
       reason = codes "A link of one of the four kinds is written with one class, and an arc that is turned needs the class of the other side.";
       cause = codes "The codes of --kinds are those of another producer, or the SCD file defines a class twice or lacks one of the four.";
-      remedy = codes "Check the four codes against the KND values of the SCD file, and define one class for each kind that is used.";
+      remedy = codes "Check the four codes against the KND values of the SCD file, and name them with --kinds; if "
+          ++ codes "they are right, ask the producer for an SCD file with one class for each kind.";
     } ∷
     []
 

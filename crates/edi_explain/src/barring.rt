@@ -33,8 +33,8 @@ fn bars(rule: u16, earlier: &[u8], line: &[u8]) -> bool
     }
 }
 
-/// The first line that bars the one of a refusal, counted from 1: for rule 107 the end, for 108 the first BOM, or the first
-/// CSE or RTY. `None` where the rule speaks of no earlier line.
+/// The first line that bars the one of a refusal, counted from 1: for rule 107 the end, for 108 the first BOM, or the
+/// first CSE or RTY. `None` where the rule speaks of no earlier line.
 pub fn barring_line(bytes: &[u8], rule: u16, at: u64) -> Option<u64>
     requires { IsLeastBroken (BreaksLineRule bytes.now) rule at }
     ensures { IsLeastIfAny (IsBarredBy bytes.now rule at) result }

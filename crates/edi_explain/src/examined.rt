@@ -54,7 +54,8 @@ fn no_memory(error: AllocError) -> Found
 
 /// The refusal at a record, with the earlier one if it was found.
 fn found_at(rule: u16, at: u64, earlier: Result<Option<u64>, AllocError>) -> Found
-    ensures { (s : Classes) (b : List ℕ) → IsRefusal s b (AtRecord rule at) → IfOk earlier (IsEarlierIfAny s b rule (at - 1)) → IsFound s b result }
+    ensures { (s : Classes) (b : List ℕ) → IsRefusal s b (AtRecord rule at)
+        → IfOk earlier (IsEarlierIfAny s b rule (at - 1)) → IsFound s b result }
 {
     match earlier {
         Ok(earlier) => Found {
@@ -127,8 +128,10 @@ fn repeated_in(alloc: Global, plan: &Plan) -> Result<Repeated, AllocError>
 
 /// The earlier record that a rule of topology speaks of.
 fn earlier_of(rule: u16, repeated: &Repeated) -> Option<u64>
-    ensures { (s : Classes) (b : List ℕ) (p : Drawing) (place : ℕ) → IsPlanOfFile s b p → IsLeastBroken (BreaksTopologyRule p) rule (suc place)
-        → IsOfFirstNode p «repeated».now.node → IsOfFirstArc p «repeated».now.arc → IsEarlierIfAny s b rule place result }
+    ensures { (s : Classes) (b : List ℕ) (p : Drawing) (place : ℕ) → IsPlanOfFile s b p
+        → IsLeastBroken (BreaksTopologyRule p) rule (suc place)
+        → IsOfFirstNode p «repeated».now.node → IsOfFirstArc p «repeated».now.arc
+        → IsEarlierIfAny s b rule place result }
 {
     match rule {
         403 => wide(repeated.node),

@@ -4,7 +4,7 @@ ghost use Rattle.std.specs.Prelude.{◌≡◌, ◌↔◌, ◌++◌, ◌∷◌, [
 ghost use Rattle.edi_line.specs.LineRules.{BreaksLineRule};
 ghost use Rattle.edi_line.specs.Refusal.{IsLeastBroken};
 ghost use Rattle.edi_schema.specs.SchemaRefusal.{IsSchemaRefusal};
-ghost use Rattle.edi_explain.specs.Explained.{DescribesPlan, ExplainsLine, ExplainsSchema, ExplainsSheet, IsRuleWord, IsTextOfWord, charset_line, count_line, count_lines, extent_lines, of_source, reason_lines, rule_page, span_line, worded_line};
+ghost use Rattle.edi_explain.specs.Explained.{DescribesPlan, ExplainsLine, ExplainsPlace, ExplainsSchema, ExplainsSchemaPlace, ExplainsSchemaZone, ExplainsSheet, ExplainsZoneOf, IsRuleWord, IsTextOfWord, charset_line, count_line, count_lines, extent_lines, of_source, reason_lines, rule_page, span_line, worded_line};
 ghost use Rattle.edi_explain.specs.Found.{IsFound};
 ghost use Rattle.edi_explain.specs.KindClasses.{codes_of};
 ghost use Rattle.edi_explain.specs.Lines.{sentence_of};
@@ -14,12 +14,14 @@ ghost use Rattle.edi_shown.specs.Shown.{shown_bytes};
 
 use crate::barring::barring_line;
 use crate::counts::count_of;
+use crate::cuts::{push_cut_hint, shows_cut};
 use crate::examined::Found;
 use crate::kind_lines::explain_kinds;
 use crate::lengths::{counts_characters, push_length_hint};
 use crate::lines::{lines_of_broken, lines_of_refused};
 use crate::refused::{refused_row, refused_with};
 use crate::text::{RuleText, rule_text};
+use crate::zone_lines::{explain_zone, explain_zone_in_sheet};
 use edi_compare::Fault;
 use edi_line::push_number;
 use edi_plan::{Extent, Plan, Span, extent_of};
@@ -46,8 +48,9 @@ fn sentence_for(rule: u16) -> &'static str
     }
 }
 
-/// The lines that explain the refusal of a file by a rule of lines: where the broken line is, with the sentence of the rule;
-/// the earlier line that bars it; and a hint where its length counts characters.
+/// The lines that explain the refusal of a file by a rule of lines: where the broken line is, with the sentence of the
+/// rule; the earlier line that bars it; a hint where its length counts characters; and one where the file was cut in
+/// it.
 fn explain_line(
     alloc: Global,
     file: &NamedFile<'_>,
@@ -59,15 +62,16 @@ fn explain_line(
 {
     let earlier = barring_line(file.bytes, rule, at);
     let counts = counts_characters(file.bytes, rule, at);
+    let cut = shows_cut(file.bytes, rule, at);
     let mut lines = lines_of_broken(alloc, file.name, at, earlier, sentence_for(rule), rule)?;
     push_length_hint(&mut lines, file.name, counts)?;
+    push_cut_hint(&mut lines, file.name, cut)?;
     Ok(lines)
 }
 
-/// The lines that explain the refusal of a sheet, whose file has this name: where the broken line or record is,
-/// with the sentence of the rule; and the earlier line or record that the rule speaks of. Where a line's length counts
-/// characters, and not bytes, a hint says so.
-pub fn explain_sheet(
+/// Of the refusal of a sheet, whose file has this name, where the broken line or record is, with the sentence of
+/// the rule; and the earlier line or record that the rule speaks of.
+fn explain_place(
     alloc: Global,
     schema: &Schema,
     bytes: &[u8],
@@ -75,7 +79,7 @@ pub fn explain_sheet(
     found: &Found,
 ) -> Result<Vec<u8>, AllocError>
     requires { IsFound schema.now bytes.now found.now }
-    ensures { IfOk result (λ lines. ExplainsSheet schema.now bytes.now name.now found.now.fault lines.items) }
+    ensures { IfOk result (λ lines. ExplainsPlace schema.now bytes.now name.now found.now.fault lines.items) }
 {
     match &found.fault {
         Fault::Memory(error) => Err(*error),
@@ -96,6 +100,45 @@ pub fn explain_sheet(
     }
 }
 
+/// Of the refusal of a sheet at a record, the zone with which the record breaks the rule.
+fn explain_zone_of(
+    alloc: Global,
+    schema: &Schema,
+    bytes: &[u8],
+    name: &[u8],
+    found: &Found,
+) -> Result<Vec<u8>, AllocError>
+    requires { IsFound schema.now bytes.now found.now }
+    ensures { IfOk result (λ lines. ExplainsZoneOf schema.now bytes.now name.now found.now.fault lines.items) }
+{
+    match &found.fault {
+        Fault::Entry { rule, at } => {
+            explain_zone_in_sheet(alloc, schema, bytes, name, found.earlier, *rule, *at)
+        }
+        _ => Ok(Vec::new(alloc)),
+    }
+}
+
+/// The lines that explain the refusal of a sheet, whose file has this name: where the broken line or record is,
+/// with the sentence of the rule; the earlier line or record that the rule speaks of; and the zone with which the
+/// record breaks it. Where a line's length counts characters, and not bytes, or the file was cut in it, a hint says
+/// so.
+pub fn explain_sheet(
+    alloc: Global,
+    schema: &Schema,
+    bytes: &[u8],
+    name: &[u8],
+    found: &Found,
+) -> Result<Vec<u8>, AllocError>
+    requires { IsFound schema.now bytes.now found.now }
+    ensures { IfOk result (λ lines. ExplainsSheet schema.now bytes.now name.now found.now.fault lines.items) }
+{
+    let mut lines = explain_place(alloc, schema, bytes, name, found)?;
+    let zone = explain_zone_of(alloc, schema, bytes, name, found)?;
+    lines.extend_from_slice(&zone)?;
+    Ok(lines)
+}
+
 /// The one of two files that a fault is of.
 fn file_of<'a>(file: Source, scd: &NamedFile<'a>, dic: &NamedFile<'a>) -> NamedFile<'a>
     ensures name { result.name.now ≡ of_source file scd.now.name.now dic.now.name.now }
@@ -107,9 +150,9 @@ fn file_of<'a>(file: Source, scd: &NamedFile<'a>, dic: &NamedFile<'a>) -> NamedF
     }
 }
 
-/// The lines that explain the refusal of a schema under the codes of the kinds, in the same form; for rule 604 those of the
-/// classes that break it.
-pub fn explain_schema(
+/// Of the refusal of a schema under the codes of the kinds, the same; for rule 604 the lines of the classes that
+/// break it.
+fn explain_schema_place(
     alloc: Global,
     scd: &NamedFile<'_>,
     dic: &NamedFile<'_>,
@@ -117,7 +160,8 @@ pub fn explain_schema(
     fault: &SchemaFault,
 ) -> Result<Vec<u8>, AllocError>
     requires { IsSchemaRefusal scd.now.bytes.now dic.now.bytes.now (codes_of codes.now) fault.now }
-    ensures { IfOk result (λ lines. ExplainsSchema (codes_of codes.now) scd.now.bytes.now dic.now.bytes.now scd.now.name.now dic.now.name.now fault.now lines.items) }
+    ensures { IfOk result (λ lines. ExplainsSchemaPlace (codes_of codes.now) scd.now.bytes.now dic.now.bytes.now
+        scd.now.name.now dic.now.name.now fault.now lines.items) }
 {
     match fault {
         SchemaFault::Memory(error) => Err(*error),
@@ -138,6 +182,48 @@ pub fn explain_schema(
         }
         SchemaFault::Kinds => explain_kinds(alloc, scd, codes),
     }
+}
+
+/// Of the refusal of a schema at a record, the zone with which the record breaks the rule.
+fn explain_schema_zone(
+    alloc: Global,
+    scd: &NamedFile<'_>,
+    dic: &NamedFile<'_>,
+    codes: &ByRole<&[u8]>,
+    fault: &SchemaFault,
+) -> Result<Vec<u8>, AllocError>
+    requires { IsSchemaRefusal scd.now.bytes.now dic.now.bytes.now (codes_of codes.now) fault.now }
+    ensures { IfOk result (λ lines. ExplainsSchemaZone scd.now.bytes.now dic.now.bytes.now
+        scd.now.name.now dic.now.name.now fault.now lines.items) }
+{
+    let _ = codes;
+    match fault {
+        SchemaFault::Entry { file, rule, at } => {
+            let refused = file_of(*file, scd, dic);
+            explain_zone(alloc, refused.bytes, refused.name, *rule, *at)
+        }
+        _ => Ok(Vec::new(alloc)),
+    }
+}
+
+/// The lines that explain the refusal of a schema under the codes of the kinds, in the same form; for rule 604 those of
+/// the classes that break it.
+pub fn explain_schema(
+    alloc: Global,
+    scd: &NamedFile<'_>,
+    dic: &NamedFile<'_>,
+    codes: &ByRole<&[u8]>,
+    fault: &SchemaFault,
+) -> Result<Vec<u8>, AllocError>
+    requires { IsSchemaRefusal scd.now.bytes.now dic.now.bytes.now (codes_of codes.now) fault.now }
+    ensures { IfOk result (λ lines. ExplainsSchema
+        (codes_of codes.now) scd.now.bytes.now dic.now.bytes.now scd.now.name.now dic.now.name.now fault.now
+        lines.items) }
+{
+    let mut lines = explain_schema_place(alloc, scd, dic, codes, fault)?;
+    let zone = explain_schema_zone(alloc, scd, dic, codes, fault)?;
+    lines.extend_from_slice(&zone)?;
+    Ok(lines)
 }
 
 /// Appends words and a sentence, as a line.

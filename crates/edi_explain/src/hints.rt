@@ -1,8 +1,8 @@
 //! Usual causes of refusals that a file shows.
 
-ghost use Rattle.std.specs.Prelude.{◌≡◌, ◌++◌, ◌∷◌, [], IfOk, OnOk, codes, drop, take};
+ghost use Rattle.std.specs.Prelude.{◌≡◌, ◌++◌, ◌∷◌, [], IfOk, OnOk, codes, drop, option_map, take};
 ghost use Rattle.edi_line.specs.Bytes.{line_feed};
-ghost use Rattle.edi_explain.specs.Hints.{AreHints, AreHintsOfSheet, IsPartIfAny, end_hint, hint_line, mark_hint, name_of as name_of_part, part_hint, part_typed};
+ghost use Rattle.edi_explain.specs.Hints.{AreHints, AreHintsOfSheet, IsPartIfAny, end_hint, form_hint_or, form_words as words_of_form, hint_line, is_tar as is_tar_file, mark_hint, name_of as name_of_part, part_hint, part_typed};
 
 use crate::contents::first_line;
 use crate::explained::NamedFile;
@@ -32,7 +32,25 @@ pub enum Part {
 const MARK: [u8; 3] = [0xEF, 0xBB, 0xBF];
 
 /// The byte with which some systems end a text.
-const END: [u8; 1] = [0x1A];
+pub(crate) const END: [u8; 1] = [0x1A];
+
+/// With this a file begins that bzip2 packed.
+const BZIP2: [u8; 3] = *b"BZh";
+
+/// With this a file begins that gzip packed.
+const GZIP: [u8; 2] = [0x1F, 0x8B];
+
+/// With this an archive of ZIP begins.
+const ZIP: [u8; 4] = [b'P', b'K', 3, 4];
+
+/// The name of tar, which an archive has behind 257 bytes.
+const TAR: [u8; 5] = *b"ustar";
+
+/// With this a text in UTF-16 begins whose lower bytes come first.
+const LOW_FIRST: [u8; 2] = [0xFF, 0xFE];
+
+/// With this a text in UTF-16 begins whose higher bytes come first.
+const HIGH_FIRST: [u8; 2] = [0xFE, 0xFF];
 
 /// With this a line begins that states the type of a record.
 const TYPE_HEAD: [u8; 8] = *b"RTYSA03:";
@@ -130,6 +148,36 @@ fn push_end(text: &mut Vec<u8>, file: &NamedFile<'_>) -> Result<(), AllocError>
     }
 }
 
+/// Whether a file is an archive of tar.
+fn is_tar(bytes: &[u8]) -> bool
+    ensures { result ≡ is_tar_file bytes.now }
+{
+    if bytes.len() < 257 {
+        return false;
+    }
+    let (_, behind) = bytes.split_at(257);
+    behind.starts_with(&TAR)
+}
+
+/// What a file is by its first bytes, where it can't be read as it is, and what to do then.
+fn form_words(bytes: &[u8]) -> Option<&'static str>
+    ensures { option_map (λ w. w.now) result ≡ words_of_form bytes.now }
+{
+    if bytes.starts_with(&BZIP2) {
+        Some(" is packed with bzip2: unpack it first")
+    } else if bytes.starts_with(&GZIP) {
+        Some(" is packed with gzip: unpack it first")
+    } else if bytes.starts_with(&ZIP) {
+        Some(" is a ZIP archive: take the files out of it first")
+    } else if is_tar(bytes) {
+        Some(" is a tar archive: take the files out of it first")
+    } else if bytes.starts_with(&LOW_FIRST) || bytes.starts_with(&HIGH_FIRST) {
+        Some(" seems to have been turned into UTF-16, so take the file as it was delivered")
+    } else {
+        None
+    }
+}
+
 /// Appends which part a file is, if it is another than the one in whose place it stands.
 fn push_part(
     text: &mut Vec<u8>,
@@ -152,7 +200,8 @@ fn push_part(
 
 /// Appends which part a file is, and in whose place it stands.
 fn push_mistaken(text: &mut Vec<u8>, wanted: Part, part: Part) -> Result<(), AllocError>
-    ensures { OnOk result (text.new.items ≡ text.old.items ++ (codes " is " ++ name_of_part part ++ codes " by its first record, and was given as "
+    ensures { OnOk result (text.new.items
+        ≡ text.old.items ++ (codes " is " ++ name_of_part part ++ codes " by its first record, and was given as "
         ++ name_of_part wanted ++ line_feed ∷ [])) }
 {
     text.extend_from_slice(b" is ")?;
@@ -162,15 +211,32 @@ fn push_mistaken(text: &mut Vec<u8>, wanted: Part, part: Part) -> Result<(), All
     text.extend_from_slice(b"\n")
 }
 
-/// The lines that name the usual causes of a refusal that a file shows, where it stands in the place of a part.
+/// Appends the hints on a text in the place of a part, which is this part.
+fn push_others(
+    text: &mut Vec<u8>,
+    file: &NamedFile<'_>,
+    wanted: Part,
+    part: Option<Part>,
+) -> Result<(), AllocError>
+    ensures { OnOk result (text.new.items ≡ text.old.items ++ (mark_hint file.now.name.now file.now.bytes.now
+        ++ end_hint file.now.name.now file.now.bytes.now ++ part_hint file.now.name.now wanted part)) }
+{
+    push_mark(text, file)?;
+    push_end(text, file)?;
+    push_part(text, file.name, wanted, part)
+}
+
+/// The lines that name the usual causes of a refusal that a file shows, where it stands in the place of a part:
+/// that it can't be read as it is; or else the others.
 pub fn hints_on(alloc: Global, file: &NamedFile<'_>, wanted: Part) -> Result<Vec<u8>, AllocError>
     ensures { IfOk result (λ lines. AreHints file.now.name.now file.now.bytes.now wanted lines.items) }
 {
     let part = part_of(file.bytes);
     let mut text = Vec::new(alloc);
-    push_mark(&mut text, file)?;
-    push_end(&mut text, file)?;
-    push_part(&mut text, file.name, wanted, part)?;
+    match form_words(file.bytes) {
+        Some(words) => push_hint(&mut text, file.name, words)?,
+        None => push_others(&mut text, file, wanted, part)?,
+    }
     Ok(text)
 }
 
@@ -181,7 +247,9 @@ pub fn hints_of(
     dic: &NamedFile<'_>,
     vec: &NamedFile<'_>,
 ) -> Result<Vec<u8>, AllocError>
-    ensures { IfOk result (λ lines. AreHintsOfSheet scd.now.name.now scd.now.bytes.now dic.now.name.now dic.now.bytes.now vec.now.name.now vec.now.bytes.now lines.items) }
+    ensures { IfOk result (λ lines.
+        AreHintsOfSheet scd.now.name.now scd.now.bytes.now dic.now.name.now dic.now.bytes.now vec.now.name.now
+        vec.now.bytes.now lines.items) }
 {
     let mut lines = hints_on(alloc, scd, Part::Scd)?;
     let of_dic = hints_on(alloc, dic, Part::Dic)?;

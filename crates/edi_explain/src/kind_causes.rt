@@ -110,7 +110,8 @@ fn cause_of(
     case: KindsCase,
     role: Role,
 ) -> Option<KindsCause>
-    requires { case ≡ BarredClass → (r : Roles) → ¬ (IsWrong (groups_of (entries zones.now)) (codes_of codes.now) TwoClasses r) }
+    requires { case ≡ BarredClass → (r : Roles)
+        → ¬ (IsWrong (groups_of (entries zones.now)) (codes_of codes.now) TwoClasses r) }
     ensures { MatchOption result (¬ (IsWrong (groups_of (entries zones.now)) (codes_of codes.now) case role))
         (IsCauseOf (groups_of (entries zones.now)) (codes_of codes.now) case role) }
 {
@@ -123,7 +124,8 @@ fn cause_of(
 
 /// The classes of the first kind that breaks the rule in a case.
 fn first_of_case(codes: &ByRole<&[u8]>, zones: &[Zone<'_>], case: KindsCase) -> Option<KindsCause>
-    requires { case ≡ BarredClass → (r : Roles) → ¬ (IsWrong (groups_of (entries zones.now)) (codes_of codes.now) TwoClasses r) }
+    requires { case ≡ BarredClass → (r : Roles)
+        → ¬ (IsWrong (groups_of (entries zones.now)) (codes_of codes.now) TwoClasses r) }
     ensures { MatchOption result ((r : Roles) → ¬ (IsWrong (groups_of (entries zones.now)) (codes_of codes.now) case r))
         (IsFirstOfCase (groups_of (entries zones.now)) (codes_of codes.now) case) }
 {
@@ -139,8 +141,9 @@ fn first_of_case(codes: &ByRole<&[u8]>, zones: &[Zone<'_>], case: KindsCase) -> 
     cause_of(codes, zones, case, Role::Right)
 }
 
-/// What breaks rule 604 in the file of classes first, if something does: two classes of a kind before a class whose partner is
-/// missing, and this before a class that no pointer can name; in each case the kinds go initial, final, left, right.
+/// What breaks rule 604 in the file of classes first, if something does: two classes of a kind before a class whose
+/// partner is missing, and this before a class that no pointer can name; in each case the kinds go initial, final,
+/// left, right.
 pub fn kinds_cause(codes: &ByRole<&[u8]>, zones: &[Zone<'_>]) -> Option<KindsCause>
     ensures { MatchOption result (¬ (BreaksKinds (groups_of (entries zones.now)) [] (codes_of codes.now)))
         (IsKindsCause (groups_of (entries zones.now)) (codes_of codes.now)) }

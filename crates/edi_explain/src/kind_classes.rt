@@ -60,7 +60,8 @@ fn states_class(codes: &ByRole<&[u8]>, group: &[Zone<'_>], role: Role) -> bool
     role != Role::Plain && role_of(codes, first_value(group, KND), identifier) == role
 }
 
-/// The number of the first record behind one of a number that states a class of a kind. Numbers are counted from 1, in file order.
+/// The number of the first record behind one of a number that states a class of a kind. Numbers are counted from 1, in
+/// file order.
 pub(crate) fn class_behind(
     codes: &ByRole<&[u8]>,
     zones: &[Zone<'_>],

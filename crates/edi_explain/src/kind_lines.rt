@@ -17,6 +17,7 @@ use crate::kind_classes::class_behind;
 use crate::lines::{lines_of_refused, push_site_name};
 use crate::refused::sites_of;
 use crate::site::{RecordSite, group_of, site_of};
+use crate::zone_lines::zones_of;
 use edi_line::{LineFault, Zone, zones};
 use edi_schema::{ByRole, Role};
 use std::alloc::{AllocError, Global};
@@ -59,27 +60,16 @@ fn words_of_cause(alloc: Global, case: KindsCase, role: Role) -> Result<Vec<u8>,
     Ok(words)
 }
 
-/// The zones of a file that breaks no rule of lines.
-fn zones_of<'a>(alloc: Global, bytes: &'a [u8]) -> Result<Vec<Zone<'a>>, AllocError>
-    requires { IsUnbroken (BreaksLineRule bytes.now) }
-    ensures { IfOk result (λ zones. IsZonesOf bytes.now (entries zones.items)) }
-{
-    match zones(alloc, bytes) {
-        Ok(zones) => Ok(zones),
-        Err(LineFault::Memory(error)) => Err(error),
-        Err(LineFault::Broken { .. }) => unreachable!(),
-    }
-}
-
-/// The lines that explain the refusal of a file of classes by rule 604: where the class is that breaks it first and what is wrong
-/// with it, and where the earlier class of its kind is.
+/// The lines that explain the refusal of a file of classes by rule 604: where the class is that breaks it first and
+/// what is wrong with it, and where the earlier class of its kind is.
 pub(crate) fn explain_kinds(
     alloc: Global,
     scd: &NamedFile<'_>,
     codes: &ByRole<&[u8]>,
 ) -> Result<Vec<u8>, AllocError>
     requires lines { IsUnbroken (BreaksLineRule scd.now.bytes.now) }
-    requires broken { (zones : List Entry) → IsZonesOf scd.now.bytes.now zones → BreaksKinds (groups_of zones) [] (codes_of codes.now) }
+    requires broken { (zones : List Entry) → IsZonesOf scd.now.bytes.now zones
+        → BreaksKinds (groups_of zones) [] (codes_of codes.now) }
     ensures { IfOk result (λ lines. ExplainsKinds (codes_of codes.now) scd.now.bytes.now scd.now.name.now lines.items) }
 {
     let zones = zones_of(alloc, scd.bytes)?;
@@ -164,14 +154,16 @@ fn push_kind(
     push_class_line(text, name, role, &site)
 }
 
-/// The lines on the four kinds: the class of each in the file of classes, which breaks no rule of lines, or that it has none.
+/// The lines on the four kinds: the class of each in the file of classes, which breaks no rule of lines, or that it has
+/// none.
 pub fn describe_kinds(
     alloc: Global,
     scd: &NamedFile<'_>,
     codes: &ByRole<&[u8]>,
 ) -> Result<Vec<u8>, AllocError>
     requires { IsUnbroken (BreaksLineRule scd.now.bytes.now) }
-    ensures { IfOk result (λ lines. DescribesKinds (codes_of codes.now) scd.now.bytes.now scd.now.name.now lines.items) }
+    ensures { IfOk result (λ lines.
+        DescribesKinds (codes_of codes.now) scd.now.bytes.now scd.now.name.now lines.items) }
 {
     let zones = zones_of(alloc, scd.bytes)?;
     let mut text = Vec::new(alloc);
@@ -226,8 +218,8 @@ fn words_of_lacking(alloc: Global, lacking: &ByRole<bool>) -> Result<Vec<u8>, Al
     Ok(words)
 }
 
-/// The words for the kinds that have no class in the file of classes; none where each has one. Where the file breaks a rule of lines
-/// (101 to 110), the fault names the least line with a broken rule.
+/// The words for the kinds that have no class in the file of classes; none where each has one. Where the file breaks a
+/// rule of lines (101 to 110), the fault names the least line with a broken rule.
 pub fn lacking_kinds(alloc: Global, scd: &[u8], codes: &ByRole<&[u8]>) -> Result<Vec<u8>, LineFault>
     ensures named { IfOk result (λ words. NameLacking (codes_of codes.now) scd.now words.items) }
     ensures unbroken { OnOk result (IsUnbroken (BreaksLineRule scd.now)) }

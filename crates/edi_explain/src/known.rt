@@ -4,7 +4,8 @@ ghost use Rattle.std.specs.Prelude.{◌≡◌, Some, codes};
 ghost use Rattle.edi_explain.specs.Known.{KnownPage, known_sites};
 ghost use Rattle.edi_explain.specs.Lines.{lines_of_line, lines_of_sites};
 
-/// The page on a rule with known texts, and the lines for a refused record and for a refused line, each with an earlier one.
+/// The page on a rule with known texts, and the lines for a refused record and for a refused line, each with an earlier
+/// one.
 pub fn known_refusals_are_explained()
     ensures page { KnownPage }
     ensures record_lines { lines_of_sites (codes "A.VEC") known_sites (codes "two equal nodes") 403

@@ -58,7 +58,8 @@ fn is_miscounted(content: &[u8]) -> bool
     has_characters(behind, stated)
 }
 
-/// Whether the line of a refusal by rule 103 states a length that counts the characters of its value, and not the bytes.
+/// Whether the line of a refusal by rule 103 states a length that counts the characters of its value, and not the
+/// bytes.
 pub(crate) fn counts_characters(bytes: &[u8], rule: u16, at: u64) -> bool
     requires { IsLeastBroken (BreaksLineRule bytes.now) rule at }
     ensures { IsTrue result ↔ ((rule ≡ 103) × CountsCharacters bytes.now at) }

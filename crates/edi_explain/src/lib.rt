@@ -1,9 +1,14 @@
 //! What refusals speak of: records with their lines and identifiers, rules in words, and earlier records.
 #![tactic(auto)]
 
+mod astray;
 pub mod barring;
+pub mod breaking;
+pub mod class_counts;
 mod contents;
+mod count_texts;
 pub mod counts;
+mod cuts;
 pub mod examined;
 pub mod explained;
 pub mod hints;
@@ -16,6 +21,7 @@ mod lines;
 pub mod links;
 pub mod objects;
 pub mod partner;
+mod positions;
 pub mod refused;
 mod repeats;
 pub mod rows;
@@ -25,8 +31,10 @@ mod sites;
 pub mod skipped;
 pub mod text;
 mod texts;
+mod zone_lines;
 
 pub use barring::barring_line;
+pub use class_counts::{describe_classes, describe_sheet};
 pub use counts::count_of;
 pub use examined::{Found, examine};
 pub use explained::{

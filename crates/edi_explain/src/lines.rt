@@ -11,7 +11,7 @@ use edi_shown::push_shown;
 use std::alloc::{AllocError, Global};
 
 /// Appends a file's name and a line's number.
-fn push_position(text: &mut Vec<u8>, name: &[u8], line: u64) -> Result<(), AllocError>
+pub(crate) fn push_position(text: &mut Vec<u8>, name: &[u8], line: u64) -> Result<(), AllocError>
     ensures { OnOk result (text.new.items ≡ text.old.items ++ position_text name.now line) }
 {
     push_shown(text, name)?;
@@ -21,7 +21,11 @@ fn push_position(text: &mut Vec<u8>, name: &[u8], line: u64) -> Result<(), Alloc
 }
 
 /// Appends a sentence, the number of its rule, and the end of the line.
-fn push_sentence(text: &mut Vec<u8>, sentence: &[u8], rule: u16) -> Result<(), AllocError>
+pub(crate) fn push_sentence(
+    text: &mut Vec<u8>,
+    sentence: &[u8],
+    rule: u16,
+) -> Result<(), AllocError>
     ensures { OnOk result (text.new.items ≡ text.old.items ++ (sentence.now ++ rule_mark rule)) }
 {
     text.extend_from_slice(sentence)?;
@@ -96,7 +100,8 @@ pub(crate) fn push_site_name(
     name: &[u8],
     site: &RecordSite,
 ) -> Result<(), AllocError>
-    ensures { OnOk result (text.new.items ≡ text.old.items ++ (position_text name.now site.now.line ++ shown_bytes site.now.rty
+    ensures { OnOk result (text.new.items
+        ≡ text.old.items ++ (position_text name.now site.now.line ++ shown_bytes site.now.rty
         ++ identifier_text site.now.rid)) }
 {
     push_position(text, name, site.line)?;

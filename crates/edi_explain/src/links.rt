@@ -16,7 +16,9 @@ use edi_schema::{Role, Schema};
 
 /// The kind of a link, if it is one of the four.
 fn kind_of_link(schema: &Schema, record: &RecordRef<'_>) -> Option<Role>
-    ensures { (list : List Records) → MatchOption result ((role : Roles) → role ≢ Plain → ¬ (IsLinkOfRole schema.now list «record».now role)) (λ role. (role ≢ Plain) × IsLinkOfRole schema.now list «record».now role) }
+    ensures { (list : List Records)
+        → MatchOption result ((role : Roles) → role ≢ Plain → ¬ (IsLinkOfRole schema.now list «record».now role))
+        (λ role. (role ≢ Plain) × IsLinkOfRole schema.now list «record».now role) }
 {
     if record.kind() != Kind::Lnk {
         return None;
@@ -101,7 +103,8 @@ fn is_of_side(
     record: &RecordRef<'_>,
 ) -> bool
     requires { role ≢ Plain }
-    ensures { IsTrue result ↔ (IsLinkOfRole schema.now records.now earlier.now role × ShareArc schema.now records.now earlier.now «record».now) }
+    ensures { IsTrue result ↔ (IsLinkOfRole schema.now records.now earlier.now role
+        × ShareArc schema.now records.now earlier.now «record».now) }
 {
     is_of_kind(schema, earlier, role) && share_arc(records, earlier, record)
 }

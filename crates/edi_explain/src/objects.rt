@@ -57,7 +57,8 @@ fn has_key(
     member: u32,
 ) -> Result<bool, AllocError>
     requires { member < length (places_of Fea objects.now.plan) }
-    ensures { IfOk result (λ answer. IsTrue answer ↔ (object_key_at objects.now (slice_index (places_of Fea objects.now.plan) member) ≡ key.now)) }
+    ensures { IfOk result (λ answer. IsTrue answer
+        ↔ (object_key_at objects.now (slice_index (places_of Fea objects.now.plan) member) ≡ key.now)) }
 {
     let own = objects.key(alloc, member)?;
     Ok(own.cmp(key).is_eq())
@@ -66,14 +67,15 @@ fn has_key(
 /// Which member stands at a place, if one does.
 fn member_at(places: &[u32], place: u32) -> Option<u32>
     requires { length places.now < 2 ^ 32 }
-    ensures { MatchOption result (¬ (Contains places.now place)) (λ m. (m < length places.now) × (slice_index places.now m ≡ place)) }
+    ensures { MatchOption result (¬ (Contains places.now place))
+        (λ m. (m < length places.now) × (slice_index places.now m ≡ place)) }
 {
     let member = places.iter().position(|own| *own == place)?;
     Some(member as u32)
 }
 
-/// The objects of a plan by their keys. Nodes, arcs and faces may have any numbers that tell them apart; they have those
-/// of the order of the file.
+/// The objects of a plan by their keys. Nodes, arcs and faces may have any numbers that tell them apart; they have
+/// those of the order of the file.
 fn keyed_objects<'a>(alloc: Global, plan: &'a Plan) -> Result<ObjectLayer<'a>, AllocError>
     ensures { IfOk result (AreKeyed plan.now) }
 {
@@ -106,8 +108,8 @@ fn first_equal(
     Ok(None)
 }
 
-/// The first object equal to the one at a place, if it comes before that one: rule 501. `None` also where the record isn't an
-/// object.
+/// The first object equal to the one at a place, if it comes before that one: rule 501. `None` also where the record
+/// isn't an object.
 pub fn equal_object(alloc: Global, plan: &Plan, place: u32) -> Result<Option<u32>, AllocError>
     requires { IsPlace plan.now place }
     ensures { IfOk result (IsLeastIfAny (IsEqualObject plan.now place)) }

@@ -33,8 +33,8 @@ pub struct Refused {
     pub earlier: Option<RecordSite>,
 }
 
-/// The records of a file that breaks no rule of lines or records, and what was given the zones of each in the same pass, of
-/// which it had taken none.
+/// The records of a file that breaks no rule of lines or records, and what was given the zones of each in the same
+/// pass, of which it had taken none.
 fn sheet_beside<O: GroupOut + Drop>(
     alloc: Global,
     schema: &Schema,
@@ -163,7 +163,8 @@ pub(crate) fn object_before(
 /// The earlier record that a rule of references speaks of: by its name, by its subset, or by the side of an arc.
 fn earlier_among(schema: &Schema, records: &SheetRecords, rule: u16, place: u64) -> Option<u64>
     requires { (rule ≡ 301) ⊎ ((rule ≡ 304) ⊎ (rule ≡ 307)) }
-    ensures { (b : List ℕ) (sheet : Sheets) → IsSheetOf b sheet → sheet.list ≡ records.now → IsEarlierIfAny schema.now b rule place result }
+    ensures { (b : List ℕ) (sheet : Sheets) → IsSheetOf b sheet → sheet.list ≡ records.now
+        → IsEarlierIfAny schema.now b rule place result }
 {
     if rule == 301 {
         namesake_before(records, place)
@@ -190,14 +191,16 @@ fn earlier_in_sheet(
     Ok(earlier_among(schema, &sheet.list, rule, place))
 }
 
-/// The place of the earlier record that the rule of a refusal speaks of, counted from 0, and where it and the refused one stand.
+/// The place of the earlier record that the rule of a refusal speaks of, counted from 0, and where it and the refused
+/// one stand.
 #[derive(Drop)]
 pub(crate) struct Placed {
     pub(crate) earlier: Option<u64>,
     pub(crate) sites: Refused,
 }
 
-/// The earlier record that a rule of references speaks of, and where it and the record with this number stand, in one reading.
+/// The earlier record that a rule of references speaks of, and where it and the record with this number stand, in one
+/// reading.
 pub(crate) fn placed_in_sheet(
     alloc: Global,
     schema: &Schema,
@@ -241,8 +244,8 @@ fn earlier_in_plan(
     }
 }
 
-/// The place of the earlier record that the rule of a refusal speaks of, counted from 0; `None` where the rule speaks of
-/// none. It is the least that breaks the rule with the refused record: 301, 304, 307, 403, 405, 501.
+/// The place of the earlier record that the rule of a refusal speaks of, counted from 0; `None` where the rule speaks
+/// of none. It is the least that breaks the rule with the refused record: 301, 304, 307, 403, 405, 501.
 pub fn earlier_record(
     alloc: Global,
     schema: &Schema,
@@ -270,7 +273,8 @@ pub(crate) fn sites_of(
     earlier: Option<u64>,
 ) -> Result<Refused, AllocError>
     requires { IsUnbroken (BreaksLineRule bytes.now) }
-    ensures { IfOk result (λ sites. (zones : List Entry) × IsZonesOf bytes.now zones × AreSites zones number earlier sites) }
+    ensures { IfOk result (λ sites. (zones : List Entry) × IsZonesOf bytes.now zones
+        × AreSites zones number earlier sites) }
 {
     match sites_in(alloc, bytes, number, earlier) {
         Ok(sites) => Ok(sites),
@@ -305,7 +309,8 @@ fn earlier_row(
     place: u64,
 ) -> Result<Option<u64>, AllocError>
     requires { IsUnbroken (BreaksLineRule bytes.now) }
-    ensures { IfOk result (λ earlier. (zones : List Entry) × IsZonesOf bytes.now zones × IsEarlierRowIfAny zones rule place earlier) }
+    ensures { IfOk result (λ earlier. (zones : List Entry) × IsZonesOf bytes.now zones
+        × IsEarlierRowIfAny zones rule place earlier) }
 {
     match zones(alloc, bytes) {
         Ok(zones) if rule == 602 => Ok(row_namesake(&zones, place)),

@@ -29,7 +29,8 @@ impl Drop for RowName<'_> {
 
 /// The name of a record, if it has both parts of one.
 fn name_of<'b>(group: &'b [Zone<'_>]) -> Option<RowName<'b>>
-    ensures { MatchOption result ((name : Name) → ¬ (IsNamed (entries group.now) name)) (λ found. IsNamed (entries group.now) (name_in found)) }
+    ensures { MatchOption result ((name : Name) → ¬ (IsNamed (entries group.now) name))
+        (λ found. IsNamed (entries group.now) (name_in found)) }
 {
     Some(RowName {
         rty: first_value(group, RTY)?,

@@ -39,7 +39,8 @@ impl SoughtSite {
     /// Takes the zones of the next record.
     fn take(&mut self, alloc: Global, group: &[Zone<'_>]) -> Result<(), AllocError>
         requires { IsOneRecord (entries group.now) }
-        ensures { OnOk result ((number : ℕ) (come : List (List Entry)) → IsSought number come self.old → IsSought number (come ++ entries group.now ∷ []) self.new) }
+        ensures { OnOk result ((number : ℕ) (come : List (List Entry)) → IsSought number come self.old
+            → IsSought number (come ++ entries group.now ∷ []) self.new) }
     {
         match self.left {
             None => {}
@@ -77,7 +78,8 @@ pub(crate) fn sites_in(
     number: u64,
     earlier: Option<u64>,
 ) -> Result<Refused, LineFault>
-    ensures sites { IfOk result (λ sites. (zones : List Entry) × IsZonesOf bytes.now zones × AreSites zones number earlier sites) }
+    ensures sites { IfOk result (λ sites. (zones : List Entry) × IsZonesOf bytes.now zones
+        × AreSites zones number earlier sites) }
     ensures sound { OnOk result (IsUnbroken (BreaksLineRule bytes.now)) }
     ensures least { IfErr result (IsLineRefusal (BreaksLineRule bytes.now)) }
 {

@@ -31,7 +31,8 @@ impl GroupOut for SitesInOrder {
 
 /// The site of the record at a place from 0, if there is a place and a record.
 fn site_at(sites: &[RecordSite], place: Option<u64>) -> Result<Option<RecordSite>, AllocError>
-    ensures { IfOk result (λ found. (zones : List Entry) → AllZip IsSiteOfGroup (groups_of zones) sites.now → IsSiteAtIfAny zones place found) }
+    ensures { IfOk result (λ found. (zones : List Entry) → AllZip IsSiteOfGroup (groups_of zones) sites.now
+        → IsSiteAtIfAny zones place found) }
 {
     let Some(place) = place else {
         return Ok(None);
@@ -48,7 +49,8 @@ pub(crate) fn sites_among(
     number: u64,
     earlier: Option<u64>,
 ) -> Result<Refused, AllocError>
-    ensures { IfOk result (λ found. (zones : List Entry) → AllZip IsSiteOfGroup (groups_of zones) sites.now → AreSites zones number earlier found) }
+    ensures { IfOk result (λ found. (zones : List Entry) → AllZip IsSiteOfGroup (groups_of zones) sites.now
+        → AreSites zones number earlier found) }
 {
     Ok(Refused {
         here: site_at(sites, number.checked_sub(1))?,

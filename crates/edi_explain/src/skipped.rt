@@ -39,8 +39,8 @@ impl GroupOut for QualityCount {
     }
 }
 
-/// How many zones of quality (QAC, QAP) the records of a file have, which are read and not compared; or the file's first
-/// broken rule of lines.
+/// How many zones of quality (QAC, QAP) the records of a file have, which are read and not compared; or the file's
+/// first broken rule of lines.
 pub fn quality_zones(alloc: Global, bytes: &[u8]) -> Result<u64, LineFault>
     ensures count { IfOk result (HasQuality bytes.now) }
     ensures sound { OnOk result (IsUnbroken (BreaksLineRule bytes.now)) }

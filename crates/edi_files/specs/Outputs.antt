@@ -8,15 +8,18 @@ IsFilled held bytes = (empty full : Option (List ℕ)) × IsAtEnd empty × Appen
 
 -- the bytes went to the stream, and nothing behind them: it was then ended
 abbrev pub Pours : (S : Type 0) → (S → Type 0) → (S → Type 0) → (S → Option (List ℕ)) → List ℕ → Type 0
-Pours S opened ended contents bytes = (before after : S) × opened before × ended after × Appends (contents before) (contents after) bytes
+Pours S opened ended contents bytes =
+    (before after : S) × opened before × ended after × Appends (contents before) (contents after) bytes
 
 -- the first bytes went to the stream, which then failed
 abbrev pub PoursFirst : (S : Type 0) → (S → Type 0) → (S → Option (List ℕ)) → (S → Bool) → ℕ → List ℕ → Type 0
 PoursFirst S opened contents failed count bytes =
-    (before after : S) × opened before × IsTrue (failed after) × Appends (contents before) (contents after) (take count bytes)
+    (before after : S) × opened before × IsTrue (failed after)
+    × Appends (contents before) (contents after) (take count bytes)
 
 -- the bytes are the file of the path, or went to its stream
-abbrev pub Reaches : (S : Type 0) → (Option (List ℕ) → Type 0) → (S → Type 0) → (S → Type 0) → (S → Option (List ℕ)) → List ℕ → Type 0
+abbrev pub Reaches : (S : Type 0) → (Option (List ℕ) → Type 0) → (S → Type 0) → (S → Type 0) → (S → Option (List ℕ))
+    → List ℕ → Type 0
 Reaches S held opened ended contents bytes = IsFilled held bytes ⊎ Pours S opened ended contents bytes
 
 -- the path can't be written to, or a new file failed

@@ -449,8 +449,8 @@ fn new_file<R: Files<File = File> + AllocGlobal>(
     Err(OutFault::Unwritable)
 }
 
-// Removes the drafts that stopped runs left in the folder of a file, up to the first name that is free. A run locks its draft for as long
-// as it writes it, so one that isn't locked is nobody's.
+// Removes the drafts that stopped runs left in the folder of a file, up to the first name that is free. A run locks its
+// draft for as long as it writes it, so one that isn't locked is nobody's.
 fn remove_strays<R: Files<File = File> + AllocGlobal>(
     rt: &R,
     other: Path<'_>,
@@ -476,8 +476,8 @@ fn remove_stray<R: Files<File = File>>(rt: &R, name: &PathBuf) {
     }
 }
 
-// Locks a new draft, and says whether it is this run's: another run may have taken it for one that nobody locked. Where the system has no
-// locks none is needed, since no run removes a draft there.
+// Locks a new draft, and says whether it is this run's: another run may have taken it for one that nobody locked. Where
+// the system has no locks none is needed, since no run removes a draft there.
 fn is_held<R: Files<File = File>>(rt: &R, file: &File, name: &PathBuf) -> bool {
     match file.try_lock() {
         Ok(()) => is_still(rt, file, name),

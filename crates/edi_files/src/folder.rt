@@ -98,7 +98,8 @@ pub trait Folder {
 
     /// The file of a path, from its first byte on, if it can be opened.
     fn open(&self, path: &str) -> Option<Self::Reader>
-        ensures file { MatchOption result (closed self.now path.now) (λ file. holds self.now path.now (Self.Reader.contents file)) }
+        ensures file { MatchOption result (closed self.now path.now)
+            (λ file. holds self.now path.now (Self.Reader.contents file)) }
         ensures device { IfSome result (λ file. opens self.now path.now (Self.Reader.device file)) };
 
     /// Standard input.
@@ -135,11 +136,13 @@ pub trait Folder {
         ensures done { OnTrue result (holds self.new path.now (Self.NewFile.contents file)) }
         ensures undone { OnFalse result (unwritable self.new path.now) }
         ensures step { Goes (moment self.old) (moment self.new) (left_since self.old) (left_since self.new)
-            (λ p c. ((p ≡ path.now) × IfSome (Self.NewFile.contents file) (λ bytes. c ≡ Some bytes)) ⊎ (p ≡ place name)) };
+            (λ p c. ((p ≡ path.now) × IfSome (Self.NewFile.contents file) (λ bytes. c ≡ Some bytes))
+            ⊎ (p ≡ place name)) };
 
     /// Removes a new file, which failed.
     fn discard(&mut self, file: Self::NewFile, name: Self::NewName)
-        ensures { Goes (moment self.old) (moment self.new) (left_since self.old) (left_since self.new) (λ p c. p ≡ place name) };
+        ensures { Goes (moment self.old) (moment self.new) (left_since self.old) (left_since self.new)
+            (λ p c. p ≡ place name) };
 
     /// Ends the stream of a path, which got all that it was to get.
     fn end(&self, path: &str, sink: Self::Sink)

@@ -9,16 +9,19 @@ use crate::folder::{Destination, FileDraft, Folder, OutFault};
 use edi_compare::RunFault;
 use edi_write::{Written, put_all};
 
-/// Puts the bytes at a path. A file is replaced whole or not at all: at any moment the path has the file that it had, or
-/// all the bytes. A device or a pipe gets the bytes as they come.
+/// Puts the bytes at a path. A file is replaced whole or not at all: at any moment the path has the file that it had,
+/// or all the bytes. A device or a pipe gets the bytes as they come.
 pub fn put<F: Folder>(folder: &mut F, path: &str, bytes: &[u8]) -> Result<(), RunFault>
-    ensures ok { OnOk result (Reaches F.Sink (F.holds folder.new path.now) (F.sinks folder.old path.now) (F.ends folder.new path.now) F.Sink.contents bytes.now) }
+    ensures ok { OnOk result (Reaches F.Sink (F.holds folder.new path.now) (F.sinks folder.old path.now)
+        (F.ends folder.new path.now) F.Sink.contents bytes.now) }
     ensures err { IfErr result (λ e. MatchFault e (λ _. ⊥) (λ _. ⊥) (λ _. ⊥) (λ _. ⊥) (λ _. ⊥)
         (λ count. Stops F.Sink (IsUnmade F.NewFile (F.unwritable folder.new path.now) F.NewFile.has_failed)
         (F.sinks folder.old path.now) F.Sink.contents F.Sink.has_failed count bytes.now)) }
     ensures unmade { IfErr result (λ e. BeforeWriting e (folder.new ≡ folder.old)) }
-    ensures replaced { F.tells folder.old → Goes (F.moment folder.old) (F.moment folder.new) (F.left_since folder.old) (F.left_since folder.new)
-        (IsWholeOrNew path.now (IsSpare (F.is_stray folder.old) (F.moment folder.old) (F.left_since folder.old)) (λ c. c ≡ bytes.now)) }
+    ensures replaced { F.tells folder.old
+        → Goes (F.moment folder.old) (F.moment folder.new) (F.left_since folder.old) (F.left_since folder.new)
+        (IsWholeOrNew path.now (IsSpare (F.is_stray folder.old) (F.moment folder.old) (F.left_since folder.old))
+        (λ c. c ≡ bytes.now)) }
 {
     match folder.target(path) {
         Some(Destination::File) => replace(folder, path, bytes),
@@ -34,8 +37,10 @@ fn replace<F: Folder>(folder: &mut F, path: &str, bytes: &[u8]) -> Result<(), Ru
     ensures err { IfErr result (λ e. MatchFault e (λ _. ⊥) (λ _. ⊥) (λ _. ⊥) (λ _. ⊥) (λ _. ⊥)
         (λ count. (count ≡ 0) × IsUnmade F.NewFile (F.unwritable folder.new path.now) F.NewFile.has_failed)) }
     ensures unmade { IfErr result (λ e. BeforeWriting e (folder.new ≡ folder.old)) }
-    ensures replaced { F.tells folder.old → Goes (F.moment folder.old) (F.moment folder.new) (F.left_since folder.old) (F.left_since folder.new)
-        (IsWholeOrNew path.now (IsSpare (F.is_stray folder.old) (F.moment folder.old) (F.left_since folder.old)) (λ c. c ≡ bytes.now)) }
+    ensures replaced { F.tells folder.old
+        → Goes (F.moment folder.old) (F.moment folder.new) (F.left_since folder.old) (F.left_since folder.new)
+        (IsWholeOrNew path.now (IsSpare (F.is_stray folder.old) (F.moment folder.old) (F.left_since folder.old))
+        (λ c. c ≡ bytes.now)) }
 {
     let FileDraft { mut file, name } = match folder.draft(path) {
         Ok(draft) => draft,
@@ -60,9 +65,11 @@ fn replace<F: Folder>(folder: &mut F, path: &str, bytes: &[u8]) -> Result<(), Ru
 // Writes to the stream of a path.
 fn pour<F: Folder>(folder: &F, path: &str, bytes: &[u8]) -> Result<(), RunFault>
     requires { F.leads folder.now path.now Destination.Stream }
-    ensures ok { OnOk result (Pours F.Sink (F.sinks folder.now path.now) (F.ends folder.now path.now) F.Sink.contents bytes.now) }
+    ensures ok { OnOk result
+        (Pours F.Sink (F.sinks folder.now path.now) (F.ends folder.now path.now) F.Sink.contents bytes.now) }
     ensures err { IfErr result (λ e. MatchFault e (λ _. ⊥) (λ _. ⊥) (λ _. ⊥) (λ _. ⊥) (λ _. ⊥)
-        (λ count. Stops F.Sink (F.unwritable folder.now path.now) (F.sinks folder.now path.now) F.Sink.contents F.Sink.has_failed count bytes.now)) }
+        (λ count. Stops F.Sink (F.unwritable folder.now path.now) (F.sinks folder.now path.now) F.Sink.contents
+        F.Sink.has_failed count bytes.now)) }
 {
     let Some(mut sink) = folder.sink(path) else {
         return Err(RunFault::Write(Written { count: 0 }));

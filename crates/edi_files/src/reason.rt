@@ -41,7 +41,8 @@ pub fn reason_text(reason: Reason) -> &'static [u8]
 
 /// Adds the line of a reason, by the name of the path.
 pub fn push_reason(lines: &mut Vec<u8>, name: &[u8], reason: Reason) -> Result<(), AllocError>
-    ensures { OnOk result (lines.new.items ≡ lines.old.items ++ ended (codes "edicad: " ++ name.now ++ codes ": " ++ reason_text reason)) }
+    ensures { OnOk result (lines.new.items
+        ≡ lines.old.items ++ ended (codes "edicad: " ++ name.now ++ codes ": " ++ reason_text reason)) }
 {
     lines.extend_from_slice(b"edicad: ")?;
     lines.extend_from_slice(name)?;

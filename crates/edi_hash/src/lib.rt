@@ -1,9 +1,9 @@
 //! A hash for names that strangers choose.
 //!
 //! A table that finds names by a hash which anybody can compute is slow on names that somebody chose to fall into one
-//! place of it. This program has no source of chance, so its key comes from the names themselves: it is a SHA-512 digest
-//! of all of them. Whoever changes a name changes the key, and the places of all other names with it, so names can't be
-//! chosen for the key that they will have.
+//! place of it. This program has no source of chance, so its key comes from the names themselves: it is a SHA-512
+//! digest of all of them. Whoever changes a name changes the key, and the places of all other names with it, so names
+//! can't be chosen for the key that they will have.
 #![tactic(auto)]
 
 ghost use Rattle.std.specs.Prelude.{◌≡◌, ◌++◌, ◌∷◌, [], List, ℕ};

@@ -1,5 +1,5 @@
 -- What vectors of bytes say of a text: where a byte stands first, and whether a head is in form.
-use Rattle.std.proofs.Common.{◌≡◌, ◌≢◌, ℕ, zero, suc, ◌+◌, ◌-◌, ◌*◌, ◌%◌, ◌^◌, ◌<◌, ◌≤◌, Bool, true, false, ◌&&◌, not, cond, eqb, leb, bit_or, List, [], ◌∷◌, length, map, take, drop, get_or, Option, Some, None, Fits, w8, refl, sym, ap, ap₂, ◌∙◌, subst, inl, inr, arith}
+use Rattle.std.proofs.Common.{◌≡◌, ◌≢◌, ℕ, suc, ◌+◌, ◌-◌, ◌*◌, ◌%◌, ◌^◌, ◌<◌, ◌≤◌, Bool, true, false, ◌&&◌, not, cond, eqb, leb, bit_or, List, [], ◌∷◌, length, slice_index, map, take, drop, get_or, Option, Some, None, Fits, w8, refl, sym, ap, ◌∙◌, subst, inl, inr, arith}
 use Rattle.std.specs.List.{list_all, position, position_or_len, prefix_len}
 use Rattle.std.proofs.lemmas.Bool.{lt-ltb, le-ltb, le-leb, leb-true, cases_lt, cases_eq, eq-eqb, ne_eqb, eqb-true, agree_below_at, and_parts}
 use Rattle.std.proofs.Common.{pow_pos}
@@ -11,7 +11,7 @@ use Rattle.std.proofs.lemmas.Simd.{length-chunk, mask_l-mod, trailing_mask_l, ru
 use lib.Count.{count_trailing_zeros}
 use lib.Lanes.{chunk, zip2, mask_l, top}
 use Rattle.edi_line.specs.Spelling.{is_code_byte, is_printable}
-use Rattle.edi_line.specs.inner.Spelling.{has_head, is_digit, is_space}
+use Rattle.edi_line.specs.inner.Spelling.{code_of, has_head, is_digit, is_space}
 use Rattle.memchr.specs.Find.{IsFirstByte}
 use Rattle.edi_line.proofs.FirstByte.{first_byte}
 use Rattle.edi_line.proofs.Heads.{first_eight}
@@ -152,3 +152,24 @@ head_is_no_blank xs e =
 -- what `memchr` finds behind i
 pub left_found : (xs : List ℕ) (i : ℕ) (r : Option ℕ) → IsFirstByte (λ b. eqb b 10) (take (length xs - i) (drop i xs)) r → r ≡ position (λ b. eqb b 10) (drop i xs)
 left_found xs i r h = first_byte (λ b. eqb b 10) (take (length xs - i) (drop i xs)) r h ∙ ap (position (λ b. eqb b 10)) (take_rest xs i)
+
+-- the two bytes before the last of a head are digits
+head_digits : (xs : List ℕ) → has_head xs ≡ true → (is_digit (slice_index xs 5) ≡ true) × (is_digit (slice_index xs 6) ≡ true)
+unfolding has_head
+head_digits xs e =
+    let at : ℕ → ℕ = slice_index xs in
+    let digits : Bool = is_digit (at 5) && is_digit (at 6) in
+    let format : Bool = is_printable (at 4) && digits in
+    let nature : Bool = is_printable (at 3) && format in
+    let code : Bool = list_all is_code_byte (code_of xs) && nature in
+    let long = and_parts (leb 8 (length xs)) (eqb (at 7) 58 && code) e in
+    let colon = and_parts (eqb (at 7) 58) code long.1 in
+    let bytes = and_parts (list_all is_code_byte (code_of xs)) nature colon.1 in
+    let printed = and_parts (is_printable (at 3)) format bytes.1 in
+    and_parts (is_digit (at 5)) (is_digit (at 6)) (and_parts (is_printable (at 4)) digits printed.1).1
+
+pub head_has_tens : (xs : List ℕ) → has_head xs ≡ true → is_digit (slice_index xs 5) ≡ true
+head_has_tens xs e = (head_digits xs e).0
+
+pub head_has_ones : (xs : List ℕ) → has_head xs ≡ true → is_digit (slice_index xs 6) ≡ true
+head_has_ones xs e = (head_digits xs e).1

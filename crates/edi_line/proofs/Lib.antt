@@ -25,6 +25,7 @@ pub mod PrintedRules
 pub mod KnownFiles
 pub mod FirstByte
 pub mod Lanes
+pub mod SameFront
 pub mod HeldZones
 pub mod BorrowedZones
 pub mod ZoneLists

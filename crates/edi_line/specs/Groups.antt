@@ -15,7 +15,8 @@ pub record IsOneRecord (group : List Entry) : Type 0 where
   pub whole : list_any ends_group rest ≡ false
 
 -- the zones of each record of the file were handed on, in the order of the records, and this is its character set
-pub record IsHandedOut (bytes : List ℕ) (charset : Option (List ℕ)) (Before After : List (List Entry) → Type 0) : Type 0 where
+pub record IsHandedOut (bytes : List ℕ) (charset : Option (List ℕ))
+    (Before After : List (List Entry) → Type 0) : Type 0 where
   pub zones : List Entry
   pub of_file : IsZonesOf bytes zones
   pub shape : HasShape zones

@@ -5,6 +5,7 @@ use Rattle.edi_line.specs.Spelling.{Reading}
 use Rattle.edi_line.specs.declared.order.ZoneKind.{ZoneKind}
 use Rattle.edi_line.specs.declared.order.ZoneKind.TheVariants.{Bom, Cse, Rty, Eom, Other, Next, Remark}
 
+-- what a code is
 abbrev pub kind_of : List ℕ → ZoneKind
 kind_of code =
     if bytes_eq code (codes "BOM") then Bom
@@ -25,30 +26,37 @@ is_inner Next = true
 is_inner Remark = true
 is_inner Other = true
 
+-- BOM, with which a file begins
 abbrev pub is_bom : ZoneKind → Bool
 is_bom Bom = true
 is_bom _ = false
 
+-- CSE, the character set
 abbrev pub is_cse : ZoneKind → Bool
 is_cse Cse = true
 is_cse _ = false
 
+-- RTY, with which a record begins
 abbrev pub is_rty : ZoneKind → Bool
 is_rty Rty = true
 is_rty _ = false
 
+-- EOM, with which a file ends
 abbrev pub is_eom : ZoneKind → Bool
 is_eom Eom = true
 is_eom _ = false
 
+-- none of the named codes
 abbrev pub is_other : ZoneKind → Bool
 is_other Other = true
 is_other _ = false
 
+-- NEX, which goes on with the value of the zone before it
 abbrev pub is_next : ZoneKind → Bool
 is_next Next = true
 is_next _ = false
 
+-- REM, a remark
 abbrev pub is_remark : ZoneKind → Bool
 is_remark Remark = true
 is_remark _ = false
@@ -57,6 +65,7 @@ is_remark _ = false
 abbrev pub is_zone : ZoneKind → Bool
 is_zone kind = not (is_next kind || is_remark kind)
 
+-- a line that NEX may go on with
 abbrev pub starts : ZoneKind → Bool
 starts kind = is_zone kind || is_remark kind
 

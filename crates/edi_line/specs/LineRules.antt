@@ -17,7 +17,8 @@ line_tests before line =
     -- a zone after an EOM
     ∷ test 107 (bears is_zone line && some_bears is_eom before)
     -- a BOM after a BOM; a CSE after a CSE or an RTY
-    ∷ test 108 ((bears is_bom line && some_bears is_bom before) || (bears is_cse line && (some_bears is_cse before || some_bears is_rty before)))
+    ∷ test 108 ((bears is_bom line && some_bears is_bom before)
+    || (bears is_cse line && (some_bears is_cse before || some_bears is_rty before)))
     -- a zone other than BOM, CSE, EOM, RTY with no RTY before it
     ∷ test 109 (bears is_other line && not (some_bears is_rty before))
     -- the RTY of record 10,000,000
@@ -43,6 +44,7 @@ pub record LacksEnd (lines : List Reading) (rule place : ℕ) : Type 0 where
   pub place_is : place ≡ length lines + 1
   pub lacks : some_bears is_eom lines ≡ false
 
+-- a line breaks the rule, or EOM is missed
 abbrev pub BreaksIn : List Reading → ℕ → ℕ → Type 0
 BreaksIn lines rule place = BreaksAt lines rule place ⊎ LacksEnd lines rule place
 

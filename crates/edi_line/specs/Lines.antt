@@ -35,7 +35,8 @@ pub record IsLinesOf (bytes : List ℕ) (lines : List (List ℕ)) : Type 0 where
 -- without one such byte at the end
 abbrev pub without_last : ℕ → List ℕ → List ℕ
 without_last c bytes =
-    if nat_lt 0 (length bytes) && (slice_index bytes (length bytes - 1) == c) then take (length bytes - 1) bytes else bytes
+    if nat_lt 0 (length bytes) && (slice_index bytes (length bytes - 1) == c)
+    then take (length bytes - 1) bytes else bytes
 
 -- a line without its line feed, and then without one carriage return
 abbrev pub content_of : List ℕ → List ℕ

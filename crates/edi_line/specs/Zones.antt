@@ -28,7 +28,8 @@ pub record GoesOn (behind : List Reading) (more : List ℕ) : Type 0 where
 
 -- the zone that a line with this number begins, with more behind its value
 abbrev pub zone_at : ℕ → Spelling → List ℕ → Entry
-zone_at line s more = record { line = line; code = s.code; nature = s.nature; format = s.format; value = s.value ++ more }
+zone_at line s more =
+    record { line = line; code = s.code; nature = s.nature; format = s.format; value = s.value ++ more }
 
 -- the zone of a line behind others and in front of others
 pub record IsZoneAt (front : List Reading) (line : Reading) (behind : List Reading) (zone : Entry) : Type 0 where
@@ -82,11 +83,11 @@ pub record IsFileOf (zones : List Entry) (charset : Option Entry) (groups : List
 abbrev pub HasShape : List Entry → Type 0
 HasShape zones = (charset : Option Entry) × (groups : List (List Entry)) × IsFileOf zones charset groups
 
--- the character set and the groups of such zones, which are the only ones
-
+-- a zone that begins a record
 abbrev pub begins_group : Entry → Bool
 begins_group z = has_code (codes "RTY") z
 
+-- a zone that the record before it ends at
 abbrev pub ends_group : Entry → Bool
 ends_group z = has_code (codes "RTY") z || has_code (codes "EOM") z
 
@@ -100,5 +101,6 @@ abbrev pub groups_of : List Entry → List (List Entry)
 groups_of [] = []
 groups_of (z ∷ zs) = if begins_group z then (z ∷ before_end zs) ∷ groups_of zs else groups_of zs
 
+-- the zone of the character set, if there is one
 abbrev pub charset_of : List Entry → Option Entry
 charset_of zones = first (filter (has_code (codes "CSE")) zones)

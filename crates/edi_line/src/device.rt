@@ -64,8 +64,8 @@ pub trait ByteOut {
         ensures at_most { writes self.new ≤ writes self.old + 1 };
 }
 
-/// A reader of std as a source. Any error is a failure, an interrupted read too. It counts no calls, and no device is told
-/// from another.
+/// A reader of std as a source. Any error is a failure, an interrupted read too. It counts no calls, and no device is
+/// told from another.
 #[derive(Drop)]
 pub struct FromRead<R> {
     inner: R,

@@ -109,7 +109,8 @@ impl Feed {
     /// there. It comes with the piece that brings the line's feed. A line without its feed is judged
     /// later, and 106 at the end. After a fault, want of memory too, each call answers that fault.
     pub fn feed(&mut self, piece: &[u8]) -> Result<(), LineFault>
-        requires { self.old.refused ≡ None → (b : List ℕ) × StandsFor b self.old × (length b + length piece.now < 2 ^ 64 - 1) }
+        requires { self.old.refused ≡ None
+            → (b : List ℕ) × StandsFor b self.old × (length b + length piece.now < 2 ^ 64 - 1) }
         ensures takes { (b : List ℕ) → StandsFor b self.old → OnOk result (StandsFor (b ++ piece.now) self.new) }
         ensures clean { OnOk result (self.new.refused ≡ None) }
         ensures broken { (b : List ℕ) → StandsFor b self.old → IfErr result (IfBroken (HoldsFault (b ++ piece.now))) }
@@ -136,7 +137,8 @@ impl Feed {
         requires { self.refused ≡ None → (b : List ℕ) × StandsFor b self × (length b < 2 ^ 64 - 1) }
         ensures zones { (b : List ℕ) → StandsFor b self → IfOk result (λ zones. IsZonesOf b (entries zones.items)) }
         ensures shape { (b : List ℕ) → StandsFor b self → IfOk result (λ zones. HasShape (entries zones.items)) }
-        ensures few { (b : List ℕ) → StandsFor b self → IfOk result (λ zones. length (groups_of (entries zones.items)) ≤ most_records) }
+        ensures few { (b : List ℕ) → StandsFor b self
+            → IfOk result (λ zones. length (groups_of (entries zones.items)) ≤ most_records) }
         ensures sound { (b : List ℕ) → StandsFor b self → OnOk result (IsUnbroken (BreaksLineRule b)) }
         ensures least { (b : List ℕ) → StandsFor b self → IfErr result (IsLineRefusal (BreaksLineRule b)) }
         ensures says { (r : Refused) → self.refused ≡ Some r → IfErr result (λ e. fault_seen e ≡ r) }
@@ -210,7 +212,8 @@ fn take_first(
     requires records { reader.old.order.records ≤ reader.old.line }
     ensures ok { OnOk result (Takes reader.old (reading_of (content_of (pending.old.items ++ line.now))) reader.new) }
     ensures empty { OnOk result (pending.new.items ≡ []) }
-    ensures broken { IfErr result (IfBroken (Refuses reader.old (reading_of (content_of (pending.old.items ++ line.now))))) }
+    ensures broken { IfErr result
+        (IfBroken (Refuses reader.old (reading_of (content_of (pending.old.items ++ line.now))))) }
 {
     if pending.is_empty() {
         return reader.take_copied(alloc, lines::content(line));

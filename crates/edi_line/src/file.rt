@@ -10,8 +10,8 @@ use std::alloc::{AllocError, Global};
 use std::borrow::CowSlice;
 use std::marker::Model;
 
-/// The bytes of a file in pieces, cut behind lines, so that each can be let go once its lines are read. They are fewer than
-/// 2^64 - 1.
+/// The bytes of a file in pieces, cut behind lines, so that each can be let go once its lines are read. They are fewer
+/// than 2^64 - 1.
 pub struct Pieces {
     /// Each ends with a line feed.
     ended: Vec<Vec<u8>>,

@@ -30,7 +30,8 @@ pub trait GroupOut {
     /// Takes the zones of the next record, of which the first is its RTY.
     fn take(&mut self, alloc: Global, group: &[Zone<'_>]) -> Result<(), AllocError>
         requires { IsOneRecord (entries group.now) }
-        ensures { OnOk result ((groups : List (List Entry)) → Holds self.old groups → Holds self.new (groups ++ entries group.now ∷ [])) };
+        ensures { OnOk result ((groups : List (List Entry)) → Holds self.old groups
+            → Holds self.new (groups ++ entries group.now ∷ [])) };
 }
 
 /// Hands the zones of each record of a file on, in the order of the records, and gives the value of the CSE or none.
@@ -56,7 +57,8 @@ pub fn read_groups_from<O: GroupOut>(
     file: FileBytes<'_>,
     out: &mut O,
 ) -> Result<Option<Text>, LineFault>
-    ensures groups { IfOk result (λ charset. IsHandedOut (file_bytes file.entry) charset (O.Holds out.old) (O.Holds out.new)) }
+    ensures groups { IfOk result (λ charset.
+        IsHandedOut (file_bytes file.entry) charset (O.Holds out.old) (O.Holds out.new)) }
     ensures sound { OnOk result (IsUnbroken (BreaksLineRule (file_bytes file.entry))) }
     ensures least { IfErr result (IsLineRefusal (BreaksLineRule (file_bytes file.entry))) }
 {
@@ -93,11 +95,14 @@ fn read_piece<O: GroupOut>(
     piece: &[u8],
     out: &mut O,
 ) -> Result<Reader<'static>, LineFault>
-    requires { (lines : List Reading) × (left : List Reading) × (given : List Entry) × IsAtLines lines (readings_of piece.now ++ left) given reader charset.old × (length lines + 1 < 2 ^ 64) }
-    ensures ok { IfOk result (λ reader_now. (lines left : List Reading) (given : List Entry) → IsAtLines lines (readings_of piece.now ++ left) given reader.entry charset.old
+    requires { (lines : List Reading) × (left : List Reading) × (given : List Entry)
+        × IsAtLines lines (readings_of piece.now ++ left) given reader charset.old × (length lines + 1 < 2 ^ 64) }
+    ensures ok { IfOk result (λ reader_now. (lines left : List Reading) (given : List Entry)
+        → IsAtLines lines (readings_of piece.now ++ left) given reader.entry charset.old
         → WentOn lines left given reader_now charset.new (O.Holds out.old) (O.Holds out.new)) }
     ensures broken { IfErr result (IfBroken (λ rule at. (lines left : List Reading) (given : List Entry)
-        → IsAtLines lines (readings_of piece.now ++ left) given reader.entry charset.old → IsLeastBroken (BreaksIn lines) rule at)) }
+        → IsAtLines lines (readings_of piece.now ++ left) given reader.entry charset.old
+        → IsLeastBroken (BreaksIn lines) rule at)) }
 {
     let reader = read_lines(alloc, reader, charset, piece, out)?;
     Ok(reader.into_owned(alloc)?)
@@ -111,12 +116,16 @@ fn read_last<O: GroupOut>(
     bytes: &[u8],
     out: &mut O,
 ) -> Result<Option<Text>, LineFault>
-    requires { (lines : List Reading) × (given : List Entry) × IsAtLines lines (readings_of bytes.now) given reader charset × (length lines + 1 < 2 ^ 64) }
-    ensures groups { IfOk result (λ charset_now. (file : List ℕ) (given : List Entry) → IsAtLines (readings_of file) (readings_of bytes.now) given reader.entry charset
+    requires { (lines : List Reading) × (given : List Entry)
+        × IsAtLines lines (readings_of bytes.now) given reader charset × (length lines + 1 < 2 ^ 64) }
+    ensures groups { IfOk result (λ charset_now. (file : List ℕ) (given : List Entry)
+        → IsAtLines (readings_of file) (readings_of bytes.now) given reader.entry charset
         → IsHandedOut file charset_now (λ groups. O.Holds out.old (groups ++ groups_of given)) (O.Holds out.new)) }
-    ensures sound { OnOk result ((file : List ℕ) (given : List Entry) → IsAtLines (readings_of file) (readings_of bytes.now) given reader.entry charset
+    ensures sound { OnOk result ((file : List ℕ) (given : List Entry)
+        → IsAtLines (readings_of file) (readings_of bytes.now) given reader.entry charset
         → IsUnbroken (BreaksLineRule file)) }
-    ensures least { IfErr result (IfBroken (λ rule at. (file : List ℕ) (given : List Entry) → IsAtLines (readings_of file) (readings_of bytes.now) given reader.entry charset
+    ensures least { IfErr result (IfBroken (λ rule at. (file : List ℕ) (given : List Entry)
+        → IsAtLines (readings_of file) (readings_of bytes.now) given reader.entry charset
         → IsLeastBroken (BreaksLineRule file) rule at)) }
 {
     let mut charset = charset;
@@ -134,11 +143,14 @@ fn read_lines<'a, O: GroupOut>(
     bytes: &'a [u8],
     out: &mut O,
 ) -> Result<Reader<'a>, LineFault>
-    requires { (lines : List Reading) × (left : List Reading) × (given : List Entry) × IsAtLines lines (readings_of bytes.now ++ left) given reader charset.old × (length lines + 1 < 2 ^ 64) }
-    ensures ok { IfOk result (λ reader_now. (lines left : List Reading) (given : List Entry) → IsAtLines lines (readings_of bytes.now ++ left) given reader.entry charset.old
+    requires { (lines : List Reading) × (left : List Reading) × (given : List Entry)
+        × IsAtLines lines (readings_of bytes.now ++ left) given reader charset.old × (length lines + 1 < 2 ^ 64) }
+    ensures ok { IfOk result (λ reader_now. (lines left : List Reading) (given : List Entry)
+        → IsAtLines lines (readings_of bytes.now ++ left) given reader.entry charset.old
         → WentOn lines left given reader_now charset.new (O.Holds out.old) (O.Holds out.new)) }
     ensures broken { IfErr result (IfBroken (λ rule at. (lines left : List Reading) (given : List Entry)
-        → IsAtLines lines (readings_of bytes.now ++ left) given reader.entry charset.old → IsLeastBroken (BreaksIn lines) rule at)) }
+        → IsAtLines lines (readings_of bytes.now ++ left) given reader.entry charset.old
+        → IsLeastBroken (BreaksIn lines) rule at)) }
 {
     let mut reader = reader;
     let mut rest = bytes;
@@ -163,7 +175,8 @@ fn hand_on<O: GroupOut>(
 ) -> Result<(), AllocError>
     requires { list_any ends_group (drop 1 (entries zones.now)) ≡ false }
     ensures charset { OnOk result (charset.new ≡ charset_behind charset.old (entries zones.now)) }
-    ensures groups { OnOk result ((groups : List (List Entry)) → O.Holds out.old groups → O.Holds out.new (groups ++ groups_of (entries zones.now))) }
+    ensures groups { OnOk result ((groups : List (List Entry)) → O.Holds out.old groups
+        → O.Holds out.new (groups ++ groups_of (entries zones.now))) }
 {
     match zones {
         [head, ..] if head.code == RTY => out.take(alloc, zones),

@@ -24,14 +24,17 @@ pub fn known_numbers_are_read()
     ensures two_signs { (m : ℤ) → ¬ (IsNumberText (codes "--1") m) }
     ensures power { (m : ℤ) → ¬ (IsNumberText (codes "1e3") m) }
     ensures nothing { (m : ℤ) → ¬ (IsNumberText [] m) }
-    ensures plain { (plain_text (negsuc 249999) ≡ codes "-0.25") × (plain_text (pos 0) ≡ codes "0") × (plain_text (pos 1500000) ≡ codes "1.5") }
-    ensures signed { (signed_text (negsuc 249999) ≡ codes "-0.25") × (signed_text (pos 0) ≡ codes "+0") × (signed_text (pos 1500000) ≡ codes "+1.5") }
+    ensures plain { (plain_text (negsuc 249999) ≡ codes "-0.25") × (plain_text (pos 0) ≡ codes "0")
+        × (plain_text (pos 1500000) ≡ codes "1.5") }
+    ensures signed { (signed_text (negsuc 249999) ≡ codes "-0.25") × (signed_text (pos 0) ≡ codes "+0")
+        × (signed_text (pos 1500000) ≡ codes "+1.5") }
 {}
 
 /// Known files have the lines and zones that they should, or break the rule that they should.
 pub fn known_lines_are_read()
     ensures lines { IsLinesOf (codes "ab\r\n\nc") (codes "ab\r\n" ∷ codes "\n" ∷ codes "c" ∷ []) }
-    ensures contents { map content_of (codes "ab\r\n" ∷ codes "\n" ∷ codes "c" ∷ []) ≡ codes "ab" ∷ [] ∷ codes "c" ∷ [] }
+    ensures contents { map content_of (codes "ab\r\n" ∷ codes "\n" ∷ codes "c" ∷ [])
+        ≡ codes "ab" ∷ [] ∷ codes "c" ∷ [] }
     ensures joined { IsZonesOf (codes "BOMT 01:X\nRTYSA03:PNO\nATVSA02:ab\n  \nNEXT 01:c \nEOMT 00:\n")
         (at_line 1 (zone_headed (codes "BOMT ") (codes "X"))
         ∷ at_line 2 (zone_headed (codes "RTYSA") (codes "PNO"))

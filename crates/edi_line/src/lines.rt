@@ -85,5 +85,6 @@ fn without(last: u8, bytes: &[u8]) -> &[u8]
 /// A file has just one list of lines.
 pub fn lines_are_unique()
     ensures lines { (bytes : List ℕ) → (lines : List (List ℕ)) × IsLinesOf bytes lines }
-    ensures unique { (bytes : List ℕ) (lines others : List (List ℕ)) → IsLinesOf bytes lines → IsLinesOf bytes others → lines ≡ others }
+    ensures unique { (bytes : List ℕ) (lines others : List (List ℕ)) → IsLinesOf bytes lines → IsLinesOf bytes others
+        → lines ≡ others }
 {}

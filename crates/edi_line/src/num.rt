@@ -1,6 +1,7 @@
 //! Decimal numbers, stored as whole millionths.
 
-ghost use Rattle.std.specs.Prelude.{◌≡◌, ℕ, List, ◌+◌, ◌*◌, ◌/◌, ◌%◌, ◌^◌, ◌<◌, ◌≤◌, ◌↔◌, [], ◌∷◌, ◌++◌, length, IsTrue, IfOk, OnOk, OnErr, MatchOption, Some, All, ℤ, pos, ◌==◌, decimal, position};
+ghost use Rattle.std.specs.Prelude.{◌≡◌, ℕ, List, ◌+◌, ◌*◌, ◌/◌, ◌%◌, ◌^◌, ◌<◌, ◌≤◌, ◌↔◌, [], ◌∷◌, ◌++◌, length, map, IsTrue, IfOk, OnOk, OnErr, MatchOption, Some, All, ℤ, pos, ◌==◌, decimal, position};
+ghost use Rattle.std.specs.Simd.Lanes.{mask_l};
 ghost use Rattle.std.specs.Str.Parse.{AllDigits, digits_value};
 ghost use Rattle.edi_line.specs.Number.{IsNumberText, IsWhole, IsFraction, signed_by, size_of, MOST, signed_text, plain_text, size_text, fraction_text, fraction_digits};
 ghost use Rattle.edi_line.specs.inner.Number.{number, sign_of, body_of, whole_of, fraction_of};
@@ -8,6 +9,10 @@ ghost use Rattle.edi_line.specs.inner.Number.{number, sign_of, body_of, whole_of
 use itoa::Buffer;
 use std::alloc::{AllocError, Global};
 use std::marker::Model;
+use std::simd::prelude::*;
+
+// How many bytes are looked at at once for a point.
+const LANES: usize = 8;
 
 /// A decimal number of at most nine whole and six fraction digits, so a whole count of millionths,
 /// at most 999999999999999 either way. Contracts see that count.
@@ -125,9 +130,23 @@ fn split_point(digits: &[u8]) -> (&[u8], &[u8])
     }
 }
 
+/// The lanes that are points, a bit each.
+fn points_among(lanes: u8x8) -> u64
+    ensures { result ≡ mask_l (map (λ c. c == 46) lanes) }
+{
+    lanes.simd_eq(u8x8::splat(b'.')).to_bitmask()
+}
+
+/// Where the first point stands: in most coordinates among the first eight bytes, which are looked at at once.
 fn point_in(digits: &[u8]) -> Option<usize>
     ensures { result ≡ position (λ c. c == 46) digits.now }
 {
+    if digits.len() >= LANES {
+        let points = points_among(u8x8::from_slice(digits));
+        if points != 0 {
+            return Some(points.trailing_zeros() as usize);
+        }
+    }
     digits.iter().position(|c| *c == b'.')
 }
 

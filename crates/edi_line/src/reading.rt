@@ -51,7 +51,8 @@ impl<'a> Reader<'a> {
         requires line { self.old.line + 1 < 2 ^ 64 }
         requires records { self.old.order.records ≤ self.old.line }
         ensures ok { OnOk result (Takes self.old (reading_of content.now) self.new) }
-        ensures borrows { OnOk result ((lines : List Reading) → length lines ≡ self.old.line → BorrowsLines lines self.old
+        ensures borrows { OnOk result ((lines : List Reading) → length lines ≡ self.old.line
+            → BorrowsLines lines self.old
             → BorrowsLines (lines ++ reading_of content.now ∷ []) self.new) }
         ensures broken { IfErr result (IfBroken (Refuses self.old (reading_of content.now))) }
     {
@@ -83,7 +84,8 @@ impl<'a> Reader<'a> {
     ) -> Result<Option<Spelled<'b>>, LineFault>
         requires line { self.old.line + 1 < 2 ^ 64 }
         requires records { self.old.order.records ≤ self.old.line }
-        ensures ok { IfOk result (λ begun. Steps self.old (reading_of content.now) (option_map spelling_shown begun) self.new) }
+        ensures ok { IfOk result (λ begun.
+            Steps self.old (reading_of content.now) (option_map spelling_shown begun) self.new) }
         ensures leaves { OnOk result (LeavesAfter (reading_of content.now) self.old self.new) }
         ensures begun { IfOk result (λ begun. IfSome begun (λ s. open_in self.new.zones ≡ None)) }
         ensures broken { IfErr result (IfBroken (Refuses self.old (reading_of content.now))) }
@@ -110,7 +112,8 @@ impl<'a> Reader<'a> {
         ensures no_rule { OnOk result (rule_of_kind self.old.order (kind_in spelled.entry.code) ≡ None) }
         ensures order { OnOk result (self.new.order ≡ noted_kind self.old.order (kind_in spelled.entry.code)) }
         ensures zones { IfOk result (λ begun. opened self.old.line (option_map spelling_shown begun) (zoned self.new)
-            ≡ step (part_by (kind_in spelled.entry.code) self.old.line (spelling_shown spelled.entry)) (zoned self.old)) }
+            ≡ step (part_by (kind_in spelled.entry.code) self.old.line (spelling_shown spelled.entry))
+            (zoned self.old)) }
         ensures leaves { OnOk result (Leaves (kind_in spelled.entry.code) self.old self.new) }
         ensures begun { IfOk result (λ begun. IfSome begun (λ s. open_in self.new.zones ≡ None)) }
         ensures broken { IfErr result (IfBroken (λ rule at.
@@ -158,9 +161,11 @@ impl<'a> Reader<'a> {
         requires none { open_in self.old.zones ≡ None }
         ensures line { OnOk result (self.new.line ≡ self.old.line) }
         ensures order { OnOk result (self.new.order ≡ self.old.order) }
-        ensures zones { OnOk result (zoned self.new ≡ opened self.old.line (Some (spelling_shown spelled.entry)) (zoned self.old)) }
+        ensures zones { OnOk result (zoned self.new
+            ≡ opened self.old.line (Some (spelling_shown spelled.entry)) (zoned self.old)) }
         ensures done { OnOk result (done_in self.new.zones ≡ done_in self.old.zones) }
-        ensures open_zone { OnOk result (IfSome (open_in self.new.zones) (λ z. (z.line ≡ self.old.line) × (z.value ≡ value.entry))) }
+        ensures open_zone { OnOk result (IfSome (open_in self.new.zones) (λ z. (z.line ≡ self.old.line)
+            × (z.value ≡ value.entry))) }
     {
         self.zones.open(Zone {
             line: self.line,
@@ -208,9 +213,12 @@ impl<'a> Reader<'a> {
     /// All lines have come.
     pub(crate) fn finish(self) -> Result<Vec<Zone<'a>>, LineFault>
         requires { self.line + 1 < 2 ^ 64 }
-        ensures ok { IfOk result (λ zones. (entries zones.items ≡ closed (zoned self.entry)) × (self.entry.order.eom ≡ true)) }
-        ensures zones { IfOk result (λ zones. zones.items ≡ done_in self.entry.zones ++ option_to_list (open_in self.entry.zones)) }
-        ensures broken { IfErr result (IfBroken (λ rule at. (rule ≡ 106) × (at ≡ self.entry.line + 1) × (self.entry.order.eom ≡ false))) }
+        ensures ok { IfOk result (λ zones. (entries zones.items ≡ closed (zoned self.entry))
+            × (self.entry.order.eom ≡ true)) }
+        ensures zones { IfOk result (λ zones. zones.items
+            ≡ done_in self.entry.zones ++ option_to_list (open_in self.entry.zones)) }
+        ensures broken { IfErr result (IfBroken (λ rule at. (rule ≡ 106) × (at ≡ self.entry.line + 1)
+            × (self.entry.order.eom ≡ false))) }
     {
         if !self.order.eom {
             return Err(LineFault::Broken {
@@ -249,13 +257,17 @@ pub fn zones<'a>(alloc: Global, bytes: &'a [u8]) -> Result<Vec<Zone<'a>>, LineFa
 
 /// Printed zones are read as they were, each at its line, and break no rule where they have the shape of a file.
 pub fn printed_zones_are_read_again()
-    ensures zones { (zs : List Entry) (readings : List Reading) → AllByRecursion IsPrintable zs → AreReadings (printed zs) readings → IsZonesIn readings (line_numbered 1 zs) }
-    ensures unbroken { (zs : List Entry) (charset : Option Entry) (groups : List (List Entry)) → IsFileOf zs charset groups
+    ensures zones { (zs : List Entry) (readings : List Reading) → AllByRecursion IsPrintable zs
+        → AreReadings (printed zs) readings → IsZonesIn readings (line_numbered 1 zs) }
+    ensures unbroken { (zs : List Entry) (charset : Option Entry) (groups : List (List Entry))
+        → IsFileOf zs charset groups
         → AllByRecursion IsPrintable zs → length groups ≤ most_records → IsUnbroken (BreaksLineRule (printed zs)) }
 {}
 
 /// A file has one list of zones at most, and these one character set and one list of groups.
 pub fn zones_are_unique()
-    ensures zones { (bytes : List ℕ) (zones others : List Entry) → IsZonesOf bytes zones → IsZonesOf bytes others → zones ≡ others }
-    ensures groups { (zones : List Entry) (charset : Option Entry) (groups : List (List Entry)) → IsFileOf zones charset groups → (charset_of zones ≡ charset) × (groups_of zones ≡ groups) }
+    ensures zones { (bytes : List ℕ) (zones others : List Entry) → IsZonesOf bytes zones → IsZonesOf bytes others
+        → zones ≡ others }
+    ensures groups { (zones : List Entry) (charset : Option Entry) (groups : List (List Entry))
+        → IsFileOf zones charset groups → (charset_of zones ≡ charset) × (groups_of zones ≡ groups) }
 {}

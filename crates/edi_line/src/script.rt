@@ -24,7 +24,14 @@ impl<'a> Model for ScriptIn<'a> {
 
     ghost Value = { InScript };
 
-    ghost view = { λ s. record { bytes = s.bytes.now; at = s.at; piece = s.piece; fault_at = s.fault_at; endless = s.endless; calls = s.reads } };
+    ghost view = { λ s. record {
+      bytes = s.bytes.now;
+      at = s.at;
+      piece = s.piece;
+      fault_at = s.fault_at;
+      endless = s.endless;
+      calls = s.reads;
+    } };
 
     ghost invariant = { λ s. s.at ≤ length s.bytes.now };
 }
@@ -34,7 +41,14 @@ impl<'a> ScriptIn<'a> {
     /// `fault_at` of 0 never comes. An endless source begins again at its end, unless there are
     /// no bytes.
     pub fn new(bytes: &'a [u8], piece: usize, fault_at: u64, endless: bool) -> ScriptIn<'a>
-        ensures { result ≡ record { bytes = bytes.entry.now; at = 0; piece = piece; fault_at = fault_at; endless = endless; calls = 0 } }
+        ensures { result ≡ record {
+          bytes = bytes.entry.now;
+          at = 0;
+          piece = piece;
+          fault_at = fault_at;
+          endless = endless;
+          calls = 0;
+        } }
     {
         ScriptIn {
             bytes,
@@ -134,7 +148,14 @@ impl Model for ScriptOut {
 
     ghost Value = { OutScript };
 
-    ghost view = { λ s. record { out = s.out.items; room = s.room; piece = s.piece; fault_at = s.fault_at; calls = s.writes; refused = s.refused } };
+    ghost view = { λ s. record {
+      out = s.out.items;
+      room = s.room;
+      piece = s.piece;
+      fault_at = s.fault_at;
+      calls = s.writes;
+      refused = s.refused;
+    } };
 
     ghost invariant = { λ s. (vec_len s.out ≤ s.room) × (s.room ≤ vec_capacity s.out)
         × (IsTrue s.refused → min s.piece (s.room - vec_len s.out) ≡ 0) };
@@ -149,7 +170,8 @@ impl ScriptOut {
         piece: usize,
         fault_at: u64,
     ) -> Result<ScriptOut, AllocError>
-        ensures { IfOk result (λ s. s ≡ record { out = []; room = room; piece = piece; fault_at = fault_at; calls = 0; refused = false }) }
+        ensures { IfOk result (λ s. s
+            ≡ record { out = []; room = room; piece = piece; fault_at = fault_at; calls = 0; refused = false }) }
     {
         let out = Vec::with_capacity(alloc, room)?;
         Ok(ScriptOut {
@@ -197,7 +219,8 @@ impl ByteOut for ScriptOut {
         ensures at_most { self.new.calls ≤ self.old.calls + 1 }
 
         // What the script says of this call.
-        ensures script { self.new ≡ record self.old { out = self.new.out; calls = self.new.calls; refused = self.new.refused } }
+        ensures script { self.new
+            ≡ record self.old { out = self.new.out; calls = self.new.calls; refused = self.new.refused } }
         ensures counted { self.new.calls ≡ one_more self.old.calls }
         ensures script_fails { is_past self.old.fault_at self.new.calls ≡ is_none result }
         ensures refuses { self.new.refused ≡ (self.old.refused || is_zero_answer result bytes.now) }

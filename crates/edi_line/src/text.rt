@@ -1,6 +1,6 @@
 //! A byte string that owns its memory.
 
-ghost use Rattle.std.specs.Prelude.{◌≡◌, ◌+◌, ◌≤◌, nat_eq, refl, length, take, IfOk, Some};
+ghost use Rattle.std.specs.Prelude.{◌≡◌, ◌+◌, ◌≤◌, ℕ, nat_le, nat_eq, refl, length, take, IfOk, Some};
 ghost use Rattle.std.specs.Ordering.{nat_cmp};
 ghost use Rattle.std.specs.Cmp.{partial_equiv_from_equiv};
 ghost use Rattle.std.specs.Cmp.Lexicographic.{pointwise, slice_cmp, nat_list_eq_equiv, nat_list_cmp_total, texts_ties, texts_po};
@@ -13,6 +13,7 @@ use std::alloc::{AllocError, Global};
 use std::cmp::Ordering;
 use std::hash::{Hash, Hasher};
 use std::marker::Model;
+use std::simd::prelude::*;
 
 // How many bytes a short text has at most.
 const SHORT: usize = 14;
@@ -127,12 +128,60 @@ fn copy_both_ends(bytes: &mut [u8; SHORT], text: &[u8], size: usize)
     bytes[len - size..len].copy_from_slice(last);
 }
 
+/// How many lanes at the front are equal; more than there are if all are.
+fn equal_lanes(lanes: u8x8, others: u8x8) -> u32
+    ensures { (k : ℕ) → k ≤ 8 → nat_le k result ≡ pointwise nat_eq (take k lanes) (take k others) }
+{
+    lanes.simd_ne(others).to_bitmask().trailing_zeros()
+}
+
+/// Whether so many bytes at the front are equal. Two vectors, which overlap, cover the room of a short text, and to
+/// compare these takes a fraction of what two slices take.
+fn same_front(first: &[u8; SHORT], second: &[u8; SHORT], len: u8) -> bool
+    requires { len ≤ 14 }
+    ensures { result ≡ pointwise nat_eq (take len first.now) (take len second.now) }
+{
+    let len = u32::from(len);
+    let heads = equal_lanes(u8x8::from_slice(first), u8x8::from_slice(second));
+    if len <= 8 {
+        return len <= heads;
+    }
+    if heads < 8 {
+        return false;
+    }
+    len - 6
+        <= equal_lanes(
+            u8x8::from_slice(&first[6..]),
+            u8x8::from_slice(&second[6..]),
+        )
+}
+
+/// Whether two short texts are equal.
+fn same_short(first: &[u8; SHORT], len: u8, second: &[u8; SHORT], other_len: u8) -> bool
+    requires len { len ≤ 14 }
+    requires other_len { other_len ≤ 14 }
+    ensures { result ≡ pointwise nat_eq (take len first.now) (take other_len second.now) }
+{
+    if len != other_len {
+        return false;
+    }
+    same_front(first, second, len)
+}
+
 impl PartialEq for Text {
     ghost eq = { pointwise nat_eq };
 
     ghost laws = { partial_equiv_from_equiv nat_list_eq_equiv };
 
     fn eq(&self, other: &Self) -> bool {
+        if let Bytes::Short { len, bytes } = &self.bytes
+            && let Bytes::Short {
+                len: other_len,
+                bytes: other_bytes,
+            } = &other.bytes
+        {
+            return same_short(bytes, *len, other_bytes, *other_len);
+        }
         self.as_slice() == other.as_slice()
     }
 }

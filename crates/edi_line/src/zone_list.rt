@@ -44,7 +44,8 @@ impl<'a> ZoneList<'a> {
     /// Lengthens the open zone, if there is one.
     pub(crate) fn lengthen(&mut self, alloc: Global, more: &[u8]) -> Result<(), AllocError>
         ensures leaves { OnOk result (IsLengthened self.old self.new) }
-        ensures open_zone { OnOk result (option_map entry (open_in self.new) ≡ option_map (with_more more.now) (option_map entry (open_in self.old))) }
+        ensures open_zone { OnOk result (option_map entry (open_in self.new)
+            ≡ option_map (with_more more.now) (option_map entry (open_in self.old))) }
     {
         if !self.is_open {
             return Ok(());

@@ -38,8 +38,8 @@ MatchesPartners p q m = (i j : ℕ) (turned : Bool) → ArePartners p q i j turn
 abbrev pub IsReached : List (Option ℕ) → ℕ → Type 0
 IsReached to j = (i : ℕ) × GoesTo to i j
 
--- The matching leaves out a record of p, at the place i, and one of q, though the ends of the one are matched and it is carried onto
--- the other.
+-- The matching leaves out a record of p, at the place i, and one of q, though the ends of the one are matched and it is
+-- carried onto the other.
 pub record IsMissed (s : Classes) (p q : Drawing) (m : Matching) (i j : ℕ) : Type 0 where
   pub here : IsPlace p i
   pub there : IsPlace q j
@@ -63,11 +63,13 @@ pub record AreBeside (p q : Drawing) (m : Matching) (role : Role) (arc f g : ℕ
   pub here : Side p arc role f
   pub there : Side q other (role_there m arc role) g
 
--- no two that a matched arc and the one it goes to have by the role are left out, though the one is carried onto the other
+-- no two that a matched arc and the one it goes to have by the role are left out, though the one is carried onto the
+-- other
 abbrev pub MatchesBeside : Role → Classes → Drawing → Drawing → Matching → Type 0
 MatchesBeside role s p q m = (arc f g : ℕ) → AreBeside p q m role arc f g → ¬ (IsMissed s p q m f g)
 
--- no face of a matched arc is left out together with that on the same side of the arc it goes to, though the one is carried onto the other
+-- no face of a matched arc is left out together with that on the same side of the arc it goes to, though the one is
+-- carried onto the other
 pub record MatchesFaces (s : Classes) (p q : Drawing) (m : Matching) : Type 0 where
   pub on_left : MatchesBeside Left s p q m
   pub on_right : MatchesBeside Right s p q m

@@ -8,7 +8,16 @@ use Rattle.edi_matching.specs.declared.matching.Matching.{Matching}
 
 -- a node at this x
 abbrev pub node_at : ℕ → PlanRecord
-node_at x = record { kind = Pno; class = 0; role = Plain; points = (record { x = pos x; y = pos 0; z = None }) ∷ []; attributes = []; extras = []; ends = [] }
+node_at x =
+    record {
+      kind = Pno;
+      class = 0;
+      role = Plain;
+      points = (record { x = pos x; y = pos 0; z = None }) ∷ [];
+      attributes = [];
+      extras = [];
+      ends = [];
+    }
 
 abbrev pub two_nodes : Drawing
 two_nodes = record { cse = None; list = node_at 1 ∷ node_at 2 ∷ [] }

@@ -20,8 +20,9 @@ IsMatched to i = (j : ℕ) × GoesTo to i j
 abbrev pub targets_of : List (Option ℕ) → List ℕ
 targets_of to = map (λ target. unwrap_or target 0) to
 
--- The matching has an entry for each record of p. No two records go to one; those that are reversed are matched arcs; the ends of
--- a matched record are matched; and each matched record is carried, with its ends, onto the record of q that it goes to.
+-- The matching has an entry for each record of p. No two records go to one; those that are reversed are matched arcs;
+-- the ends of a matched record are matched; and each matched record is carried, with its ends, onto the record of q
+-- that it goes to.
 pub record MatchingHolds (s : Classes) (p q : Drawing) (m : Matching) : Type 0 where
   pub all_entered : length m.to ≡ length p.list
   pub all_directed : length m.turned ≡ length p.list
@@ -29,7 +30,8 @@ pub record MatchingHolds (s : Classes) (p q : Drawing) (m : Matching) : Type 0 w
   pub apart : (i k j : ℕ) → GoesTo m.to i j → GoesTo m.to k j → i ≡ k
   pub arcs : (i : ℕ) → IsPlace p i → turned_at m.turned i ≡ true → IsMatched m.to i × ((record_at p i).kind ≡ Par)
   pub ends : (i j : ℕ) → GoesTo m.to i j → AllByRecursion (λ e. IsMatched m.to e.target) (record_at p i).ends
-  pub each : (i j : ℕ) → GoesTo m.to i j → CarriesRecord s (slice_index (targets_of m.to)) (turned_at m.turned) i (record_at p i) (record_at q j)
+  pub each : (i j : ℕ) → GoesTo m.to i j
+      → CarriesRecord s (slice_index (targets_of m.to)) (turned_at m.turned) i (record_at p i) (record_at q j)
 
 -- each record of p is matched, and each record of q is one that it goes to
 pub record IsTotal (p q : Drawing) (m : Matching) : Type 0 where

@@ -28,8 +28,10 @@ pub(crate) fn add_faces(
     to: &mut [Option<u32>],
     taken: &mut [bool],
 ) -> Result<(), AllocError>
-    requires { AreContents ⟦<ContentKey<'static> as Ord>⟧.cmp ⟦<ContentKey<'static> as PartialEq>⟧.eq Pfe first.plan.now other.now contents.now }
-    ensures { OnOk result (AddsPairs (AreAlikeBeside first.entry.plan.now other.now (record { to = to.new; turned = turned.now })) to.old taken.old to.new taken.new) }
+    requires { AreContents ⟦<ContentKey<'static> as Ord>⟧.cmp ⟦<ContentKey<'static> as PartialEq>⟧.eq Pfe first.plan.now
+        other.now contents.now }
+    ensures { OnOk result (AddsPairs (AreAlikeBeside first.entry.plan.now other.now
+        (record { to = to.new; turned = turned.now })) to.old taken.old to.new taken.new) }
 {
     for arc in first.labels.order(Kind::Par) {
         if let Some(target) = target_of(to, *arc) {
@@ -54,8 +56,11 @@ fn add_sides(
     to: &mut [Option<u32>],
     taken: &mut [bool],
 ) -> Result<(), AllocError>
-    requires { AreContents ⟦<ContentKey<'static> as Ord>⟧.cmp ⟦<ContentKey<'static> as PartialEq>⟧.eq Pfe first.plan.now other.now contents.now }
-    ensures { OnOk result (AddsPairs (λ i j. (role : Role) × Side first.entry.plan.now arc role i × Side other.now target (if is_turned then exchanged role else role) j × AreAlike first.entry.plan.now other.now i j) to.old taken.old to.new taken.new) }
+    requires { AreContents ⟦<ContentKey<'static> as Ord>⟧.cmp ⟦<ContentKey<'static> as PartialEq>⟧.eq Pfe first.plan.now
+        other.now contents.now }
+    ensures { OnOk result (AddsPairs (λ i j. (role : Role) × Side first.entry.plan.now arc role i
+        × Side other.now target (if is_turned then exchanged role else role) j
+        × AreAlike first.entry.plan.now other.now i j) to.old taken.old to.new taken.new) }
 {
     if arc >= first.plan.len() || target >= other.len() {
         return Ok(());
@@ -94,7 +99,8 @@ fn add_same(
     to: &mut [Option<u32>],
     taken: &mut [bool],
 ) -> Result<(), AllocError>
-    requires { AreContents ⟦<ContentKey<'static> as Ord>⟧.cmp ⟦<ContentKey<'static> as PartialEq>⟧.eq Pfe plan.now other.now contents.now }
+    requires { AreContents ⟦<ContentKey<'static> as Ord>⟧.cmp ⟦<ContentKey<'static> as PartialEq>⟧.eq Pfe plan.now
+        other.now contents.now }
     ensures { OnOk result (PairsIfBoth plan.now other.now place target to.old taken.old to.new taken.new) }
 {
     match (place, target) {
@@ -105,8 +111,8 @@ fn add_same(
     }
 }
 
-/// Adds one face, if neither is matched yet and the two hold the same. A face with many arcs is named by each; those whose numbers
-/// differ aren't compared.
+/// Adds one face, if neither is matched yet and the two hold the same. A face with many arcs is named by each; those
+/// whose numbers differ aren't compared.
 fn add_face(
     alloc: Global,
     contents: &Contents,
@@ -117,7 +123,8 @@ fn add_face(
     to: &mut [Option<u32>],
     taken: &mut [bool],
 ) -> Result<(), AllocError>
-    requires { AreContents ⟦<ContentKey<'static> as Ord>⟧.cmp ⟦<ContentKey<'static> as PartialEq>⟧.eq Pfe plan.now other.now contents.now }
+    requires { AreContents ⟦<ContentKey<'static> as Ord>⟧.cmp ⟦<ContentKey<'static> as PartialEq>⟧.eq Pfe plan.now
+        other.now contents.now }
     ensures { OnOk result (PairsIfAlike plan.now other.now place target to.old taken.old to.new taken.new) }
 {
     if number_of(&contents.here, place) != number_of(&contents.there, target) {
@@ -175,8 +182,10 @@ pub(crate) fn add_objects<K: Ord>(
     to: &mut [Option<u32>],
     taken: &mut [bool],
 ) -> Result<(), AllocError>
-    ensures pairs { OnOk result (AddsPairs (λ i j. HaveOneKey K.eq (λ m. m.place) objects.now others.now i j × AreAlike plan.now other.now i j) to.old taken.old to.new taken.new) }
-    ensures none_left { OnOk result (LeavesNoLone K.cmp K.eq plan.now other.now objects.now others.now to.new taken.new) }
+    ensures pairs { OnOk result (AddsPairs (λ i j. HaveOneKey K.eq (λ m. m.place) objects.now others.now i j
+        × AreAlike plan.now other.now i j) to.old taken.old to.new taken.new) }
+    ensures none_left { OnOk result
+        (LeavesNoLone K.cmp K.eq plan.now other.now objects.now others.now to.new taken.new) }
 {
     let mut at = 0;
     for index in 0..objects.len() {
@@ -223,8 +232,10 @@ fn add_run<K>(
     to: &mut [Option<u32>],
     taken: &mut [bool],
 ) -> Result<(), AllocError>
-    ensures pairs { OnOk result (AddsPairs (λ i j. IsListed objects.now i × IsListed others.now j × AreAlike plan.now other.now i j) to.old taken.old to.new taken.new) }
-    ensures none_left { OnOk result ((x y : K × Member) → objects.now ≡ x ∷ [] → others.now ≡ y ∷ [] → AreAlike plan.now other.now x.1.place y.1.place → ¬ (AreFree to.new taken.new x.1.place y.1.place)) }
+    ensures pairs { OnOk result (AddsPairs (λ i j. IsListed objects.now i × IsListed others.now j
+        × AreAlike plan.now other.now i j) to.old taken.old to.new taken.new) }
+    ensures none_left { OnOk result ((x y : K × Member) → objects.now ≡ x ∷ [] → others.now ≡ y ∷ []
+        → AreAlike plan.now other.now x.1.place y.1.place → ¬ (AreFree to.new taken.new x.1.place y.1.place)) }
 {
     for at in 0..objects.len().min(others.len()) {
         let target = others[at].1.place;
@@ -243,8 +254,10 @@ pub(crate) fn add_lone_objects<K: Ord>(
     to: &mut [Option<u32>],
     taken: &mut [bool],
 ) -> Result<(), AllocError>
-    ensures pairs { OnOk result (AddsPairs (λ i j. HaveLoneKey K.eq (λ m. m.place) objects.now others.now i j × AreAlike plan.now other.now i j) to.old taken.old to.new taken.new) }
-    ensures none_left { OnOk result (LeavesNoLone K.cmp K.eq plan.now other.now objects.now others.now to.new taken.new) }
+    ensures pairs { OnOk result (AddsPairs (λ i j. HaveLoneKey K.eq (λ m. m.place) objects.now others.now i j
+        × AreAlike plan.now other.now i j) to.old taken.old to.new taken.new) }
+    ensures none_left { OnOk result
+        (LeavesNoLone K.cmp K.eq plan.now other.now objects.now others.now to.new taken.new) }
 {
     let mut at = 0;
     for index in 0..objects.len() {

@@ -1,5 +1,6 @@
-//! A number that two plans share if they are the same. Plans whose records don't hold the same hardly ever share one, so they
-//! need not be ranked to be told apart. Where they do, by chance or because somebody made them so, that costs time alone.
+//! A number that two plans share if they are the same. Plans whose records don't hold the same hardly ever share one,
+//! so they need not be ranked to be told apart. Where they do, by chance or because somebody made them so, that costs
+//! time alone.
 
 ghost use Rattle.std.specs.Prelude.{◌≡◌, ℕ, fold};
 ghost use Rattle.std.specs.Hash.FoldHasher as folding;

@@ -1,5 +1,5 @@
-//! Numbers of what records hold, so that the attributes of each are put in order once, and two that hold different things
-//! need not be compared again for each arc or link that names both.
+//! Numbers of what records hold, so that the attributes of each are put in order once, and two that hold different
+//! things need not be compared again for each arc or link that names both.
 
 ghost use Rattle.std.specs.Prelude.{◌≡◌, ◌++◌, ℕ, filter_map, length, option_to_list, IfOk, IsPermutation, IsSorted, OnOk};
 ghost use Rattle.edi_plan.specs.Places.{places_of};
@@ -32,7 +32,9 @@ pub(crate) fn numbered_contents(
     first: &Plan,
     second: &Plan,
 ) -> Result<Contents, AllocError>
-    ensures { IfOk result (AreContents ⟦<ContentKey<'static> as Ord>⟧.cmp ⟦<ContentKey<'static> as PartialEq>⟧.eq kind first.now second.now) }
+    ensures { IfOk result
+        (AreContents ⟦<ContentKey<'static> as Ord>⟧.cmp ⟦<ContentKey<'static> as PartialEq>⟧.eq kind first.now
+        second.now) }
 {
     let order = records_by_contents(alloc, kind, first)?;
     Ok(Contents {
@@ -47,7 +49,8 @@ fn records_by_contents(
     kind: Kind,
     plan: &Plan,
 ) -> Result<Vec<(ContentKey<'_>, u32)>, AllocError>
-    ensures records { IfOk result (λ records. IsPermutation (filter_map (held_at plan.now) (places_of kind plan.now)) records.items) }
+    ensures records { IfOk result (λ records.
+        IsPermutation (filter_map (held_at plan.now) (places_of kind plan.now)) records.items) }
     ensures sorted { IfOk result (λ records. IsSorted ⟦<(ContentKey<'static>, u32) as Ord>⟧.cmp records.items) }
 {
     let mut records = Vec::new(alloc);
@@ -82,7 +85,9 @@ fn numbers_of(
     order: &[(ContentKey<'_>, u32)],
 ) -> Result<Vec<usize>, AllocError>
     requires { AreInOrder ⟦<ContentKey<'static> as Ord>⟧.cmp order.now }
-    ensures { IfOk result (λ numbers. AreNumbersOf ⟦<ContentKey<'static> as Ord>⟧.cmp ⟦<ContentKey<'static> as PartialEq>⟧.eq kind order.now plan.now numbers.items) }
+    ensures { IfOk result (λ numbers.
+        AreNumbersOf ⟦<ContentKey<'static> as Ord>⟧.cmp ⟦<ContentKey<'static> as PartialEq>⟧.eq kind order.now plan.now
+        numbers.items) }
 {
     let mut numbers = Vec::with_capacity(alloc, plan.len() as usize)?;
     for place in 0..plan.len() {
@@ -102,7 +107,9 @@ fn content_number(
 ) -> Result<usize, AllocError>
     requires place { IsPlace plan.now place }
     requires order { AreInOrder ⟦<ContentKey<'static> as Ord>⟧.cmp order.now }
-    ensures { IfOk result (IsContentNumber ⟦<ContentKey<'static> as Ord>⟧.cmp ⟦<ContentKey<'static> as PartialEq>⟧.eq kind order.now (record_at plan.now place)) }
+    ensures { IfOk result
+        (IsContentNumber ⟦<ContentKey<'static> as Ord>⟧.cmp ⟦<ContentKey<'static> as PartialEq>⟧.eq kind order.now
+        (record_at plan.now place)) }
 {
     if plan.kind(place) != kind {
         return Ok(0);

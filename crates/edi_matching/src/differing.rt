@@ -19,11 +19,12 @@ use edi_schema::Schema;
 use edi_topo::Sound;
 use std::alloc::{AllocError, Global};
 
-/// A matching of two sheets that were accepted under this schema. It leaves nothing out and the character sets are the same exactly if
-/// the plans are the same. Whatever the rest, it leaves out no node and no arc that has a partner, no face of a matched arc together
-/// with that on the same side of the arc it goes to, if the one is carried onto the other, and no link whose ends are matched together with
-/// one that it is carried onto. Which other faces and which objects it matches of sheets that differ is not promised: objects that a link of
-/// one class joins to one matched record, or that alone hold what they do, each if it holds the same. The only error is want of memory.
+/// A matching of two sheets that were accepted under this schema. It leaves nothing out and the character sets are the
+/// same exactly if the plans are the same. Whatever the rest, it leaves out no node and no arc that has a partner, no
+/// face of a matched arc together with that on the same side of the arc it goes to, if the one is carried onto the
+/// other, and no link whose ends are matched together with one that it is carried onto. Which other faces and which
+/// objects it matches of sheets that differ is not promised: objects that a link of one class joins to one matched
+/// record, or that alone hold what they do, each if it holds the same. The only error is want of memory.
 pub fn differences(
     alloc: Global,
     schema: &Schema,

@@ -1,13 +1,13 @@
 //! Objects and links by keys that speak of the places where their ends go.
 
-ghost use Rattle.std.specs.Prelude.{◌≡◌, ◌<◌, ◌++◌, None, Some, filter_map, flat_map, if◌then◌else◌, length, option_map, option_to_list, slice_index_or, IfOk, IsPermutation, IsSorted, OnOk, false};
+ghost use Rattle.std.specs.Prelude.{◌≡◌, ◌<◌, ◌++◌, None, Some, filter_map, if◌then◌else◌, length, option_map, option_to_list, slice_index_or, IfOk, IsPermutation, IsSorted, OnOk, false};
 ghost use Rattle.std.specs.Ordering.{nat_cmp, ordering_then};
-ghost use Rattle.edi_record.specs.declared.record.Kind.TheVariants.{Fea, Lnk};
+ghost use Rattle.edi_record.specs.declared.record.Kind.TheVariants.{Lnk};
 ghost use Rattle.edi_plan.specs.Agreeing.{HasClasses};
 ghost use Rattle.edi_plan.specs.Places.{places_of};
 ghost use Rattle.edi_plan.specs.Plans.{IsPlace, record_at};
 ghost use Rattle.edi_rank.specs.Keys.{link_key_cmp};
-ghost use Rattle.edi_matching.specs.inner.Entries.{all_there, content_at, content_entry, contents_of, end_there, ends_there, keyed_places, link_entries, link_key_with, link_there, neighbour_entry, object_among};
+ghost use Rattle.edi_matching.specs.inner.Entries.{all_there, content_at, content_entries, content_entry, contents_of, end_there, ends_there, keyed_places, link_entries, link_key_with, link_there, neighbour_entries, neighbour_entry, object_among};
 ghost use Rattle.edi_matching.specs.inner.Ranked.{member_at};
 
 use crate::added::target_of;
@@ -66,8 +66,11 @@ pub(crate) fn links_by_key<'a>(
 ) -> Result<Vec<(LinkKey<'a>, u32)>, AllocError>
     requires classes { HasClasses schema.now plan.now }
     requires long { length turned.now ≡ length plan.now.list }
-    ensures links { IfOk result (λ links. IsPermutation (keyed_places (λ k. link_there schema.now plan.now to.now turned.now (record_at plan.now k)) (places_of Lnk plan.now)) links.items) }
-    ensures sorted { IfOk result (λ links. IsSorted (λ x y. ordering_then (link_key_cmp x.0 y.0) (nat_cmp x.1 y.1)) links.items) }
+    ensures links { IfOk result (λ links.
+        IsPermutation (keyed_places (λ k. link_there schema.now plan.now to.now turned.now (record_at plan.now k))
+        (places_of Lnk plan.now)) links.items) }
+    ensures sorted { IfOk result (λ links.
+        IsSorted (λ x y. ordering_then (link_key_cmp x.0 y.0) (nat_cmp x.1 y.1)) links.items) }
 {
     let mut links = Vec::new(alloc);
     for place in plan.places(Kind::Lnk) {
@@ -116,7 +119,8 @@ pub(crate) fn objects_beside<'a>(
     to: &[Option<u32>],
     done: &[bool],
 ) -> Result<Vec<(NeighbourKey<'a>, Member)>, AllocError>
-    ensures objects { IfOk result (λ objects. IsPermutation (flat_map (link_entries here.entry.plan.now here.entry.labels.now there.entry.labels.now contents.now to.now done.now) (places_of Lnk here.entry.plan.now)) objects.items) }
+    ensures objects { IfOk result (λ objects. IsPermutation (neighbour_entries here.entry.plan.now
+        here.entry.labels.now there.entry.labels.now contents.now to.now done.now) objects.items) }
     ensures sorted { IfOk result (λ objects. IsSorted ⟦<(NeighbourKey<'static>, Member) as Ord>⟧.cmp objects.items) }
 {
     let mut objects = Vec::new(alloc);
@@ -137,7 +141,9 @@ fn push_object<'a>(
     done: &[bool],
     link: u32,
 ) -> Result<(), AllocError>
-    ensures { OnOk result (objects.new.items ≡ objects.old.items ++ link_entries here.entry.plan.now here.entry.labels.now there.entry.labels.now contents.now to.now done.now link) }
+    ensures { OnOk result (objects.new.items ≡ objects.old.items
+        ++ link_entries here.entry.plan.now here.entry.labels.now there.entry.labels.now contents.now to.now done.now
+        link) }
 {
     if link >= here.plan.len() {
         return Ok(());
@@ -152,7 +158,8 @@ fn push_object<'a>(
     push_beside(objects, here, there, contents, to, object, link)
 }
 
-/// Appends an object with each matched record that this link names, by the number of the record that this is in the other plan.
+/// Appends an object with each matched record that this link names, by the number of the record that this is in the
+/// other plan.
 fn push_beside<'a>(
     objects: &mut Vec<(NeighbourKey<'a>, Member)>,
     here: Ranked<'a>,
@@ -164,7 +171,9 @@ fn push_beside<'a>(
 ) -> Result<(), AllocError>
     requires { IsPlace here.plan.now link }
     ensures { OnOk result (objects.new.items ≡ objects.old.items
-        ++ filter_map (neighbour_entry here.entry.plan.now there.entry.labels.now to.now (record_at here.entry.plan.now link).class contents (member_at here.entry.labels.now object)) (record_at here.entry.plan.now link).ends) }
+        ++ filter_map (neighbour_entry here.entry.plan.now there.entry.labels.now to.now
+        (record_at here.entry.plan.now link).class contents (member_at here.entry.labels.now object))
+        (record_at here.entry.plan.now link).ends) }
 {
     let class = here.plan.scp(link);
     let member = here.member(object);
@@ -189,7 +198,8 @@ pub(crate) fn objects_by_contents<'a>(
     here: Ranked<'a>,
     done: &[bool],
 ) -> Result<Vec<(ContentKey<'a>, Member)>, AllocError>
-    ensures objects { IfOk result (λ objects. IsPermutation (filter_map (content_entry here.entry.plan.now here.entry.labels.now done.now) (places_of Fea here.entry.plan.now)) objects.items) }
+    ensures objects { IfOk result (λ objects.
+        IsPermutation (content_entries here.entry.plan.now here.entry.labels.now done.now) objects.items) }
     ensures sorted { IfOk result (λ objects. IsSorted ⟦<(ContentKey<'static>, Member) as Ord>⟧.cmp objects.items) }
 {
     let mut objects = Vec::new(alloc);
@@ -311,7 +321,8 @@ fn push_there<'a>(
     to: &[Option<u32>],
     ends: &'a [PlanEnd],
 ) -> Result<bool, AllocError>
-    ensures { IfOk result (λ all. option_map (λ moved. there.old.items ++ moved) (all_there plan.now to.now ends.now) ≡ (if all then Some there.new.items else None)) }
+    ensures { IfOk result (λ all. option_map (λ moved. there.old.items ++ moved) (all_there plan.now to.now ends.now)
+        ≡ (if all then Some there.new.items else None)) }
 {
     for end in ends {
         match end_there(plan, to, end) {

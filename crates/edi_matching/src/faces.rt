@@ -1,5 +1,5 @@
-//! Faces of matched arcs that a matching leaves out. Each is matched with that on the same side of the arc that its arc goes to, if this is
-//! left out too and the one is carried onto the other.
+//! Faces of matched arcs that a matching leaves out. Each is matched with that on the same side of the arc that its arc
+//! goes to, if this is left out too and the one is carried onto the other.
 
 ghost use Rattle.std.specs.Prelude.{◌≡◌, ◌↔◌, ◌<◌, ℕ, IfOk, IsTrue, length};
 ghost use Rattle.edi_record.specs.declared.record.Kind.TheVariants.{Par, Pfe};
@@ -26,8 +26,8 @@ use edi_record::Kind;
 use edi_schema::{Role, Schema};
 use std::alloc::{AllocError, Global};
 
-/// A matching that matches what this one does, and leaves out no face of a matched arc together with that on the same side of the arc it
-/// goes to, if the one is carried onto the other.
+/// A matching that matches what this one does, and leaves out no face of a matched arc together with that on the same
+/// side of the arc it goes to, if the one is carried onto the other.
 pub(crate) fn with_all_faces(
     alloc: Global,
     schema: &Schema,
@@ -68,7 +68,8 @@ fn with_faces(
 ) -> Result<Matching, AllocError>
     requires classes { HasClasses schema.now first.now }
     requires side { beside role ≡ Pfe }
-    requires contents { AreContents ⟦<ContentKey<'static> as Ord>⟧.cmp ⟦<ContentKey<'static> as PartialEq>⟧.eq Pfe first.now second.now contents.now }
+    requires contents { AreContents ⟦<ContentKey<'static> as Ord>⟧.cmp ⟦<ContentKey<'static> as PartialEq>⟧.eq Pfe
+        first.now second.now contents.now }
     requires holds { MatchingHolds schema.now first.now second.now matching }
     ensures holds { IfOk result (MatchingHolds schema.now first.now second.now) }
     ensures adds { IfOk result (AddsOnly Pfe first.now matching) }
@@ -104,16 +105,21 @@ impl<'a> Proposed<'a> {
         role: Role,
     ) -> Result<Vec<Option<u32>>, AllocError>
         requires side { beside role ≡ Pfe }
-        requires contents { AreContents ⟦<ContentKey<'static> as Ord>⟧.cmp ⟦<ContentKey<'static> as PartialEq>⟧.eq Pfe self.now.plan self.now.other contents.now }
+        requires contents { AreContents ⟦<ContentKey<'static> as Ord>⟧.cmp ⟦<ContentKey<'static> as PartialEq>⟧.eq Pfe
+            self.now.plan self.now.other contents.now }
         requires whole { IsWholePlan self.now.plan }
         requires other_whole { IsWholePlan self.now.other }
         requires joined { IsJoined self.now.plan }
         requires other_joined { IsJoined self.now.other }
         requires targets { self.now.targets ≡ targets_of self.now.to }
-        requires holds { MatchingHolds self.now.classes self.now.plan self.now.other (matching_so self.now self.now.to) }
-        ensures holds { IfOk result (λ to. MatchingHolds self.now.classes self.now.plan self.now.other (matching_so self.now to.items)) }
-        ensures adds { IfOk result (λ to. AddsOnly Pfe self.now.plan (matching_so self.now self.now.to) (matching_so self.now to.items)) }
-        ensures faces { IfOk result (λ to. MatchesBeside role self.now.classes self.now.plan self.now.other (matching_so self.now to.items)) }
+        requires holds { MatchingHolds self.now.classes self.now.plan self.now.other
+            (matching_so self.now self.now.to) }
+        ensures holds { IfOk result (λ to.
+            MatchingHolds self.now.classes self.now.plan self.now.other (matching_so self.now to.items)) }
+        ensures adds { IfOk result (λ to.
+            AddsOnly Pfe self.now.plan (matching_so self.now self.now.to) (matching_so self.now to.items)) }
+        ensures faces { IfOk result (λ to.
+            MatchesBeside role self.now.classes self.now.plan self.now.other (matching_so self.now to.items)) }
     {
         let mut to = Vec::from_slice(alloc, self.to)?;
         let mut reached = reached_places(alloc, self.to, self.other.len())?;
@@ -129,8 +135,8 @@ impl<'a> Proposed<'a> {
         Ok(to)
     }
 
-    /// The face on this side of an arc, if it goes nowhere yet, and that on the same side of the arc it goes to, if this isn't reached and the
-    /// one is carried onto the other.
+    /// The face on this side of an arc, if it goes nowhere yet, and that on the same side of the arc it goes to, if
+    /// this isn't reached and the one is carried onto the other.
     fn face_for(
         &self,
         alloc: Global,
@@ -141,7 +147,8 @@ impl<'a> Proposed<'a> {
         arc: u32,
     ) -> Result<Option<(u32, u32)>, AllocError>
         requires side { beside role ≡ Pfe }
-        requires contents { AreContents ⟦<ContentKey<'static> as Ord>⟧.cmp ⟦<ContentKey<'static> as PartialEq>⟧.eq Pfe self.now.plan self.now.other contents.now }
+        requires contents { AreContents ⟦<ContentKey<'static> as Ord>⟧.cmp ⟦<ContentKey<'static> as PartialEq>⟧.eq Pfe
+            self.now.plan self.now.other contents.now }
         requires arc { IsPlace self.now.plan arc }
         requires whole { IsWholePlan self.now.plan }
         requires other_whole { IsWholePlan self.now.other }
@@ -162,7 +169,8 @@ impl<'a> Proposed<'a> {
         }
     }
 
-    /// Whether a face goes nowhere yet and is carried onto one that isn't reached. Those whose numbers differ aren't compared.
+    /// Whether a face goes nowhere yet and is carried onto one that isn't reached. Those whose numbers differ aren't
+    /// compared.
     fn is_left_for(
         &self,
         alloc: Global,
@@ -172,7 +180,8 @@ impl<'a> Proposed<'a> {
         face: u32,
         target: u32,
     ) -> Result<bool, AllocError>
-        requires contents { AreContents ⟦<ContentKey<'static> as Ord>⟧.cmp ⟦<ContentKey<'static> as PartialEq>⟧.eq Pfe self.now.plan self.now.other contents.now }
+        requires contents { AreContents ⟦<ContentKey<'static> as Ord>⟧.cmp ⟦<ContentKey<'static> as PartialEq>⟧.eq Pfe
+            self.now.plan self.now.other contents.now }
         requires face { IsPlace self.now.plan face }
         requires target { IsPlace self.now.other target }
         requires kind { (record_at self.now.plan face).kind ≡ Pfe }

@@ -1,14 +1,14 @@
 //! Faces, objects and links, added to a matching of nodes and arcs.
 
-ghost use Rattle.std.specs.Prelude.{◌≡◌, ◌⊎◌, ◌<◌, ◌-◌, ◌^◌, ℕ, IfOk, IsTrue, None, OnOk, Some, count_by, filter_map, flat_map, is_none, is_some, length, map, min, slice_index_or};
-ghost use Rattle.edi_record.specs.declared.record.Kind.TheVariants.{Fea, Lnk};
+ghost use Rattle.std.specs.Prelude.{◌≡◌, ◌⊎◌, ◌<◌, ◌-◌, ◌^◌, ℕ, IfOk, IsTrue, None, OnOk, Some, count_by, is_none, is_some, length, map, min, slice_index_or};
+ghost use Rattle.edi_record.specs.declared.record.Kind.TheVariants.{Fea};
 ghost use Rattle.edi_plan.specs.Agreeing.{HasClasses};
 ghost use Rattle.edi_plan.specs.Places.{places_of};
 ghost use Rattle.edi_plan.specs.Plans.{IsPlace};
 ghost use Rattle.edi_compare.specs.Laws.{IsAcceptedPlan};
 ghost use Rattle.edi_matching.specs.Matchings.{GoesTo, IsMatched, MatchingHolds};
 ghost use Rattle.edi_matching.specs.inner.Additions.{AddsPairs, AreAlike, PairsByKey};
-ghost use Rattle.edi_matching.specs.inner.Entries.{content_entry, link_entries};
+ghost use Rattle.edi_matching.specs.inner.Entries.{content_entries, neighbour_entries};
 ghost use Rattle.edi_matching.specs.inner.Inverses.{Grows, IsInverse, IsMore, IsMoreBackwards};
 
 use crate::added::{add_faces, add_links, add_lone_objects, add_objects, target_of};
@@ -27,8 +27,8 @@ use edi_schema::Schema;
 use edi_topo::Sound;
 use std::alloc::{AllocError, Global};
 
-/// How often objects are sought by what their links name beside them, at most: by nodes, arcs and faces first, then by the
-/// objects that were found so, and then by those.
+/// How often objects are sought by what their links name beside them, at most: by nodes, arcs and faces first, then by
+/// the objects that were found so, and then by those.
 const ROUNDS: u32 = 3;
 
 /// A matching that matches what this one does, and more if that holds.
@@ -57,8 +57,8 @@ pub(crate) fn grown(
     }
 }
 
-/// The matching with faces, objects and links. Nothing rests on it: what it gives is checked. Of the two plans it begins with the one of
-/// the lesser fingerprint, so that what is matched does not depend on which of them comes first.
+/// The matching with faces, objects and links. Nothing rests on it: what it gives is checked. Of the two plans it
+/// begins with the one of the lesser fingerprint, so that what is matched does not depend on which of them comes first.
 fn more_of(
     alloc: Global,
     schema: &Schema,
@@ -71,7 +71,8 @@ fn more_of(
     requires accepted { IsAcceptedPlan schema.now first.now }
     requires other_accepted { IsAcceptedPlan schema.now second.now }
     requires long { length matching.now.turned ≡ length first.now.list }
-    ensures { IfOk result (λ m. IsMore matching.now m ⊎ IsMoreBackwards (length first.now.list) (length second.now.list) matching.now m) }
+    ensures { IfOk result (λ m. IsMore matching.now m
+        ⊎ IsMoreBackwards (length first.now.list) (length second.now.list) matching.now m) }
 {
     let labels = labels_of(alloc, schema, first)?;
     let others = labels_of(alloc, schema, second)?;
@@ -251,7 +252,8 @@ fn add_objects_in_rounds(
     to: &mut [Option<u32>],
     taken: &mut [bool],
 ) -> Result<(), AllocError>
-    ensures { OnOk result (AddsPairs (AreAlike first.entry.plan.now second.entry.plan.now) to.old taken.old to.new taken.new) }
+    ensures { OnOk result
+        (AddsPairs (AreAlike first.entry.plan.now second.entry.plan.now) to.old taken.old to.new taken.new) }
 {
     let mut left = count_left(first.plan, to);
     for _ in 0..ROUNDS {
@@ -288,9 +290,12 @@ fn add_objects_beside(
     to: &mut [Option<u32>],
     taken: &mut [bool],
 ) -> Result<(), AllocError>
-    ensures { OnOk result (PairsByKey ⟦<NeighbourKey<'static> as PartialEq>⟧.eq first.entry.plan.now second.entry.plan.now
-        (flat_map (link_entries first.entry.plan.now first.entry.labels.now second.entry.labels.now contents.now.here.items to.old (map (λ target. is_some target) to.old)) (places_of Lnk first.entry.plan.now))
-        (flat_map (link_entries second.entry.plan.now second.entry.labels.now second.entry.labels.now contents.now.there.items itself.now taken.old) (places_of Lnk second.entry.plan.now))
+    ensures { OnOk result
+        (PairsByKey ⟦<NeighbourKey<'static> as PartialEq>⟧.eq first.entry.plan.now second.entry.plan.now
+        (neighbour_entries first.entry.plan.now first.entry.labels.now second.entry.labels.now
+        contents.now.here.items to.old (map (λ target. is_some target) to.old))
+        (neighbour_entries second.entry.plan.now second.entry.labels.now second.entry.labels.now
+        contents.now.there.items itself.now taken.old)
         to.old taken.old to.new taken.new) }
 {
     let done = matched_places(alloc, to)?;
@@ -308,8 +313,8 @@ fn add_objects_by_contents(
     taken: &mut [bool],
 ) -> Result<(), AllocError>
     ensures { OnOk result (PairsByKey ⟦<ContentKey<'static> as PartialEq>⟧.eq first.entry.plan.now second.entry.plan.now
-        (filter_map (content_entry first.entry.plan.now first.entry.labels.now (map (λ target. is_some target) to.old)) (places_of Fea first.entry.plan.now))
-        (filter_map (content_entry second.entry.plan.now second.entry.labels.now taken.old) (places_of Fea second.entry.plan.now))
+        (content_entries first.entry.plan.now first.entry.labels.now (map (λ target. is_some target) to.old))
+        (content_entries second.entry.plan.now second.entry.labels.now taken.old)
         to.old taken.old to.new taken.new) }
 {
     let done = matched_places(alloc, to)?;

@@ -1,9 +1,9 @@
 //! Members of a layer, looked up by their keys.
 
-ghost use Rattle.std.specs.Prelude.{◌≡◌, ◌≢◌, ◌<◌, ℕ, length, All, IfOk, IsPermutation, IsSorted, MatchOption, OnOk};
-ghost use Rattle.std.specs.List.{slice_index_or};
+ghost use Rattle.std.specs.Prelude.{◌≡◌, IfOk, IsPermutation, IsSorted, OnOk};
 ghost use Rattle.std.specs.Ordering.{nat_cmp, ordering_then};
 ghost use Rattle.edi_topo.specs.inner.Keyed.{keyed};
+ghost use Rattle.edi_matching.specs.inner.Partners.{IsMemberIfAny};
 
 use edi_topo::Layer;
 use std::alloc::{AllocError, Global};
@@ -26,8 +26,10 @@ pub(crate) fn members_by_key<L: Layer>(
     alloc: Global,
     layer: &L,
 ) -> Result<Vec<(L::Key, u32)>, AllocError>
-    ensures permutation { IfOk result (λ pairs. IsPermutation (keyed (L.key_of layer.now) (L.size layer.now)) pairs.items) }
-    ensures sorted { IfOk result (λ pairs. IsSorted (λ x y. ordering_then (L.Key.cmp x.0 y.0) (nat_cmp x.1 y.1)) pairs.items) }
+    ensures permutation { IfOk result (λ pairs.
+        IsPermutation (keyed (L.key_of layer.now) (L.size layer.now)) pairs.items) }
+    ensures sorted { IfOk result (λ pairs.
+        IsSorted (λ x y. ordering_then (L.Key.cmp x.0 y.0) (nat_cmp x.1 y.1)) pairs.items) }
 {
     let mut pairs = keyed_members(alloc, layer)?;
     pairs.sort_unstable();
@@ -37,8 +39,7 @@ pub(crate) fn members_by_key<L: Layer>(
 /// A member with this key, if there is one.
 pub(crate) fn member_with<K: Ord>(pairs: &[(K, u32)], key: &K) -> Option<u32>
     requires { IsSorted (λ x y. ordering_then (K.cmp x.0 y.0) (nat_cmp x.1 y.1)) pairs.now }
-    ensures { MatchOption result (All (λ pair. K.cmp pair.0 key.now ≢ Ordering.Equal) pairs.now)
-        (λ member. (k : ℕ) × (k < length pairs.now) × ((d : K × ℕ) → (K.cmp (slice_index_or pairs.now k d).0 key.now ≡ Ordering.Equal) × ((slice_index_or pairs.now k d).1 ≡ member))) }
+    ensures { IsMemberIfAny K.cmp pairs.now key.now result }
 {
     match pairs.binary_search_by(|pair| pair.0.cmp(key)) {
         Ok(at) => Some(pairs[at].1),

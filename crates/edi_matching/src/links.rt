@@ -1,4 +1,5 @@
-//! Links that a matching leaves out, though their ends are matched. Each is matched with one that is left out too, if it is carried onto it.
+//! Links that a matching leaves out, though their ends are matched. Each is matched with one that is left out too, if
+//! it is carried onto it.
 
 ghost use Rattle.std.specs.Prelude.{◌≡◌, ◌↔◌, ◌<◌, ℕ, Bool, List, IfOk, IsSorted, IsTrue, false, length, map, slice_index, slice_index_or, true};
 ghost use Rattle.std.specs.Ordering.{nat_cmp, ordering_then};
@@ -65,10 +66,14 @@ impl<'a> Proposed<'a> {
     fn with_links(&self, alloc: Global) -> Result<Vec<Option<u32>>, AllocError>
         requires whole { IsWholePlan self.now.plan }
         requires targets { self.now.targets ≡ targets_of self.now.to }
-        requires holds { MatchingHolds self.now.classes self.now.plan self.now.other (matching_so self.now self.now.to) }
-        ensures holds { IfOk result (λ to. MatchingHolds self.now.classes self.now.plan self.now.other (matching_so self.now to.items)) }
-        ensures adds { IfOk result (λ to. AddsOnly Lnk self.now.plan (matching_so self.now self.now.to) (matching_so self.now to.items)) }
-        ensures links { IfOk result (λ to. MatchesLinks self.now.classes self.now.plan self.now.other (matching_so self.now to.items)) }
+        requires holds { MatchingHolds self.now.classes self.now.plan self.now.other
+            (matching_so self.now self.now.to) }
+        ensures holds { IfOk result (λ to.
+            MatchingHolds self.now.classes self.now.plan self.now.other (matching_so self.now to.items)) }
+        ensures adds { IfOk result (λ to.
+            AddsOnly Lnk self.now.plan (matching_so self.now self.now.to) (matching_so self.now to.items)) }
+        ensures links { IfOk result (λ to.
+            MatchesLinks self.now.classes self.now.plan self.now.other (matching_so self.now to.items)) }
     {
         let mut to = Vec::from_slice(alloc, self.to)?;
         let mut reached = reached_places(alloc, self.to, self.other.len())?;
@@ -98,7 +103,8 @@ impl<'a> Proposed<'a> {
         requires link { (record_at self.now.plan place).kind ≡ Lnk }
         requires whole { IsWholePlan self.now.plan }
         requires targets { self.now.targets ≡ targets_of self.now.to }
-        requires holds { MatchingHolds self.now.classes self.now.plan self.now.other (matching_so self.now self.now.to) }
+        requires holds { MatchingHolds self.now.classes self.now.plan self.now.other
+            (matching_so self.now self.now.to) }
         requires sorted { IsSorted (λ x y. ordering_then (link_key_cmp x.0 y.0) (nat_cmp x.1 y.1)) links.now }
         requires lists { (free : List Bool) × ListsFree self.now.other free links.now × IsMoreReached free reached.now }
         requires long { length to.now ≡ length self.now.plan.list }
@@ -122,7 +128,8 @@ impl<'a> Proposed<'a> {
         requires link { (record_at self.now.plan place).kind ≡ Lnk }
         requires whole { IsWholePlan self.now.plan }
         requires targets { self.now.targets ≡ targets_of self.now.to }
-        requires holds { MatchingHolds self.now.classes self.now.plan self.now.other (matching_so self.now self.now.to) }
+        requires holds { MatchingHolds self.now.classes self.now.plan self.now.other
+            (matching_so self.now self.now.to) }
         requires sorted { IsSorted (λ x y. ordering_then (link_key_cmp x.0 y.0) (nat_cmp x.1 y.1)) links.now }
         requires lists { (free : List Bool) × ListsFree self.now.other free links.now × IsMoreReached free reached.now }
         ensures { IfOk result (IsMissedIfAny self.now reached.now place) }
@@ -210,7 +217,8 @@ fn free_links<'b>(
 ) -> Result<Vec<(LinkKey<'b>, u32)>, AllocError>
     requires { length reached.now ≡ length other.now.list }
     ensures lists { IfOk result (λ links. ListsFree other.now reached.now links.items) }
-    ensures sorted { IfOk result (λ links. IsSorted (λ x y. ordering_then (link_key_cmp x.0 y.0) (nat_cmp x.1 y.1)) links.items) }
+    ensures sorted { IfOk result (λ links.
+        IsSorted (λ x y. ordering_then (link_key_cmp x.0 y.0) (nat_cmp x.1 y.1)) links.items) }
 {
     other.keeps();
     let mut links = Vec::new(alloc);
@@ -288,7 +296,8 @@ fn sorted_others<'b>(
 ) -> Result<Vec<NumberedEnd<'b>>, AllocError>
     requires places { AllByRecursion (λ e. IsPlace plan.now e.target) ends.now }
     requires long { length targets.now ≡ length plan.now.list }
-    ensures { IfOk result (λ moved. moved.items ≡ sort_by end_cmp (map (numbered plan.now (slice_index targets.now)) ends.now)) }
+    ensures { IfOk result (λ moved. moved.items
+        ≡ sort_by end_cmp (map (numbered plan.now (slice_index targets.now)) ends.now)) }
 {
     let mut moved = Vec::with_capacity(alloc, ends.len())?;
     for end in ends {

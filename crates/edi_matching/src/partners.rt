@@ -1,18 +1,15 @@
 //! Nodes and arcs of one plan that hold the same as nodes and arcs of another.
 
-ghost use Rattle.std.specs.Prelude.{◌≡◌, ◌≢◌, ◌⊎◌, ◌↔◌, ◌<◌, ℕ, [], All, Bool, IfOk, IsPermutation, IsSorted, IsTrue, MatchOption, length, slice_index_or, true};
+ghost use Rattle.std.specs.Prelude.{◌≡◌, ◌⊎◌, ◌↔◌, ℕ, Bool, IfOk, IsPermutation, IsSorted, IsTrue, true};
 ghost use Rattle.std.specs.Ordering.{nat_cmp, ordering_then};
 ghost use Rattle.edi_record.specs.Orders.{points_cmp};
 ghost use Rattle.edi_record.specs.declared.record.Kind.TheVariants.{Pno, Par};
-ghost use Rattle.edi_plan.specs.Places.{places_of};
 ghost use Rattle.edi_plan.specs.Plans.{IsPlace, record_at};
-ghost use Rattle.edi_topo.specs.Arcs.{forward_keys};
-ghost use Rattle.edi_topo.specs.inner.Keyed.{keyed};
-ghost use Rattle.edi_topo.specs.NodeKeys.{no_node, node_key_cmp, node_keys};
+ghost use Rattle.edi_topo.specs.NodeKeys.{node_key_cmp};
 ghost use Rattle.edi_schema.specs.Classes.{Classes};
 ghost use Rattle.edi_matching.specs.Differences.{ArePartners, MatchesPartners};
 ghost use Rattle.edi_matching.specs.Matchings.{MatchingHolds};
-ghost use Rattle.edi_matching.specs.inner.Partners.{GoesToPartner, IsDirectionIfAny, IsOnlyAt, IsPartnerIfAny, IsSameIfAny};
+ghost use Rattle.edi_matching.specs.inner.Partners.{GoesToPartner, IsDirectionIfAny, IsMemberIfAny, IsOnlyAt, IsPartnerIfAny, IsSameIfAny, keyed_arcs, keyed_nodes};
 
 use crate::keys::{member_with, members_by_key};
 use crate::matching::Matching;
@@ -45,24 +42,20 @@ impl Drop for Partners<'_> {
 }
 
 impl<'a> Model for Partners<'a> {
-    ghost use Rattle.std.specs.Prelude.{[], length, IsPermutation, IsSorted, slice_index_or};
+    ghost use Rattle.std.specs.Prelude.{IsPermutation, IsSorted};
     ghost use Rattle.std.specs.Ordering.{nat_cmp, ordering_then};
     ghost use Rattle.edi_record.specs.Orders.{points_cmp};
-    ghost use Rattle.edi_record.specs.declared.record.Kind.TheVariants.{Pno, Par};
-    ghost use Rattle.edi_plan.specs.Places.{places_of};
-    ghost use Rattle.edi_topo.specs.Arcs.{forward_keys};
-    ghost use Rattle.edi_topo.specs.inner.Keyed.{keyed};
-    ghost use Rattle.edi_topo.specs.NodeKeys.{no_node, node_key_cmp, node_keys};
-    ghost use Rattle.edi_matching.specs.inner.Partners.{TwoPlans, AreSound};
+    ghost use Rattle.edi_topo.specs.NodeKeys.{node_key_cmp};
+    ghost use Rattle.edi_matching.specs.inner.Partners.{AreSound, TwoPlans, keyed_arcs, keyed_nodes};
 
     ghost Value = { TwoPlans };
 
     ghost view = { λ p. record { plan = p.plan.now; other = p.other.now } };
 
     ghost invariant = { λ p. AreSound (record { plan = p.plan.now; other = p.other.now })
-        × IsPermutation (keyed (λ m. slice_index_or (node_keys p.other.now) m no_node) (length (places_of Pno p.other.now))) p.nodes.items
+        × IsPermutation (keyed_nodes p.other.now) p.nodes.items
         × IsSorted (λ x y. ordering_then (node_key_cmp x.0 y.0) (nat_cmp x.1 y.1)) p.nodes.items
-        × IsPermutation (keyed (λ m. slice_index_or (forward_keys p.other.now) m []) (length (places_of Par p.other.now))) p.arcs.items
+        × IsPermutation (keyed_arcs p.other.now) p.arcs.items
         × IsSorted (λ x y. ordering_then (points_cmp x.0 y.0) (nat_cmp x.1 y.1)) p.arcs.items };
 }
 
@@ -198,16 +191,18 @@ impl<'a> Partners<'a> {
 
 /// The nodes of a plan with their keys, in the order of these.
 fn nodes_by_key(alloc: Global, sound: &Sound) -> Result<Vec<(NodeKey<'_>, u32)>, AllocError>
-    ensures members { IfOk result (λ nodes. IsPermutation (keyed (λ m. slice_index_or (node_keys sound.now) m no_node) (length (places_of Pno sound.now))) nodes.items) }
-    ensures sorted { IfOk result (λ nodes. IsSorted (λ x y. ordering_then (node_key_cmp x.0 y.0) (nat_cmp x.1 y.1)) nodes.items) }
+    ensures members { IfOk result (λ nodes. IsPermutation (keyed_nodes sound.now) nodes.items) }
+    ensures sorted { IfOk result (λ nodes.
+        IsSorted (λ x y. ordering_then (node_key_cmp x.0 y.0) (nat_cmp x.1 y.1)) nodes.items) }
 {
     members_by_key(alloc, &NodeLayer::of(alloc, sound)?)
 }
 
 /// The arcs of a plan with their points in the forward direction, in the order of these.
 fn arcs_by_key(alloc: Global, sound: &Sound) -> Result<Vec<(ForwardPoints<'_>, u32)>, AllocError>
-    ensures members { IfOk result (λ arcs. IsPermutation (keyed (λ m. slice_index_or (forward_keys sound.now) m []) (length (places_of Par sound.now))) arcs.items) }
-    ensures sorted { IfOk result (λ arcs. IsSorted (λ x y. ordering_then (points_cmp x.0 y.0) (nat_cmp x.1 y.1)) arcs.items) }
+    ensures members { IfOk result (λ arcs. IsPermutation (keyed_arcs sound.now) arcs.items) }
+    ensures sorted { IfOk result (λ arcs.
+        IsSorted (λ x y. ordering_then (points_cmp x.0 y.0) (nat_cmp x.1 y.1)) arcs.items) }
 {
     members_by_key(alloc, &ArcLayer::of(alloc, sound)?)
 }
@@ -215,8 +210,7 @@ fn arcs_by_key(alloc: Global, sound: &Sound) -> Result<Vec<(ForwardPoints<'_>, u
 /// The node with this key, by its number in file order.
 fn node_member(nodes: &[(NodeKey<'_>, u32)], key: &NodeKey<'_>) -> Option<u32>
     requires { IsSorted (λ x y. ordering_then (node_key_cmp x.0 y.0) (nat_cmp x.1 y.1)) nodes.now }
-    ensures { MatchOption result (All (λ pair. node_key_cmp pair.0 key.now ≢ Ordering.Equal) nodes.now)
-        (λ member. (k : ℕ) × (k < length nodes.now) × ((d : NodeKey × ℕ) → (node_key_cmp (slice_index_or nodes.now k d).0 key.now ≡ Ordering.Equal) × ((slice_index_or nodes.now k d).1 ≡ member))) }
+    ensures { IsMemberIfAny node_key_cmp nodes.now key.now result }
 {
     member_with(nodes, key)
 }

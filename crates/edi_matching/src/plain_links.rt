@@ -34,7 +34,8 @@ pub(crate) fn plain_links(
 ) -> Result<Vec<(PlainLink, u32)>, AllocError>
     requires classes { HasClasses schema.now plan.now }
     requires long { length turned.now ≡ length plan.now.list }
-    ensures links { IfOk result (λ links. IsPermutation (keyed_places (λ k. plain_link schema.now to.now turned.now (record_at plan.now k)) (places_of Lnk plan.now)) links.items) }
+    ensures links { IfOk result (λ links. IsPermutation (keyed_places
+        (λ k. plain_link schema.now to.now turned.now (record_at plan.now k)) (places_of Lnk plan.now)) links.items) }
     ensures sorted { IfOk result (λ links. IsSorted ⟦<(PlainLink, u32) as Ord>⟧.cmp links.items) }
 {
     let places = plan.places(Kind::Lnk);

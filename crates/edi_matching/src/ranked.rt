@@ -1,4 +1,5 @@
-//! Plans whose records are gone over by their numbers, so that which are found doesn't depend on how a plan is presented.
+//! Plans whose records are gone over by their numbers, so that which are found doesn't depend on how a plan is
+//! presented.
 
 ghost use Rattle.std.specs.Prelude.{◌≡◌, ◌<◌, fold, length};
 ghost use Rattle.std.specs.List.{list_any};
@@ -82,7 +83,9 @@ impl<'a> Ranked<'a> {
 
     /// Adds the records of a type to a hash, by number.
     fn hash_type(self, kind: Kind, state: &mut FoldHasher)
-        ensures { state.new ≡ fold folding.write state.old (records_input self.entry.plan.now self.entry.labels.now (order_of self.entry.labels.now kind)) }
+        ensures { state.new
+            ≡ fold folding.write state.old
+            (records_input self.entry.plan.now self.entry.labels.now (order_of self.entry.labels.now kind)) }
     {
         for place in self.labels.order(kind) {
             if *place < self.plan.len() {
@@ -94,7 +97,8 @@ impl<'a> Ranked<'a> {
     /// Adds a record to a hash.
     fn hash_record(self, place: u32, state: &mut FoldHasher)
         requires { place < length self.plan.now.list }
-        ensures { state.new ≡ fold folding.write state.old (record_input self.entry.plan.now self.entry.labels.now place) }
+        ensures { state.new
+            ≡ fold folding.write state.old (record_input self.entry.plan.now self.entry.labels.now place) }
     {
         record_checksum(self.plan, place).hash(state);
         role_number(self.role_after(place)).hash(state);
@@ -128,7 +132,8 @@ impl<'a> Ranked<'a> {
 
     /// Adds the ends of a record to a hash: its origin, and the others in any order.
     fn hash_ends(self, ends: &[PlanEnd], state: &mut FoldHasher)
-        ensures { state.new ≡ fold folding.write state.old (ends_input self.entry.plan.now self.entry.labels.now ends.now) }
+        ensures { state.new
+            ≡ fold folding.write state.old (ends_input self.entry.plan.now self.entry.labels.now ends.now) }
     {
         let Some((origin, others)) = ends.split_first() else {
             return;

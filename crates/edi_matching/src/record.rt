@@ -34,9 +34,23 @@ impl<'a> Model for Proposed<'a> {
 
     ghost Value = { Proposal };
 
-    ghost view = { λ p. record { classes = p.schema.now; plan = p.plan.now; other = p.other.now; to = p.to.now; targets = p.targets.now; turned = p.turned.now } };
+    ghost view = { λ p. record {
+      classes = p.schema.now;
+      plan = p.plan.now;
+      other = p.other.now;
+      to = p.to.now;
+      targets = p.targets.now;
+      turned = p.turned.now;
+    } };
 
-    ghost invariant = { λ p. IsFitting (record { classes = p.schema.now; plan = p.plan.now; other = p.other.now; to = p.to.now; targets = p.targets.now; turned = p.turned.now }) };
+    ghost invariant = { λ p. IsFitting (record {
+      classes = p.schema.now;
+      plan = p.plan.now;
+      other = p.other.now;
+      to = p.to.now;
+      targets = p.targets.now;
+      turned = p.turned.now;
+    }) };
 }
 
 impl<'a> Proposed<'a> {
@@ -79,7 +93,8 @@ impl<'a> Proposed<'a> {
     /// Whether each end of a record is matched.
     pub(crate) fn has_matched_ends(&self, place: u32) -> bool
         requires { IsPlace self.now.plan place }
-        ensures { IsTrue result ↔ AllByRecursion (λ e. IsMatched self.now.to e.target) (record_at self.now.plan place).ends }
+        ensures { IsTrue result
+            ↔ AllByRecursion (λ e. IsMatched self.now.to e.target) (record_at self.now.plan place).ends }
     {
         self.plan.keeps();
         all_matched(self.to, self.plan.ends(place))
@@ -88,7 +103,8 @@ impl<'a> Proposed<'a> {
     /// Whether a record is an arc if it is turned.
     fn may_turn(&self, place: u32) -> bool
         requires { IsPlace self.now.plan place }
-        ensures { IsTrue result ↔ (turned_at self.now.turned place ≡ true → (record_at self.now.plan place).kind ≡ Par) }
+        ensures { IsTrue result
+            ↔ (turned_at self.now.turned place ≡ true → (record_at self.now.plan place).kind ≡ Par) }
     {
         !self.turned[place as usize] || self.plan.kind(place) == Kind::Par
     }

@@ -28,7 +28,8 @@ pub(crate) fn same_pairing(
 ) -> Result<Option<Pairing>, AllocError>
     requires first { IsAcceptedPlan schema.now first.now }
     requires second { IsAcceptedPlan schema.now second.now }
-    ensures { IfOk result (λ found. MatchOption found (¬ (Same schema.now first.now second.now)) (PairingCarries schema.now first.now second.now)) }
+    ensures { IfOk result (λ found.
+        MatchOption found (¬ (Same schema.now first.now second.now)) (PairingCarries schema.now first.now second.now)) }
 {
     schema.keeps();
     let plan = first.sound().plan();
@@ -41,7 +42,8 @@ pub(crate) fn same_pairing(
     pairing_by_labels(alloc, schema, first, second, labels, &others)
 }
 
-/// Whether two plans have one character set and one checksum, as they have if they are the same. Most that differ haven't.
+/// Whether two plans have one character set and one checksum, as they have if they are the same. Most that differ
+/// haven't.
 fn may_be_same(plan: &Plan, other: &Plan) -> bool
     ensures { IsTrue result ↔ HaveOneChecksum plan.now other.now }
 {
@@ -61,7 +63,8 @@ fn pairing_by_labels(
     requires second { IsAcceptedPlan schema.now second.now }
     requires labels { AreLabels schema.now first.now labels }
     requires others { AreLabels schema.now second.now others.now }
-    ensures { IfOk result (λ found. MatchOption found (¬ (Same schema.now first.now second.now)) (PairingCarries schema.now first.now second.now)) }
+    ensures { IfOk result (λ found.
+        MatchOption found (¬ (Same schema.now first.now second.now)) (PairingCarries schema.now first.now second.now)) }
 {
     schema.keeps();
     if !are_as_many(&labels, others) {

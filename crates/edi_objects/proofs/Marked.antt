@@ -14,6 +14,7 @@ use Rattle.edi_objects.specs.Differing.{arrives, is_differing, moved_to, outline
 use Rattle.edi_objects.specs.LinksOf.{index_of}
 use Rattle.edi_plan.specs.Plans.{Drawing}
 use Rattle.edi_objects.specs.inner.Marks.{is_moved_onto}
+use Rattle.edi_objects.specs.declared.account.Notes.{Notes}
 use Rattle.edi_objects.specs.inner.Sheets.{AreNotes, AreTested, test_of}
 
 -- one number more
@@ -39,9 +40,10 @@ lines_more f k old text new so_far more =
     more ∙ (ap (λ (t : List ℕ). t ++ f k) so_far ∙ (flat_map_more f old (range_with_len 0 k) k ∙ ap (λ (ys : List ℕ). old ++ flat_map f ys) (sym (range_more k))))
 
 -- the notes on a plan
-pub notes_are : (test : ℕ → Bool) (p : Drawing) (index : List (ℕ × ℕ)) (marks kept outlines : List Bool) → AreTested test (length p.list) marks → index ≡ index_of p → kept ≡ marks
-    → outlines ≡ map (outline_differs (test_of marks) p) (range_with_len 0 (length p.list)) → AreNotes test p index kept outlines
-notes_are test p index marks kept outlines tested indexed same outlined = record {
+pub notes_are : (test : ℕ → Bool) (p : Drawing) (marks : List Bool) (notes : Notes) → AreTested test (length p.list) marks
+    → notes.index.items ≡ index_of p → notes.marks.items ≡ marks
+    → notes.outlines.items ≡ map (outline_differs (test_of marks) p) (range_with_len 0 (length p.list)) → AreNotes test p notes
+notes_are test p marks notes tested indexed same outlined = record {
   indexed = indexed;
   marked = subst (AreTested test (length p.list)) (sym same) tested;
   outlined = λ i h.

@@ -26,7 +26,8 @@ are_alike here there = is_eq (slice_cmp attribute_cmp here there)
 abbrev pub class_values : Classes → ℕ → List PlanAttribute → List PlanAttribute → List ℕ
 class_values s class here there =
     if are_alike here there then []
-    else codes "    " ++ shown_class s class ++ codes ":" ++ shown_values here ++ codes " ->" ++ shown_values there ++ line_feed ∷ []
+    else codes "    " ++ shown_class s class ++ codes ":"
+    ++ shown_values here ++ codes " ->" ++ shown_values there ++ line_feed ∷ []
 
 -- the classes of the attributes of both, in order
 abbrev pub classes_of_both : List PlanAttribute → List PlanAttribute → List ℕ
@@ -41,9 +42,11 @@ abbrev pub attribute_line : Classes → List PlanAttribute → List PlanAttribut
 attribute_line s here there class = class_values s class (of_class class here) (of_class class there)
 
 abbrev pub class_line_at : Classes → List PlanAttribute → List PlanAttribute → List ℕ → ℕ → List ℕ
-class_line_at s here there classes k = if is_repeated classes k then [] else attribute_line s here there (slice_index_or classes k 0)
+class_line_at s here there classes k =
+    if is_repeated classes k then [] else attribute_line s here there (slice_index_or classes k 0)
 
 -- a line for each class of which the attributes differ
 abbrev pub attribute_lines : Classes → List PlanAttribute → List PlanAttribute → List ℕ
 attribute_lines s here there =
-    flat_map (class_line_at s (sort_by attribute_cmp here) (sort_by attribute_cmp there) (classes_of_both here there)) (range_with_len 0 (length (classes_of_both here there)))
+    flat_map (class_line_at s (sort_by attribute_cmp here) (sort_by attribute_cmp there) (classes_of_both here there))
+    (range_with_len 0 (length (classes_of_both here there)))

@@ -58,7 +58,8 @@ class_counts_line n class gone new changed =
     if are_none gone new changed then [] else shown_class n.classes class ++ codes ": " ++ counts_text gone new changed
 
 abbrev pub class_total : Naming → Report → ℕ → List ℕ
-class_total n r class = class_counts_line n class (class_count class (gone_classes r)) (class_count class (new_classes r))
+class_total n r class =
+    class_counts_line n class (class_count class (gone_classes r)) (class_count class (new_classes r))
     (class_count class (changed_classes n r))
 
 -- the line of each class of which objects are told, in the order of the schema

@@ -27,7 +27,8 @@ differs_by None (Some j) parts = some_differ parts
 
 -- the record of the first sheet at this place differs
 abbrev pub is_differing : Report → ℕ → Bool
-is_differing r i = nat_lt i (length r.first.accepted.list) && differs_by (same_of r i) (became_of r i) (parts_at r.parts i)
+is_differing r i =
+    nat_lt i (length r.first.accepted.list) && differs_by (same_of r i) (became_of r i) (parts_at r.parts i)
 
 -- the record of the second sheet that one of the first became, if it had other ends
 abbrev pub moved_by : Option ℕ → Option ℕ → Parts → Option ℕ
@@ -39,7 +40,9 @@ moved_to r i = moved_by (same_of r i) (became_of r i) (parts_at r.parts i)
 
 -- the record of the second sheet at this place is new, or one became it that had other ends
 abbrev pub arrives : Report → ℕ → Bool
-arrives r j = nat_lt j (length r.second.accepted.list) && (not (is_reached r.became j) || list_any (λ i. went_to j (moved_to r i)) (range_with_len 0 (length r.became)))
+arrives r j =
+    nat_lt j (length r.second.accepted.list)
+    && (not (is_reached r.became j) || list_any (λ i. went_to j (moved_to r i)) (range_with_len 0 (length r.became)))
 
 -- a link of this kind bounds a record of this type: a face by arcs, an arc by nodes
 abbrev pub is_left_or_right : Role → Bool
@@ -65,7 +68,9 @@ bounds_type role Lnk = false
 
 -- a link bounds the record at a place, and the test holds of the link or of a record that it names
 abbrev pub bounds_anew : (ℕ → Bool) → Drawing → ℕ → ℕ → Bool
-bounds_anew test p place link = bounds_type (record_at p link).role (record_at p place).kind && (test link || list_any test (targets (record_at p link)))
+bounds_anew test p place link =
+    bounds_type (record_at p link).role (record_at p place).kind
+    && (test link || list_any test (targets (record_at p link)))
 
 -- the outline of the record at a place differs: the record itself, a link that bounds it, or what such a link names
 abbrev pub outline_differs : (ℕ → Bool) → Drawing → ℕ → Bool

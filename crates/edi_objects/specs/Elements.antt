@@ -38,9 +38,13 @@ origin_point = record { x = pos 0; y = pos 0; z = None }
 
 -- the last of two points or more
 abbrev pub last_position : List Point → List ℕ
-last_position points = if nat_lt 1 (length points) then codes " .. " ++ coordinates_text (slice_index_or points (length points - 1) origin_point) else []
+last_position points =
+    if nat_lt 1 (length points)
+    then codes " .. " ++ coordinates_text (slice_index_or points (length points - 1) origin_point)
+    else []
 
--- an object by its class and naming attributes, a link by its class, a node by its position, an arc by its first and its last
+-- an object by its class and the attributes that name it, a link by its class, a node by its position, an arc by its
+-- first and its last
 abbrev pub name_by : Naming → Kind → PlanRecord → List ℕ
 name_by n Pno r = codes "node" ++ first_position r.points
 name_by n Par r = codes "arc" ++ first_position r.points ++ last_position r.points
@@ -69,11 +73,12 @@ more_text count = if nat_lt most_named count then codes " and others" else []
 
 -- what a link names, beside the record at a place if one is given
 abbrev pub others_text : Naming → LocatedSheet → Option ℕ → PlanRecord → List ℕ
-others_text n sheet place r = flat_map (other_text n sheet place) (take most_named (targets r)) ++ more_text (length r.ends)
+others_text n sheet place r =
+    flat_map (other_text n sheet place) (take most_named (targets r)) ++ more_text (length r.ends)
 
 -- ---- how they differ
 
--- how many points of an arc differ, of how many, and by how much at most; or how many there were, and how many there are
+-- how many points of an arc differ, of how many, and by how much at most; or how many it had, and how many it has
 abbrev pub arc_change : List Point → List Point → List ℕ
 arc_change a b =
     if length a == length b
@@ -83,7 +88,8 @@ arc_change a b =
 
 -- where a node went, and how far
 abbrev pub node_change : List Point → List Point → List ℕ
-node_change a b = codes " points (to" ++ first_position b ++ codes ", by " ++ size_text (distance_of_first a b) ++ codes ")"
+node_change a b =
+    codes " points (to" ++ first_position b ++ codes ", by " ++ size_text (distance_of_first a b) ++ codes ")"
 
 -- how the points of a record became those of another
 abbrev pub points_change : Kind → List Point → List Point → List ℕ
@@ -100,7 +106,8 @@ change_text parts a b = words_text (record parts { points = false })
 
 -- ~ NAME (lines LINE and LINE): and how it differs
 abbrev pub changed_element : Naming → Report → ℕ → ℕ → List ℕ
-changed_element n r i j = codes "~ " ++ name_of_record n r.first i ++ both_lines (site_at r.first i).line (site_at r.second j).line
+changed_element n r i j =
+    codes "~ " ++ name_of_record n r.first i ++ both_lines (site_at r.first i).line (site_at r.second j).line
     ++ change_text (parts_at r.parts i) (record_at r.first.accepted i) (record_at r.second.accepted j) ++ line_feed ∷ []
 
 -- a sign, NAME (line LINE)
@@ -119,5 +126,11 @@ abbrev pub second_element : Naming → Report → ℕ → List ℕ
 second_element n r j = if is_reached r.became j then [] else lone_element (codes "+ ") n r.second j
 
 -- the lines of a type: those of the first sheet, and those of the second
+abbrev pub first_elements : Naming → Report → Kind → List ℕ
+first_elements n r kind = flat_map (first_element n r) (places_of kind r.first.accepted)
+
+abbrev pub second_elements : Naming → Report → Kind → List ℕ
+second_elements n r kind = flat_map (second_element n r) (places_of kind r.second.accepted)
+
 abbrev pub elements_of : Naming → Report → Kind → List ℕ
-elements_of n r kind = flat_map (first_element n r) (places_of kind r.first.accepted) ++ flat_map (second_element n r) (places_of kind r.second.accepted)
+elements_of n r kind = first_elements n r kind ++ second_elements n r kind

@@ -1,7 +1,6 @@
 //! The text of what differs between two sheets, object by object.
 
-ghost use Rattle.std.specs.Prelude.{◌≡◌, ◌++◌, ◌<◌, IfOk, IfSome, OnOk, flat_map, length, map};
-ghost use Rattle.edi_plan.specs.Places.{places_of};
+ghost use Rattle.std.specs.Prelude.{◌≡◌, ◌++◌, ◌<◌, IfOk, IfSome, OnOk, length, map};
 ghost use Rattle.std.specs.List.{range_with_len};
 ghost use Rattle.edi_plan.specs.Agreeing.{Agrees};
 ghost use Rattle.edi_objects.specs.LinksOf.{index_of};
@@ -10,7 +9,7 @@ ghost use Rattle.edi_objects.specs.Accounts.{account_text, objects_of, shapes_of
 ghost use Rattle.edi_objects.specs.Bounds.{bounds_count, is_bent, is_lost, new_bounds_count};
 ghost use Rattle.edi_objects.specs.Counts.{changed_classes};
 ghost use Rattle.edi_objects.specs.Differing.{arrives, became_of, is_differing, outline_differs, same_of};
-ghost use Rattle.edi_objects.specs.Elements.{change_text, changed_element, elements_of, first_element, second_element};
+ghost use Rattle.edi_objects.specs.Elements.{change_text, changed_element, elements_of, first_element, first_elements, second_element, second_elements};
 ghost use Rattle.edi_objects.specs.Objects.{has_further_outline};
 ghost use Rattle.edi_objects.specs.inner.Sheets.{test_of};
 ghost use Rattle.edi_report.specs.Lines.{is_reached};
@@ -47,7 +46,8 @@ impl Notes {
     fn of(alloc: Global, plan: &Plan, marks: Vec<bool>) -> Result<Notes, AllocError>
         ensures index { IfOk result (λ notes. notes.index.items ≡ index_of plan.now) }
         ensures marks { IfOk result (λ notes. notes.marks.items ≡ marks.items) }
-        ensures outlines { IfOk result (λ notes. notes.outlines.items ≡ map (outline_differs (test_of marks.items) plan.now) (range_with_len 0 (length plan.now.list))) }
+        ensures outlines { IfOk result (λ notes. notes.outlines.items
+            ≡ map (outline_differs (test_of marks.items) plan.now) (range_with_len 0 (length plan.now.list))) }
     {
         let index = index_of(alloc, plan)?;
         let outlines = outlines(alloc, plan, &index, &marks)?;
@@ -83,14 +83,16 @@ impl<'a> Model for ObjectReporter<'a> {
 
     ghost view = { λ a. record { naming = a.namer.now; report = a.report.now } };
 
-    ghost invariant = { λ a. AreNotes (is_differing a.report.now) a.report.now.first.accepted a.here.index.items a.here.marks.items a.here.outlines.items
-        × AreNotes (arrives a.report.now) a.report.now.second.accepted a.there.index.items a.there.marks.items a.there.outlines.items
-        × Agrees a.namer.now.classes a.report.now.first.accepted × Agrees a.namer.now.classes a.report.now.second.accepted
+    ghost invariant = { λ a. AreNotes (is_differing a.report.now) a.report.now.first.accepted a.here
+        × AreNotes (arrives a.report.now) a.report.now.second.accepted a.there
+        × Agrees a.namer.now.classes a.report.now.first.accepted
+        × Agrees a.namer.now.classes a.report.now.second.accepted
         × AreFurther a.report.now a.further.items
-        × AreBoundCounts a.report.now a.bounds.gone.items a.bounds.new.items a.bounds.changed.items };
+        × AreBoundCounts a.report.now a.bounds };
 }
 
-/// The text of what differs between two sheets, object by object (docs/FORMAT.md, "Differences by object"). The only error is a lack of memory.
+/// The text of what differs between two sheets, object by object (docs/FORMAT.md, "Differences by object"). The only
+/// error is a lack of memory.
 pub fn account_text(
     alloc: Global,
     namer: &Namer<'_>,
@@ -263,7 +265,8 @@ impl<'a> ObjectReporter<'a> {
         changed: &mut Vec<ClassRef>,
     ) -> Result<(), AllocError>
         ensures text { OnOk result (text.new.items ≡ text.old.items ++ objects_of self.now.naming self.now.report) }
-        ensures classes { OnOk result (changed.new.items ≡ changed.old.items ++ changed_classes self.now.naming self.now.report) }
+        ensures classes { OnOk result (changed.new.items
+            ≡ changed.old.items ++ changed_classes self.now.naming self.now.report) }
     {
         self.push_first_objects(alloc, text, changed)?;
         self.push_second_objects(text)
@@ -288,7 +291,7 @@ impl<'a> ObjectReporter<'a> {
 
     /// Appends the lines of the records of a type of the first sheet.
     fn push_first_elements(&self, text: &mut Vec<u8>, kind: Kind) -> Result<(), AllocError>
-        ensures { OnOk result (text.new.items ≡ text.old.items ++ flat_map (first_element self.now.naming self.now.report) (places_of kind self.now.report.first.accepted)) }
+        ensures { OnOk result (text.new.items ≡ text.old.items ++ first_elements self.now.naming self.now.report kind) }
     {
         for place in self.first().plan().places(kind) {
             self.push_first_element(text, *place)?;
@@ -298,7 +301,8 @@ impl<'a> ObjectReporter<'a> {
 
     /// Appends the lines of the records of a type of the second sheet.
     fn push_second_elements(&self, text: &mut Vec<u8>, kind: Kind) -> Result<(), AllocError>
-        ensures { OnOk result (text.new.items ≡ text.old.items ++ flat_map (second_element self.now.naming self.now.report) (places_of kind self.now.report.second.accepted)) }
+        ensures { OnOk result (text.new.items
+            ≡ text.old.items ++ second_elements self.now.naming self.now.report kind) }
     {
         for place in self.second().plan().places(kind) {
             self.push_second_element(text, *place)?;
@@ -323,7 +327,8 @@ impl<'a> ObjectReporter<'a> {
     /// Appends the line of a record of the second sheet, if it is new.
     fn push_second_element(&self, text: &mut Vec<u8>, place: u32) -> Result<(), AllocError>
         requires { IsPlace self.now.report.second.accepted place }
-        ensures { OnOk result (text.new.items ≡ text.old.items ++ second_element self.now.naming self.now.report place) }
+        ensures { OnOk result (text.new.items
+            ≡ text.old.items ++ second_element self.now.naming self.now.report place) }
     {
         if self.is_reached(place) {
             return Ok(());
@@ -340,7 +345,8 @@ impl<'a> ObjectReporter<'a> {
     ) -> Result<(), AllocError>
         requires place { IsPlace self.now.report.first.accepted place }
         requires target { IsPlace self.now.report.second.accepted target }
-        ensures { OnOk result (text.new.items ≡ text.old.items ++ changed_element self.now.naming self.now.report place target) }
+        ensures { OnOk result (text.new.items
+            ≡ text.old.items ++ changed_element self.now.naming self.now.report place target) }
     {
         text.extend_from_slice(b"~ ")?;
         self.first().push_name(text, place)?;
@@ -353,7 +359,9 @@ impl<'a> ObjectReporter<'a> {
     fn push_change(&self, text: &mut Vec<u8>, place: u32, target: u32) -> Result<(), AllocError>
         requires place { IsPlace self.now.report.first.accepted place }
         requires target { IsPlace self.now.report.second.accepted target }
-        ensures { OnOk result (text.new.items ≡ text.old.items ++ change_text (parts_at self.now.report.parts place) (record_at self.now.report.first.accepted place) (record_at self.now.report.second.accepted target)) }
+        ensures { OnOk result (text.new.items ≡ text.old.items
+            ++ change_text (parts_at self.now.report.parts place) (record_at self.now.report.first.accepted place)
+            (record_at self.now.report.second.accepted target)) }
     {
         let parts = self.parts_at(place);
         let plan = self.first().plan();

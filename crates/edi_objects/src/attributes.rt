@@ -74,7 +74,8 @@ fn push_line_at(
     requires there { IsNonDecreasingBy (λ a. a.now.atp) there.now }
     requires at { at < length classes.now }
     requires class { slice_index_or classes.now at 0 < length namer.now.classes }
-    ensures { OnOk result (text.new.items ≡ text.old.items ++ class_line_at namer.now.classes (map (λ a. a.now) here.now) (map (λ a. a.now) there.now) classes.now at) }
+    ensures { OnOk result (text.new.items ≡ text.old.items
+        ++ class_line_at namer.now.classes (map (λ a. a.now) here.now) (map (λ a. a.now) there.now) classes.now at) }
 {
     if at > 0 && classes[at - 1] == classes[at] {
         return Ok(());
@@ -98,7 +99,8 @@ fn push_class_values(
     there: &[&PlanAttribute],
 ) -> Result<(), AllocError>
     requires { class < length namer.now.classes }
-    ensures { OnOk result (text.new.items ≡ text.old.items ++ class_values namer.now.classes class (map (λ a. a.now) here.now) (map (λ a. a.now) there.now)) }
+    ensures { OnOk result (text.new.items ≡ text.old.items
+        ++ class_values namer.now.classes class (map (λ a. a.now) here.now) (map (λ a. a.now) there.now)) }
 {
     if are_alike(here, there) {
         return Ok(());
@@ -147,7 +149,8 @@ fn push_values(text: &mut Vec<u8>, attributes: &[&PlanAttribute]) -> Result<(), 
 
 /// Appends further values, each behind a comma.
 fn push_more_values(text: &mut Vec<u8>, attributes: &[&PlanAttribute]) -> Result<(), AllocError>
-    ensures { OnOk result (text.new.items ≡ text.old.items ++ flat_map (λ b. codes ", " ++ shown_value b.value) (map (λ a. a.now) attributes.now)) }
+    ensures { OnOk result (text.new.items
+        ≡ text.old.items ++ flat_map (λ b. codes ", " ++ shown_value b.value) (map (λ a. a.now) attributes.now)) }
 {
     for attribute in attributes {
         text.extend_from_slice(b", ")?;

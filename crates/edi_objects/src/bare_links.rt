@@ -1,12 +1,10 @@
 //! Links that are told nowhere else.
 
-ghost use Rattle.std.specs.Prelude.{◌≡◌, ◌++◌, OnOk, flat_map};
+ghost use Rattle.std.specs.Prelude.{◌≡◌, ◌++◌, OnOk};
 ghost use Rattle.edi_plan.specs.Agreeing.{Agrees};
 ghost use Rattle.edi_report.specs.Reports.{HasSites};
-ghost use Rattle.edi_record.specs.declared.record.Kind.TheVariants.{Lnk};
-ghost use Rattle.edi_plan.specs.Places.{places_of};
 ghost use Rattle.edi_plan.specs.Plans.{IsPlace};
-ghost use Rattle.edi_objects.specs.Accounts.{record_line_text, bare_link, bare_links, changed_link, changed_parts, first_bare_link, is_told_beside, second_bare_link};
+ghost use Rattle.edi_objects.specs.Accounts.{record_line_text, bare_link, bare_links, changed_link, changed_parts, first_bare_link, first_bare_links, is_told_beside, second_bare_link, second_bare_links};
 ghost use Rattle.edi_objects.specs.Differing.{arrives, is_differing};
 ghost use Rattle.edi_objects.specs.inner.Sheets.{test_of};
 
@@ -41,7 +39,8 @@ impl<'a> SheetNamer<'a> {
         requires agrees { Agrees self.now.namer.now.classes self.now.sheet.now.accepted }
         requires sites { HasSites self.now.sheet.now }
         requires link { IsPlace self.now.sheet.now.accepted link }
-        ensures { OnOk result (text.new.items ≡ text.old.items ++ bare_link self.now.namer.now self.now.sheet.now link) }
+        ensures { OnOk result (text.new.items
+            ≡ text.old.items ++ bare_link self.now.namer.now self.now.sheet.now link) }
     {
         self.push_name(text, link)?;
         text.push(b':')?;
@@ -64,7 +63,8 @@ impl<'a> SheetNamer<'a> {
         requires agrees { Agrees self.now.namer.now.classes self.now.sheet.now.accepted }
         requires sites { HasSites self.now.sheet.now }
         requires link { IsPlace self.now.sheet.now.accepted link }
-        ensures { OnOk result (text.new.items ≡ text.old.items ++ (sign.now ++ bare_link self.now.namer.now self.now.sheet.now link ++ record_line_text self.now.sheet.now link)) }
+        ensures { OnOk result (text.new.items ≡ text.old.items ++ (sign.now
+            ++ bare_link self.now.namer.now self.now.sheet.now link ++ record_line_text self.now.sheet.now link)) }
     {
         text.extend_from_slice(sign)?;
         self.push_bare_link(text, link)?;
@@ -83,7 +83,7 @@ impl<'a> ObjectReporter<'a> {
 
     /// Appends those of the first sheet.
     fn push_first_bare_links(&self, text: &mut Vec<u8>) -> Result<(), AllocError>
-        ensures { OnOk result (text.new.items ≡ text.old.items ++ flat_map (first_bare_link self.now.naming self.now.report) (places_of Lnk self.now.report.first.accepted)) }
+        ensures { OnOk result (text.new.items ≡ text.old.items ++ first_bare_links self.now.naming self.now.report) }
     {
         for place in self.first().plan().places(Kind::Lnk) {
             self.push_first_bare_link(text, *place)?;
@@ -93,7 +93,7 @@ impl<'a> ObjectReporter<'a> {
 
     /// Appends those of the second sheet.
     fn push_second_bare_links(&self, text: &mut Vec<u8>) -> Result<(), AllocError>
-        ensures { OnOk result (text.new.items ≡ text.old.items ++ flat_map (second_bare_link self.now.naming self.now.report) (places_of Lnk self.now.report.second.accepted)) }
+        ensures { OnOk result (text.new.items ≡ text.old.items ++ second_bare_links self.now.naming self.now.report) }
     {
         for place in self.second().plan().places(Kind::Lnk) {
             self.push_second_bare_link(text, *place)?;
@@ -104,7 +104,8 @@ impl<'a> ObjectReporter<'a> {
     /// Appends the line of a link of the first sheet, if it differs and is told nowhere else.
     fn push_first_bare_link(&self, text: &mut Vec<u8>, link: u32) -> Result<(), AllocError>
         requires { IsPlace self.now.report.first.accepted link }
-        ensures { OnOk result (text.new.items ≡ text.old.items ++ first_bare_link self.now.naming self.now.report link) }
+        ensures { OnOk result (text.new.items
+            ≡ text.old.items ++ first_bare_link self.now.naming self.now.report link) }
     {
         if !self.is_differing(link) || self.is_first_told(link) {
             return Ok(());
@@ -124,7 +125,8 @@ impl<'a> ObjectReporter<'a> {
     ) -> Result<(), AllocError>
         requires link { IsPlace self.now.report.first.accepted link }
         requires target { IsPlace self.now.report.second.accepted target }
-        ensures { OnOk result (text.new.items ≡ text.old.items ++ changed_link self.now.naming self.now.report link target) }
+        ensures { OnOk result (text.new.items
+            ≡ text.old.items ++ changed_link self.now.naming self.now.report link target) }
     {
         text.extend_from_slice(b"~ ")?;
         self.first().push_bare_link(text, link)?;
@@ -166,7 +168,8 @@ impl<'a> ObjectReporter<'a> {
     /// Appends the line of a link of the second sheet, if it is new and told nowhere else.
     fn push_second_bare_link(&self, text: &mut Vec<u8>, link: u32) -> Result<(), AllocError>
         requires { IsPlace self.now.report.second.accepted link }
-        ensures { OnOk result (text.new.items ≡ text.old.items ++ second_bare_link self.now.naming self.now.report link) }
+        ensures { OnOk result (text.new.items
+            ≡ text.old.items ++ second_bare_link self.now.naming self.now.report link) }
     {
         if self.is_reached(link) || self.is_second_told(link) {
             return Ok(());

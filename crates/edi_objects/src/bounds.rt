@@ -39,9 +39,9 @@ impl BoundCounts {
         here: &Notes,
         there: &Notes,
     ) -> Result<BoundCounts, AllocError>
-        requires here { AreNotes (is_differing report.now) report.now.first.accepted here.now.index.items here.now.marks.items here.now.outlines.items }
-        requires there { AreNotes (arrives report.now) report.now.second.accepted there.now.index.items there.now.marks.items there.now.outlines.items }
-        ensures { IfOk result (λ counts. AreBoundCounts report.now counts.gone.items counts.new.items counts.changed.items) }
+        requires here { AreNotes (is_differing report.now) report.now.first.accepted here.now }
+        requires there { AreNotes (arrives report.now) report.now.second.accepted there.now }
+        ensures { IfOk result (AreBoundCounts report.now) }
     {
         let plan = report.first.accepted.sound().plan();
         let other = report.second.accepted.sound().plan();

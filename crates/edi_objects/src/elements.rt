@@ -46,7 +46,8 @@ impl<'a> SheetNamer<'a> {
     pub(crate) fn push_name(&self, text: &mut Vec<u8>, place: u32) -> Result<(), AllocError>
         requires agrees { Agrees self.now.namer.now.classes self.now.sheet.now.accepted }
         requires place { IsPlace self.now.sheet.now.accepted place }
-        ensures { OnOk result (text.new.items ≡ text.old.items ++ name_of_record self.now.namer.now self.now.sheet.now place) }
+        ensures { OnOk result (text.new.items
+            ≡ text.old.items ++ name_of_record self.now.namer.now self.now.sheet.now place) }
     {
         let plan = self.plan();
         match plan.kind(place) {
@@ -65,7 +66,8 @@ impl<'a> SheetNamer<'a> {
     fn push_link(&self, text: &mut Vec<u8>, place: u32) -> Result<(), AllocError>
         requires agrees { Agrees self.now.namer.now.classes self.now.sheet.now.accepted }
         requires place { IsPlace self.now.sheet.now.accepted place }
-        ensures { OnOk result (text.new.items ≡ text.old.items ++ (codes "link " ++ shown_class self.now.namer.now.classes (record_at self.now.sheet.now.accepted place).class)) }
+        ensures { OnOk result (text.new.items ≡ text.old.items ++ (codes "link "
+            ++ shown_class self.now.namer.now.classes (record_at self.now.sheet.now.accepted place).class)) }
     {
         text.extend_from_slice(b"link ")?;
         self.namer.push_class(text, self.plan().scp(place))
@@ -77,7 +79,8 @@ impl<'a> SheetNamer<'a> {
         requires agrees { Agrees self.now.namer.now.classes self.now.sheet.now.accepted }
         requires sites { HasSites self.now.sheet.now }
         requires place { IsPlace self.now.sheet.now.accepted place }
-        ensures { OnOk result (text.new.items ≡ text.old.items ++ element_text self.now.namer.now self.now.sheet.now place) }
+        ensures { OnOk result (text.new.items
+            ≡ text.old.items ++ element_text self.now.namer.now self.now.sheet.now place) }
     {
         self.push_name(text, place)?;
         text.extend_from_slice(b" (line ")?;
@@ -95,7 +98,8 @@ impl<'a> SheetNamer<'a> {
         requires agrees { Agrees self.now.namer.now.classes self.now.sheet.now.accepted }
         requires sites { HasSites self.now.sheet.now }
         requires place { IsPlace self.now.sheet.now.accepted place }
-        ensures { OnOk result (text.new.items ≡ text.old.items ++ (sign.now ++ element_text self.now.namer.now self.now.sheet.now place)) }
+        ensures { OnOk result (text.new.items
+            ≡ text.old.items ++ (sign.now ++ element_text self.now.namer.now self.now.sheet.now place)) }
     {
         text.extend_from_slice(sign)?;
         self.push_element(text, place)
@@ -111,7 +115,8 @@ impl<'a> SheetNamer<'a> {
         requires agrees { Agrees self.now.namer.now.classes self.now.sheet.now.accepted }
         requires sites { HasSites self.now.sheet.now }
         requires place { IsPlace self.now.sheet.now.accepted place }
-        ensures { OnOk result (text.new.items ≡ text.old.items ++ lone_element sign.now self.now.namer.now self.now.sheet.now place) }
+        ensures { OnOk result (text.new.items
+            ≡ text.old.items ++ lone_element sign.now self.now.namer.now self.now.sheet.now place) }
     {
         text.extend_from_slice(sign)?;
         self.push_element(text, place)?;
@@ -128,7 +133,8 @@ impl<'a> SheetNamer<'a> {
         requires agrees { Agrees self.now.namer.now.classes self.now.sheet.now.accepted }
         requires sites { HasSites self.now.sheet.now }
         requires link { IsPlace self.now.sheet.now.accepted link }
-        ensures { OnOk result (text.new.items ≡ text.old.items ++ others_text self.now.namer.now self.now.sheet.now place (record_at self.now.sheet.now.accepted link)) }
+        ensures { OnOk result (text.new.items ≡ text.old.items
+            ++ others_text self.now.namer.now self.now.sheet.now place (record_at self.now.sheet.now.accepted link)) }
     {
         let plan = self.plan();
         plan.keeps();
@@ -149,7 +155,8 @@ impl<'a> SheetNamer<'a> {
         requires agrees { Agrees self.now.namer.now.classes self.now.sheet.now.accepted }
         requires sites { HasSites self.now.sheet.now }
         requires other { IsPlace self.now.sheet.now.accepted other }
-        ensures { OnOk result (text.new.items ≡ text.old.items ++ other_text self.now.namer.now self.now.sheet.now place other) }
+        ensures { OnOk result (text.new.items
+            ≡ text.old.items ++ other_text self.now.namer.now self.now.sheet.now place other) }
     {
         if place == Some(other) {
             return Ok(());
@@ -227,7 +234,8 @@ fn push_node(text: &mut Vec<u8>, points: &[Point]) -> Result<(), AllocError>
 
 /// Appends what the text calls an arc.
 fn push_arc(text: &mut Vec<u8>, points: &[Point]) -> Result<(), AllocError>
-    ensures { OnOk result (text.new.items ≡ text.old.items ++ (codes "arc" ++ first_position points.now ++ last_position points.now)) }
+    ensures { OnOk result (text.new.items
+        ≡ text.old.items ++ (codes "arc" ++ first_position points.now ++ last_position points.now)) }
 {
     text.extend_from_slice(b"arc")?;
     push_first(text, points)?;

@@ -13,7 +13,8 @@ use std::alloc::{AllocError, Global};
 
 /// Of each record of the first sheet, whether it differs.
 pub(crate) fn differing(alloc: Global, report: &Reporter<'_>) -> Result<Vec<bool>, AllocError>
-    ensures { IfOk result (λ marks. AreTested (is_differing report.now) (length report.now.first.accepted.list) marks.items) }
+    ensures { IfOk result (λ marks.
+        AreTested (is_differing report.now) (length report.now.first.accepted.list) marks.items) }
 {
     let mut marks = Vec::new(alloc);
     for place in 0..record_count(report.first) {
@@ -92,7 +93,8 @@ fn some_differ(parts: &Parts) -> bool
 
 /// Of each record of the second sheet, whether it is new, or one became it that had other ends.
 pub(crate) fn arriving(alloc: Global, report: &Reporter<'_>) -> Result<Vec<bool>, AllocError>
-    ensures { IfOk result (λ marks. AreTested (arrives report.now) (length report.now.second.accepted.list) marks.items) }
+    ensures { IfOk result (λ marks.
+        AreTested (arrives report.now) (length report.now.second.accepted.list) marks.items) }
 {
     let mut marks = unreached(alloc, report.reached)?;
     mark_moved(report, &mut marks);
@@ -110,7 +112,8 @@ fn unreached(alloc: Global, reached: &[bool]) -> Result<Vec<bool>, AllocError>
 fn mark_moved(report: &Reporter<'_>, marks: &mut [bool])
     ensures length { length marks.new ≡ length marks.old }
     ensures each { (j : ℕ) → j < length marks.old
-        → slice_index_or marks.new j false ≡ (slice_index_or marks.old j false || is_moved_onto report.now (length report.now.became) j) }
+        → slice_index_or marks.new j false
+        ≡ (slice_index_or marks.old j false || is_moved_onto report.now (length report.now.became) j) }
 {
     for place in 0..report.became.len() {
         mark(marks, moved_to(report, place));

@@ -11,7 +11,8 @@ use edi_shown::push_shown;
 use std::alloc::AllocError;
 use std::marker::Model;
 
-/// Of how many of its attributes those that name an object are sought, so that an object of many attributes that many links name costs no more.
+/// Among how many of its attributes those that name an object are looked for, so that an object of many attributes that
+/// many links name costs no more.
 const MOST_SOUGHT: usize = 32;
 
 /// How many bytes of a value are shown in a name.
@@ -52,7 +53,8 @@ impl<'a> Namer<'a> {
     ) -> Result<(), AllocError>
         requires class { class < length self.now.classes }
         requires attributes { AllByRecursion (λ a. a.atp < length self.now.classes) attributes.now }
-        ensures { OnOk result (text.new.items ≡ text.old.items ++ shown_class self.now.classes class ++ flat_map (naming_text self.now) (take 32 attributes.now)) }
+        ensures { OnOk result (text.new.items ≡ text.old.items ++ shown_class self.now.classes class
+            ++ flat_map (naming_text self.now) (take 32 attributes.now)) }
     {
         self.push_class(text, class)?;
         for attribute in first_few(attributes, MOST_SOUGHT) {

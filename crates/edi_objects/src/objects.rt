@@ -1,15 +1,12 @@
 //! How the text tells that an object differs.
 
-ghost use Rattle.std.specs.Prelude.{◌≡◌, ◌++◌, IfOk, IfSome, OnOk, Some, flat_map, take};
-ghost use Rattle.edi_plan.specs.Places.{places_of};
+ghost use Rattle.std.specs.Prelude.{◌≡◌, ◌++◌, IfOk, IfSome, None, OnOk, Some, flat_map, take};
 ghost use Rattle.edi_plan.specs.Plans.{IsPlace, is_object, record_at};
 ghost use Rattle.edi_plan.specs.Sides.{targets};
-ghost use Rattle.edi_record.specs.declared.record.Kind.TheVariants.{Fea};
 ghost use Rattle.edi_objects.specs.Bounds.{outline_counts};
 ghost use Rattle.edi_objects.specs.Counts.{changed_class, changed_classes, is_told_changed};
 ghost use Rattle.edi_objects.specs.Differing.{became_of, same_of};
-ghost use Rattle.edi_objects.specs.LinksOf.{links_of};
-ghost use Rattle.edi_objects.specs.Objects.{attributes_change, class_change, differing_link, extras_change, first_link, first_object, further_line, has_other_outline, link_text, object_block, object_header, object_lines, outline_line, outline_lines, outline_name, outline_text, own_changes, own_lines, second_link, second_object};
+ghost use Rattle.edi_objects.specs.Objects.{attributes_change, class_change, differing_link, extras_change, first_link, first_links, first_object, first_objects, further_line, has_other_outline, link_text, object_block, object_header, object_lines, outline_line, outline_lines, outline_name, outline_text, own_lines, second_link, second_links, second_object, second_objects};
 ghost use Rattle.edi_report.specs.Reports.{parts_at};
 
 use crate::account::ObjectReporter;
@@ -57,8 +54,9 @@ impl<'a> ObjectReporter<'a> {
         changed: &mut Vec<ClassRef>,
     ) -> Result<(), AllocError>
         ensures text { OnOk result (text.new.items
-            ≡ text.old.items ++ flat_map (first_object self.now.naming self.now.report) (places_of Fea self.now.report.first.accepted)) }
-        ensures classes { OnOk result (changed.new.items ≡ changed.old.items ++ changed_classes self.now.naming self.now.report) }
+            ≡ text.old.items ++ first_objects self.now.naming self.now.report) }
+        ensures classes { OnOk result (changed.new.items
+            ≡ changed.old.items ++ changed_classes self.now.naming self.now.report) }
     {
         for place in self.first().plan().places(Kind::Fea) {
             self.push_first_object(alloc, text, changed, *place)?;
@@ -68,7 +66,7 @@ impl<'a> ObjectReporter<'a> {
 
     /// Appends the new objects of the second sheet.
     pub(crate) fn push_second_objects(&self, text: &mut Vec<u8>) -> Result<(), AllocError>
-        ensures { OnOk result (text.new.items ≡ text.old.items ++ flat_map (second_object self.now.naming self.now.report) (places_of Fea self.now.report.second.accepted)) }
+        ensures { OnOk result (text.new.items ≡ text.old.items ++ second_objects self.now.naming self.now.report) }
     {
         for place in self.second().plan().places(Kind::Fea) {
             self.push_second_object(text, *place)?;
@@ -85,7 +83,8 @@ impl<'a> ObjectReporter<'a> {
         place: u32,
     ) -> Result<(), AllocError>
         requires { IsPlace self.now.report.first.accepted place }
-        ensures text { OnOk result (text.new.items ≡ text.old.items ++ first_object self.now.naming self.now.report place) }
+        ensures text { OnOk result (text.new.items
+            ≡ text.old.items ++ first_object self.now.naming self.now.report place) }
         ensures classes { OnOk result (changed.new.items
             ≡ changed.old.items ++ changed_class self.now.naming self.now.report place) }
     {
@@ -109,7 +108,7 @@ impl<'a> ObjectReporter<'a> {
         self.second().push_lone(text, b"+ ", place)
     }
 
-    /// Appends an object that is or became one of the second sheet, and below it what differs; says whether anything does.
+    /// Appends an object that is or became one of the second sheet, and below it what differs. Says whether it does.
     fn push_block(
         &self,
         alloc: Global,
@@ -120,8 +119,10 @@ impl<'a> ObjectReporter<'a> {
         requires place { IsPlace self.now.report.first.accepted place }
         requires target { IsPlace self.now.report.second.accepted target }
         ensures text { OnOk result (text.new.items ≡ text.old.items
-            ++ object_block self.now.naming self.now.report place target (object_lines self.now.naming self.now.report place target)) }
-        ensures told { IfOk result (λ told. told ≡ is_told_changed self.now.naming self.now.report place (Some target)) }
+            ++ object_block self.now.naming self.now.report place target
+            (object_lines self.now.naming self.now.report place target)) }
+        ensures told { IfOk result (λ told. told
+            ≡ is_told_changed self.now.naming self.now.report place (Some target)) }
     {
         let lines = self.lines(alloc, place, target)?;
         if lines.len() == 0 {
@@ -136,7 +137,8 @@ impl<'a> ObjectReporter<'a> {
     fn push_header(&self, text: &mut Vec<u8>, place: u32, target: u32) -> Result<(), AllocError>
         requires place { IsPlace self.now.report.first.accepted place }
         requires target { IsPlace self.now.report.second.accepted target }
-        ensures { OnOk result (text.new.items ≡ text.old.items ++ object_header self.now.naming self.now.report place target) }
+        ensures { OnOk result (text.new.items
+            ≡ text.old.items ++ object_header self.now.naming self.now.report place target) }
     {
         text.extend_from_slice(b"~ ")?;
         self.first().push_name(text, place)?;
@@ -167,7 +169,8 @@ impl<'a> ObjectReporter<'a> {
     ) -> Result<(), AllocError>
         requires place { IsPlace self.now.report.first.accepted place }
         requires target { IsPlace self.now.report.second.accepted target }
-        ensures { OnOk result (lines.new.items ≡ lines.old.items ++ own_lines self.now.naming self.now.report place target (same_of self.now.report place)) }
+        ensures { OnOk result (lines.new.items ≡ lines.old.items
+            ++ own_lines self.now.naming self.now.report place target (same_of self.now.report place)) }
     {
         match self.same_of(place) {
             Some(_) => Ok(()),
@@ -185,7 +188,8 @@ impl<'a> ObjectReporter<'a> {
     ) -> Result<(), AllocError>
         requires place { IsPlace self.now.report.first.accepted place }
         requires target { IsPlace self.now.report.second.accepted target }
-        ensures { OnOk result (lines.new.items ≡ lines.old.items ++ own_changes self.now.naming (parts_at self.now.report.parts place) (record_at self.now.report.first.accepted place) (record_at self.now.report.second.accepted target)) }
+        ensures { OnOk result (lines.new.items
+            ≡ lines.old.items ++ own_lines self.now.naming self.now.report place target None) }
     {
         let parts = self.parts_at(place);
         self.push_class_change(lines, parts.class, place, target)?;
@@ -204,7 +208,9 @@ impl<'a> ObjectReporter<'a> {
     ) -> Result<(), AllocError>
         requires place { IsPlace self.now.report.first.accepted place }
         requires target { IsPlace self.now.report.second.accepted target }
-        ensures { OnOk result (lines.new.items ≡ lines.old.items ++ class_change self.now.naming differ (record_at self.now.report.first.accepted place) (record_at self.now.report.second.accepted target)) }
+        ensures { OnOk result (lines.new.items ≡ lines.old.items
+            ++ class_change self.now.naming differ (record_at self.now.report.first.accepted place)
+            (record_at self.now.report.second.accepted target)) }
     {
         if !differ {
             return Ok(());
@@ -230,7 +236,9 @@ impl<'a> ObjectReporter<'a> {
     ) -> Result<(), AllocError>
         requires place { IsPlace self.now.report.first.accepted place }
         requires target { IsPlace self.now.report.second.accepted target }
-        ensures { OnOk result (lines.new.items ≡ lines.old.items ++ attributes_change self.now.naming differ (record_at self.now.report.first.accepted place) (record_at self.now.report.second.accepted target)) }
+        ensures { OnOk result (lines.new.items ≡ lines.old.items
+            ++ attributes_change self.now.naming differ (record_at self.now.report.first.accepted place)
+            (record_at self.now.report.second.accepted target)) }
     {
         if !differ {
             return Ok(());
@@ -242,7 +250,7 @@ impl<'a> ObjectReporter<'a> {
 
     /// Appends the lines of the links of the first sheet that name an object.
     fn push_first_links(&self, lines: &mut Vec<u8>, place: u32) -> Result<(), AllocError>
-        ensures { OnOk result (lines.new.items ≡ lines.old.items ++ flat_map (first_link self.now.naming self.now.report place) (links_of self.now.report.first.accepted place)) }
+        ensures { OnOk result (lines.new.items ≡ lines.old.items ++ first_links self.now.naming self.now.report place) }
     {
         for (_, link) in entries_of(&self.here.index, place) {
             self.push_first_link(lines, place, *link)?;
@@ -252,7 +260,8 @@ impl<'a> ObjectReporter<'a> {
 
     /// Appends the lines of the new links of the second sheet that name an object.
     fn push_second_links(&self, lines: &mut Vec<u8>, place: u32) -> Result<(), AllocError>
-        ensures { OnOk result (lines.new.items ≡ lines.old.items ++ flat_map (second_link self.now.naming self.now.report place) (links_of self.now.report.second.accepted place)) }
+        ensures { OnOk result (lines.new.items
+            ≡ lines.old.items ++ second_links self.now.naming self.now.report place) }
     {
         for (_, link) in entries_of(&self.there.index, place) {
             self.push_second_link(lines, place, *link)?;
@@ -260,10 +269,12 @@ impl<'a> ObjectReporter<'a> {
         Ok(())
     }
 
-    /// Appends the lines of a link of the first sheet that names an object: its own if it differs, else those of what it names.
+    /// Appends the lines of a link of the first sheet that names an object: its own if it differs, else those of what
+    /// it names.
     fn push_first_link(&self, lines: &mut Vec<u8>, place: u32, link: u32) -> Result<(), AllocError>
         requires { IsPlace self.now.report.first.accepted link }
-        ensures { OnOk result (lines.new.items ≡ lines.old.items ++ first_link self.now.naming self.now.report place link) }
+        ensures { OnOk result (lines.new.items
+            ≡ lines.old.items ++ first_link self.now.naming self.now.report place link) }
     {
         if self.is_differing(link) {
             return self.push_differing_link(lines, place, link);
@@ -279,7 +290,9 @@ impl<'a> ObjectReporter<'a> {
         link: u32,
     ) -> Result<(), AllocError>
         requires { IsPlace self.now.report.first.accepted link }
-        ensures { OnOk result (lines.new.items ≡ lines.old.items ++ differing_link self.now.naming self.now.report place link (became_of self.now.report link) (parts_at self.now.report.parts link)) }
+        ensures { OnOk result (lines.new.items ≡ lines.old.items
+            ++ differing_link self.now.naming self.now.report place link (became_of self.now.report link)
+            (parts_at self.now.report.parts link)) }
     {
         let parts = self.parts_at(link);
         if self.became_of(link).is_none() || parts.ends {
@@ -301,7 +314,8 @@ impl<'a> ObjectReporter<'a> {
         link: u32,
     ) -> Result<(), AllocError>
         requires { IsPlace self.now.report.first.accepted link }
-        ensures { OnOk result (lines.new.items ≡ lines.old.items ++ link_text sign.now self.now.naming self.now.report place link) }
+        ensures { OnOk result (lines.new.items
+            ≡ lines.old.items ++ link_text sign.now self.now.naming self.now.report place link) }
     {
         lines.extend_from_slice(sign)?;
         self.namer.push_class(lines, self.first().plan().scp(link))?;
@@ -312,7 +326,8 @@ impl<'a> ObjectReporter<'a> {
     /// Appends the lines of what a link of the first sheet names, where outlines differ.
     fn push_outlines(&self, lines: &mut Vec<u8>, link: u32) -> Result<(), AllocError>
         requires { IsPlace self.now.report.first.accepted link }
-        ensures { OnOk result (lines.new.items ≡ lines.old.items ++ outline_lines self.now.naming self.now.report link) }
+        ensures { OnOk result (lines.new.items
+            ≡ lines.old.items ++ outline_lines self.now.naming self.now.report link) }
     {
         self.push_few_outlines(lines, link)?;
         self.push_further(lines, link)
@@ -334,7 +349,9 @@ impl<'a> ObjectReporter<'a> {
     /// differ.
     fn push_few_outlines(&self, lines: &mut Vec<u8>, link: u32) -> Result<(), AllocError>
         requires { IsPlace self.now.report.first.accepted link }
-        ensures { OnOk result (lines.new.items ≡ lines.old.items ++ flat_map (outline_line self.now.naming self.now.report) (take 4 (targets (record_at self.now.report.first.accepted link)))) }
+        ensures { OnOk result (lines.new.items ≡ lines.old.items
+            ++ flat_map (outline_line self.now.naming self.now.report)
+            (take 4 (targets (record_at self.now.report.first.accepted link)))) }
     {
         let plan = self.first().plan();
         plan.keeps();
@@ -348,7 +365,8 @@ impl<'a> ObjectReporter<'a> {
     /// Appends the line of a node, an arc or a face whose outline differs.
     fn push_outline(&self, lines: &mut Vec<u8>, place: u32) -> Result<(), AllocError>
         requires { IsPlace self.now.report.first.accepted place }
-        ensures { OnOk result (lines.new.items ≡ lines.old.items ++ outline_line self.now.naming self.now.report place) }
+        ensures { OnOk result (lines.new.items
+            ≡ lines.old.items ++ outline_line self.now.naming self.now.report place) }
     {
         if self.has_other_outline(place) {
             self.push_outline_text(lines, place)
@@ -361,7 +379,8 @@ impl<'a> ObjectReporter<'a> {
     /// changed.
     fn push_outline_text(&self, lines: &mut Vec<u8>, place: u32) -> Result<(), AllocError>
         requires { IsPlace self.now.report.first.accepted place }
-        ensures { OnOk result (lines.new.items ≡ lines.old.items ++ outline_text self.now.naming self.now.report place) }
+        ensures { OnOk result (lines.new.items
+            ≡ lines.old.items ++ outline_text self.now.naming self.now.report place) }
     {
         self.push_outline_name(lines, place)?;
         self.push_outline_counts(lines, place)?;
@@ -372,7 +391,8 @@ impl<'a> ObjectReporter<'a> {
     #[tactic(auto, unfolding(crate::specs::Objects::outline_name))]
     fn push_outline_name(&self, lines: &mut Vec<u8>, place: u32) -> Result<(), AllocError>
         requires { IsPlace self.now.report.first.accepted place }
-        ensures { OnOk result (lines.new.items ≡ lines.old.items ++ outline_name self.now.naming self.now.report place) }
+        ensures { OnOk result (lines.new.items
+            ≡ lines.old.items ++ outline_name self.now.naming self.now.report place) }
     {
         self.first().push_signed(lines, b"    outline of ", place)
     }
@@ -406,7 +426,8 @@ impl<'a> ObjectReporter<'a> {
     /// Appends the line of a link of the second sheet that names an object, if it is new.
     fn push_second_link(&self, lines: &mut Vec<u8>, place: u32, link: u32) -> Result<(), AllocError>
         requires { IsPlace self.now.report.second.accepted link }
-        ensures { OnOk result (lines.new.items ≡ lines.old.items ++ second_link self.now.naming self.now.report place link) }
+        ensures { OnOk result (lines.new.items
+            ≡ lines.old.items ++ second_link self.now.naming self.now.report place link) }
     {
         if !self.arrives(link) {
             return Ok(());

@@ -21,7 +21,8 @@ pub(crate) fn outlines(
     marks: &[bool],
 ) -> Result<Vec<bool>, AllocError>
     requires { index.now ≡ index_of plan.now }
-    ensures { IfOk result (λ outlines. outlines.items ≡ map (outline_differs (test_of marks.now) plan.now) (range_with_len 0 (length plan.now.list))) }
+    ensures { IfOk result (λ outlines. outlines.items
+        ≡ map (outline_differs (test_of marks.now) plan.now) (range_with_len 0 (length plan.now.list))) }
 {
     let mut outlines = Vec::new(alloc);
     for place in 0..plan.len() {

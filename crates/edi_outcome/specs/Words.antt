@@ -34,8 +34,10 @@ source_text Dic = codes "dic "
 
 abbrev pub schema_text : SchemaFault → List ℕ
 schema_text (schema.Memory e) = codes "out of memory"
-schema_text (schema.Line file rule at) = codes "refused " ++ source_text file ++ decimal rule ++ codes " line " ++ decimal at
-schema_text (schema.Entry file rule at) = codes "refused " ++ source_text file ++ decimal rule ++ codes " record " ++ decimal at
+schema_text (schema.Line file rule at) =
+    codes "refused " ++ source_text file ++ decimal rule ++ codes " line " ++ decimal at
+schema_text (schema.Entry file rule at) =
+    codes "refused " ++ source_text file ++ decimal rule ++ codes " record " ++ decimal at
 schema_text schema.Kinds = codes "refused kinds 604"
 
 -- the words of a refused sheet, with those that say which
@@ -77,13 +79,15 @@ words_for Same names = codes "same"
 words_for (Different line) names = codes "different at line " ++ decimal line
 words_for Pairs names = codes "pairs"
 words_for (Unpaired why) names = unpaired_words (text_in names 4) why
-words_for (WrongPairing line why) names = codes "refused pairing line " ++ decimal line ++ codes ": " ++ reason_words why
+words_for (WrongPairing line why) names =
+    codes "refused pairing line " ++ decimal line ++ codes ": " ++ reason_words why
 words_for (Fault fault) names = words_of_fault fault names
 
 abbrev pub line_for : Outcome → List (Bor (List ℕ)) → List ℕ
 line_for outcome names = ended (words_for outcome (texts names))
 
--- of so many names each is there that the line of a fault needs: an input has its name before the output's, and the output has one
+-- of so many names each is there that the line of a fault needs: an input has its name before the output's, and the
+-- output has one
 abbrev pub FaultHasNames : RunFault → ℕ → Type 0
 FaultHasNames (Memory e) count = ⊤
 FaultHasNames (Read input) count = (0 < input) × (input < count)

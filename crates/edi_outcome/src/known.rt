@@ -15,12 +15,17 @@ ghost use Rattle.edi_outcome.specs.declared.outcome.Outcome.TheVariants as outco
 pub fn known_refusals_are_said()
     ensures only_sheet { words_of_fault (run.First (sheet.Line 101 3)) sheet_names ≡ codes "refused 101 line 3" }
     ensures first_sheet { words_of_fault (run.First (sheet.Line 101 3)) pair_names ≡ codes "refused first 101 line 3" }
-    ensures checked_sheet { words_of_fault (run.First (sheet.Entry 403 12)) check_names ≡ codes "refused first 403 record 12" }
-    ensures second_sheet { words_of_fault (run.Second (sheet.Line 106 1)) pair_names ≡ codes "refused second 106 line 1" }
-    ensures classes { words_of_fault (run.Schema (schema.Entry Scd 602 4)) sheet_names ≡ codes "refused scd 602 record 4" }
-    ensures dictionary { words_of_fault (run.Schema (schema.Line Dic 106 1)) sheet_names ≡ codes "refused dic 106 line 1" }
+    ensures checked_sheet { words_of_fault (run.First (sheet.Entry 403 12)) check_names
+        ≡ codes "refused first 403 record 12" }
+    ensures second_sheet { words_of_fault (run.Second (sheet.Line 106 1)) pair_names
+        ≡ codes "refused second 106 line 1" }
+    ensures classes { words_of_fault (run.Schema (schema.Entry Scd 602 4)) sheet_names
+        ≡ codes "refused scd 602 record 4" }
+    ensures dictionary { words_of_fault (run.Schema (schema.Line Dic 106 1)) sheet_names
+        ≡ codes "refused dic 106 line 1" }
     ensures kinds { words_of_fault (run.Schema schema.Kinds) sheet_names ≡ codes "refused kinds 604" }
-    ensures pairing { words_for (outcome.WrongPairing 1 Head) check_names ≡ codes "refused pairing line 1: it is not edicad pairing 1" }
+    ensures pairing { words_for (outcome.WrongPairing 1 Head) check_names
+        ≡ codes "refused pairing line 1: it is not edicad pairing 1" }
 {}
 
 /// Failures, and what a line says of each.

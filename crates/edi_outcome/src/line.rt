@@ -1,8 +1,8 @@
 //! The line of an outcome.
 //!
-//! Names are those of the inputs in their order, and of the output last: two of a bundle's run, four of a sheet's, five of a
-//! comparison, and six of a pairing's check, whose fifth is that of the pairing's file. A name is a path, or words such as `standard
-//! input`; a line shows it by `push_shown`.
+//! Names are those of the inputs in their order, and of the output last: two of a bundle's run, four of a sheet's, five
+//! of a comparison, and six of a pairing's check, whose fifth is that of the pairing's file. A name is a path, or words
+//! such as `standard input`; a line shows it by `push_shown`.
 ghost use Rattle.std.specs.Prelude.{◌≡◌, ◌<◌, ◌↔◌, ◌-◌, ◌++◌, [], IfOk, IsTrue, codes, length};
 ghost use Rattle.std.specs.Fmt.{decimal};
 ghost use Rattle.edi_files.specs.Reasons.{ended};
@@ -187,7 +187,8 @@ fn refused(
     place: &[u8],
     at: u64,
 ) -> Result<Vec<u8>, AllocError>
-    ensures { IfOk result (λ line. line.items ≡ ended (codes "refused " ++ which.now ++ decimal rule ++ place.now ++ decimal at)) }
+    ensures { IfOk result (λ line. line.items
+        ≡ ended (codes "refused " ++ which.now ++ decimal rule ++ place.now ++ decimal at)) }
 {
     let mut line = Vec::from_slice(alloc, b"refused ")?;
     line.extend_from_slice(which)?;

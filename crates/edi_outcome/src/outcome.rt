@@ -25,8 +25,8 @@ pub enum Outcome {
     Fault(RunFault),
 }
 
-/// The exit status: 0 accepted, the same or a pairing, 1 different or no pairing that carries, 2 refused, 4 not read or not
-/// written, 5 out of memory.
+/// The exit status: 0 accepted, the same or a pairing, 1 different or no pairing that carries, 2 refused, 4 not read or
+/// not written, 5 out of memory.
 pub fn status_of(outcome: &Outcome) -> u8
     ensures { result ≡ status_for outcome.now }
 {

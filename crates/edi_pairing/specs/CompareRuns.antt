@@ -12,9 +12,11 @@ use Rattle.edi_pairing.specs.Verified.{StatesOf}
 use Rattle.edi_pairing.specs.declared.writing.Compared.{Compared}
 use Rattle.edi_pairing.specs.declared.writing.Compared.TheVariants.{Same as SameBy, Different as DifferentAt}
 
--- both sheets are accepted under the schema of the two files and the codes, and the file states a pairing that carries the first plan onto the second
+-- both sheets are accepted under the schema of the two files and the codes, and the file states a pairing that carries
+-- the first plan onto the second
 abbrev pub IsPairingFileOf : KindCodes → List ℕ → List ℕ → List ℕ → List ℕ → List ℕ → Type 0
-IsPairingFileOf kinds scd dic a b file = (s : Classes) × (pairing : Pairing) × IsGoodSchema scd dic kinds s × IsAccepted s a × IsAccepted s b
+IsPairingFileOf kinds scd dic a b file =
+    (s : Classes) × (pairing : Pairing) × IsGoodSchema scd dic kinds s × IsAccepted s a × IsAccepted s b
     × IsVerdict s a b (Same pairing) × StatesOf a b file pairing
 
 -- such a file, or the verdict that the plans are not the same

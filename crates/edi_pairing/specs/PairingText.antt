@@ -30,13 +30,15 @@ module _ (a b : List RecordName) where
     -- the line of a number from 0: the head, and behind it a line for each record of A in file order
     abbrev pub line_at : ℕ → List ℕ
     line_at zero = head
-    line_at (suc place) = line_of (name_at a place) (name_at b (slice_index pairing.to place)).rid (turned_at pairing.turned place)
+    line_at (suc place) =
+        line_of (name_at a place) (name_at b (slice_index pairing.to place)).rid (turned_at pairing.turned place)
 
     -- the first so many lines, joined
     abbrev pub first_lines : ℕ → List ℕ
     first_lines zero = []
     first_lines (suc number) = first_lines number ++ line_at number
 
+    -- all lines, joined
     abbrev pub text_of : List ℕ
     text_of = first_lines (suc (length a))
 

@@ -15,7 +15,8 @@ name_text name = kind_code name.kind ++ codes " " ++ shown_bytes name.rid
 
 -- FILE:LINE: TYPE IDENTIFIER: of a line of the pairing's file
 abbrev pub pair_text : List ℕ → NamedPair → List ℕ
-pair_text file pair = shown_bytes file ++ codes ":" ++ decimal pair.at ++ codes ": " ++ name_text pair.name ++ codes ": "
+pair_text file pair =
+    shown_bytes file ++ codes ":" ++ decimal pair.at ++ codes ": " ++ name_text pair.name ++ codes ": "
 
 -- what differs between a record and the one that it goes to
 abbrev pub part_words : RecordPart → List ℕ
@@ -31,6 +32,8 @@ part_words Ends = codes "other ends"
 abbrev pub unpaired_text : List ℕ → Unpaired → List ℕ
 unpaired_text file CharacterSets = codes "A and B have different character sets"
 unpaired_text file (Shared pair earlier) =
-    pair_text file pair ++ codes "goes to " ++ name_text pair.partner ++ codes " of B, as " ++ name_text earlier.name ++ codes " does in line " ++ decimal earlier.at
-unpaired_text file (Unlike pair part) = pair_text file pair ++ codes "is not " ++ name_text pair.partner ++ codes " of B: " ++ part_words part
+    pair_text file pair ++ codes "goes to " ++ name_text pair.partner ++ codes " of B, as " ++ name_text earlier.name
+    ++ codes " does in line " ++ decimal earlier.at
+unpaired_text file (Unlike pair part) =
+    pair_text file pair ++ codes "is not " ++ name_text pair.partner ++ codes " of B: " ++ part_words part
 unpaired_text file (Unmet name) = name_text name ++ codes " of B: no record of A goes to it"

@@ -39,12 +39,15 @@ pub record StatesOf (a b file : List ℕ) (pairing : Pairing) : Type 0 where
   pub are_others : AreNamesOf b others
   pub stated : StatesPairing names others pairing file
 
--- a file that states a pairing which carries the one plan onto the other; or the line at which the canonical files differ
+-- a file that states a pairing which carries the one plan onto the other; or the line at which the canonical files
+-- differ
 abbrev pub IsComparedTo : Classes → List ℕ → List ℕ → Compared → Type 0
-IsComparedTo s a b (SameBy file) = (pairing : Pairing) × IsVerdict s a b (Same pairing) × StatesOf a b file.items pairing
+IsComparedTo s a b (SameBy file) =
+    (pairing : Pairing) × IsVerdict s a b (Same pairing) × StatesOf a b file.items pairing
 IsComparedTo s a b (DifferentAt line) = IsVerdict s a b (Different line)
 
--- the line of the record at a place, by the names of both sheets' records: its number, and the names of the record and of the one that it goes to
+-- the line of the record at a place, by the names of both sheets' records: its number, and the names of the record and
+-- of the one that it goes to
 abbrev pub pair_at : List RecordName → List RecordName → Pairing → ℕ → NamedPair
 pair_at a b pairing i = record { at = i + 2; name = name_at a i; partner = name_at b (slice_index pairing.to i) }
 
@@ -56,7 +59,8 @@ module _ (s : Classes) (p q : Drawing) (a b : List RecordName) (pairing : Pairin
   IsUnpairedBy CharacterSets = IsUncarriedBy s p q pairing uncarried.CharacterSets
   IsUnpairedBy (Shared pair earlier) = (i k : ℕ) × IsUncarriedBy s p q pairing (uncarried.Record i (wrong.Shared k))
       × (pair ≡ pair_at a b pairing i) × (earlier ≡ pair_at a b pairing k)
-  IsUnpairedBy (Unlike pair part) = (i : ℕ) × IsUncarriedBy s p q pairing (uncarried.Record i (wrong.Unlike part)) × (pair ≡ pair_at a b pairing i)
+  IsUnpairedBy (Unlike pair part) =
+      (i : ℕ) × IsUncarriedBy s p q pairing (uncarried.Record i (wrong.Unlike part)) × (pair ≡ pair_at a b pairing i)
   IsUnpairedBy (Unmet name) = (j : ℕ) × IsUncarriedBy s p q pairing (uncarried.Unmet j) × (name ≡ name_at b j)
 
   -- it carries; or it doesn't, and this is why
@@ -64,7 +68,8 @@ module _ (s : Classes) (p q : Drawing) (a b : List RecordName) (pairing : Pairin
   IsVerifyAnswer Carries = PairingCarries s p q pairing
   IsVerifyAnswer (Fails why) = (¬ (PairingCarries s p q pairing)) × IsUnpairedBy why
 
--- the file states a pairing of the two sheets, and the answer is whether it carries the first plan onto the second, or why it doesn't
+-- the file states a pairing of the two sheets, and the answer is whether it carries the first plan onto the second, or
+-- why it doesn't
 pub record IsVerified (s : Classes) (a b file : List ℕ) (answer : Verified) : Type 0 where
   pub plan : Drawing
   pub other : Drawing

@@ -10,6 +10,7 @@ use Rattle.edi_pairing.specs.declared.fault.WrongLine.{WrongLine}
 use Rattle.edi_pairing.specs.declared.fault.WrongLine.TheVariants.{Missing, Extra, Unended, CarriageReturn, Head, Form, OtherRecord, SecondSheet, NoRecord, NoPartner, OtherType}
 use Rattle.edi_pairing.specs.declared.names.RecordName.{RecordName}
 
+-- the byte ends a line
 abbrev pub is_line_feed : ℕ → Bool
 is_line_feed c = c == line_feed
 
@@ -20,7 +21,8 @@ pub record EndsInReturn (text : List ℕ) : Type 0 where
   pub one_line : list_any is_line_feed line ≡ false
   pub cut : text ≡ line ++ carriage_return ∷ line_feed ∷ rest
 
--- the text begins with a line in form, `TYPE;IDENTIFIER;IDENTIFIER` or that with `;reversed`, of this name and with this second identifier
+-- the text begins with a line in form, `TYPE;IDENTIFIER;IDENTIFIER` or that with `;reversed`, of this name and with
+-- this second identifier
 pub record IsLineOf (text : List ℕ) (name : RecordName) (other : List ℕ) : Type 0 where
   pub turned : Bool
   pub rest : List ℕ
@@ -39,7 +41,8 @@ HasIdentifier names rid = (k : ℕ) × (k < length names) × ((name_at names k).
 -- ---- what the reasons say of a line of a pairing of two sheets, by the names of their records
 
 module _ (a b : List RecordName) (line : ℕ) (next : RecordName) (text : List ℕ) where
-  -- What a reason says of a line, by its number, the name of A whose line it should be, and what stands in the file from it on.
+  -- What a reason says of a line, by its number, the name of A whose line it should be, and what stands in the file
+  -- from it on.
   abbrev pub SaysOfLine : WrongLine → Type 0
   SaysOfLine Missing = text ≡ []
   SaysOfLine Extra = length a + 1 < line
@@ -47,11 +50,16 @@ module _ (a b : List RecordName) (line : ℕ) (next : RecordName) (text : List �
   SaysOfLine CarriageReturn = EndsInReturn text
   SaysOfLine Head = line ≡ 1
   SaysOfLine Form = (name : RecordName) (other : List ℕ) → ¬ (IsLineOf text name other)
-  SaysOfLine OtherRecord = (name : RecordName) × (other : List ℕ) × IsLineOf text name other × (name ≢ next) × HasName a name
-  SaysOfLine SecondSheet = (name : RecordName) × (other : List ℕ) × IsLineOf text name other × (¬ (HasName a name)) × HasName b name
-  SaysOfLine NoRecord = (name : RecordName) × (other : List ℕ) × IsLineOf text name other × (¬ (HasName a name)) × (¬ (HasName b name))
+  SaysOfLine OtherRecord =
+      (name : RecordName) × (other : List ℕ) × IsLineOf text name other × (name ≢ next) × HasName a name
+  SaysOfLine SecondSheet =
+      (name : RecordName) × (other : List ℕ) × IsLineOf text name other × (¬ (HasName a name)) × HasName b name
+  SaysOfLine NoRecord =
+      (name : RecordName) × (other : List ℕ) × IsLineOf text name other × (¬ (HasName a name)) × (¬ (HasName b name))
   SaysOfLine NoPartner = (other : List ℕ) × IsLineOf text next other × (¬ (HasIdentifier b other))
-  SaysOfLine OtherType = (other : List ℕ) × IsLineOf text next other × HasIdentifier b other × (¬ (HasName b (record { kind = next.kind; rid = other })))
+  SaysOfLine OtherType =
+      (other : List ℕ) × IsLineOf text next other × HasIdentifier b other
+      × (¬ (HasName b (record { kind = next.kind; rid = other })))
 
 -- the order in which the reasons are asked
 abbrev pub reason_order : WrongLine → ℕ
@@ -68,7 +76,8 @@ reason_order NoPartner = 9
 reason_order OtherType = 10
 
 -- what the reason says is so, and what those before it say isn't
-pub record IsFirstReason (a b : List RecordName) (line : ℕ) (next : RecordName) (text : List ℕ) (why : WrongLine) : Type 0 where
+pub record IsFirstReason (a b : List RecordName) (line : ℕ) (next : RecordName) (text : List ℕ)
+    (why : WrongLine) : Type 0 where
   pub so : SaysOfLine a b line next text why
   pub first : (w : WrongLine) → reason_order w < reason_order why → ¬ (SaysOfLine a b line next text w)
 

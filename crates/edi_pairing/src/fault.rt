@@ -100,7 +100,8 @@ pub enum VerifyFault {
     /// The first sheet is accepted, and the second is refused.
     #[error("the second sheet: {0}")]
     Second(Fault),
-    /// Both sheets are accepted, and the file states no pairing of them: its first wrong line, counted from 1, and why it is.
+    /// Both sheets are accepted, and the file states no pairing of them: its first wrong line, counted from 1, and why
+    /// it is.
     #[error("line {at} of the pairing is wrong")]
     Pairing { at: u64, why: WrongLine },
 }
@@ -142,7 +143,8 @@ pub enum VerifyRunFault {
     /// An input can't be read or is too long, the schema or a sheet is refused, or a growth was refused.
     #[error(transparent)]
     Run(RunFault),
-    /// Both sheets are accepted, and the file states no pairing of them: its first wrong line, counted from 1, and why it is.
+    /// Both sheets are accepted, and the file states no pairing of them: its first wrong line, counted from 1, and why
+    /// it is.
     #[error("line {at} of the pairing is wrong")]
     Pairing { at: u64, why: WrongLine },
 }

@@ -26,7 +26,8 @@ pub(crate) fn behind<'f>(text: &'f [u8], front: &[u8]) -> Option<&'f [u8]>
 
 /// What comes behind the type and the identifier of a record and their semicolons.
 fn behind_name<'f>(text: &'f [u8], name: &RecordName) -> Option<&'f [u8]>
-    ensures { MatchOption result ((rest : List ℕ) → text.now ≢ front_of name.now ++ rest) (λ r. text.now ≡ front_of name.now ++ r.now) }
+    ensures { MatchOption result ((rest : List ℕ)
+        → text.now ≢ front_of name.now ++ rest) (λ r. text.now ≡ front_of name.now ++ r.now) }
 {
     let text = behind(text, name.kind.code())?;
     let text = behind(text, b";")?;
@@ -36,7 +37,8 @@ fn behind_name<'f>(text: &'f [u8], name: &RecordName) -> Option<&'f [u8]>
 
 /// What stands before the first semicolon or line feed, and what begins with that.
 pub(crate) fn cut_at_mark(text: &[u8]) -> Option<(&[u8], &[u8])>
-    ensures { MatchOption result ((front : List ℕ) (c : ℕ) (rest : List ℕ) → is_mark c ≡ true → text.now ≢ front ++ c ∷ rest)
+    ensures { MatchOption result ((front : List ℕ) (c : ℕ) (rest : List ℕ) → is_mark c ≡ true
+        → text.now ≢ front ++ c ∷ rest)
         (λ cut. IsCutAtMark text.now cut.0.now cut.1.now) }
 {
     match memchr2(b';', b'\n', text) {
@@ -47,7 +49,8 @@ pub(crate) fn cut_at_mark(text: &[u8]) -> Option<(&[u8], &[u8])>
 
 /// Whether the record is turned, and what comes behind the end of its line.
 pub(crate) fn behind_end(text: &[u8]) -> Option<(bool, &[u8])>
-    ensures { MatchOption result ((turned : Bool) (rest : List ℕ) → text.now ≢ line_end turned ++ rest) (λ r. text.now ≡ line_end r.0 ++ r.1.now) }
+    ensures { MatchOption result ((turned : Bool) (rest : List ℕ) → text.now ≢ line_end turned ++ rest)
+        (λ r. text.now ≡ line_end r.0 ++ r.1.now) }
 {
     match behind(text, b"\n") {
         Some(rest) => Some((false, rest)),

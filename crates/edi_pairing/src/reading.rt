@@ -13,10 +13,11 @@ use edi_compare::Pairing;
 use edi_line::Sequence;
 use std::alloc::Global;
 
-/// The pairing that a file states (docs/FORMAT.md, "Pairings"), of two sheets by the names of their records: the
-/// file is the text of that pairing and of no other. Or the first line, counted from 1, up to which the file isn't the
-/// beginning of any pairing's text: one that isn't in form, that isn't the line of the next record of the first sheet, or that
-/// names no record of its type in the second; one past the last where lines are missing. And why that line is wrong.
+/// The pairing that a file states (docs/FORMAT.md, "Pairings"), of two sheets by the names of their records: the file
+/// is the text of that pairing and of no other. Or the first line, counted from 1, up to which the file isn't the
+/// beginning of any pairing's text: one that isn't in form, that isn't the line of the next record of the first sheet,
+/// or that names no record of its type in the second; one past the last where lines are missing. And why that line is
+/// wrong.
 pub fn read_pairing(
     alloc: Global,
     first: &RecordNames,

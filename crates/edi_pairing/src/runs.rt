@@ -16,8 +16,8 @@ use edi_line::{ByteIn, FileBytes};
 use edi_schema::Kinds;
 use std::alloc::Global;
 
-/// Reads four files, and answers whether the third and the fourth, two sheets under the schema of the first two, state the
-/// same plan, with a pairing of them as a file. The second sheet is looked at only if the first is accepted.
+/// Reads four files, and answers whether the third and the fourth, two sheets under the schema of the first two, state
+/// the same plan, with a pairing of them as a file. The second sheet is looked at only if the first is accepted.
 pub fn run_compare_to_file<S: ByteIn, D: ByteIn, A: ByteIn, B: ByteIn>(
     alloc: Global,
     kinds: &Kinds<'_>,
@@ -26,13 +26,15 @@ pub fn run_compare_to_file<S: ByteIn, D: ByteIn, A: ByteIn, B: ByteIn>(
     first: &mut A,
     second: &mut B,
 ) -> Result<Compared, RunFault>
-    ensures ok { IfOk result (λ compared. IfFourKnown (S.contents scd.old) (D.contents dic.old) (A.contents first.old) (B.contents second.old)
+    ensures ok { IfOk result (λ compared.
+        IfFourKnown (S.contents scd.old) (D.contents dic.old) (A.contents first.old) (B.contents second.old)
         (λ s d a b. IsComparedUnder kinds.now s d a b compared)) }
     ensures read { OnOk result (AreFourRead (seen S.ByteIn scd.old scd.new) (seen D.ByteIn dic.old dic.new)
         (seen A.ByteIn first.old first.new) (seen B.ByteIn second.old second.new)) }
     ensures err { IfErr result (ComparingFault kinds.now (seen S.ByteIn scd.old scd.new) (seen D.ByteIn dic.old dic.new)
         (seen A.ByteIn first.old first.new) (seen B.ByteIn second.old second.new)) }
-    ensures after { IfErr result (λ e. AfterReading e (AreFourRead (seen S.ByteIn scd.old scd.new) (seen D.ByteIn dic.old dic.new)
+    ensures after { IfErr result (λ e.
+        AfterReading e (AreFourRead (seen S.ByteIn scd.old scd.new) (seen D.ByteIn dic.old dic.new)
         (seen A.ByteIn first.old first.new) (seen B.ByteIn second.old second.new))) }
 {
     let scd = read_input(alloc, scd, 1)?;
@@ -50,8 +52,8 @@ pub fn run_compare_to_file<S: ByteIn, D: ByteIn, A: ByteIn, B: ByteIn>(
 }
 
 /// Reads five files, and answers whether the fifth states a pairing that carries the plan of the third onto that of the
-/// fourth, two sheets under the schema of the first two, and why it doesn't. All are read before one is looked at. The second sheet is looked
-/// at only if the first is accepted, and the pairing's file only if both are.
+/// fourth, two sheets under the schema of the first two, and why it doesn't. All are read before one is looked at. The
+/// second sheet is looked at only if the first is accepted, and the pairing's file only if both are.
 pub fn run_verify<S: ByteIn, D: ByteIn, A: ByteIn, B: ByteIn, F: ByteIn>(
     alloc: Global,
     kinds: &Kinds<'_>,
@@ -61,7 +63,8 @@ pub fn run_verify<S: ByteIn, D: ByteIn, A: ByteIn, B: ByteIn, F: ByteIn>(
     second: &mut B,
     file: &mut F,
 ) -> Result<Verified, VerifyRunFault>
-    ensures ok { IfOk result (λ answer. IfFiveKnown (S.contents scd.old) (D.contents dic.old) (A.contents first.old) (B.contents second.old) (F.contents file.old)
+    ensures ok { IfOk result (λ answer. IfFiveKnown (S.contents scd.old) (D.contents dic.old) (A.contents first.old)
+        (B.contents second.old) (F.contents file.old)
         (λ s d a b f. IsVerifiedUnder kinds.now s d a b f answer)) }
     ensures read { OnOk result (AreAllRead (record {
       scd = seen S.ByteIn scd.old scd.new;
@@ -110,8 +113,10 @@ fn compare_or_fault(
     first: FileBytes<'_>,
     second: FileBytes<'_>,
 ) -> Result<Compared, RunFault>
-    ensures ok { IfOk result (IsComparedUnder kinds.now scd.now dic.now (file_bytes first.entry) (file_bytes second.entry)) }
-    ensures err { IfErr result (PairFault kinds.now scd.now dic.now (file_bytes first.entry) (file_bytes second.entry)) }
+    ensures ok { IfOk result
+        (IsComparedUnder kinds.now scd.now dic.now (file_bytes first.entry) (file_bytes second.entry)) }
+    ensures err { IfErr result
+        (PairFault kinds.now scd.now dic.now (file_bytes first.entry) (file_bytes second.entry)) }
 {
     let schema = load_or_fault(alloc, kinds, scd, dic)?;
     let compared = compare_to_file(alloc, &schema, first, second)?;
@@ -128,8 +133,10 @@ fn verify_or_fault(
     second: FileBytes<'_>,
     file: &[u8],
 ) -> Result<Verified, VerifyRunFault>
-    ensures ok { IfOk result (IsVerifiedUnder kinds.now scd.now dic.now (file_bytes first.entry) (file_bytes second.entry) file.now) }
-    ensures err { IfErr result (FilesFault kinds.now scd.now dic.now (file_bytes first.entry) (file_bytes second.entry) file.now) }
+    ensures ok { IfOk result
+        (IsVerifiedUnder kinds.now scd.now dic.now (file_bytes first.entry) (file_bytes second.entry) file.now) }
+    ensures err { IfErr result
+        (FilesFault kinds.now scd.now dic.now (file_bytes first.entry) (file_bytes second.entry) file.now) }
 {
     let schema = load_or_fault(alloc, kinds, scd, dic)?;
     match verify(alloc, &schema, first, second, file) {

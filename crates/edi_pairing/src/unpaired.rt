@@ -10,8 +10,9 @@ use edi_line::push_number;
 use edi_shown::push_shown;
 use std::alloc::AllocError;
 
-/// Appends why a file of this name doesn't pair, without an end of the line: where a record of A isn't carried, with the file's line of
-/// it, its type and its identifier, as a line shows them, and those of the record of B to which it goes.
+/// Appends why a file of this name doesn't pair, without an end of the line: where a record of A isn't carried, with
+/// the file's line of it, its type and its identifier, as a line shows them, and those of the record of B to which it
+/// goes.
 pub fn push_unpaired(text: &mut Vec<u8>, file: &[u8], why: &Unpaired) -> Result<(), AllocError>
     ensures { OnOk result (text.new.items ≡ text.old.items ++ unpaired_text file.now why.now) }
 {
@@ -27,7 +28,8 @@ pub fn push_unpaired(text: &mut Vec<u8>, file: &[u8], why: &Unpaired) -> Result<
 
 // Appends that no record goes to this one of B.
 fn push_unmet(text: &mut Vec<u8>, name: &RecordName) -> Result<(), AllocError>
-    ensures { OnOk result (text.new.items ≡ text.old.items ++ (name_text name.now ++ codes " of B: no record of A goes to it")) }
+    ensures { OnOk result (text.new.items
+        ≡ text.old.items ++ (name_text name.now ++ codes " of B: no record of A goes to it")) }
 {
     push_name(text, name)?;
     text.extend_from_slice(b" of B: no record of A goes to it")
@@ -40,7 +42,8 @@ fn push_shared(
     pair: &NamedPair,
     earlier: &NamedPair,
 ) -> Result<(), AllocError>
-    ensures { OnOk result (text.new.items ≡ text.old.items ++ unpaired_text file.now (Unpaired.Shared pair.now earlier.now)) }
+    ensures { OnOk result (text.new.items
+        ≡ text.old.items ++ unpaired_text file.now (Unpaired.Shared pair.now earlier.now)) }
 {
     push_pair(text, file, pair)?;
     text.extend_from_slice(b"goes to ")?;

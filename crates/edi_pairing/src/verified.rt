@@ -18,16 +18,16 @@ pub enum Verified {
     Fails(Unpaired),
 }
 
-/// Why the pairing that a file states doesn't carry the plan of A onto that of B: the first of these that is so. The records of A that
-/// aren't carried come in file order, and the first of them is named.
+/// Why the pairing that a file states doesn't carry the plan of A onto that of B: the first of these that is so. The
+/// records of A that aren't carried come in file order, and the first of them is named.
 #[derive(Drop)]
 pub enum Unpaired {
     /// A and B have different character sets.
     CharacterSets,
     /// The record of A is the first that isn't carried: it goes to a record of B to which an earlier one goes.
     Shared { pair: NamedPair, earlier: NamedPair },
-    /// The record of A is the first that isn't carried: it isn't the record of B to which it goes, and this is the first part in
-    /// which they differ.
+    /// The record of A is the first that isn't carried: it isn't the record of B to which it goes, and this is the
+    /// first part in which they differ.
     Unlike { pair: NamedPair, part: RecordPart },
     /// Each record of A is carried, and this is the first of B to which none goes.
     Unmet { name: RecordName },

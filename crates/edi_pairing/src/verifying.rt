@@ -16,11 +16,11 @@ use edi_line::FileBytes;
 use edi_schema::Schema;
 use std::alloc::{AllocError, Global};
 
-/// Whether a file states a pairing that carries the plan of the first sheet onto that of the second, under one schema, and if it states
-/// one that doesn't, why: the first record that isn't carried, by its name.
-/// `VerifyFault::First` where the first sheet is refused, `VerifyFault::Second` where the first is accepted and the
-/// second is refused, both as `edi_compare::compare` refuses them; `VerifyFault::Pairing` where both are accepted and
-/// the file states no pairing of them.
+/// Whether a file states a pairing that carries the plan of the first sheet onto that of the second, under one schema,
+/// and if it states one that doesn't, why: the first record that isn't carried, by its name. `VerifyFault::First` where
+/// the first sheet is refused, `VerifyFault::Second` where the first is accepted and the second is refused, both as
+/// `edi_compare::compare` refuses them; `VerifyFault::Pairing` where both are accepted and the file states no pairing
+/// of them.
 ///
 /// It trusts nothing of where the pairing came from: it compares no labels and no canonical files.
 pub fn verify(
@@ -53,7 +53,9 @@ fn judged(
     requires first { length first.now.names ≡ length first.now.accepted.list }
     requires second { length second.now.names ≡ length second.now.accepted.list }
     requires pairing { IsPairing first.now.names second.now.names pairing.now }
-    ensures { IfOk result (IsVerifyAnswer schema.now first.now.accepted second.now.accepted first.now.names second.now.names pairing.now) }
+    ensures { IfOk result
+        (IsVerifyAnswer schema.now first.now.accepted second.now.accepted first.now.names second.now.names
+        pairing.now) }
 {
     match first_uncarried(alloc, schema, &first.accepted, &second.accepted, pairing)? {
         Some(why) => {

@@ -95,7 +95,8 @@ fn compare_named(
     second: &NamedSheet,
 ) -> Result<Compared, AllocError>
     requires { (a b : List ℕ) × IsNamedSheet schema.now a first.now × IsNamedSheet schema.now b second.now }
-    ensures { IfOk result (λ compared. (a b : List ℕ) → IsNamedSheet schema.now a first.now → IsNamedSheet schema.now b second.now
+    ensures { IfOk result (λ compared. (a b : List ℕ) → IsNamedSheet schema.now a first.now
+        → IsNamedSheet schema.now b second.now
         → IsComparedTo schema.now a b compared) }
 {
     match compare_accepted(alloc, schema, &first.accepted, &second.accepted)? {

@@ -44,7 +44,8 @@ pub(crate) fn why_no_line(
     text: &[u8],
 ) -> WrongLine
     requires within { place < length first.now }
-    requires none { (to : ℕ) (turned : Bool) (rest : List ℕ) → ¬ (BeginsWith second.now (name_at first.now place) text.now to turned rest) }
+    requires none { (to : ℕ) (turned : Bool) (rest : List ℕ)
+        → ¬ (BeginsWith second.now (name_at first.now place) text.now to turned rest) }
     ensures { IsFirstReason first.now second.now (place + 2) (name_at first.now place) text.now result }
 {
     if let Some(why) = why_unread(text) {
@@ -94,7 +95,8 @@ fn parts_of(text: &[u8]) -> Option<LineParts<'_>>
 
 /// What stands before the first semicolon of a line, and what behind it.
 fn field_at(text: &[u8]) -> Option<(&[u8], &[u8])>
-    ensures { MatchOption result ((field : List ℕ) (rest : List ℕ) → list_any is_mark field ≡ false → text.now ≢ field ++ semicolon ∷ rest)
+    ensures { MatchOption result ((field : List ℕ) (rest : List ℕ) → list_any is_mark field ≡ false
+        → text.now ≢ field ++ semicolon ∷ rest)
         (λ r. (list_any is_mark r.0.now ≡ false) × (text.now ≡ r.0.now ++ semicolon ∷ r.1.now)) }
 {
     let Some((field, end)) = cut_at_mark(text) else {
@@ -108,8 +110,10 @@ fn field_at(text: &[u8]) -> Option<(&[u8], &[u8])>
 
 /// What stands before the end of a line.
 fn last_at(text: &[u8]) -> Option<&[u8]>
-    ensures { MatchOption result ((field : List ℕ) (turned : Bool) (rest : List ℕ) → list_any is_mark field ≡ false → text.now ≢ field ++ (line_end turned ++ rest))
-        (λ f. (list_any is_mark f.now ≡ false) × ((turned : Bool) × (rest : List ℕ) × (text.now ≡ f.now ++ (line_end turned ++ rest)))) }
+    ensures { MatchOption result ((field : List ℕ) (turned : Bool) (rest : List ℕ) → list_any is_mark field ≡ false
+        → text.now ≢ field ++ (line_end turned ++ rest))
+        (λ f. (list_any is_mark f.now ≡ false)
+        × ((turned : Bool) × (rest : List ℕ) × (text.now ≡ f.now ++ (line_end turned ++ rest)))) }
 {
     let Some((field, end)) = cut_at_mark(text) else {
         return None;
@@ -141,7 +145,8 @@ fn why_no_pair(
     next: &RecordName,
     parts: LineParts<'_>,
 ) -> WrongLine
-    ensures { IsNoPair first.now second.now next.now (record { kind = parts.entry.kind; rid = parts.entry.rid.now }) parts.entry.other.now result }
+    ensures { IsNoPair first.now second.now next.now
+        (record { kind = parts.entry.kind; rid = parts.entry.rid.now }) parts.entry.other.now result }
 {
     if is_named(next, parts.kind, parts.rid) {
         if has_identifier(second, parts.other) {
@@ -160,14 +165,16 @@ fn why_no_pair(
 
 /// Whether a record has this name.
 fn is_named(name: &RecordName, kind: Kind, rid: &[u8]) -> bool
-    ensures { MatchBool result (name.now ≡ record { kind = kind; rid = rid.now }) (name.now ≢ record { kind = kind; rid = rid.now }) }
+    ensures { MatchBool result (name.now ≡ record { kind = kind; rid = rid.now })
+        (name.now ≢ record { kind = kind; rid = rid.now }) }
 {
     name.kind == kind && name.rid.as_slice() == rid
 }
 
 /// Whether one of the names is this.
 fn has_name(names: &[RecordName], kind: Kind, rid: &[u8]) -> bool
-    ensures { MatchBool result (HasName names.now (record { kind = kind; rid = rid.now })) (¬ (HasName names.now (record { kind = kind; rid = rid.now }))) }
+    ensures { MatchBool result (HasName names.now (record { kind = kind; rid = rid.now }))
+        (¬ (HasName names.now (record { kind = kind; rid = rid.now }))) }
 {
     for name in names {
         if is_named(name, kind, rid) {

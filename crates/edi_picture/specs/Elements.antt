@@ -63,7 +63,8 @@ dot_text s f ink sheet k q = if is_outside f q then [] else dot_element s f ink 
 -- what is drawn of a node in an ink
 abbrev pub node_text : Classes → Extent → Ink → Sheet → ℕ → List ℕ
 node_text s f ink sheet k =
-    if is_drawn_in ink (mark_at sheet k) then flat_map (dot_text s f ink sheet k) (record_at sheet.plan k).points else []
+    if is_drawn_in ink (mark_at sheet k)
+    then flat_map (dot_text s f ink sheet k) (record_at sheet.plan k).points else []
 
 -- the nodes of a sheet, in file order
 abbrev pub nodes_of : Classes → Extent → Ink → Sheet → List ℕ

@@ -15,7 +15,8 @@ use Rattle.edi_plan.specs.declared.record.PlanRecord.{PlanRecord}
 use Rattle.edi_plan.specs.declared.extent.Extent.{Extent}
 use Rattle.edi_picture.specs.Elements.{spot_text, spots_text}
 use Rattle.edi_picture.specs.Frames.{distance, pixels}
-use Rattle.edi_picture.specs.Marks.{is_hidden}
+use Rattle.edi_picture.specs.Marks.{same_mark}
+use Rattle.edi_picture.specs.declared.mark.Mark.TheVariants.{Hidden}
 use Rattle.edi_picture.specs.Sheets.{Sheet, mark_at, tint_at}
 use Rattle.edi_picture.specs.Titles.{title_text}
 
@@ -107,7 +108,7 @@ face_by_ends s f sheet k arcs (base ∷ ends) =
 -- what is drawn of a face: nothing where its mark hides it
 abbrev pub face_text : Classes → Extent → Sheet → ℕ → List ℕ
 face_text s f sheet k =
-    if is_hidden (mark_at sheet k) then []
+    if same_mark Hidden (mark_at sheet k) then []
     else face_by_ends s f sheet k (arcs_round sheet.plan k) (ends_of sheet.plan (arcs_round sheet.plan k))
 
 -- the faces of a sheet, in file order

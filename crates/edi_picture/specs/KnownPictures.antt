@@ -215,7 +215,8 @@ abbrev pub faces_of_b : Sheet
 faces_of_b = record {
   plan = record {
     cse = None;
-    list = known_arc (known_point 0 0 ∷ known_point 4000000 0 ∷ known_point 4000000 4000000 ∷ known_point 0 0 ∷ []) ∷ [];
+    list =
+        known_arc (known_point 0 0 ∷ known_point 4000000 0 ∷ known_point 4000000 4000000 ∷ known_point 0 0 ∷ []) ∷ [];
   };
   name = codes "b.vec";
   identifiers = codes "B1" ∷ [];

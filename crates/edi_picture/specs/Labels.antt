@@ -8,7 +8,8 @@ use Rattle.edi_plan.specs.Plans.{Drawing, record_at}
 use Rattle.edi_plan.specs.declared.extent.Extent.{Extent}
 use Rattle.edi_picture.specs.Faces.{arcs_round}
 use Rattle.edi_picture.specs.Frames.{distance, pixel}
-use Rattle.edi_picture.specs.Marks.{is_hidden}
+use Rattle.edi_picture.specs.Marks.{same_mark}
+use Rattle.edi_picture.specs.declared.mark.Mark.TheVariants.{Hidden}
 use Rattle.edi_picture.specs.Sheets.{Sheet, label_at, mark_at}
 use Rattle.edi_picture.specs.Titles.{escaped_text}
 
@@ -54,7 +55,7 @@ label_amid f top [] label = []
 label_amid f top (q ∷ points) label = label_element f top (q ∷ points) label
 
 abbrev pub has_label : Sheet → ℕ → Bool
-has_label sheet k = not (is_hidden (mark_at sheet k)) && not (length (label_at sheet k) == 0)
+has_label sheet k = not (same_mark Hidden (mark_at sheet k)) && not (length (label_at sheet k) == 0)
 
 -- what is written on a face, amid the points of its arcs
 abbrev pub label_text : Extent → ℕ → Sheet → ℕ → List ℕ

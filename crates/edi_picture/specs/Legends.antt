@@ -8,7 +8,8 @@ use Rattle.edi_plan.specs.Places.{places_of}
 use Rattle.edi_plan.specs.Plans.{record_at}
 use Rattle.edi_plan.specs.declared.extent.Extent.{Extent}
 use Rattle.edi_picture.specs.Frames.{is_outside, pixels, plan_height, side_length}
-use Rattle.edi_picture.specs.Marks.{colour, is_before, is_hidden, is_only_first, is_only_second}
+use Rattle.edi_picture.specs.Marks.{colour, same_mark}
+use Rattle.edi_picture.specs.declared.mark.Mark.TheVariants.{OnlyFirst, OnlySecond, Before, Hidden}
 use Rattle.edi_picture.specs.Sheets.{Sheet, mark_at}
 use Rattle.edi_picture.specs.Titles.{file_name_text, record_title}
 use Rattle.edi_picture.specs.declared.mark.Ink.{Ink}
@@ -52,13 +53,14 @@ sheet_words letter sheet count =
     letter ++ file_name_text sheet.name ++ codes ", records only here: " ++ decimal count
 
 abbrev pub first_words : Sheet → List ℕ
-first_words sheet = sheet_words (codes "A: ") sheet (count_by is_only_first sheet.marks)
+first_words sheet = sheet_words (codes "A: ") sheet (count_by (same_mark OnlyFirst) sheet.marks)
 
 abbrev pub second_words : Sheet → List ℕ
-second_words sheet = sheet_words (codes "B: ") sheet (count_by is_only_second sheet.marks)
+second_words sheet = sheet_words (codes "B: ") sheet (count_by (same_mark OnlySecond) sheet.marks)
 
 abbrev pub changed_words : Sheet → List ℕ
-changed_words sheet = codes "records changed: " ++ decimal (count_by is_before sheet.marks) ++ codes "; grey: the same in both"
+changed_words sheet =
+    codes "records changed: " ++ decimal (count_by (same_mark Before) sheet.marks) ++ codes "; grey: the same in both"
 
 -- a patch of the tint, and what it says
 abbrev pub tint_row : List ℕ
@@ -123,7 +125,7 @@ bar_text f top bar = north_text ++ bar_below f top bar
 -- a node whose mark doesn't hide it lies outside of the frame
 abbrev pub is_far : Extent → Sheet → ℕ → Bool
 is_far f sheet k =
-    not (is_hidden (mark_at sheet k)) && list_any (is_outside f) (record_at sheet.plan k).points
+    not (same_mark Hidden (mark_at sheet k)) && list_any (is_outside f) (record_at sheet.plan k).points
 
 -- the names of those nodes of a sheet
 abbrev pub far_name : Classes → Sheet → ℕ → List ℕ

@@ -1,5 +1,6 @@
 -- How records are told apart.
-use Rattle.std.specs.Prelude.{ℕ, Bool, true, false, List, [], codes}
+use Rattle.std.specs.Prelude.{ℕ, Bool, ◌||◌, List, [], codes}
+use Rattle.edi_picture.specs.contracts.mark.MarkPartialEq.TheImpl.{ghosts as marks}
 use Rattle.edi_picture.specs.declared.mark.Ink.{Ink}
 use Rattle.edi_picture.specs.declared.mark.Ink.TheVariants.{Grey, Old, New}
 use Rattle.edi_picture.specs.declared.mark.Mark.{Mark}
@@ -7,63 +8,9 @@ use Rattle.edi_picture.specs.declared.mark.Mark.TheVariants.{Plain, OnlyFirst, O
 
 -- ---- marks
 
--- what only the first sheet has, or had so
-abbrev pub is_old : Mark → Bool
-is_old Plain = false
-is_old OnlyFirst = true
-is_old OnlySecond = false
-is_old Before = true
-is_old After = false
-is_old Hidden = false
-
--- what only the second sheet has, or has so
-abbrev pub is_new : Mark → Bool
-is_new Plain = false
-is_new OnlyFirst = false
-is_new OnlySecond = true
-is_new Before = false
-is_new After = true
-is_new Hidden = false
-
-abbrev pub is_unmarked : Mark → Bool
-is_unmarked Plain = true
-is_unmarked OnlyFirst = false
-is_unmarked OnlySecond = false
-is_unmarked Before = false
-is_unmarked After = false
-is_unmarked Hidden = false
-
-abbrev pub is_hidden : Mark → Bool
-is_hidden Plain = false
-is_hidden OnlyFirst = false
-is_hidden OnlySecond = false
-is_hidden Before = false
-is_hidden After = false
-is_hidden Hidden = true
-
-abbrev pub is_only_first : Mark → Bool
-is_only_first Plain = false
-is_only_first OnlyFirst = true
-is_only_first OnlySecond = false
-is_only_first Before = false
-is_only_first After = false
-is_only_first Hidden = false
-
-abbrev pub is_only_second : Mark → Bool
-is_only_second Plain = false
-is_only_second OnlyFirst = false
-is_only_second OnlySecond = true
-is_only_second Before = false
-is_only_second After = false
-is_only_second Hidden = false
-
-abbrev pub is_before : Mark → Bool
-is_before Plain = false
-is_before OnlyFirst = false
-is_before OnlySecond = false
-is_before Before = true
-is_before After = false
-is_before Hidden = false
+-- two marks are one
+abbrev pub same_mark : Mark → Mark → Bool
+same_mark a b = marks.eq a b
 
 -- what a mark says of a record, behind its title
 abbrev pub mark_words : Mark → List ℕ
@@ -76,11 +23,12 @@ mark_words Hidden = []
 
 -- ---- inks
 
--- the records of this mark are drawn in this ink
+-- The records of this mark are drawn in this ink: what only the first sheet has, or had so, is old, and what only the
+-- second has, or has so, is new.
 abbrev pub is_drawn_in : Ink → Mark → Bool
-is_drawn_in Grey mark = is_unmarked mark
-is_drawn_in Old mark = is_old mark
-is_drawn_in New mark = is_new mark
+is_drawn_in Grey mark = same_mark Plain mark
+is_drawn_in Old mark = same_mark OnlyFirst mark || same_mark Before mark
+is_drawn_in New mark = same_mark OnlySecond mark || same_mark After mark
 
 -- grey, and vermilion and blue, which are told apart by those who don't see all colours
 abbrev pub colour : Ink → List ℕ

@@ -165,7 +165,8 @@ impl<'a> Canvas<'a> {
         requires classes { HasClasses self.now.schema.now sheet.now.plan }
         requires place { IsPlace sheet.now.plan place }
         ensures { OnOk result (text.new.items ≡ text.old.items
-            ++ flat_map (dot_text self.now.schema.now self.now.frame ink sheet.now place) (record_at sheet.now.plan place).points) }
+            ++ flat_map (dot_text self.now.schema.now self.now.frame ink sheet.now place)
+            (record_at sheet.now.plan place).points) }
     {
         for point in sheet.plan().points(place) {
             self.push_dot(text, ink, sheet, place, point)?;

@@ -9,6 +9,7 @@ ghost use Rattle.edi_picture.specs.Faces.{arcs_round, band_text, bands, bands_be
 
 use crate::canvas::{Canvas, push_pixels, push_spot};
 use crate::ends::{closes, ends_of_arcs};
+use crate::mark::Mark;
 use crate::rounds::rounds_of;
 use crate::shown::Shown;
 use crate::titles::push_title;
@@ -222,7 +223,7 @@ fn push_face(
     ensures { OnOk result (text.new.items
         ≡ text.old.items ++ face_text canvas.now.schema.now canvas.now.frame sheet.now face) }
 {
-    if sheet.mark(face).is_hidden() {
+    if sheet.mark(face).is(Mark::Hidden) {
         return Ok(());
     }
     let ends = ends_of_arcs(alloc, sheet.plan(), arcs)?;

@@ -22,8 +22,8 @@ pub fn known_records_are_drawn()
 {}
 
 /// Some sheets, and their pictures from the first byte to the last: a triangle that is drawn alone, two sheets of nodes
-/// with each of the marks, two with tinted faces and a node that lies far off, and a sheet without records. Each has the
-/// classes that `picture` requires.
+/// with each of the marks, two with tinted faces and a node that lies far off, and a sheet without records. Each has
+/// the classes that `picture` requires.
 pub fn known_pictures_are_drawn()
     ensures triangle { IsOnlyPicture triangle_classes (triangle_sheet ∷ []) triangle_picture }
     ensures nodes { IsOnlyPicture classes_of_nodes (nodes_of_a ∷ nodes_of_b ∷ []) picture_of_nodes }

@@ -8,6 +8,7 @@ ghost use Rattle.edi_picture.specs.Faces.{arcs_round};
 ghost use Rattle.edi_picture.specs.Labels.{has_label, label_amid, label_element, label_place, label_text, labels_of, middle, middle_across, middle_down, midway, page_across, page_down};
 
 use crate::frame::{distance_between, pixel};
+use crate::mark::Mark;
 use crate::rounds::rounds_of;
 use crate::shown::Shown;
 use crate::titles::push_escaped_text;
@@ -150,7 +151,7 @@ fn points_of_arcs(alloc: Global, plan: &Plan, arcs: &[u32]) -> Result<Vec<Point>
 fn has_label(sheet: &Shown<'_>, face: u32) -> bool
     ensures { result ≡ has_label sheet.now face }
 {
-    !sheet.mark(face).is_hidden() && !sheet.label(face).is_empty()
+    !sheet.mark(face).is(Mark::Hidden) && !sheet.label(face).is_empty()
 }
 
 /// Appends what is written on a face with these arcs round it.

@@ -11,7 +11,7 @@ ghost use Rattle.edi_picture.specs.Titles.{file_name_text};
 
 use crate::canvas::{Canvas, push_pixels};
 use crate::frame::{is_outside, plan_height, side};
-use crate::mark::Ink;
+use crate::mark::{Ink, Mark};
 use crate::shown::Shown;
 use crate::titles::{push_file_name, push_name};
 use crate::writing::put;
@@ -98,7 +98,7 @@ fn first_words(alloc: Global, sheet: &Shown<'_>) -> Result<Vec<u8>, AllocError>
     ensures { IfOk result (λ words. words.items ≡ first_words sheet.now) }
 {
     let mut words = Vec::new(alloc);
-    push_sheet_words(&mut words, b"A: ", sheet, sheet.only_first_count())?;
+    push_sheet_words(&mut words, b"A: ", sheet, sheet.count(Mark::OnlyFirst))?;
     Ok(words)
 }
 
@@ -107,7 +107,7 @@ fn second_words(alloc: Global, sheet: &Shown<'_>) -> Result<Vec<u8>, AllocError>
     ensures { IfOk result (λ words. words.items ≡ second_words sheet.now) }
 {
     let mut words = Vec::new(alloc);
-    push_sheet_words(&mut words, b"B: ", sheet, sheet.only_second_count())?;
+    push_sheet_words(&mut words, b"B: ", sheet, sheet.count(Mark::OnlySecond))?;
     Ok(words)
 }
 
@@ -117,7 +117,7 @@ fn changed_words(alloc: Global, sheet: &Shown<'_>) -> Result<Vec<u8>, AllocError
 {
     let mut words = Vec::new(alloc);
     put(&mut words, b"records changed: ")?;
-    push_number(&mut words, sheet.changed_count() as u64)?;
+    push_number(&mut words, sheet.count(Mark::Before) as u64)?;
     put(&mut words, b"; grey: the same in both")?;
     Ok(words)
 }
@@ -322,7 +322,7 @@ impl<'a> Canvas<'a> {
         requires { IsPlace sheet.now.plan place }
         ensures { result ≡ is_far self.now.frame sheet.now place }
     {
-        if sheet.mark(place).is_hidden() {
+        if sheet.mark(place).is(Mark::Hidden) {
             return false;
         }
         for point in sheet.plan().points(place) {

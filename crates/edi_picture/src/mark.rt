@@ -1,7 +1,7 @@
 //! How records are told apart in a picture.
 
 ghost use Rattle.std.specs.Prelude.{◌≡◌};
-ghost use Rattle.edi_picture.specs.Marks.{colour, filling, is_before as before, is_drawn_in as inks, is_hidden as hides, is_only_first as only_first, is_only_second as only_second, stroke_width, mark_words, node_radius};
+ghost use Rattle.edi_picture.specs.Marks.{colour, filling, is_drawn_in as inks, mark_words, node_radius, same_mark, stroke_width};
 
 /// What a picture says of a record.
 #[derive(Clone, Copy, PartialEq, Eq)]
@@ -89,28 +89,11 @@ impl Mark {
         }
     }
 
-    pub(crate) fn is_hidden(self) -> bool
-        ensures { result ≡ hides self }
+    /// Whether it is this one.
+    pub(crate) fn is(self, mark: Mark) -> bool
+        ensures { result ≡ same_mark mark self }
     {
-        self == Mark::Hidden
-    }
-
-    pub(crate) fn is_only_first(self) -> bool
-        ensures { result ≡ only_first self }
-    {
-        self == Mark::OnlyFirst
-    }
-
-    pub(crate) fn is_only_second(self) -> bool
-        ensures { result ≡ only_second self }
-    {
-        self == Mark::OnlySecond
-    }
-
-    pub(crate) fn is_before(self) -> bool
-        ensures { result ≡ before self }
-    {
-        self == Mark::Before
+        mark == self
     }
 
     /// What it says, behind a title.

@@ -53,12 +53,12 @@ impl<'a> Model for Shown<'a> {
 
 impl<'a> Shown<'a> {
     ghost use Rattle.std.specs.Prelude.{count_by};
-    ghost use Rattle.edi_picture.specs.Marks.{is_before, is_only_first, is_only_second};
+    ghost use Rattle.edi_picture.specs.Marks.{same_mark};
     ghost use Rattle.edi_picture.specs.Sheets.{identifier_at, label_at, mark_at, tint_at};
 
-    /// A plan, the name of its file, the identifiers of its records as their file has them, and how they are drawn, each
-    /// in file order. A record that has no identifier here is drawn with an empty one; one that has no mark here is not
-    /// drawn; a face that has no tint or label here has none.
+    /// A plan, the name of its file, the identifiers of its records as their file has them, and how they are drawn,
+    /// each in file order. A record that has no identifier here is drawn with an empty one; one that has no mark here
+    /// is not drawn; a face that has no tint or label here has none.
     pub fn new(
         plan: &'a Plan,
         name: &'a [u8],
@@ -136,36 +136,10 @@ impl<'a> Shown<'a> {
         }
     }
 
-    /// How many records only the first sheet has, by their marks.
-    pub(crate) fn only_first_count(&self) -> usize
-        ensures { result ≡ count_by is_only_first self.now.marks }
+    /// How many records have a mark.
+    pub(crate) fn count(&self, mark: Mark) -> usize
+        ensures { result ≡ count_by (same_mark mark) self.now.marks }
     {
-        self.looks
-            .marks
-            .iter()
-            .filter(|mark| mark.is_only_first())
-            .count()
-    }
-
-    /// How many only the second has.
-    pub(crate) fn only_second_count(&self) -> usize
-        ensures { result ≡ count_by is_only_second self.now.marks }
-    {
-        self.looks
-            .marks
-            .iter()
-            .filter(|mark| mark.is_only_second())
-            .count()
-    }
-
-    /// How many differ, as the first has them.
-    pub(crate) fn changed_count(&self) -> usize
-        ensures { result ≡ count_by is_before self.now.marks }
-    {
-        self.looks
-            .marks
-            .iter()
-            .filter(|mark| mark.is_before())
-            .count()
+        self.looks.marks.iter().filter(|it| it.is(mark)).count()
     }
 }

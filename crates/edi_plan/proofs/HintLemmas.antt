@@ -1,17 +1,18 @@
 -- Records that are found by their names.
 use Rattle.std.proofs.Common.{◌≡◌, ℕ, zero, suc, add-one, ◌+◌, ◌<◌, ◌≤◌, ◌⊎◌, inl, inr, Bool, true, false, List, [], ◌∷◌, length, drop, slice_index_or, Option, None, Some, if◌then◌else◌, slice_get, refl, sym, ap, ◌∙◌, subst, arith}
 use Rattle.std.proofs.lemmas.Bool.{cases_lt}
-use Rattle.std.proofs.lemmas.Option.{slice_get_within}
+use Rattle.std.proofs.lemmas.Option.{get_or_from_slice_get, slice_get_within}
 use Rattle.edi_record.specs.Records.{is_link}
-use Rattle.edi_record.specs.Shapes.{kind_code}
+use Rattle.edi_record.specs.Shapes.{kind_code, stated_at}
 use Rattle.edi_record.specs.declared.name.Name.{Name}
 use Rattle.edi_record.specs.declared.record.Kind.{Kind}
+use Rattle.edi_record.specs.declared.record.Kind.TheVariants.{Pno, Par, Pfe, Fea, Lnk}
 use Rattle.edi_record.specs.declared.record.Record.{Record}
 use Rattle.edi_schema.proofs.Names.{same_name}
 use Rattle.edi_plan.specs.PlanOf.{own_name, place_named}
 use Rattle.edi_plan.specs.inner.Hints.{is_named, is_named_at, first_named, found, HasFirst, HasAll}
 use Rattle.edi_plan.specs.inner.LinkNames.{LinksDiffer}
-use Rattle.edi_plan.specs.inner.Names.{RepeatsAt}
+use Rattle.edi_plan.specs.inner.Names.{RepeatsAt, is_tabled}
 use Rattle.edi_plan.specs.inner.Targets.{HasNameAt}
 use Rattle.edi_plan.specs.declared.name_slots.NameHints.{NameHints}
 use Rattle.edi_plan.proofs.NameLemmas.{coded_kind, has_name}
@@ -96,16 +97,36 @@ module _ (list : List Record) (hints : NameHints) (differ : LinksDiffer list) (a
       go (Some place) e = e ∙ sym (only_named list name None place no_repeats refl (first_there list name _ place e))
       go None e = none e (place_named list name) refl
 
+pub all_found : (list : List Record) (hints : NameHints) (n : ℕ) → length list ≤ n → HasFirst n list hints → HasAll list hints
+all_found list hints n past first k r at other = let within = slice_get_within list k r at in first k r (omega arith) at other
+
 -- one record more is found
-pub first_more : (list : List Record) (hints : NameHints) (n : ℕ) (r : Record) → slice_get list n ≡ Some r → HasFirst n list hints → (is_link r.kind ≡ false → found list hints r.kind r.rid ≡ Some n) → HasFirst (n + 1) list hints
-first_more list hints n r here before one k q less at other = go (cases_lt k n)
+pub first_more_there : (list : List Record) (hints : NameHints) (n : ℕ) → HasFirst n list hints
+    → ((r : Record) → slice_get list n ≡ Some r → is_link r.kind ≡ false → found list hints r.kind r.rid ≡ Some n) → HasFirst (n + 1) list hints
+first_more_there list hints n before one k q less at other = go (cases_lt k n)
   where
     go : (k < n) ⊎ (n ≤ k) → found list hints q.kind q.rid ≡ Some k
     go (inl below) = before k q below at other
     go (inr past) =
         let e : k ≡ n = omega arith in
-        let same : r ≡ q = same_some (sym here ∙ (ap (slice_get list) (sym e) ∙ at)) in
-        subst (λ (x : Record). found list hints x.kind x.rid ≡ Some k) same (one (ap is_link (ap (λ (x : Record). x.kind) same) ∙ other) ∙ ap Some (sym e))
+        subst (λ (m : ℕ). found list hints q.kind q.rid ≡ Some m) (sym e) (one q (subst (λ (m : ℕ). slice_get list m ≡ Some q) e at) other)
 
-pub all_found : (list : List Record) (hints : NameHints) (n : ℕ) → length list ≤ n → HasFirst n list hints → HasAll list hints
-all_found list hints n past first k r at other = let within = slice_get_within list k r at in first k r (omega arith) at other
+module _ (list : List Record) (n : ℕ) (r : Record) (kind : Kind) (rid : List ℕ)
+    (there : slice_get list n ≡ Some r) (named_so : (let x : Name = record { rty = kind_code kind; rid = rid } in x) ≡ own_name (stated_at list n)) where
+  -- the name of the record at a place, by its parts
+  named_it : (let x : Name = record { rty = kind_code kind; rid = rid } in x) ≡ own_name r
+  named_it = named_so ∙ ap own_name (get_or_from_slice_get list n r _ there)
+
+  pub kind_there : kind ≡ r.kind
+  kind_there = coded_kind kind r.kind (ap (λ (x : Name). x.rty) named_it)
+
+  pub rid_there : rid ≡ r.rid
+  rid_there = ap (λ (x : Name). x.rid) named_it
+
+-- what isn't tabled is a link
+pub untabled : (kind : Kind) (P : Type 0) → false ≡ is_tabled true kind → is_link kind ≡ false → P
+untabled Pno P h plain = cc
+untabled Par P h plain = cc
+untabled Pfe P h plain = cc
+untabled Fea P h plain = cc
+untabled Lnk P h plain = cc

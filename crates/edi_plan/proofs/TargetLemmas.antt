@@ -11,11 +11,10 @@ use Rattle.edi_record.specs.declared.record.End.{End}
 use Rattle.edi_record.specs.declared.record.Kind.{Kind}
 use Rattle.edi_record.specs.declared.record.Kind.TheVariants.{Pno, Par, Pfe, Fea, Lnk}
 use Rattle.edi_record.specs.declared.record.Record.{Record}
-use Rattle.edi_plan.specs.inner.Names.{named, IsFirstRepeatIfAny}
+use Rattle.edi_plan.specs.inner.Names.{IsFirstRepeatIfAny}
 use Rattle.edi_plan.specs.PlanOf.{place_named}
 use Rattle.edi_record.specs.Records.{is_link}
 use Rattle.edi_plan.specs.inner.Targets.{target_kind, HasNameAt, Leads, IsTargetIfAny}
-use Rattle.edi_plan.specs.declared.names.RecordNameRef.{RecordNameRef}
 use Rattle.edi_plan.specs.declared.targets.Target.{Target}
 use Rattle.edi_plan.proofs.NameLemmas.{coded_kind, first_named, has_name}
 
@@ -72,9 +71,6 @@ module _ (list : List Record) (e : End) where
       let both = coded e.target.rty k is in
       let kinds : target_kind (kind_code at.0.kind) ≡ Some k = ap target_kind (ap (λ (n : Name). n.rty) at.2) ∙ is in
       record { there = at.0; named = found; here = at.1; kind = coded_kind at.0.kind k (ap (λ (n : Name). n.rty) at.2 ∙ both.0); no_link = both.1 }
-
-pub named_target : (name : RecordNameRef) (target : Name) → target.rty ≡ kind_code name.kind → name.rid.now ≡ target.rid → named name ≡ target
-named_target name target rty rid = λ i. record { rty = sym rty i; rid = rid i }
 
 -- lists side by side
 

@@ -37,5 +37,6 @@ pub record IsJoin (p : Drawing) (link : ℕ) : Type 0 where
 -- a link of one of the four kinds joins an arc with a node or a face, and of one role an arc has one such link at most
 pub record IsJoined (p : Drawing) : Type 0 where
   pub joins : (k : ℕ) → IsJoin p k → JoinsArc p k
-  pub one_side : (j k a x y : ℕ) → IsJoin p j → IsJoin p k → (record_at p j).role ≡ (record_at p k).role → (record_at p a).kind ≡ Par
+  pub one_side : (j k a x y : ℕ) → IsJoin p j → IsJoin p k → (record_at p j).role ≡ (record_at p k).role
+      → (record_at p a).kind ≡ Par
       → HasEnds p j a x → HasEnds p k a y → j ≡ k

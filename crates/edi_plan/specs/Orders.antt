@@ -6,4 +6,5 @@ use Rattle.edi_plan.specs.declared.record.PlanAttribute.{PlanAttribute}
 
 -- attributes go by class, then character set, then value
 abbrev pub attribute_cmp : PlanAttribute → PlanAttribute → Ordering
-attribute_cmp a b = ordering_then (nat_cmp a.atp b.atp) (ordering_then (text_cmp a.tex b.tex) (value_cmp a.value b.value))
+attribute_cmp a b =
+    ordering_then (nat_cmp a.atp b.atp) (ordering_then (text_cmp a.tex b.tex) (value_cmp a.value b.value))

@@ -7,7 +7,8 @@ use Rattle.edi_plan.specs.declared.record.PlanRecord.{PlanRecord}
 -- the places of the records of a kind, in file order
 abbrev pub places_from : Kind → ℕ → List PlanRecord → List ℕ
 places_from kind place [] = []
-places_from kind place (r ∷ rs) = if same_kind kind r.kind then place ∷ places_from kind (place + 1) rs else places_from kind (place + 1) rs
+places_from kind place (r ∷ rs) =
+    if same_kind kind r.kind then place ∷ places_from kind (place + 1) rs else places_from kind (place + 1) rs
 
 abbrev pub places_of : Kind → Drawing → List ℕ
 places_of kind p = places_from kind 0 p.list

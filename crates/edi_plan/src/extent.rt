@@ -101,7 +101,8 @@ fn with_points(found: Option<Extent>, points: &[Point]) -> Option<Extent>
 
 /// The extent of some points and those of a plan.
 pub fn extent_with(found: Option<Extent>, plan: &Plan) -> Option<Extent>
-    ensures { (before : List Points) → IsExtentIfAny before found → IsExtentIfAny (before ++ points_of plan.now) result }
+    ensures { (before : List Points) → IsExtentIfAny before found
+        → IsExtentIfAny (before ++ points_of plan.now) result }
 {
     let mut found = found;
     for place in 0..plan.len() {

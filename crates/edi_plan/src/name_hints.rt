@@ -107,7 +107,7 @@ impl NameHints {
         ensures within { result + 8 ≤ length self.now.slots.items }
     {
         let starts = (self.slots.len() - WINDOW + 1) as u64;
-        let number = last_bytes(name.rid)
+        let number = last_bytes(name.rid.as_slice())
             .wrapping_mul(WINDOW as u64)
             .wrapping_add(kind_slot(name.kind));
         (number % starts) as usize

@@ -10,19 +10,24 @@ ghost use Rattle.edi_plan.specs.PlanOf.{own_name};
 ghost use Rattle.edi_plan.specs.inner.Names.{named, place_in, is_tabled as tabled_test, tabled, IsPut, AreNamesOf, IsFirstRepeatIfAny};
 ghost use Rattle.edi_plan.specs.inner.Targets.{HasNameAt};
 ghost use Rattle.edi_plan.specs.inner.Hints.{is_named_at};
-ghost use Rattle.edi_plan.specs.inner.LinkNames.{with_digit, end_number, LinksDiffer};
+ghost use Rattle.edi_plan.specs.inner.LinkNames.{with_digit, end_number, length_and_end, link_number, LinksDiffer};
 
+use crate::name_hints::last_bytes;
 use edi_hash::{KeyNames, NameHash};
+use edi_line::Text;
 use edi_record::{Kind, SheetRecords};
 use indexmap::IndexMap;
 use std::alloc::{AllocError, Global};
 use std::hash::{Hash, Hasher};
 
-/// The type and the identifier of a record, borrowed from it.
+// What the length of an identifier counts, above its last bytes.
+const LENGTH_UNIT: u64 = 4_294_967_296;
+
+/// The type and the identifier of a record, borrowed from it. Two texts are compared faster than two slices.
 #[derive(Clone, Copy, PartialEq, Eq)]
 pub(crate) struct RecordNameRef<'a> {
     pub(crate) kind: Kind,
-    pub(crate) rid: &'a [u8],
+    pub(crate) rid: &'a Text,
 }
 
 // The type is left out: an identifier makes five names at most.
@@ -32,7 +37,7 @@ impl<'a> Hash for RecordNameRef<'a> {
     ghost respects_eq = { Prim.search (hashing, rules) };
 
     fn hash<H: Hasher>(&self, state: &mut H) {
-        state.write(self.rid);
+        state.write(self.rid.as_slice());
     }
 }
 
@@ -94,8 +99,39 @@ fn end_number(rid: &[u8]) -> u64
     number
 }
 
+/// The length of an identifier, and its last six bytes read as digits. Where one identifier is as another but for a
+/// greater number at its end, of six digits at most, this is greater too; and it takes a tenth of the steps of
+/// `end_number`.
+#[tactic(auto, unfolding(crate::specs::inner::LinkNames::length_and_end))]
+fn length_and_end(rid: &[u8]) -> u64
+    ensures { result ≡ length_and_end rid.now }
+{
+    (rid.len() as u64)
+        .wrapping_mul(LENGTH_UNIT)
+        .wrapping_add(last_bytes(rid))
+}
+
+/// The number of a link's identifier, in one of two ways.
+#[tactic(auto, unfolding(crate::specs::inner::LinkNames::link_number))]
+fn link_number(by_digits: bool, rid: &[u8]) -> u64
+    ensures { result ≡ link_number by_digits rid.now }
+{
+    if by_digits {
+        end_number(rid)
+    } else {
+        length_and_end(rid)
+    }
+}
+
 /// Whether the numbers of the links rise, as they do in most sheets. Then no two links have one identifier.
 pub(crate) fn links_rise(records: &SheetRecords) -> bool
+    ensures { result ≡ true → LinksDiffer records.now }
+{
+    numbers_rise(false, records) || numbers_rise(true, records)
+}
+
+/// Whether the numbers that the links have in one of the two ways rise.
+fn numbers_rise(by_digits: bool, records: &SheetRecords) -> bool
     ensures { result ≡ true → LinksDiffer records.now }
 {
     let mut least: u64 = 0;
@@ -103,7 +139,7 @@ pub(crate) fn links_rise(records: &SheetRecords) -> bool
         if !records.kind(place).is_link() {
             continue;
         }
-        let number = end_number(records.rid(place));
+        let number = link_number(by_digits, records.rid(place).as_slice());
         if number < least || number == u64::MAX {
             return false;
         }
@@ -119,15 +155,15 @@ pub(crate) fn is_tabled(links_rise: bool, kind: Kind) -> bool
     !(links_rise && kind.is_link())
 }
 
-/// The hash for the names of these records that go into the table, under a key made of their identifiers. Their types are left
-/// out: one identifier makes five names at most, too few to choose among.
+/// The hash for the names of these records that go into the table, under a key made of their identifiers. Their types
+/// are left out: one identifier makes five names at most, too few to choose among.
 fn hash_of(links_rise: bool, records: &SheetRecords) -> NameHash
     ensures { result ≡ keyed_by (map (λ r. r.rid) (tabled links_rise records.now)) }
 {
     let mut names = KeyNames::new();
     for place in 0..records.len() {
         if is_tabled(links_rise, records.kind(place)) {
-            names.add(records.rid(place));
+            names.add(records.rid(place).as_slice());
         }
     }
     names.hash()

@@ -11,8 +11,8 @@ use crate::record_list::RecordList;
 use edi_record::Kind;
 use std::alloc::{AllocError, Global};
 
-/// The type of each record, by place, and the places of the records of each type, in file order. The types lie apart from
-/// the records, where they take one byte each, since they are often asked for out of order.
+/// The type of each record, by place, and the places of the records of each type, in file order. The types lie apart
+/// from the records, where they take one byte each, since they are often asked for out of order.
 pub(crate) struct Places {
     kinds: Vec<Kind>,
     nodes: Vec<u32>,
@@ -52,7 +52,8 @@ impl Places {
 
     /// Adds the place of a record of a type.
     fn add(&mut self, kind: Kind, place: u32) -> Result<(), AllocError>
-        ensures places { OnOk result ((other : Kinds) → listed self.new other ≡ (if same_kind other kind then listed self.old other ++ place ∷ [] else listed self.old other)) }
+        ensures places { OnOk result ((other : Kinds) → listed self.new other
+            ≡ (if same_kind other kind then listed self.old other ++ place ∷ [] else listed self.old other)) }
         ensures kinds { OnOk result (self.new.kinds.items ≡ self.old.kinds.items ++ kind ∷ []) }
     {
         self.kinds.push(kind)?;

@@ -42,7 +42,8 @@ impl Model for Plan {
 
     ghost view = { λ p. record { cse = p.cse; list = records_of p.list } };
 
-    ghost invariant = { λ p. HoldsSides (record { cse = p.cse; list = records_of p.list }) p.sides × ArePlacesOf (records_of p.list) p.places × AreWithin p.list };
+    ghost invariant = { λ p. HoldsSides (record { cse = p.cse; list = records_of p.list }) p.sides
+        × ArePlacesOf (records_of p.list) p.places × AreWithin p.list };
 }
 
 impl Plan {
@@ -109,7 +110,8 @@ impl Plan {
         self.list.class(place as usize)
     }
 
-    /// The kind of link that the class of a record has. It says something of links alone, though records of other types may have such a class.
+    /// The kind of link that the class of a record has. It says something of links alone, though records of other types
+    /// may have such a class.
     pub fn role(&self, place: u32) -> Role
         requires { IsPlace self.now place }
         ensures { result ≡ (record_at self.now place).role }

@@ -22,5 +22,13 @@ impl<'a> Model for PlannedRecord<'a> {
 
     ghost Value = { PlanRecord };
 
-    ghost view = { λ r. record { kind = r.kind; class = r.class; role = r.role; points = r.points.now; attributes = r.attributes.items; extras = r.extras.items; ends = r.ends.items } };
+    ghost view = { λ r. record {
+      kind = r.kind;
+      class = r.class;
+      role = r.role;
+      points = r.points.now;
+      attributes = r.attributes.items;
+      extras = r.extras.items;
+      ends = r.ends.items;
+    } };
 }

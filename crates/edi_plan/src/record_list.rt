@@ -91,7 +91,8 @@ impl RecordList {
         requires there { place < length (records_of self.now) }
         ensures within { ArePartsWithin result.now }
         ensures there { place % 256 < length (records_in result.now) }
-        ensures same { slice_index_or (records_of self.now) place blank ≡ slice_index_or (records_in result.now) (place % 256) blank }
+        ensures same { slice_index_or (records_of self.now) place blank
+            ≡ slice_index_or (records_in result.now) (place % 256) blank }
     {
         let at = place / BLOCK;
         if at < self.closed.len() {

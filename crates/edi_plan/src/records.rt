@@ -53,7 +53,8 @@ fn is_attribute_type(rty: &Text) -> bool
 fn attribute_class(schema: &Schema, classes: &mut ClassFinders<'_>, name: &Name) -> Option<ClassRef>
     requires { AreOf schema.now classes.old }
     ensures class { MatchOption result ((name.now.rty ≢ codes "ATT") ⊎ (place_of schema.now name.now ≡ None))
-        (λ class. (name.now.rty ≡ codes "ATT") × (place_of schema.now name.now ≡ Some class) × (class < length schema.now)) }
+        (λ class. (name.now.rty ≡ codes "ATT") × (place_of schema.now name.now ≡ Some class)
+        × (class < length schema.now)) }
     ensures same { AreOf schema.now classes.new }
 {
     let _ = schema;
@@ -192,8 +193,8 @@ fn leaves_subset(subset: &Option<Subset>, ends: &[End]) -> bool
     }
 }
 
-/// The record in the plan, whose class is known if the schema has it; or the least of the rules 302 to 307 that the record breaks.
-/// What a link joins is noted.
+/// The record in the plan, whose class is known if the schema has it; or the least of the rules 302 to 307 that the
+/// record breaks. What a link joins is noted.
 fn plan_record<'a>(
     schema: &Schema,
     subset: &Option<Subset>,
@@ -211,9 +212,12 @@ fn plan_record<'a>(
     requires entries { HaveEntries sides.old targets.now }
     ensures planned { IfOk result (IsPlanned schema.now targets.now record.now) }
     ensures same { AreOf schema.now classes.new }
-    ensures noted { OnOk result (IsNoted sides.old (role_of_link schema.now record.now) (link_join (role_of_link schema.now record.now) targets.now) sides.new) }
-    ensures sound { OnOk result (first_broken (reference_tests schema.now subset.now targets.now sides.old record.now) ≡ None) }
-    ensures least { IfErr result (IsUnresolved (λ rule. first_broken (reference_tests schema.now subset.now targets.now sides.old record.now) ≡ Some rule)) }
+    ensures noted { OnOk result (IsNoted sides.old (role_of_link schema.now record.now)
+        (link_join (role_of_link schema.now record.now) targets.now) sides.new) }
+    ensures sound { OnOk result (first_broken (reference_tests schema.now subset.now targets.now sides.old record.now)
+        ≡ None) }
+    ensures least { IfErr result (IsUnresolved
+        (λ rule. first_broken (reference_tests schema.now subset.now targets.now sides.old record.now) ≡ Some rule)) }
 {
     let Some(class) = class else {
         return Err(Unresolved::Broken(302));
@@ -265,7 +269,8 @@ pub(crate) struct Planned {
     pub(crate) sides: Vec<ByRole<Option<u32>>>,
 }
 
-/// The records in the plan; or the first that breaks a rule of references, and the least rule there. The records are let go on the way.
+/// The records in the plan; or the first that breaks a rule of references, and the least rule there. The records are
+/// let go on the way.
 pub(crate) fn plan_records(
     alloc: Global,
     schema: &Schema,

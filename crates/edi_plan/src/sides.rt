@@ -93,7 +93,8 @@ pub(crate) fn note_link(
     requires { HaveEntries sides.old targets.now }
     ensures noted { OnOk result (IsNoted sides.old role (link_join role targets.now) sides.new) }
     ensures sound { OnOk result (first_broken (link_tests sides.old role targets.now) ≡ None) }
-    ensures least { IfErr result (IsUnresolved (λ rule. first_broken (link_tests sides.old role targets.now) ≡ Some rule)) }
+    ensures least { IfErr result
+        (IsUnresolved (λ rule. first_broken (link_tests sides.old role targets.now) ≡ Some rule)) }
 {
     let Some(kind) = beside(role) else {
         return Ok(());

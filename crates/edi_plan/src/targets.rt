@@ -144,7 +144,7 @@ fn target_of(
     let kind = kind_coded(end.target.rty.as_slice())?;
     let name = RecordNameRef {
         kind,
-        rid: end.target.rid.as_slice(),
+        rid: &end.target.rid,
     };
     let place = place_of(records, names, last.place(kind), &name)?;
     Some(Target { place, kind })
@@ -159,7 +159,8 @@ fn add_targets(
     ends: &[End],
 ) -> Result<(), AllocError>
     requires { FindsAll records.now names.now }
-    ensures { OnOk result ((before : List Ends) → AllZip (IsTargetIfAny records.now) before targets.old.items → AllZip (IsTargetIfAny records.now) (before ++ ends.now) targets.new.items) }
+    ensures { OnOk result ((before : List Ends) → AllZip (IsTargetIfAny records.now) before targets.old.items
+        → AllZip (IsTargetIfAny records.now) (before ++ ends.now) targets.new.items) }
 {
     for end in ends {
         let target = target_of(records, names, *last, end);

@@ -12,5 +12,7 @@ high_sheet =
 abbrev pub shared_sheet : List ℕ
 shared_sheet =
     line (codes "BOMT 12:EDAB01T1.VEC") (line (codes "RTYSA03:PNO") (line (codes "RIDSA01:a")
-    (line (codes "SCPCP22:EDAB01;SeSD;PGE;NOD_id") (line (codes "CORCC04:1;2;") (line (codes "RTYSA03:PNO") (line (codes "RIDSA01:b")
-    (line (codes "SCPCP22:EDAB01;SeSD;PGE;NOD_id") (line (codes "CORCC04:1;2;") (line (codes "XTRSA01:x") (line (codes "EOMT 00:") []))))))))))
+    (line (codes "SCPCP22:EDAB01;SeSD;PGE;NOD_id")
+    (line (codes "CORCC04:1;2;") (line (codes "RTYSA03:PNO") (line (codes "RIDSA01:b")
+    (line (codes "SCPCP22:EDAB01;SeSD;PGE;NOD_id")
+    (line (codes "CORCC04:1;2;") (line (codes "XTRSA01:x") (line (codes "EOMT 00:") []))))))))))

@@ -26,7 +26,9 @@ pub record TodayIsToday : Type 0 where
 
 -- each COR of a node or an arc is a position of two coordinates
 abbrev pub IsFlatGroup : List Entry → Type 0
-IsFlatGroup group = (kind : Kind) → IsOfKind group kind → has_points kind ≡ true → AllByRecursion (λ text. (p : Point) × IsFlatPosition text p) (values (codes "COR") group)
+IsFlatGroup group =
+    (kind : Kind) → IsOfKind group kind → has_points kind ≡ true
+    → AllByRecursion (λ text. (p : Point) × IsFlatPosition text p) (values (codes "COR") group)
 
 abbrev pub IsFlatFile : List ℕ → Type 0
 IsFlatFile b = (zones : List Entry) → IsZonesOf b zones → AllByRecursion IsFlatGroup (groups_of zones)
@@ -34,19 +36,25 @@ IsFlatFile b = (zones : List Entry) → IsZonesOf b zones → AllByRecursion IsF
 -- for such a file the rules before and after the third coordinate break the same rules at the same places, and the one
 -- calls it canonical if the other does
 pub record FlatSheetsAgree : Type 0 where
-  pub breaks : (s : Classes) (b : List ℕ) (rule at : ℕ) → IsFlatFile b → BreaksBy two_coordinates s b rule at ↔ BreaksBy three_coordinates s b rule at
-  pub canonical : (s : Classes) (c : List ℕ) → IsFlatFile c → IsCanonicalBy two_coordinates s c ↔ IsCanonicalBy three_coordinates s c
+  pub breaks : (s : Classes) (b : List ℕ) (rule at : ℕ) → IsFlatFile b
+      → BreaksBy two_coordinates s b rule at ↔ BreaksBy three_coordinates s b rule at
+  pub canonical : (s : Classes) (c : List ℕ) → IsFlatFile c
+      → IsCanonicalBy two_coordinates s c ↔ IsCanonicalBy three_coordinates s c
 
 -- points of two coordinates go by these, and are written with these
 pub record PointsOfTwoCoordinates : Type 0 where
-  pub order : (a b : Point) → a.z ≡ None → b.z ≡ None → point_cmp a b ≡ ordering_then (int_cmp a.x b.x) (int_cmp a.y b.y)
-  pub text : (a : Point) → a.z ≡ None → point_text a ≡ signed_text a.x ++ semicolon ∷ (signed_text a.y ++ semicolon ∷ [])
+  pub order : (a b : Point) → a.z ≡ None → b.z ≡ None
+      → point_cmp a b ≡ ordering_then (int_cmp a.x b.x) (int_cmp a.y b.y)
+  pub text : (a : Point) → a.z ≡ None
+      → point_text a ≡ signed_text a.x ++ semicolon ∷ (signed_text a.y ++ semicolon ∷ [])
 
--- what was accepted or canonical by the rules of two coordinates is so by those of three, and what was so by these is so today
+-- what was accepted or canonical by the rules of two coordinates is so by those of three, and what was so by these is
+-- so today
 pub record LaterRulesAcceptMore : Type 0 where
   pub second : (s : Classes) (b : List ℕ) → IsAcceptedBy two_coordinates s b → IsAcceptedBy three_coordinates s b
   pub third : (s : Classes) (b : List ℕ) → IsAcceptedBy three_coordinates s b → IsAccepted s b
-  pub second_canonical : (s : Classes) (c : List ℕ) → IsCanonicalBy two_coordinates s c → IsCanonicalBy three_coordinates s c
+  pub second_canonical : (s : Classes) (c : List ℕ) → IsCanonicalBy two_coordinates s c
+      → IsCanonicalBy three_coordinates s c
   pub third_canonical : (s : Classes) (c : List ℕ) → IsCanonicalBy three_coordinates s c → IsCanonical s c
 
 -- the canonical file that a sheet had by either of the earlier rules is the one that `canon` gives today

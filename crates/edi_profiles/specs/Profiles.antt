@@ -1,6 +1,6 @@
--- The rules of sheets, by what has changed over time: which texts are positions, when a node repeats an earlier one, and how
--- nodes go in a canonical file. Three such profiles: points of two coordinates; points of two or three; and the rules of
--- today, in which nodes that differ in class, attributes or extra zones may share a position.
+-- The rules of sheets, by what has changed over time: which texts are positions, when a node repeats an earlier one,
+-- and how nodes go in a canonical file. Three such profiles: points of two coordinates; points of two or three; and the
+-- rules of today, in which nodes that differ in class, attributes or extra zones may share a position.
 use Rattle.std.specs.Prelude.{◌≡◌, ◌≢◌, ◌⊎◌, ℕ, suc, ◌+◌, ◌<◌, ◌≤◌, true, false, List, [], ◌∷◌, ◌++◌, length, map, None, Any, codes, if◌then◌else◌}
 use Rattle.std.specs.List.{AllZip}
 use Rattle.std.specs.Ordering.{is_gt}
@@ -71,14 +71,17 @@ three_coordinates = record { position = IsPosition; repeats = ShareAPosition; no
 
 -- the rules of today
 abbrev pub today : Profile
-today = record { position = IsPosition; repeats = AreEqualNodes; node_cmp = λ a b. node_key_cmp (node_key a) (node_key b) }
+today =
+    record { position = IsPosition; repeats = AreEqualNodes; node_cmp = λ a b. node_key_cmp (node_key a) (node_key b) }
 
 -- ---- the rules by a profile
 
 module _ (P : Profile) where
   -- a COR of a node or an arc is no position of the profile
   abbrev pub LacksPosition : List Entry → Type 0
-  LacksPosition group = (kind : Kind) × IsOfKind group kind × (has_points kind ≡ true) × Any (λ text. (p : Point) → ¬ (P.position text p)) (values (codes "COR") group)
+  LacksPosition group =
+      (kind : Kind) × IsOfKind group kind × (has_points kind ≡ true)
+      × Any (λ text. (p : Point) → ¬ (P.position text p)) (values (codes "COR") group)
 
   -- 206 by the profile, of the record of this number
   abbrev pub LacksPositionAt : List Entry → ℕ → Type 0
@@ -95,7 +98,9 @@ module _ (P : Profile) where
 
   -- the sheet that a file states, and its plan
   abbrev pub IsSheetBy : List ℕ → Sheet → Type 0
-  IsSheetBy b sheet = (zones : List Entry) × IsZonesOf b zones × StatesSheet zones sheet × AllZip HasPositions (groups_of zones) sheet.list
+  IsSheetBy b sheet =
+      (zones : List Entry) × IsZonesOf b zones × StatesSheet zones sheet
+      × AllZip HasPositions (groups_of zones) sheet.list
 
   abbrev pub IsPlanBy : Classes → List ℕ → Drawing → Type 0
   IsPlanBy s b p = (sheet : Sheet) × IsSheetBy b sheet × IsPlanOf s sheet p
@@ -113,7 +118,8 @@ module _ (P : Profile) where
   RecordsHoldBy s b = LinesHold s b × ((zones : List Entry) → IsZonesOf b zones → IsUnbroken (BreaksRecords zones))
 
   abbrev pub ReferencesHoldBy : Classes → List ℕ → Type 0
-  ReferencesHoldBy s b = RecordsHoldBy s b × ((sheet : Sheet) → IsSheetBy b sheet → IsUnbroken (BreaksReferenceRule s sheet.list))
+  ReferencesHoldBy s b =
+      RecordsHoldBy s b × ((sheet : Sheet) → IsSheetBy b sheet → IsUnbroken (BreaksReferenceRule s sheet.list))
 
   abbrev pub TopologyHoldsBy : Classes → List ℕ → Type 0
   TopologyHoldsBy s b = ReferencesHoldBy s b × ((p : Drawing) → IsPlanBy s b p → IsUnbroken (BreaksTopology p))
@@ -121,10 +127,14 @@ module _ (P : Profile) where
   -- a file breaks a rule at a place, phase by phase
   pub data BreaksBy (s : Classes) (b : List ℕ) (rule at : ℕ) : Type 0 where
     of_lines : BreaksLineRule b rule at → BreaksBy s b rule at
-    of_records : (zones : List Entry) → LinesHold s b → IsZonesOf b zones → BreaksRecords zones rule at → BreaksBy s b rule at
-    of_references : (sheet : Sheet) → RecordsHoldBy s b → IsSheetBy b sheet → BreaksReferenceRule s sheet.list rule at → BreaksBy s b rule at
-    of_topology : (p : Drawing) → ReferencesHoldBy s b → IsPlanBy s b p → BreaksTopology p rule at → BreaksBy s b rule at
-    of_objects : (p : Drawing) → TopologyHoldsBy s b → IsPlanBy s b p → BreaksObjectRule p rule at → BreaksBy s b rule at
+    of_records : (zones : List Entry) → LinesHold s b → IsZonesOf b zones → BreaksRecords zones rule at
+        → BreaksBy s b rule at
+    of_references : (sheet : Sheet) → RecordsHoldBy s b → IsSheetBy b sheet → BreaksReferenceRule s sheet.list rule at
+        → BreaksBy s b rule at
+    of_topology : (p : Drawing) → ReferencesHoldBy s b → IsPlanBy s b p → BreaksTopology p rule at
+        → BreaksBy s b rule at
+    of_objects : (p : Drawing) → TopologyHoldsBy s b → IsPlanBy s b p → BreaksObjectRule p rule at
+        → BreaksBy s b rule at
 
   -- nothing is broken
   abbrev pub IsAcceptedBy : Classes → List ℕ → Type 0
@@ -135,9 +145,11 @@ module _ (P : Profile) where
     pub by_type : (i k : ℕ) → i < k → IsPlace p k → kind_rank (record_at p i).kind ≤ kind_rank (record_at p k).kind
     pub nodes : (i k : ℕ) → Both p suc Pno i k → P.node_cmp (record_at p i) (record_at p k) ≡ Less
     pub arcs : (i k : ℕ) → Both p suc Par i k → points_cmp (record_at p i).points (record_at p k).points ≡ Less
-    pub faces : (i k : ℕ) → Both p suc Pfe i k → option_cmp face_key_cmp (least_side p suc i) (least_side p suc k) ≡ Less
+    pub faces : (i k : ℕ) → Both p suc Pfe i k
+        → option_cmp face_key_cmp (least_side p suc i) (least_side p suc k) ≡ Less
     pub objects : (i k : ℕ) → Both p suc Fea i k → object_key_cmp (object_key p suc i) (object_key p suc k) ≡ Less
-    pub links : (i k : ℕ) → Both p suc Lnk i k → is_gt (link_key_cmp (link_key p suc (record_at p i)) (link_key p suc (record_at p k))) ≡ false
+    pub links : (i k : ℕ) → Both p suc Lnk i k
+        → is_gt (link_key_cmp (link_key p suc (record_at p i)) (link_key p suc (record_at p k))) ≡ false
     pub forward : (i : ℕ) → IsPlace p i → (record_at p i).kind ≡ Par → is_forward (record_at p i).points ≡ true
     pub attributes : (i : ℕ) → IsPlace p i → NeverFalls attribute_cmp (record_at p i).attributes
     pub others : (i : ℕ) → IsPlace p i → NeverFalls end_cmp (map (numbered p suc) (others_of (record_at p i)))

@@ -4,8 +4,8 @@ ghost use Rattle.edi_compare.specs.Known.{node_classes, node_file, node_sheet};
 ghost use Rattle.edi_profiles.specs.Known.{high_sheet, shared_sheet};
 ghost use Rattle.edi_profiles.specs.Profiles.{IsAcceptedBy, IsFormBy, three_coordinates, today, two_coordinates};
 
-/// A sheet of one node with two coordinates is accepted by the rules of all times; one with three coordinates not by the
-/// earliest; and one with two nodes at one position by neither of the earlier rules.
+/// A sheet of one node with two coordinates is accepted by the rules of all times; one with three coordinates not by
+/// the earliest; and one with two nodes at one position by neither of the earlier rules.
 pub fn known_sheets_by_profile()
     ensures flat { IsAcceptedBy two_coordinates node_classes node_sheet }
     ensures flat_later { IsAcceptedBy three_coordinates node_classes node_sheet }

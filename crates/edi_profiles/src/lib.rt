@@ -1,5 +1,5 @@
-//! The rules as they were before points had a third coordinate, and before nodes could share a position: what was accepted
-//! and canonical then is accepted and canonical now.
+//! The rules as they were before points had a third coordinate, and before nodes could share a position: what was
+//! accepted and canonical then is accepted and canonical now.
 #![tactic(auto)]
 
 pub mod known;

@@ -22,7 +22,8 @@ pub record GivesEach (positions : List ℕ) (ends : List PlanEnd) : Type 0 where
 
 -- by these positions the ends never fall
 abbrev pub PutsInOrder : Drawing → (ℕ → ℕ) → List ℕ → List PlanEnd → Type 0
-PutsInOrder p number positions ends = GivesEach positions ends × NeverFalls end_cmp (map (numbered p number) (ends_at positions ends))
+PutsInOrder p number positions ends =
+    GivesEach positions ends × NeverFalls end_cmp (map (numbered p number) (ends_at positions ends))
 
 -- the positions for the record at a place, of those by place
 abbrev pub positions_at : List (List ℕ) → ℕ → List ℕ

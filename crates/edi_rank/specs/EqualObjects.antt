@@ -14,6 +14,7 @@ pub record Mark : Type 0 where
   pub target : Option ℕ
   pub sns : Option (List ℕ)
 
+-- an end as a piece of the object has it
 abbrev pub mark : ℕ → PlanEnd → Mark
 mark object e = record { target = if e.target == object then None else Some e.target; sns = e.sns }
 
@@ -25,12 +26,22 @@ pub record Piece : Type 0 where
   pub attributes : List PlanAttribute
   pub extras : List Extra
 
+-- a link as a piece of the object
 abbrev pub piece : ℕ → PlanRecord → Piece
-piece object r = record { class = r.class; origin = option_map (mark object) (origin_of r); others = map (mark object) (others_of r); attributes = r.attributes; extras = r.extras }
+piece object r =
+    record {
+      class = r.class;
+      origin = option_map (mark object) (origin_of r);
+      others = map (mark object) (others_of r);
+      attributes = r.attributes;
+      extras = r.extras;
+    }
 
+-- the pieces of an object
 abbrev pub pieces : Drawing → ℕ → List Piece
 pieces p object = filter_map (λ r. if is_piece p object r then Some (piece object r) else None) p.list
 
+-- two pieces are one, whatever the order of their other ends and of their attributes
 pub record SamePiece (a b : Piece) : Type 0 where
   pub class : a.class ≡ b.class
   pub origin : a.origin ≡ b.origin

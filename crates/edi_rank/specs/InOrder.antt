@@ -23,11 +23,15 @@ pub record Both (p : Drawing) (number : ℕ → ℕ) (kind : Kind) (i k : ℕ) :
 
 -- With these numbers the nodes, arcs, faces and objects rise by their keys, and the links never fall.
 pub record AllRise (p : Drawing) (number : ℕ → ℕ) : Type 0 where
-  pub nodes : (i k : ℕ) → Both p number Pno i k → node_key_cmp (node_key (record_at p i)) (node_key (record_at p k)) ≡ Less
+  pub nodes : (i k : ℕ) → Both p number Pno i k
+      → node_key_cmp (node_key (record_at p i)) (node_key (record_at p k)) ≡ Less
   pub arcs : (i k : ℕ) → Both p number Par i k → points_cmp (record_at p i).points (record_at p k).points ≡ Less
-  pub faces : (i k : ℕ) → Both p number Pfe i k → option_cmp face_key_cmp (least_side p number i) (least_side p number k) ≡ Less
-  pub objects : (i k : ℕ) → Both p number Fea i k → object_key_cmp (object_key p number i) (object_key p number k) ≡ Less
-  pub links : (i k : ℕ) → Both p number Lnk i k → is_gt (link_key_cmp (link_key p number (record_at p i)) (link_key p number (record_at p k))) ≡ false
+  pub faces : (i k : ℕ) → Both p number Pfe i k
+      → option_cmp face_key_cmp (least_side p number i) (least_side p number k) ≡ Less
+  pub objects : (i k : ℕ) → Both p number Fea i k
+      → object_key_cmp (object_key p number i) (object_key p number k) ≡ Less
+  pub links : (i k : ℕ) → Both p number Lnk i k
+      → is_gt (link_key_cmp (link_key p number (record_at p i)) (link_key p number (record_at p k))) ≡ false
 
 -- The order of a canonical sheet. Within a type a record's number rises with its place, so the place stands for it.
 pub record IsInOrder (p : Drawing) : Type 0 where

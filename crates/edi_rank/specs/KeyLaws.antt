@@ -1,4 +1,5 @@
--- The keys of the four layers: what carries one plan onto another preserves them, and no two members of a layer have one.
+-- The keys of the four layers: what carries one plan onto another preserves them, and no two members of a layer have
+-- one.
 use Rattle.std.specs.Prelude.{◌≡◌, ℕ, Bool}
 use Rattle.edi_line.specs.Refusal.{IsUnbroken}
 use Rattle.edi_record.specs.declared.record.Kind.{Kind}
@@ -26,11 +27,14 @@ IsPreserved p kind to key key_there = (i : ℕ) → IsPlace p i → (record_at p
 
 -- no two records of a type have the same key
 abbrev pub TellsTypeApart : {K : Type 0} → Drawing → Kind → (ℕ → K) → Type 0
-TellsTypeApart p kind key = (i k : ℕ) → IsPlace p i → IsPlace p k → (record_at p i).kind ≡ kind → (record_at p k).kind ≡ kind → key i ≡ key k → i ≡ k
+TellsTypeApart p kind key =
+    (i k : ℕ) → IsPlace p i → IsPlace p k → (record_at p i).kind ≡ kind → (record_at p k).kind ≡ kind → key i ≡ key k
+    → i ≡ k
 
 -- what carries one plan onto another preserves the keys of its nodes
 abbrev pub NodeKeysArePreserved : Type 0
-NodeKeysArePreserved = (s : Classes) (p q : Drawing) → IsWholePlan p → (to : ℕ → ℕ) (turned : ℕ → Bool) → Carries s to turned p q
+NodeKeysArePreserved =
+    (s : Classes) (p q : Drawing) → IsWholePlan p → (to : ℕ → ℕ) (turned : ℕ → Bool) → Carries s to turned p q
     → IsPreserved p Pno to (λ n. node_key (record_at p n)) (λ n. node_key (record_at q n))
 
 -- and the points of its arcs in the forward direction
@@ -40,27 +44,40 @@ ArcKeysArePreserved = (s : Classes) (p q : Drawing) (to : ℕ → ℕ) (turned :
 
 -- and the least sides of its faces, where it preserves the numbers of arcs, and no arc equals its reverse
 abbrev pub FaceKeysArePreserved : Type 0
-FaceKeysArePreserved = (s : Classes) (p q : Drawing) → IsPlanUnder s p → IsPlanUnder s q → IsNowhereBroken p 404 → (to : ℕ → ℕ) (turned : ℕ → Bool) → Carries s to turned p q
-    → (number number_there : ℕ → ℕ) → IsPreserved p Par to number number_there → IsPreserved p Pfe to (least_side (forward_plan p) number) (least_side (forward_plan q) number_there)
+FaceKeysArePreserved =
+    (s : Classes) (p q : Drawing) → IsPlanUnder s p → IsPlanUnder s q → IsNowhereBroken p 404
+    → (to : ℕ → ℕ) (turned : ℕ → Bool) → Carries s to turned p q
+    → (number number_there : ℕ → ℕ) → IsPreserved p Par to number number_there
+    → IsPreserved p Pfe to (least_side (forward_plan p) number) (least_side (forward_plan q) number_there)
 
--- and the keys of its objects, where it preserves the numbers of nodes, arcs and faces, and the links of the four kinds are joins
+-- and the keys of its objects, where it preserves the numbers of nodes, arcs and faces, and the links of the four kinds
+-- are joins
 abbrev pub ObjectKeysArePreserved : Type 0
-ObjectKeysArePreserved = (s : Classes) (p q : Drawing) → IsWholePlan p → IsJoined p → (to : ℕ → ℕ) (turned : ℕ → Bool) → Carries s to turned p q
-    → (number number_there : ℕ → ℕ) → IsPreserved p Pno to number number_there → IsPreserved p Par to number number_there → IsPreserved p Pfe to number number_there
+ObjectKeysArePreserved =
+    (s : Classes) (p q : Drawing) → IsWholePlan p → IsJoined p → (to : ℕ → ℕ) (turned : ℕ → Bool)
+    → Carries s to turned p q
+    → (number number_there : ℕ → ℕ) → IsPreserved p Pno to number number_there
+    → IsPreserved p Par to number number_there → IsPreserved p Pfe to number number_there
     → IsPreserved p Fea to (object_key p number) (object_key q number_there)
 
 -- two nodes with one key are one, where none repeats an earlier one
 abbrev pub NodeKeysTellApart : Type 0
-NodeKeysTellApart = (p : Drawing) → IsWholePlan p → IsNowhereBroken p 403 → TellsTypeApart p Pno (λ n. node_key (record_at p n))
+NodeKeysTellApart =
+    (p : Drawing) → IsWholePlan p → IsNowhereBroken p 403 → TellsTypeApart p Pno (λ n. node_key (record_at p n))
 
 -- two arcs with the same points in the forward direction are one, where none repeats an earlier one
 abbrev pub ArcKeysTellApart : Type 0
 ArcKeysTellApart = (p : Drawing) → IsNowhereBroken p 405 → TellsTypeApart p Par (λ a. forward (record_at p a).points)
 
--- two faces with one least side are one, where the numbers tell arcs apart, the links of the four kinds are joins, and each face is on a side
+-- two faces with one least side are one, where the numbers tell arcs apart, the links of the four kinds are joins, and
+-- each face is on a side
 abbrev pub FaceKeysTellApart : Type 0
-FaceKeysTellApart = (p : Drawing) → IsWholePlan p → IsJoined p → IsNowhereBroken p 406 → (number : ℕ → ℕ) → TellsTypeApart p Par number → TellsTypeApart p Pfe (least_side (forward_plan p) number)
+FaceKeysTellApart =
+    (p : Drawing) → IsWholePlan p → IsJoined p → IsNowhereBroken p 406 → (number : ℕ → ℕ) → TellsTypeApart p Par number
+    → TellsTypeApart p Pfe (least_side (forward_plan p) number)
 
 -- two objects with one key are one, where the numbers tell nodes, arcs and faces apart, and no two objects are equal
 abbrev pub ObjectKeysTellApart : Type 0
-ObjectKeysTellApart = (p : Drawing) → IsWholePlan p → IsUnbroken (BreaksObjectRule p) → (number : ℕ → ℕ) → TellsApart p number → TellsTypeApart p Fea (object_key p number)
+ObjectKeysTellApart =
+    (p : Drawing) → IsWholePlan p → IsUnbroken (BreaksObjectRule p) → (number : ℕ → ℕ) → TellsApart p number
+    → TellsTypeApart p Fea (object_key p number)

@@ -1,4 +1,5 @@
--- The keys by which the records of a plan are put in order, and their orders. They speak of other records by their numbers alone.
+-- The keys by which the records of a plan are put in order, and their orders. They speak of other records by their
+-- numbers alone.
 use Rattle.std.specs.Prelude.{◌≡◌, ℕ, ◌==◌, ◌&&◌, Bool, List, [], ◌∷◌, Option, Some, None, map, option_map, option_and_then, if◌then◌else◌, count_by}
 use Rattle.std.specs.List.{list_any, filter_map}
 use Rattle.std.specs.Ordering.{ordering_then, nat_cmp}
@@ -23,14 +24,19 @@ use Rattle.edi_rank.specs.declared.keys.FaceKey.{FaceKey}
 
 -- type, number and value of SNS
 abbrev pub end_cmp : NumberedEnd → NumberedEnd → Ordering
-end_cmp a b = ordering_then (nat_cmp (kind_rank a.kind) (kind_rank b.kind)) (ordering_then (nat_cmp a.number b.number) (text_cmp a.sns b.sns))
+end_cmp a b =
+    ordering_then (nat_cmp (kind_rank a.kind) (kind_rank b.kind))
+    (ordering_then (nat_cmp a.number b.number) (text_cmp a.sns b.sns))
 
+-- class, ends, attributes and extra zones
 abbrev pub link_key_cmp : LinkKey → LinkKey → Ordering
 link_key_cmp a b = ordering_then (nat_cmp a.class b.class) (ordering_then (slice_cmp end_cmp a.ends b.ends)
     (ordering_then (slice_cmp attribute_cmp a.attributes b.attributes) (slice_cmp extra_cmp a.extras b.extras)))
 
+-- class, attributes, extra zones and pieces
 abbrev pub object_key_cmp : ObjectKey → ObjectKey → Ordering
-object_key_cmp a b = ordering_then (nat_cmp a.class b.class) (ordering_then (slice_cmp attribute_cmp a.attributes b.attributes)
+object_key_cmp a b =
+    ordering_then (nat_cmp a.class b.class) (ordering_then (slice_cmp attribute_cmp a.attributes b.attributes)
     (ordering_then (slice_cmp extra_cmp a.extras b.extras) (slice_cmp link_key_cmp a.pieces b.pieces)))
 
 -- number of the arc, and its left before its right
@@ -56,6 +62,7 @@ abbrev pub ends_key : Drawing → (ℕ → ℕ) → List PlanEnd → List Number
 ends_key p number [] = []
 ends_key p number (origin ∷ others) = numbered p number origin ∷ sort_by end_cmp (map (numbered p number) others)
 
+-- a link by its class, its ends, its attributes in order and its extra zones
 abbrev pub link_key : Drawing → (ℕ → ℕ) → PlanRecord → LinkKey
 link_key p number r = record {
   class = r.class;
@@ -85,12 +92,15 @@ arc_beside p number face (d ∷ e ∷ f ∷ ends) = None
 
 -- the side of an arc on which a record puts the face
 abbrev pub side_by : Drawing → (ℕ → ℕ) → ℕ → PlanRecord → Option FaceKey
-side_by p number face r = option_and_then (λ side. option_map (λ arc. record { arc = arc; side = side }) (arc_beside p number face r.ends)) (side_of r.role)
+side_by p number face r =
+    option_and_then (λ side. option_map (λ arc. record { arc = arc; side = side }) (arc_beside p number face r.ends))
+    (side_of r.role)
 
 -- the sides of a face, the least first
 abbrev pub sides_of : Drawing → (ℕ → ℕ) → ℕ → List FaceKey
 sides_of p number face = sort_by face_key_cmp (filter_map (side_by p number face) p.list)
 
+-- the least side of a face, if it has one
 abbrev pub least_side : Drawing → (ℕ → ℕ) → ℕ → Option FaceKey
 least_side p number face = first_of (sides_of p number face)
 
@@ -98,15 +108,19 @@ least_side p number face = first_of (sides_of p number face)
 
 -- a link of which exactly one end is an object, that one
 abbrev pub is_piece : Drawing → ℕ → PlanRecord → Bool
-is_piece p object r = is_link r.kind && (count_by (λ e. is_object (record_at p e.target).kind) r.ends == 1) && list_any (λ e. e.target == object) r.ends
+is_piece p object r =
+    is_link r.kind && (count_by (λ e. is_object (record_at p e.target).kind) r.ends == 1)
+    && list_any (λ e. e.target == object) r.ends
 
 -- the numbers, but 0 for the object itself
 abbrev pub marked : (ℕ → ℕ) → ℕ → ℕ → ℕ
 marked number object place = if place == object then 0 else number place
 
+-- a record as a piece of the object, if it is one
 abbrev pub piece_by : Drawing → (ℕ → ℕ) → ℕ → PlanRecord → Option LinkKey
 piece_by p number object r = if is_piece p object r then Some (link_key p (marked number object) r) else None
 
+-- an object by its class, its attributes in order, its extra zones, and its pieces in order
 abbrev pub object_key : Drawing → (ℕ → ℕ) → ℕ → ObjectKey
 object_key p number object = record {
   class = (record_at p object).class;

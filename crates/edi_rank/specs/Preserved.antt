@@ -10,12 +10,17 @@ use Rattle.edi_rank.specs.Same.{Same}
 
 -- a plan that breaks no rule of topology is the same as such plans alone
 abbrev pub TopologyIsPreserved : Type 0
-TopologyIsPreserved = (s : Classes) (p q : Drawing) → IsPlanUnder s p → IsPlanUnder s q → Same s p q → IsUnbroken (BreaksTopologyRule p) → IsUnbroken (BreaksTopologyRule q)
+TopologyIsPreserved =
+    (s : Classes) (p q : Drawing) → IsPlanUnder s p → IsPlanUnder s q → Same s p q → IsUnbroken (BreaksTopologyRule p)
+    → IsUnbroken (BreaksTopologyRule q)
 
 -- and so are the joins
 abbrev pub JoinsArePreserved : Type 0
-JoinsArePreserved = (s : Classes) (p q : Drawing) → IsPlanUnder s p → IsPlanUnder s q → Same s p q → IsJoined p → IsJoined q
+JoinsArePreserved =
+    (s : Classes) (p q : Drawing) → IsPlanUnder s p → IsPlanUnder s q → Same s p q → IsJoined p → IsJoined q
 
 -- and of a plan whose links of the four kinds are joins, that no two objects are equal
 abbrev pub ObjectsArePreserved : Type 0
-ObjectsArePreserved = (s : Classes) (p q : Drawing) → IsPlanUnder s p → IsPlanUnder s q → IsJoined p → Same s p q → IsUnbroken (BreaksObjectRule p) → IsUnbroken (BreaksObjectRule q)
+ObjectsArePreserved =
+    (s : Classes) (p q : Drawing) → IsPlanUnder s p → IsPlanUnder s q → IsJoined p → Same s p q
+    → IsUnbroken (BreaksObjectRule p) → IsUnbroken (BreaksObjectRule q)

@@ -25,7 +25,9 @@ fn placed_ends<'a>(
 ) -> Result<Vec<(NumberedEnd<'a>, usize)>, AllocError>
     requires places { AllByRecursion (λ e. IsPlace plan.now e.target) ends.now }
     requires numbers { length numbers.now ≡ length plan.now.list }
-    ensures { IfOk result (λ pairs. pairs.items ≡ keyed (λ i. numbered plan.now (slice_index numbers.now) (slice_index_or ends.now i no_end)) (length ends.now)) }
+    ensures { IfOk result (λ pairs. pairs.items
+        ≡ keyed (λ i. numbered plan.now (slice_index numbers.now) (slice_index_or ends.now i no_end))
+        (length ends.now)) }
 {
     let mut pairs = Vec::with_capacity(alloc, ends.len())?;
     for index in 0..ends.len() {
@@ -112,7 +114,8 @@ fn lower_positions(
 ) -> Result<Sequence<usize>, AllocError>
     requires places { AllByRecursion (λ e. IsPlace plan.now e.target) ends.now }
     requires numbers { length numbers.now ≡ length plan.now.list }
-    ensures { IfOk result (λ positions. object_count plan.now ends.now ≤ 1 → PutsInOrder plan.now (slice_index numbers.now) positions ends.now) }
+    ensures { IfOk result (λ positions. object_count plan.now ends.now ≤ 1
+        → PutsInOrder plan.now (slice_index numbers.now) positions ends.now) }
 {
     if has_two_objects(plan, ends) {
         return Ok(Sequence::from_vec(Vec::new(alloc)));
@@ -120,8 +123,8 @@ fn lower_positions(
     sorted_positions(alloc, plan, numbers, ends)
 }
 
-/// The positions of the other ends of each record in their order, by place, where at most one of these ends is an object,
-/// and the nodes, arcs and faces have these numbers; none where two or more are objects.
+/// The positions of the other ends of each record in their order, by place, where at most one of these ends is an
+/// object, and the nodes, arcs and faces have these numbers; none where two or more are objects.
 pub fn lower_orders(
     alloc: Global,
     plan: &Plan,
@@ -129,7 +132,9 @@ pub fn lower_orders(
 ) -> Result<Vec<Sequence<usize>>, AllocError>
     requires { length numbers.now ≡ length plan.now.list }
     ensures length { IfOk result (λ orders. length orders.items ≡ length plan.now.list) }
-    ensures orders { IfOk result (λ orders. (k : ℕ) → IsPlace plan.now k → object_count plan.now (others_of (record_at plan.now k)) ≤ 1 → OthersInOrder plan.now (slice_index numbers.now) orders.items k) }
+    ensures orders { IfOk result (λ orders. (k : ℕ) → IsPlace plan.now k
+        → object_count plan.now (others_of (record_at plan.now k)) ≤ 1
+        → OthersInOrder plan.now (slice_index numbers.now) orders.items k) }
 {
     plan.keeps();
     let mut orders = Vec::with_capacity(alloc, plan.len() as usize)?;
@@ -140,7 +145,8 @@ pub fn lower_orders(
     Ok(orders)
 }
 
-/// The positions of the other ends of each record in their order, by place, from those where at most one of these ends is an object.
+/// The positions of the other ends of each record in their order, by place, from those where at most one of these ends
+/// is an object.
 pub(crate) fn all_orders(
     alloc: Global,
     plan: &Plan,
@@ -149,9 +155,11 @@ pub(crate) fn all_orders(
 ) -> Result<Vec<Sequence<usize>>, AllocError>
     requires numbers { length numbers.now ≡ length plan.now.list }
     requires length { length lower.items ≡ length plan.now.list }
-    requires lower { (k : ℕ) → IsPlace plan.now k → object_count plan.now (others_of (record_at plan.now k)) ≤ 1 → OthersInOrder plan.now (slice_index numbers.now) lower.items k }
+    requires lower { (k : ℕ) → IsPlace plan.now k → object_count plan.now (others_of (record_at plan.now k)) ≤ 1
+        → OthersInOrder plan.now (slice_index numbers.now) lower.items k }
     ensures length { IfOk result (λ orders. length orders.items ≡ length plan.now.list) }
-    ensures orders { IfOk result (λ orders. (k : ℕ) → IsPlace plan.now k → OthersInOrder plan.now (slice_index numbers.now) orders.items k) }
+    ensures orders { IfOk result (λ orders. (k : ℕ) → IsPlace plan.now k
+        → OthersInOrder plan.now (slice_index numbers.now) orders.items k) }
 {
     plan.keeps();
     let mut orders = lower;

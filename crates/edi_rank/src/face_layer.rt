@@ -127,7 +127,9 @@ fn take_side(
     requires turned_long { length turned.now ≡ length plan.now.list }
     requires turned { (k : ℕ) → IsPlace plan.now k → turned_at turned.now k ≡ is_backward plan.now k }
     ensures long { length sides.new.items ≡ length plan.now.list }
-    ensures taken { (face : ℕ) → IsTaken plan.now (slice_index numbers.now) arc role face (slice_index_or sides.old.items face None) (slice_index_or sides.new.items face None) }
+    ensures taken { (face : ℕ)
+        → IsTaken plan.now (slice_index numbers.now) arc role face (slice_index_or sides.old.items face None)
+        (slice_index_or sides.new.items face None) }
 {
     plan.keeps();
     if let Some(face) = plan.side(arc, role) {
@@ -151,7 +153,8 @@ fn least_sides(
     requires turned_long { length turned.now ≡ length plan.now.list }
     requires turned { (k : ℕ) → IsPlace plan.now k → turned_at turned.now k ≡ is_backward plan.now k }
     ensures length { IfOk result (λ sides. length sides.items ≡ length plan.now.list) }
-    ensures least { IfOk result (λ sides. (k : ℕ) → IsPlace plan.now k → slice_index_or sides.items k None ≡ least_side (forward_plan plan.now) (slice_index numbers.now) k) }
+    ensures least { IfOk result (λ sides. (k : ℕ) → IsPlace plan.now k
+        → slice_index_or sides.items k None ≡ least_side (forward_plan plan.now) (slice_index numbers.now) k) }
 {
     let mut sides = vec![in alloc; None; plan.len() as usize]?;
     plan.keeps();
@@ -169,7 +172,8 @@ fn sides_of_faces(
     sides: &[Option<FaceKey>],
 ) -> Result<Vec<FaceKey>, AllocError>
     requires { length sides.now ≡ length plan.now.list }
-    ensures { IfOk result (λ keys. keys.items ≡ map (λ k. unwrap_or (slice_index_or sides.now k None) no_side) (places_of Pfe plan.now)) }
+    ensures { IfOk result (λ keys. keys.items
+        ≡ map (λ k. unwrap_or (slice_index_or sides.now k None) no_side) (places_of Pfe plan.now)) }
 {
     let places = plan.places(Kind::Pfe);
     let mut keys = Vec::with_capacity(alloc, places.len())?;

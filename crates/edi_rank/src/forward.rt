@@ -34,7 +34,8 @@ pub(crate) fn turned_in(plan: &Plan, turned: &[bool], place: u32) -> bool
 /// Which records are arcs that aren't forward, by place.
 pub(crate) fn turned_arcs(alloc: Global, plan: &Plan) -> Result<Vec<bool>, AllocError>
     ensures length { IfOk result (λ turned. length turned.items ≡ length plan.now.list) }
-    ensures turned { IfOk result (λ turned. (k : ℕ) → IsPlace plan.now k → turned_at turned.items k ≡ is_backward plan.now k) }
+    ensures turned { IfOk result (λ turned. (k : ℕ) → IsPlace plan.now k
+        → turned_at turned.items k ≡ is_backward plan.now k) }
 {
     let mut turned = Vec::new(alloc);
     for place in 0..plan.len() {

@@ -62,7 +62,16 @@ impl Model for Labels {
 
     ghost Value = { Labelling };
 
-    ghost view = { λ l. record { numbers = l.numbers; turned = l.turned; others = l.others; nodes = l.nodes; arcs = l.arcs; faces = l.faces; objects = l.objects; links = l.links } };
+    ghost view = { λ l. record {
+      numbers = l.numbers;
+      turned = l.turned;
+      others = l.others;
+      nodes = l.nodes;
+      arcs = l.arcs;
+      faces = l.faces;
+      objects = l.objects;
+      links = l.links;
+    } };
 }
 
 impl Labels {
@@ -177,8 +186,8 @@ impl Labels {
     }
 }
 
-/// Nothing, if no object of a sound plan is equal to an earlier one in class, attributes, extra zones and pieces; else the
-/// first that is (501). It numbers no links and takes less time than `Labels::of`, which refuses the same plans.
+/// Nothing, if no object of a sound plan is equal to an earlier one in class, attributes, extra zones and pieces; else
+/// the first that is (501). It numbers no links and takes less time than `Labels::of`, which refuses the same plans.
 pub fn tell_objects_apart(alloc: Global, sound: &Sound) -> Result<(), RankFault>
     ensures distinct { OnOk result (IsUnbroken (BreaksObjectRule sound.now)) }
     ensures least { IfErr result (IsRecordRefusal (BreaksObjectRule sound.now)) }
@@ -242,17 +251,23 @@ struct Named {
     others: Vec<Sequence<usize>>,
 }
 
-/// Numbers the objects and puts other ends in order, where the nodes, arcs and faces have these numbers, by place, and objects 0.
+/// Numbers the objects and puts other ends in order, where the nodes, arcs and faces have these numbers, by place, and
+/// objects 0.
 fn name_objects(alloc: Global, sound: &Sound, numbers: Vec<u32>) -> Result<Named, RankFault>
     requires numbers { length numbers.items ≡ length sound.now.list }
-    requires objects { (k : ℕ) → IsPlace sound.now k → is_object (record_at sound.now k).kind ≡ true → slice_index_or numbers.items k 0 ≡ 0 }
+    requires objects { (k : ℕ) → IsPlace sound.now k → is_object (record_at sound.now k).kind ≡ true
+        → slice_index_or numbers.items k 0 ≡ 0 }
     requires apart { TellsApart sound.now (slice_index numbers.items) }
-    ensures ranks { IfOk result (λ named. IsObjectRanking (record { plan = sound.now; numbers = numbers.items }) named.objects) }
+    ensures ranks { IfOk result (λ named.
+        IsObjectRanking (record { plan = sound.now; numbers = numbers.items }) named.objects) }
     ensures length { IfOk result (λ named. length named.numbers.items ≡ length sound.now.list) }
-    ensures each { IfOk result (λ named. (k : ℕ) → IsPlace sound.now k → (record_at sound.now k).kind ≡ Fea → slice_index named.numbers.items k ≡ slice_index named.objects (member_of sound.now k)) }
-    ensures rest { IfOk result (λ named. (k : ℕ) → IsPlace sound.now k → (record_at sound.now k).kind ≢ Fea → slice_index named.numbers.items k ≡ slice_index numbers.items k) }
+    ensures each { IfOk result (λ named. (k : ℕ) → IsPlace sound.now k → (record_at sound.now k).kind ≡ Fea
+        → slice_index named.numbers.items k ≡ slice_index named.objects (member_of sound.now k)) }
+    ensures rest { IfOk result (λ named. (k : ℕ) → IsPlace sound.now k → (record_at sound.now k).kind ≢ Fea
+        → slice_index named.numbers.items k ≡ slice_index numbers.items k) }
     ensures ordered { IfOk result (λ named. length named.others.items ≡ length sound.now.list) }
-    ensures others { IfOk result (λ named. (k : ℕ) → IsPlace sound.now k → OthersInOrder sound.now (slice_index named.numbers.items) named.others.items k) }
+    ensures others { IfOk result (λ named. (k : ℕ) → IsPlace sound.now k
+        → OthersInOrder sound.now (slice_index named.numbers.items) named.others.items k) }
     ensures distinct { OnOk result (IsUnbroken (BreaksObjectRule sound.now)) }
     ensures least { IfErr result (IsRecordRefusal (BreaksObjectRule sound.now)) }
 {
@@ -284,7 +299,8 @@ fn link_ranks(
     requires numbers { length numbers.now ≡ length plan.now.list }
     requires ordered { length orders.now ≡ length plan.now.list }
     requires orders { (k : ℕ) → IsPlace plan.now k → OthersInOrder plan.now (slice_index numbers.now) orders.now k }
-    ensures { IfOk result (IsLinkRanking (record { plan = plan.now; classes = schema.now; turned = turned.now; numbers = numbers.now })) }
+    ensures { IfOk result
+        (IsLinkRanking (record { plan = plan.now; classes = schema.now; turned = turned.now; numbers = numbers.now })) }
 {
     let layer = LinkLayer::of(schema, plan, turned, numbers, orders);
     match ranks(alloc, &layer) {
@@ -378,7 +394,8 @@ fn kind_by_number(
     requires long { length ranks.now ≡ length (places_of kind plan.now) }
     requires each { NumbersEach ranks.now }
     ensures length { IfOk result (λ order. length order ≡ length (places_of kind plan.now)) }
-    ensures places { IfOk result (λ order. (m : ℕ) → m < length (places_of kind plan.now) → slice_index order (slice_index ranks.now m - 1) ≡ slice_index (places_of kind plan.now) m) }
+    ensures places { IfOk result (λ order. (m : ℕ) → m < length (places_of kind plan.now)
+        → slice_index order (slice_index ranks.now m - 1) ≡ slice_index (places_of kind plan.now) m) }
 {
     plan.keeps();
     let order = places_by_number(alloc, plan.places(kind), ranks)?;

@@ -32,7 +32,8 @@ fn push_others<'a>(
     requires places { AllByRecursion (λ e. IsPlace plan.now e.target) others.now }
     requires numbers { length numbers.now ≡ length plan.now.list }
     requires order { GivesEach order.now others.now }
-    ensures { OnOk result (keys.new.items ≡ keys.old.items ++ map (numbered plan.now (slice_index numbers.now)) (ends_at order.now others.now)) }
+    ensures { OnOk result (keys.new.items
+        ≡ keys.old.items ++ map (numbered plan.now (slice_index numbers.now)) (ends_at order.now others.now)) }
 {
     for index in 0..others.len() {
         let end = end_in_order(order, others, index);
@@ -104,7 +105,8 @@ pub fn class_turned(schema: &Schema, plan: &Plan, turned: &[bool], place: u32) -
 fn plain_end(plan: &Plan, numbers: &[u32], end: &PlanEnd) -> Option<PlainEnd>
     requires place { IsPlace plan.now end.now.target }
     requires numbers { length numbers.now ≡ length plan.now.list }
-    ensures { IfSome result (λ plain. end.now.sns ≡ None → end_of plain ≡ numbered plan.now (slice_index numbers.now) end.now) }
+    ensures { IfSome result (λ plain. end.now.sns ≡ None
+        → end_of plain ≡ numbered plan.now (slice_index numbers.now) end.now) }
 {
     packed_end(plan.kind(end.target), numbers[end.target as usize])
 }
@@ -136,7 +138,13 @@ pub fn plain_ends(plan: &Plan, place: u32) -> Option<(&PlanEnd, &PlanEnd)>
 pub(crate) fn plain_pair(plan: &Plan, numbers: &[u32], place: u32) -> Option<PlainPair>
     requires place { IsPlace plan.now place }
     requires numbers { length numbers.now ≡ length plan.now.list }
-    ensures { IfSome result (λ pair. (class : ℕ) → pair_key class pair ≡ record { class = class; ends = ends_key plan.now (slice_index numbers.now) (record_at plan.now place).ends; attributes = sort_by attribute_cmp (record_at plan.now place).attributes; extras = (record_at plan.now place).extras }) }
+    ensures { IfSome result (λ pair. (class : ℕ) → pair_key class pair
+        ≡ record {
+          class = class;
+          ends = ends_key plan.now (slice_index numbers.now) (record_at plan.now place).ends;
+          attributes = sort_by attribute_cmp (record_at plan.now place).attributes;
+          extras = (record_at plan.now place).extras;
+        }) }
 {
     plan.keeps();
     let (origin, other) = plain_ends(plan, place)?;
@@ -158,7 +166,13 @@ pub(crate) fn link_key_at<'a>(
     requires place { IsPlace plan.now place }
     requires numbers { length numbers.now ≡ length plan.now.list }
     requires order { PutsInOrder plan.now (slice_index numbers.now) order.now (others_of (record_at plan.now place)) }
-    ensures { IfOk result (λ key. key ≡ record { class = class; ends = ends_key plan.now (slice_index numbers.now) (record_at plan.now place).ends; attributes = sort_by attribute_cmp (record_at plan.now place).attributes; extras = (record_at plan.now place).extras }) }
+    ensures { IfOk result (λ key. key
+        ≡ record {
+          class = class;
+          ends = ends_key plan.now (slice_index numbers.now) (record_at plan.now place).ends;
+          attributes = sort_by attribute_cmp (record_at plan.now place).attributes;
+          extras = (record_at plan.now place).extras;
+        }) }
 {
     plan.keeps();
     let ends = numbered_ends(alloc, plan, numbers, order, plan.ends(place))?;

@@ -40,10 +40,17 @@ impl<'a> Model for LinkLayer<'a> {
 
     ghost Value = { LinkSource };
 
-    ghost view = { λ l. record { plan = l.plan.now; classes = l.schema.now; turned = l.turned.now; numbers = l.numbers.now } };
+    ghost view = { λ l. record {
+      plan = l.plan.now;
+      classes = l.schema.now;
+      turned = l.turned.now;
+      numbers = l.numbers.now;
+    } };
 
-    ghost invariant = { λ l. (l.places.now ≡ places_of Lnk l.plan.now) × Agrees l.schema.now l.plan.now × (length l.turned.now ≡ length l.plan.now.list) × (length l.numbers.now ≡ length l.plan.now.list)
-        × (length l.orders.now ≡ length l.plan.now.list) × ((k : ℕ) → IsPlace l.plan.now k → OthersInOrder l.plan.now (slice_index l.numbers.now) l.orders.now k) };
+    ghost invariant = { λ l. (l.places.now ≡ places_of Lnk l.plan.now) × Agrees l.schema.now l.plan.now
+        × (length l.turned.now ≡ length l.plan.now.list) × (length l.numbers.now ≡ length l.plan.now.list)
+        × (length l.orders.now ≡ length l.plan.now.list)
+        × ((k : ℕ) → IsPlace l.plan.now k → OthersInOrder l.plan.now (slice_index l.numbers.now) l.orders.now k) };
 }
 
 impl<'a> LinkLayer<'a> {
@@ -61,7 +68,8 @@ impl<'a> LinkLayer<'a> {
         requires numbers { length numbers.now ≡ length plan.now.list }
         requires ordered { length orders.now ≡ length plan.now.list }
         requires orders { (k : ℕ) → IsPlace plan.now k → OthersInOrder plan.now (slice_index numbers.now) orders.now k }
-        ensures { result ≡ record { plan = plan.now; classes = schema.now; turned = turned.now; numbers = numbers.now } }
+        ensures { result
+            ≡ record { plan = plan.now; classes = schema.now; turned = turned.now; numbers = numbers.now } }
     {
         LinkLayer {
             plan,

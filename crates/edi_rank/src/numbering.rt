@@ -18,8 +18,10 @@ pub(crate) fn number_kind(plan: &Plan, kind: Kind, ranks: &Ranks, mut numbers: V
     requires ranks { length ranks.now ≡ length (places_of kind plan.now) }
     requires numbers { length numbers.items ≡ length plan.now.list }
     ensures length { length result.items ≡ length plan.now.list }
-    ensures each { (k : ℕ) → IsPlace plan.now k → (record_at plan.now k).kind ≡ kind → slice_index result.items k ≡ slice_index ranks.now (member_of plan.now k) }
-    ensures others { (k : ℕ) → IsPlace plan.now k → (record_at plan.now k).kind ≢ kind → slice_index result.items k ≡ slice_index numbers.items k }
+    ensures each { (k : ℕ) → IsPlace plan.now k → (record_at plan.now k).kind ≡ kind
+        → slice_index result.items k ≡ slice_index ranks.now (member_of plan.now k) }
+    ensures others { (k : ℕ) → IsPlace plan.now k → (record_at plan.now k).kind ≢ kind
+        → slice_index result.items k ≡ slice_index numbers.items k }
 {
     plan.keeps();
     let mut member: u32 = 0;
@@ -42,7 +44,8 @@ pub(crate) fn lower_numbers(
     requires arcs { length arcs.now ≡ length (places_of Par plan.now) }
     requires faces { length faces.now ≡ length (places_of Pfe plan.now) }
     ensures length { IfOk result (λ numbers. length numbers.items ≡ length plan.now.list) }
-    ensures ranked { IfOk result (λ numbers. (k : ℕ) → IsPlace plan.now k → slice_index numbers.items k ≡ ranked plan.now nodes.now arcs.now faces.now k) }
+    ensures ranked { IfOk result (λ numbers. (k : ℕ) → IsPlace plan.now k
+        → slice_index numbers.items k ≡ ranked plan.now nodes.now arcs.now faces.now k) }
 {
     let unnumbered = vec![in alloc; 0; plan.len() as usize]?;
     let by_node = number_kind(plan, Kind::Pno, nodes, unnumbered);
@@ -60,7 +63,8 @@ pub(crate) fn places_by_number(
     requires long { length ranks.now ≡ length places.now }
     requires each { NumbersEach ranks.now }
     ensures length { IfOk result (λ order. length order.items ≡ length places.now) }
-    ensures places { IfOk result (λ order. (m : ℕ) → m < length places.now → slice_index order.items (slice_index ranks.now m - 1) ≡ slice_index places.now m) }
+    ensures places { IfOk result (λ order. (m : ℕ) → m < length places.now
+        → slice_index order.items (slice_index ranks.now m - 1) ≡ slice_index places.now m) }
 {
     let mut order = vec![in alloc; 0; places.len()]?;
     let mut member: u32 = 0;

@@ -57,11 +57,15 @@ impl<'a> Model for ObjectLayer<'a> {
 
     ghost view = { λ l. record { plan = l.plan.now; numbers = l.numbers.items } };
 
-    ghost invariant = { λ l. (l.places.now ≡ places_of Fea l.plan.now) × (length l.numbers.items ≡ length l.plan.now.list) × (length l.links.items ≡ length l.plan.now.list)
-        × ((k : ℕ) → IsPlace l.plan.now k → is_object (record_at l.plan.now k).kind ≡ true → slice_index_or l.numbers.items k 0 ≡ 0)
-        × ((k : ℕ) → IsPlace l.plan.now k → is_object (record_at l.plan.now k).kind ≡ true → slice_index_or (map (λ v. v.items) l.links.items) k [] ≡ piece_places l.plan.now k)
+    ghost invariant = { λ l. (l.places.now ≡ places_of Fea l.plan.now)
+        × (length l.numbers.items ≡ length l.plan.now.list) × (length l.links.items ≡ length l.plan.now.list)
+        × ((k : ℕ) → IsPlace l.plan.now k → is_object (record_at l.plan.now k).kind ≡ true
+        → slice_index_or l.numbers.items k 0 ≡ 0)
+        × ((k : ℕ) → IsPlace l.plan.now k → is_object (record_at l.plan.now k).kind ≡ true
+        → slice_index_or (map (λ v. v.items) l.links.items) k [] ≡ piece_places l.plan.now k)
         × (length l.orders.items ≡ length l.plan.now.list)
-        × ((k : ℕ) → IsPlace l.plan.now k → object_count l.plan.now (others_of (record_at l.plan.now k)) ≤ 1 → OthersInOrder l.plan.now (slice_index l.numbers.items) l.orders.items k) };
+        × ((k : ℕ) → IsPlace l.plan.now k → object_count l.plan.now (others_of (record_at l.plan.now k)) ≤ 1
+        → OthersInOrder l.plan.now (slice_index l.numbers.items) l.orders.items k) };
 }
 
 impl<'a> ObjectLayer<'a> {
@@ -77,7 +81,8 @@ impl<'a> ObjectLayer<'a> {
         requires arcs { length arcs.now ≡ length (places_of Par sound.now) }
         requires faces { length faces.now ≡ length (places_of Pfe sound.now) }
         ensures plan { IfOk result (λ layer. layer.plan ≡ sound.now) }
-        ensures keys { IfOk result (λ layer. map (object_key_at layer) (places_of Fea sound.now) ≡ object_keys sound.now nodes.now arcs.now faces.now) }
+        ensures keys { IfOk result (λ layer. map (object_key_at layer) (places_of Fea sound.now)
+            ≡ object_keys sound.now nodes.now arcs.now faces.now) }
     {
         ObjectLayer::of_plan(alloc, sound.plan(), nodes, arcs, faces)
     }
@@ -94,7 +99,8 @@ impl<'a> ObjectLayer<'a> {
         requires arcs { length arcs.now ≡ length (places_of Par plan.now) }
         requires faces { length faces.now ≡ length (places_of Pfe plan.now) }
         ensures plan { IfOk result (λ layer. layer.plan ≡ plan.now) }
-        ensures keys { IfOk result (λ layer. map (object_key_at layer) (places_of Fea plan.now) ≡ object_keys plan.now nodes.now arcs.now faces.now) }
+        ensures keys { IfOk result (λ layer. map (object_key_at layer) (places_of Fea plan.now)
+            ≡ object_keys plan.now nodes.now arcs.now faces.now) }
     {
         plan.keeps();
         let numbers = lower_numbers(alloc, plan, nodes, arcs, faces)?;
@@ -111,9 +117,11 @@ impl<'a> ObjectLayer<'a> {
         orders: Vec<Sequence<usize>>,
     ) -> Result<ObjectLayer<'a>, AllocError>
         requires numbers { length numbers.items ≡ length plan.now.list }
-        requires objects { (k : ℕ) → IsPlace plan.now k → is_object_kind (record_at plan.now k).kind ≡ true → slice_index_or numbers.items k 0 ≡ 0 }
+        requires objects { (k : ℕ) → IsPlace plan.now k → is_object_kind (record_at plan.now k).kind ≡ true
+            → slice_index_or numbers.items k 0 ≡ 0 }
         requires ordered { length orders.items ≡ length plan.now.list }
-        requires orders { (k : ℕ) → IsPlace plan.now k → object_count plan.now (others_of (record_at plan.now k)) ≤ 1 → OthersInOrder plan.now (slice_index numbers.items) orders.items k }
+        requires orders { (k : ℕ) → IsPlace plan.now k → object_count plan.now (others_of (record_at plan.now k)) ≤ 1
+            → OthersInOrder plan.now (slice_index numbers.items) orders.items k }
         ensures { IfOk result (λ layer. layer ≡ record { plan = plan.now; numbers = numbers.items }) }
     {
         let links = links_by_object(alloc, plan)?;
@@ -130,7 +138,9 @@ impl<'a> ObjectLayer<'a> {
     pub(crate) fn into_parts(self) -> (Vec<u32>, Vec<Sequence<usize>>)
         ensures numbers { result.0.items ≡ self.entry.numbers }
         ensures ordered { length result.1.items ≡ length self.entry.plan.list }
-        ensures orders { (k : ℕ) → IsPlace self.entry.plan k → object_count self.entry.plan (others_of (record_at self.entry.plan k)) ≤ 1 → OthersInOrder self.entry.plan (slice_index self.entry.numbers) result.1.items k }
+        ensures orders { (k : ℕ) → IsPlace self.entry.plan k
+            → object_count self.entry.plan (others_of (record_at self.entry.plan k)) ≤ 1
+            → OthersInOrder self.entry.plan (slice_index self.entry.numbers) result.1.items k }
     {
         let ObjectLayer {
             plan: _,
@@ -192,7 +202,8 @@ pub(crate) fn is_object(plan: &Plan, place: u32) -> bool
 fn only_object(plan: &Plan, ends: &[PlanEnd]) -> Option<u32>
     requires { AllByRecursion (λ e. IsPlace plan.now e.target) ends.now }
     ensures { MatchOption result (object_count plan.now ends.now ≢ 1)
-        (λ k. (object_count plan.now ends.now ≡ 1) × IsPlace plan.now k × (is_object_kind (record_at plan.now k).kind ≡ true) × (list_any (λ e. e.target == k) ends.now ≡ true)) }
+        (λ k. (object_count plan.now ends.now ≡ 1) × IsPlace plan.now k
+        × (is_object_kind (record_at plan.now k).kind ≡ true) × (list_any (λ e. e.target == k) ends.now ≡ true)) }
 {
     let mut found = None;
     let mut count: usize = 0;
@@ -209,7 +220,8 @@ fn only_object(plan: &Plan, ends: &[PlanEnd]) -> Option<u32>
 fn owner(plan: &Plan, place: u32) -> Option<u32>
     requires { IsPlace plan.now place }
     ensures there { MatchOption result ⊤ (IsPlace plan.now) }
-    ensures owner { (object : ℕ) → is_object_kind (record_at plan.now object).kind ≡ true → is_piece plan.now object (record_at plan.now place) ≡ is_owner result object }
+    ensures owner { (object : ℕ) → is_object_kind (record_at plan.now object).kind ≡ true
+        → is_piece plan.now object (record_at plan.now place) ≡ is_owner result object }
 {
     plan.keeps();
     match plan.kind(place) {
@@ -221,7 +233,9 @@ fn owner(plan: &Plan, place: u32) -> Option<u32>
 /// The links that are pieces of each object, by its place.
 fn links_by_object(alloc: Global, plan: &Plan) -> Result<Vec<Vec<u32>>, AllocError>
     ensures length { IfOk result (λ links. length links.items ≡ length plan.now.list) }
-    ensures links { IfOk result (λ links. (k : ℕ) → IsPlace plan.now k → is_object_kind (record_at plan.now k).kind ≡ true → slice_index_or (map (λ v. v.items) links.items) k [] ≡ piece_places plan.now k) }
+    ensures links { IfOk result (λ links. (k : ℕ) → IsPlace plan.now k
+        → is_object_kind (record_at plan.now k).kind ≡ true
+        → slice_index_or (map (λ v. v.items) links.items) k [] ≡ piece_places plan.now k) }
 {
     let mut links = no_links(alloc, plan.len())?;
     for place in 0..plan.len() {
@@ -255,7 +269,8 @@ fn piece_keys<'a>(
     requires numbers { length numbers.now ≡ length plan.now.list }
     requires ordered { length orders.now ≡ length plan.now.list }
     requires orders { AllByRecursion (OthersInOrder plan.now (slice_index numbers.now) orders.now) links.now }
-    ensures { IfOk result (λ keys. keys.items ≡ map (λ k. link_key plan.now (slice_index numbers.now) (record_at plan.now k)) links.now) }
+    ensures { IfOk result (λ keys. keys.items
+        ≡ map (λ k. link_key plan.now (slice_index numbers.now) (record_at plan.now k)) links.now) }
 {
     let mut keys = Vec::with_capacity(alloc, links.len())?;
     for link in links {
@@ -277,7 +292,9 @@ fn sorted_pieces<'a>(
     requires numbers { length numbers.now ≡ length plan.now.list }
     requires ordered { length orders.now ≡ length plan.now.list }
     requires orders { AllByRecursion (OthersInOrder plan.now (slice_index numbers.now) orders.now) links.now }
-    ensures { IfOk result (λ keys. keys.items ≡ sort_by link_key_cmp (map (λ k. link_key plan.now (slice_index numbers.now) (record_at plan.now k)) links.now)) }
+    ensures { IfOk result (λ keys. keys.items
+        ≡ sort_by link_key_cmp
+        (map (λ k. link_key plan.now (slice_index numbers.now) (record_at plan.now k)) links.now)) }
 {
     let mut keys = piece_keys(alloc, plan, numbers, orders, links)?;
     keys.sort_unstable();

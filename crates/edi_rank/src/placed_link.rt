@@ -226,7 +226,8 @@ fn compare_pair(pair: &PlainPair, key: &LinkKey<'_>, is_bare: bool) -> Ordering
 fn compare_parts(a: &LinkParts<'_>, b: &LinkParts<'_>) -> Ordering
     requires first { IsBareIfSaid a.now }
     requires second { IsBareIfSaid b.now }
-    ensures { (class : ℕ) → IsOfClass class a.now → IsOfClass class b.now → result ≡ links.cmp (key_in class a.now) (key_in class b.now) }
+    ensures { (class : ℕ) → IsOfClass class a.now → IsOfClass class b.now
+        → result ≡ links.cmp (key_in class a.now) (key_in class b.now) }
 {
     match (a, b) {
         (LinkParts::Pair(first), LinkParts::Pair(second)) => compare_pairs(first, second),

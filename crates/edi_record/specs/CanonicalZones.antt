@@ -21,30 +21,35 @@ abbrev pub value_text : Value → List ℕ
 value_text (Number m) = plain_text m
 value_text (Bytes text) = text
 
--- the type of a record, its identifier, its class
+-- the type of a record
 abbrev pub type_zone : Kind → Entry
 type_zone kind = zone_headed (codes "RTYSA") (kind_code kind)
 
+-- its identifier
 abbrev pub identifier_zone : List ℕ → Entry
 identifier_zone rid = zone_headed (codes "RIDSA") rid
 
+-- its class
 abbrev pub class_zone : Name → Entry
 class_zone class = zone_headed (codes "SCPCP") (class_text class)
 
--- how many points an arc has, how many ends a link, how many attributes a record
+-- how many points an arc has
 abbrev pub point_count_zone : ℕ → Entry
 point_count_zone count = zone_headed (codes "PTCSN") (decimal count)
 
+-- how many ends a link has
 abbrev pub end_count_zone : ℕ → Entry
 end_count_zone count = zone_headed (codes "FTCSN") (decimal count)
 
+-- how many attributes a record has
 abbrev pub attribute_count_zone : ℕ → Entry
 attribute_count_zone count = zone_headed (codes "ATCSN") (decimal count)
 
--- an attribute's class, and its value, whose format is the letter of the class
+-- the class of an attribute
 abbrev pub attribute_zone : Name → Entry
 attribute_zone class = zone_headed (codes "ATPCP") (class_text class)
 
+-- its value, whose format is the letter of the class
 abbrev pub value_zone : ℕ → Value → Entry
 value_zone letter value = zone_headed (codes "ATVS" ++ letter ∷ []) (value_text value)
 
@@ -64,6 +69,7 @@ extra_zone e = zone_text e.code e.nature e.format (value_text e.value)
 abbrev pub end_text : Name → List ℕ
 end_text n = pointer_text (record { lot = codes "CANON"; subset = codes "S"; rty = n.rty; rid = n.rid })
 
+-- the zone of that pointer
 abbrev pub target_zone : Name → Entry
 target_zone target = zone_headed (codes "FTPCP") (end_text target)
 
@@ -71,12 +77,14 @@ target_zone target = zone_headed (codes "FTPCP") (end_text target)
 abbrev pub sns_zone : List ℕ → Entry
 sns_zone text = zone_headed (codes "SNSSA") text
 
--- the first zone of the file, the last, and that of its character set
+-- the first zone of the file
 abbrev pub begin_zone : Entry
 begin_zone = zone_headed (codes "BOMT ") (codes "CANON.VEC")
 
+-- the last
 abbrev pub end_zone : Entry
 end_zone = zone_headed (codes "EOMT ") []
 
+-- that of its character set
 abbrev pub cse_zone : List ℕ → Entry
 cse_zone text = zone_headed (codes "CSET ") text

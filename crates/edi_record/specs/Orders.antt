@@ -10,9 +10,11 @@ use Rattle.edi_record.specs.declared.record.Value.{Value}
 use Rattle.edi_record.specs.declared.record.Value.TheVariants.{Number, Bytes}
 use Rattle.edi_record.specs.declared.record.Extra.{Extra}
 
+-- texts go by their first bytes that differ, and one that another begins with comes first
 abbrev pub bytes_cmp : List ℕ → List ℕ → Ordering
 bytes_cmp = slice_cmp nat_cmp
 
+-- the same of texts that may be absent, absent first
 abbrev pub text_cmp : Option (List ℕ) → Option (List ℕ) → Ordering
 text_cmp = option_cmp bytes_cmp
 
@@ -20,6 +22,7 @@ text_cmp = option_cmp bytes_cmp
 abbrev pub point_cmp : Point → Point → Ordering
 point_cmp a b = ordering_then (int_cmp a.x b.x) (ordering_then (int_cmp a.y b.y) (option_cmp int_cmp a.z b.z))
 
+-- lists of points go by their first points that differ, and one that another begins with comes first
 abbrev pub points_cmp : List Point → List Point → Ordering
 points_cmp = slice_cmp point_cmp
 
@@ -30,5 +33,8 @@ value_cmp (Number m) (Bytes b) = Less
 value_cmp (Bytes b) (Number m) = Greater
 value_cmp (Bytes b) (Bytes c) = bytes_cmp b c
 
+-- extras go by code, nature, format and value
 abbrev pub extra_cmp : Extra → Extra → Ordering
-extra_cmp a b = ordering_then (bytes_cmp a.code b.code) (ordering_then (nat_cmp a.nature b.nature) (ordering_then (nat_cmp a.format b.format) (value_cmp a.value b.value)))
+extra_cmp a b =
+    ordering_then (bytes_cmp a.code b.code) (ordering_then (nat_cmp a.nature b.nature)
+    (ordering_then (nat_cmp a.format b.format) (value_cmp a.value b.value)))

@@ -20,5 +20,6 @@ pub record IsPrintableSheet (sheet : Sheet) : Type 0 where
 -- The sheet that a file states can be printed, where the file breaks no rule of lines and of records.
 abbrev pub ReadSheetsArePrintable : Type 0
 ReadSheetsArePrintable =
-    (bytes : List ℕ) (zones : List Entry) (sheet : Sheet) → length bytes < 2 ^ 64 → IsZonesOf bytes zones → IsUnbroken (BreaksLineRule bytes)
+    (bytes : List ℕ) (zones : List Entry) (sheet : Sheet) → length bytes < 2 ^ 64 → IsZonesOf bytes zones
+    → IsUnbroken (BreaksLineRule bytes)
     → StatesSheet zones sheet → IsUnbroken (BreaksRecordRule zones) → IsPrintableSheet sheet

@@ -1,4 +1,5 @@
--- The zones of records in the order of the canonical file, with whatever identifiers they have: what is read again of them.
+-- The zones of records in the order of the canonical file, with whatever identifiers they have: what is read again of
+-- them.
 use Rattle.std.specs.Prelude.{◌≡◌, ℕ, Bool, true, false, List, [], ◌∷◌, ◌++◌, map, length, flat_map, codes, Option, None, option_map, option_to_list, decimal, ◌<◌, ◌≤◌, ◌^◌, not, IfSome, bytes_eq}
 use Rattle.std.specs.List.{AllByRecursion, AllZip, list_any}
 use Rattle.edi_line.specs.Zones.{IsZonesIn, groups_of, charset_of}
@@ -48,7 +49,8 @@ count_zones Fea points ends = []
 count_zones Lnk points ends = end_count_zone ends ∷ []
 
 unfoldable pub zones_of_body : Kind → List Point → List End → List Entry
-zones_of_body kind points ends = count_zones kind (length points) (length ends) ++ (map point_zone points ++ flat_map zones_of_end ends)
+zones_of_body kind points ends =
+    count_zones kind (length points) (length ends) ++ (map point_zone points ++ flat_map zones_of_end ends)
 
 unfoldable pub zones_of_record : Letters → Record → List Entry
 zones_of_record s r =
@@ -58,7 +60,8 @@ zones_of_record s r =
     ∷ (flat_map (zones_of_attribute s) r.attributes ++ map extra_zone r.extras)))
 
 abbrev pub zones_of_sheet : Letters → Option (List ℕ) → List Record → List Entry
-zones_of_sheet s cse rs = begin_zone ∷ (map cse_zone (option_to_list cse) ++ (flat_map (zones_of_record s) rs ++ end_zone ∷ []))
+zones_of_sheet s cse rs =
+    begin_zone ∷ (map cse_zone (option_to_list cse) ++ (flat_map (zones_of_record s) rs ++ end_zone ∷ []))
 
 -- the bytes of the records with their character set
 abbrev pub records_layout : Letters → Option (List ℕ) → List Record → List ℕ
@@ -109,7 +112,16 @@ settled s a = record { atp = a.atp; tex = a.tex; atv = value_text (value_of (s.i
 
 -- the record with each attribute's value as it is written
 abbrev pub settled_record : Letters → Record → Record
-settled_record s r = record { kind = r.kind; rid = r.rid; scp = r.scp; points = r.points; ends = map settled_end r.ends; attributes = map (settled s) r.attributes; extras = r.extras }
+settled_record s r =
+    record {
+      kind = r.kind;
+      rid = r.rid;
+      scp = r.scp;
+      points = r.points;
+      ends = map settled_end r.ends;
+      attributes = map (settled s) r.attributes;
+      extras = r.extras;
+    }
 
 -- ---- what texts need to be printed in lines
 
@@ -153,9 +165,11 @@ HasPrintableLetters s = (n : Name) → is_printable (s.letter n) ≡ true
 -- The records_layout of records states them, with their ends and values as they are written.
 abbrev pub LayoutIsReadAgain : Type 0
 LayoutIsReadAgain =
-    (s : Letters) (cse : Option (List ℕ)) (rs : List Record) (readings : List Reading) (zones : List Entry) → AllByRecursion IsPrintable (zones_of_sheet s cse rs) → AllByRecursion IsRecord rs
+    (s : Letters) (cse : Option (List ℕ)) (rs : List Record) (readings : List Reading) (zones : List Entry)
+    → AllByRecursion IsPrintable (zones_of_sheet s cse rs) → AllByRecursion IsRecord rs
     → AreReadings (records_layout s cse rs) readings → IsZonesIn readings zones
-    → (option_map (λ (e : Entry). e.value) (charset_of zones) ≡ cse) × AllZip States (groups_of zones) (map (settled_record s) rs)
+    → (option_map (λ (e : Entry). e.value) (charset_of zones) ≡ cse)
+    × AllZip States (groups_of zones) (map (settled_record s) rs)
 
 -- what holds of a record that was read from zones which break no rule of records
 pub record FollowsRules (r : Record) : Type 0 where
@@ -168,10 +182,13 @@ pub record FollowsRules (r : Record) : Type 0 where
 
 -- The zones of such a record break no rule of records.
 abbrev pub PrintedRecordsAreUnbroken : Type 0
-PrintedRecordsAreUnbroken = (s : Letters) (r : Record) → IsRecord r → FollowsRules r → (rule : ℕ) → ¬ (BreaksGroupRule (zones_of_record s r) rule)
+PrintedRecordsAreUnbroken =
+    (s : Letters) (r : Record) → IsRecord r → FollowsRules r → (rule : ℕ)
+    → ¬ (BreaksGroupRule (zones_of_record s r) rule)
 
 -- Sheets whose texts are each one line can be printed.
 abbrev pub SheetsArePrintable : Type 0
 SheetsArePrintable =
-    (s : Letters) (cse : Option (List ℕ)) (rs : List Record) → HasPrintableLetters s → IfSome cse IsOneLine → AllByRecursion IsRecord rs → AllByRecursion IsLineRecord rs
+    (s : Letters) (cse : Option (List ℕ)) (rs : List Record) → HasPrintableLetters s → IfSome cse IsOneLine
+    → AllByRecursion IsRecord rs → AllByRecursion IsLineRecord rs
     → AllByRecursion IsPrintable (zones_of_sheet s cse rs)

@@ -29,6 +29,7 @@ has_no_identifier group = not (just_one is_identifier (values (codes "RID") grou
 abbrev pub IsOfKind : List Entry → Kind → Type 0
 IsOfKind group kind = first (values (codes "RTY") group) ≡ Some (kind_code kind)
 
+-- the text is no pointer
 abbrev pub IsNoPointer : List ℕ → Type 0
 IsNoPointer text = (p : PointerText) → ¬ (IsPointer text p)
 
@@ -52,8 +53,10 @@ module _ (group : List Entry) where
   -- 204: an ATP is no pointer; an ATV where no attribute is open; a second TEX in one open attribute
   pub data HasBadAttribute : Type 0 where
     no_pointer : Any IsNoPointer (values (codes "ATP") group) → HasBadAttribute
-    stray_value : (front : List Entry) (z : Entry) → IsIn front z → closes z ≡ true → ((since : List Entry) → ¬ (IsOpen front since)) → HasBadAttribute
-    second_set : (front since : List Entry) (z : Entry) → IsIn front z → has_code (codes "TEX") z ≡ true → IsOpen front since → list_any (has_code (codes "TEX")) since ≡ true → HasBadAttribute
+    stray_value : (front : List Entry) (z : Entry) → IsIn front z → closes z ≡ true
+        → ((since : List Entry) → ¬ (IsOpen front since)) → HasBadAttribute
+    second_set : (front since : List Entry) (z : Entry) → IsIn front z → has_code (codes "TEX") z ≡ true
+        → IsOpen front since → list_any (has_code (codes "TEX")) since ≡ true → HasBadAttribute
 
   -- the zones with one code aren't as many as the zone with the other says
   abbrev pub CountsWrong : List ℕ → List ℕ → Type 0
@@ -67,7 +70,8 @@ module _ (group : List Entry) where
 
   -- 206: a COR of a node or an arc is no position; a node without exactly one COR; an arc with fewer than two
   pub data HasBadPoint : Type 0 where
-    no_position : (kind : Kind) → IsOfKind group kind → has_points kind ≡ true → Any (λ text. (p : Point) → ¬ (IsPosition text p)) (values (codes "COR") group) → HasBadPoint
+    no_position : (kind : Kind) → IsOfKind group kind → has_points kind ≡ true
+        → Any (λ text. (p : Point) → ¬ (IsPosition text p)) (values (codes "COR") group) → HasBadPoint
     of_node : IsOfKind group Pno → length (values (codes "COR") group) ≢ 1 → HasBadPoint
     of_arc : IsOfKind group Par → length (values (codes "COR") group) < 2 → HasBadPoint
 
@@ -75,8 +79,10 @@ module _ (group : List Entry) where
   pub data HasBadEnd : Type 0 where
     no_pointer : Any IsNoPointer (values (codes "FTP") group) → HasBadEnd
     few : length (values (codes "FTP") group) < 2 → HasBadEnd
-    stray_sense : (front : List Entry) (z : Entry) → IsIn front z → has_code (codes "SNS") z ≡ true → list_any points_at front ≡ false → HasBadEnd
-    second_sense : (front since : List Entry) (z : Entry) → IsIn front z → has_code (codes "SNS") z ≡ true → IsSince points_at points_at front since
+    stray_sense : (front : List Entry) (z : Entry) → IsIn front z → has_code (codes "SNS") z ≡ true
+        → list_any points_at front ≡ false → HasBadEnd
+    second_sense : (front since : List Entry) (z : Entry) → IsIn front z → has_code (codes "SNS") z ≡ true
+        → IsSince points_at points_at front since
         → list_any (has_code (codes "SNS")) since ≡ true → HasBadEnd
 
   -- 208: an extra with format `P` and a value that isn't empty

@@ -27,6 +27,7 @@ has_points Pfe = false
 has_points Fea = false
 has_points Lnk = false
 
+-- the type of links
 abbrev pub is_link : Kind → Bool
 is_link Pno = false
 is_link Par = false
@@ -48,9 +49,11 @@ pub record IsSince (begins ends : Entry → Bool) (front since : List Entry) : T
 
 -- ---- attributes
 
+-- a zone that opens an attribute
 abbrev pub opens : Entry → Bool
 opens z = has_code (codes "ATP") z
 
+-- a zone that closes it
 abbrev pub closes : Entry → Bool
 closes z = has_code (codes "ATV") z
 
@@ -66,6 +69,7 @@ pub record IsAttributeAt (front : List Entry) (z : Entry) (behind : List Entry) 
 
 -- ---- ends
 
+-- a zone that begins an end
 abbrev pub points_at : Entry → Bool
 points_at z = has_code (codes "FTP") z
 
@@ -76,10 +80,12 @@ pub record IsEndAt (front : List Entry) (z : Entry) (behind : List Entry) (e : E
 
 -- ---- extras
 
--- the codes known in every record, and those of its type
+-- the codes known in every record
 abbrev pub known_anywhere : List (List ℕ)
-known_anywhere = codes "RTY" ∷ codes "RID" ∷ codes "SCP" ∷ codes "ATC" ∷ codes "ATP" ∷ codes "ATV" ∷ codes "QAC" ∷ codes "QAP" ∷ []
+known_anywhere =
+    codes "RTY" ∷ codes "RID" ∷ codes "SCP" ∷ codes "ATC" ∷ codes "ATP" ∷ codes "ATV" ∷ codes "QAC" ∷ codes "QAP" ∷ []
 
+-- the codes known in records of this type alone
 abbrev pub known_in : Kind → List (List ℕ)
 known_in Pno = codes "COR" ∷ []
 known_in Par = codes "COR" ∷ codes "PTC" ∷ []
@@ -87,6 +93,7 @@ known_in Pfe = []
 known_in Fea = []
 known_in Lnk = codes "FTC" ∷ codes "FTP" ∷ codes "SNS" ∷ []
 
+-- the code is known in records of this type
 abbrev pub is_known : Kind → List ℕ → Bool
 is_known kind code = list_any (bytes_eq code) known_anywhere || list_any (bytes_eq code) (known_in kind)
 
@@ -104,6 +111,7 @@ IsValueOf may text (Bytes bytes) = (bytes ≡ text) × (may → (m : ℤ) → ¬
 abbrev pub may_be_number : ℕ → Bool
 may_be_number format = (format == letter_n) || (format == letter_r)
 
+-- the extra that a zone states
 pub record IsExtraOf (front : List Entry) (z : Entry) (behind : List Entry) (e : Extra) : Type 0 where
   pub code : e.code ≡ z.code
   pub nature : e.nature ≡ z.nature

@@ -12,8 +12,10 @@ line text rest = text ++ line_feed ∷ rest
 -- a sheet with one node, and more zones behind its point
 abbrev pub one_node : List ℕ → List ℕ
 one_node more =
-    line (codes "BOMT 12:EDAB01T1.VEC") (line (codes "CSET 03:IRV") (line (codes "RTYSA03:PNO") (line (codes "RIDSA07:Noeud_1")
-    (line (codes "SCPCP22:EDAB01;SeSD;PGE;NOD_id") (line (codes "CORCC12:+10.50;+020;") (more ++ line (codes "EOMT 00:") []))))))
+    line (codes "BOMT 12:EDAB01T1.VEC")
+    (line (codes "CSET 03:IRV") (line (codes "RTYSA03:PNO") (line (codes "RIDSA07:Noeud_1")
+    (line (codes "SCPCP22:EDAB01;SeSD;PGE;NOD_id") (line (codes "CORCC12:+10.50;+020;") (more
+    ++ line (codes "EOMT 00:") []))))))
 
 abbrev pub the_node : Record
 the_node = record {

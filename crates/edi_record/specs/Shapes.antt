@@ -41,4 +41,13 @@ is_in_shape r = may_have_points r.kind (length r.points) && may_have_ends r.kind
 
 -- the record at a place, from 0, or an empty one where there is none
 abbrev pub stated_at : List Record → ℕ → Record
-stated_at list k = slice_index_or list k (record { kind = Pno; rid = []; scp = record { rty = []; rid = [] }; points = []; ends = []; attributes = []; extras = [] })
+stated_at list k =
+    slice_index_or list k (record {
+      kind = Pno;
+      rid = [];
+      scp = record { rty = []; rid = [] };
+      points = [];
+      ends = [];
+      attributes = [];
+      extras = [];
+    })

@@ -23,5 +23,6 @@ pub record IsSoundFile (s : Letters) (cse : Option (List ℕ)) (rs : List Record
 -- Sheets of at most 9,999,999 records that can be printed are printed without a broken rule.
 abbrev pub PrintedSheetsAreSound : Type 0
 PrintedSheetsAreSound =
-    (s : Letters) (cse : Option (List ℕ)) (rs : List Record) → HasPrintableLetters s → IfSome cse IsOneLine → AllByRecursion IsRecord rs → AllByRecursion IsLineRecord rs → AllByRecursion FollowsRules rs
+    (s : Letters) (cse : Option (List ℕ)) (rs : List Record) → HasPrintableLetters s → IfSome cse IsOneLine
+    → AllByRecursion IsRecord rs → AllByRecursion IsLineRecord rs → AllByRecursion FollowsRules rs
     → length rs ≤ most_records → IsSoundFile s cse rs

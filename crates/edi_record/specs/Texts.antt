@@ -8,17 +8,20 @@ use Rattle.edi_record.specs.declared.record.Point.{Point}
 use Rattle.edi_record.specs.declared.name.Name.{Name}
 use Rattle.edi_record.specs.declared.pointer.Pointer.{Pointer}
 
+-- the byte is a semicolon
 abbrev pub is_semicolon : ℕ → Bool
 is_semicolon c = c == semicolon
 
 -- ---- pointers
 
+-- the four parts of a pointer
 pub record PointerText : Type 0 where
   pub lot : List ℕ
   pub subset : List ℕ
   pub rty : List ℕ
   pub rid : List ℕ
 
+-- the text has no semicolon
 abbrev pub HasNoSemicolon : List ℕ → Type 0
 HasNoSemicolon part = All (λ c. (c == semicolon) ≡ false) part
 
@@ -32,10 +35,12 @@ pub record IsPointer (text : List ℕ) (p : PointerText) : Type 0 where
 
 -- a pointer to what the name names, in any lot and subset
 abbrev pub PointsTo : List ℕ → Name → Type 0
-PointsTo text name = (lot subset : List ℕ) × IsPointer text (record { lot = lot; subset = subset; rty = name.rty; rid = name.rid })
+PointsTo text name =
+    (lot subset : List ℕ) × IsPointer text (record { lot = lot; subset = subset; rty = name.rty; rid = name.rid })
 
 -- ---- positions
 
+-- the two or three coordinates of a point
 abbrev pub coordinates : Point → List ℤ
 coordinates p = p.x ∷ p.y ∷ option_to_list p.z
 
@@ -53,6 +58,7 @@ IsCount text n = (0 < length text) × AllDigits 10 text × (n ≡ digits_value 1
 
 -- ---- as they are written
 
+-- the text of a pointer
 unfoldable pub pointer_text : PointerText → List ℕ
 pointer_text p = p.lot ++ semicolon ∷ (p.subset ++ semicolon ∷ (p.rty ++ semicolon ∷ p.rid))
 
@@ -61,6 +67,7 @@ abbrev pub third_text : Option ℤ → List ℕ
 third_text None = []
 third_text (Some z) = signed_text z ++ semicolon ∷ []
 
+-- the text of a point: its coordinates, with a semicolon behind each
 unfoldable pub point_text : Point → List ℕ
 point_text p = signed_text p.x ++ semicolon ∷ (signed_text p.y ++ semicolon ∷ third_text p.z)
 

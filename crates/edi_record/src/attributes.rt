@@ -53,10 +53,10 @@ impl<'a> OpenAttribute<'a> {
 fn push_attribute(
     attributes: &mut Vec<Attribute>,
     alloc: Global,
-    opened: OpenAttribute<'_>,
+    opened: &OpenAttribute<'_>,
     value: &[u8],
 ) -> Result<(), AllocError>
-    ensures { OnOk result (attributes.new.items ≡ attributes.old.items ++ closed_with value.now (Some opened.entry)) }
+    ensures { OnOk result (attributes.new.items ≡ attributes.old.items ++ closed_with value.now (Some opened.now)) }
 {
     attributes.push(opened.attribute(alloc, value)?)?;
     Ok(())
@@ -95,12 +95,14 @@ impl<'a> Attributes<'a> {
     fn close(&mut self, alloc: Global, value: &[u8]) -> Result<(), AllocError>
         ensures broken { OnOk result (self.new.is_broken ≡ self.old.is_broken) }
         ensures opened { OnOk result (self.new.opened ≡ None) }
-        ensures done { OnOk result (self.new.done.items ≡ self.old.done.items ++ closed_with value.now self.old.opened) }
+        ensures done { OnOk result (self.new.done.items
+            ≡ self.old.done.items ++ closed_with value.now self.old.opened) }
     {
-        match self.opened.take() {
-            Some(opened) => push_attribute(&mut self.done, alloc, opened, value),
-            None => Ok(()),
+        if let Some(opened) = &self.opened {
+            push_attribute(&mut self.done, alloc, opened, value)?;
+            self.opened = None;
         }
+        Ok(())
     }
 
     /// Takes the class of the next attribute.
@@ -150,10 +152,13 @@ impl<'a> Attributes<'a> {
     /// The attributes; or rule 204, where the class of one is no pointer, a value comes where no
     /// attribute is open, or an open attribute has two character sets.
     pub(crate) fn finish(mut self, alloc: Global) -> Result<Vec<Attribute>, GroupFault>
-        ensures states { IfOk result (λ v. (group : List Entry) → StoresAttributes self.entry [] group → attributes group ≡ map Some v.items) }
+        ensures states { IfOk result (λ v. (group : List Entry) → StoresAttributes self.entry [] group
+            → attributes group ≡ map Some v.items) }
         ensures unbroken { OnOk result (self.entry.is_broken ≡ false) }
-        ensures sound { OnOk result ((group : List Entry) → StoresAttributes self.entry [] group → has_bad_attribute group ≡ false) }
-        ensures breach { IfErr result (λ fault. (group : List Entry) → StoresAttributes self.entry [] group → IsBreachOf 204 (has_bad_attribute group) fault) }
+        ensures sound { OnOk result ((group : List Entry) → StoresAttributes self.entry [] group
+            → has_bad_attribute group ≡ false) }
+        ensures breach { IfErr result (λ fault. (group : List Entry) → StoresAttributes self.entry [] group
+            → IsBreachOf 204 (has_bad_attribute group) fault) }
     {
         if self.is_broken {
             return Err(GroupFault::Broken(204));

@@ -71,7 +71,8 @@ impl<'a> Draft<'a> {
         requires { self.old.counted + 1 < 2 ^ 64 }
         ensures kind { OnOk result (self.new.kind ≡ self.old.kind) }
         ensures counted { OnOk result (self.new.counted ≤ self.old.counted + 1) }
-        ensures keeps { OnOk result ((left group : List Entry) → StoresRecord self.old (entry zone.entry.now ∷ left) group → StoresRecord self.new left group) }
+        ensures keeps { OnOk result ((left group : List Entry)
+            → StoresRecord self.old (entry zone.entry.now ∷ left) group → StoresRecord self.new left group) }
     {
         let text = zone.value.as_slice();
         match role_of(self.kind, zone.code) {
@@ -100,10 +101,13 @@ impl<'a> Draft<'a> {
 
     /// The record, of which all zones have come, or the least of the rules 202 to 208 that it breaks.
     pub(crate) fn finish(self, alloc: Global) -> Result<Record, GroupFault>
-        ensures states { IfOk result (λ r. (group : List Entry) → length (values (codes "RTY") group) ≡ 1 → kind_in group ≡ Some self.entry.kind → StoresRecord self.entry [] group → ReadsAs group r) }
+        ensures states { IfOk result (λ r. (group : List Entry) → length (values (codes "RTY") group) ≡ 1
+            → kind_in group ≡ Some self.entry.kind → StoresRecord self.entry [] group → ReadsAs group r) }
         ensures shape { IfOk result (λ r. is_in_shape r ≡ true) }
-        ensures sound { OnOk result ((group : List Entry) → kind_in group ≡ Some self.entry.kind → StoresRecord self.entry [] group → first_broken (record_tests group) ≡ None) }
-        ensures least { IfErr result (λ fault. (group : List Entry) → kind_in group ≡ Some self.entry.kind → StoresRecord self.entry [] group → IsGroupRefusal group fault) }
+        ensures sound { OnOk result ((group : List Entry) → kind_in group ≡ Some self.entry.kind
+            → StoresRecord self.entry [] group → first_broken (record_tests group) ≡ None) }
+        ensures least { IfErr result (λ fault. (group : List Entry) → kind_in group ≡ Some self.entry.kind
+            → StoresRecord self.entry [] group → IsGroupRefusal group fault) }
     {
         let Some(rid) = identifier_of(self.identifier) else {
             return Err(GroupFault::Broken(202));
@@ -134,8 +138,10 @@ impl<'a> Draft<'a> {
 
 /// The identifier of a record, or none where rule 202 is broken.
 fn identifier_of(stored: Only<'_>) -> Option<&[u8]>
-    ensures { MatchOption result ((all : List (List ℕ)) → AreTexts stored.entry [] all → just_one is_identifier_text all ≡ false)
-        (λ text. (all : List (List ℕ)) → AreTexts stored.entry [] all → (just_one is_identifier_text all ≡ true) × (all ≡ text.now ∷ [])) }
+    ensures { MatchOption result ((all : List (List ℕ)) → AreTexts stored.entry [] all
+        → just_one is_identifier_text all ≡ false)
+        (λ text. (all : List (List ℕ)) → AreTexts stored.entry [] all
+        → (just_one is_identifier_text all ≡ true) × (all ≡ text.now ∷ [])) }
 {
     match stored {
         Only::One(text) if is_identifier(text) => Some(text),
@@ -145,8 +151,11 @@ fn identifier_of(stored: Only<'_>) -> Option<&[u8]>
 
 /// The pointer to the class of a record, or none where rule 203 is broken.
 fn class_pointer(stored: Only<'_>) -> Option<Pointer<'_>>
-    ensures { MatchOption result ((all : List (List ℕ)) → AreTexts stored.entry [] all → just_one (λ text. is_some (pointer text)) all ≡ false)
-        (λ p. (all : List (List ℕ)) → AreTexts stored.entry [] all → (just_one (λ text. is_some (pointer text)) all ≡ true) × (map class_of all ≡ Some (record { rty = p.rty.now; rid = p.rid.now }) ∷ [])) }
+    ensures { MatchOption result ((all : List (List ℕ)) → AreTexts stored.entry [] all
+        → just_one (λ text. is_some (pointer text)) all ≡ false)
+        (λ p. (all : List (List ℕ)) → AreTexts stored.entry [] all
+        → (just_one (λ text. is_some (pointer text)) all ≡ true)
+        × (map class_of all ≡ Some (record { rty = p.rty.now; rid = p.rid.now }) ∷ [])) }
 {
     match stored {
         Only::One(text) => Pointer::read(text),
@@ -156,8 +165,10 @@ fn class_pointer(stored: Only<'_>) -> Option<Pointer<'_>>
 
 /// Whether the count of an arc's points or of a link's ends is wrong.
 fn is_body_wrong(kind: Kind, count: Only<'_>, counted: usize) -> bool
-    ensures { (points ends : List (List ℕ)) → (is_arc kind ≡ true → AreTexts count.entry [] points) → (is_link kind ≡ true → AreTexts count.entry [] ends)
-        → result ≡ ((is_arc kind && not (counts_right points counted)) || (is_link kind && not (counts_right ends counted))) }
+    ensures { (points ends : List (List ℕ)) → (is_arc kind ≡ true → AreTexts count.entry [] points)
+        → (is_link kind ≡ true → AreTexts count.entry [] ends)
+        → result
+        ≡ ((is_arc kind && not (counts_right points counted)) || (is_link kind && not (counts_right ends counted))) }
 {
     kind.has_count() && is_wrong(count, counted)
 }

@@ -44,13 +44,19 @@ impl<'a> OpenEnd<'a> {
 }
 
 impl<'a> Pointer<'a> {
-    /// The end with this pointer and without SNS, which takes no memory. Nearly each end is such a one, and is made without a way out.
+    /// The end with this pointer and without SNS, which takes no memory. Nearly each end is such a one, and is made
+    /// without a way out.
     fn short_end(self, alloc: Global) -> End
         requires lot { length self.lot.now ≤ 14 }
         requires subset { length self.subset.now ≤ 14 }
         requires rty { length self.rty.now ≤ 14 }
         requires rid { length self.rid.now ≤ 14 }
-        ensures { result ≡ record { lot = self.entry.lot.now; subset = self.entry.subset.now; target = record { rty = self.entry.rty.now; rid = self.entry.rid.now }; sns = None } }
+        ensures { result ≡ record {
+          lot = self.entry.lot.now;
+          subset = self.entry.subset.now;
+          target = record { rty = self.entry.rty.now; rid = self.entry.rid.now };
+          sns = None;
+        } }
     {
         End {
             lot: Text::short(alloc, self.lot),
@@ -64,13 +70,26 @@ impl<'a> Pointer<'a> {
     }
 }
 
-/// Puts an end behind others.
+/// Puts an end behind others, whatever its texts are.
 #[inline(never)]
-fn push_end(ends: &mut Vec<End>, alloc: Global, opened: OpenEnd<'_>) -> Result<(), AllocError>
-    ensures { OnOk result (ends.new.items ≡ ends.old.items ++ ended_with (Some opened.entry)) }
+fn push_long(ends: &mut Vec<End>, alloc: Global, opened: &OpenEnd<'_>) -> Result<(), AllocError>
+    ensures { OnOk result (ends.new.items ≡ ends.old.items ++ ended_with (Some opened.now)) }
 {
     ends.push(opened.end(alloc)?)?;
     Ok(())
+}
+
+/// Puts an end behind others. A short one has a way of its own, since what other ends need would have to be made ready
+/// for each. It stands apart, so that where no end is open nothing is made ready.
+#[inline(never)]
+fn push_end(ends: &mut Vec<End>, alloc: Global, opened: &OpenEnd<'_>) -> Result<(), AllocError>
+    ensures { OnOk result (ends.new.items ≡ ends.old.items ++ ended_with (Some opened.now)) }
+{
+    if opened.sense.is_none() && opened.pointer.is_short() {
+        ends.push(opened.pointer.short_end(alloc))?;
+        return Ok(());
+    }
+    push_long(ends, alloc, opened)
 }
 
 /// The ends of the zones that have come. One is closed by the next or by the end of the zones.
@@ -94,21 +113,17 @@ impl<'a> Ends<'a> {
         }
     }
 
-    /// Closes the end that is open, if one is. A short one has a way of its own, since what other ends need would have
-    /// to be made ready for each.
+    /// Closes the end that is open, if one is.
     fn close(&mut self, alloc: Global) -> Result<(), AllocError>
         ensures broken { OnOk result (self.new.is_broken ≡ self.old.is_broken) }
         ensures opened { OnOk result (self.new.opened ≡ None) }
         ensures done { OnOk result (self.new.done.items ≡ self.old.done.items ++ ended_with self.old.opened) }
     {
-        let Some(opened) = self.opened.take() else {
-            return Ok(());
-        };
-        if opened.sense.is_none() && opened.pointer.is_short() {
-            self.done.push(opened.pointer.short_end(alloc))?;
-            return Ok(());
+        if let Some(opened) = &self.opened {
+            push_end(&mut self.done, alloc, opened)?;
+            self.opened = None;
         }
-        push_end(&mut self.done, alloc, opened)
+        Ok(())
     }
 
     /// Takes the pointer of the next end.
@@ -149,10 +164,13 @@ impl<'a> Ends<'a> {
     /// The ends of a link, and none of other records; or rule 207, where one of them is no pointer,
     /// there are fewer than two, or an SNS comes before any end or twice for one.
     pub(crate) fn finish(mut self, alloc: Global, kind: Kind) -> Result<Vec<End>, GroupFault>
-        ensures states { IfOk result (λ v. (group : List Entry) → (is_link kind ≡ true → StoresEnds self.entry [] group) → (if is_link kind then ends group else []) ≡ map Some v.items) }
+        ensures states { IfOk result (λ v. (group : List Entry) → (is_link kind ≡ true → StoresEnds self.entry [] group)
+            → (if is_link kind then ends group else []) ≡ map Some v.items) }
         ensures shape { IfOk result (λ v. may_have_ends kind (length v.items) ≡ true) }
-        ensures sound { OnOk result ((group : List Entry) → kind_in group ≡ Some kind → (is_link kind ≡ true → StoresEnds self.entry [] group) → has_bad_end group ≡ false) }
-        ensures breach { IfErr result (λ fault. (group : List Entry) → kind_in group ≡ Some kind → (is_link kind ≡ true → StoresEnds self.entry [] group) → IsBreachOf 207 (has_bad_end group) fault) }
+        ensures sound { OnOk result ((group : List Entry) → kind_in group ≡ Some kind
+            → (is_link kind ≡ true → StoresEnds self.entry [] group) → has_bad_end group ≡ false) }
+        ensures breach { IfErr result (λ fault. (group : List Entry) → kind_in group ≡ Some kind
+            → (is_link kind ≡ true → StoresEnds self.entry [] group) → IsBreachOf 207 (has_bad_end group) fault) }
     {
         if !kind.is_link() {
             let Ends { mut done, .. } = self;

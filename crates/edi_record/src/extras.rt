@@ -83,9 +83,13 @@ impl Extras {
     /// The extras, in the order of their zones; or rule 208, where one of them is a pointer that
     /// isn't empty.
     pub(crate) fn finish(self) -> Result<Vec<Extra>, GroupFault>
-        ensures states { IfOk result (λ v. (kind : Kind) (is_open : Bool) (group : List Entry) → StoresExtras kind is_open self [] group → extras kind group ≡ v.items) }
-        ensures sound { OnOk result ((kind : Kind) (is_open : Bool) (group : List Entry) → kind_in group ≡ Some kind → StoresExtras kind is_open self [] group → has_unknown_pointer group ≡ false) }
-        ensures breach { IfErr result (λ fault. (kind : Kind) (is_open : Bool) (group : List Entry) → kind_in group ≡ Some kind → StoresExtras kind is_open self [] group → IsBreachOf 208 (has_unknown_pointer group) fault) }
+        ensures states { IfOk result (λ v. (kind : Kind) (is_open : Bool) (group : List Entry)
+            → StoresExtras kind is_open self [] group → extras kind group ≡ v.items) }
+        ensures sound { OnOk result ((kind : Kind) (is_open : Bool) (group : List Entry) → kind_in group ≡ Some kind
+            → StoresExtras kind is_open self [] group → has_unknown_pointer group ≡ false) }
+        ensures breach { IfErr result (λ fault. (kind : Kind) (is_open : Bool) (group : List Entry)
+            → kind_in group ≡ Some kind → StoresExtras kind is_open self [] group
+            → IsBreachOf 208 (has_unknown_pointer group) fault) }
     {
         let Extras { list, is_broken } = self;
         if is_broken {

@@ -10,8 +10,8 @@ use edi_line::LineFault;
 use std::alloc::{AllocError, AllocFailed};
 use thiserror::Error;
 
-/// Why records are refused: a rule that is broken with its record, counted from 1, or want of memory. The rules 201 to 208
-/// are those of records; the later phases have this fault with the rules 301 to 307, 401 to 406 and 501.
+/// Why records are refused: a rule that is broken with its record, counted from 1, or want of memory. The rules 201 to
+/// 208 are those of records; the later phases have this fault with the rules 301 to 307, 401 to 406 and 501.
 #[derive(Debug, Drop, Error)]
 pub enum RecordFault {
     #[error("out of memory")]

@@ -22,8 +22,8 @@ fn place_of(len: usize) -> Result<u32, AllocError>
     Ok(len as u32)
 }
 
-/// Makes room for so many more elements, unless there are none yet: then the list that comes takes this one's place. Where the elements
-/// will end is the answer.
+/// Makes room for so many more elements, unless there are none yet: then the list that comes takes this one's place.
+/// Where the elements will end is the answer.
 pub(crate) fn make_room<T>(list: &mut Vec<T>, more: usize) -> Result<u32, AllocError>
     ensures items { list.new.items ≡ list.old.items }
     ensures room { OnOk result (0 < vec_len list.new → vec_len list.new + more ≤ vec_capacity list.new) }
@@ -53,8 +53,8 @@ pub(crate) fn push_behind<T: Drop>(list: &mut Vec<T>, item: T)
     let _never_fails = list.push(item);
 }
 
-/// Moves the elements of a part behind those of a list that has room for them, or puts the part in its place where it has none. An empty
-/// list is the answer.
+/// Moves the elements of a part behind those of a list that has room for them, or puts the part in its place where it
+/// has none. An empty list is the answer.
 pub(crate) fn append<T: Drop>(list: &mut Vec<T>, part: Sequence<T>) -> Vec<T>
     requires { 0 < vec_len list.old → vec_len list.old + length part ≤ vec_capacity list.old }
     ensures moved { list.new.items ≡ list.old.items ++ part }
@@ -93,9 +93,9 @@ pub(crate) fn exact_room<T>(alloc: Global, list: &Vec<T>) -> Result<Vec<T>, Allo
     Vec::with_capacity(alloc, list.len())
 }
 
-/// Hands the elements of a list over, with no room for more: in the list itself, if it has no room for more or the empty
-/// one has too little, and then the list goes on in that one's room; or else in the empty one. The heads and the ends
-/// of a block of links fill their lists, and to copy them took a fortieth of the instructions of a check.
+/// Hands the elements of a list over, with no room for more: in the list itself, if it has no room for more or the
+/// empty one has too little, and then the list goes on in that one's room; or else in the empty one. The heads and the
+/// ends of a block of links fill their lists, and to copy them took a fortieth of the instructions of a check.
 pub(crate) fn handed_over<T: Drop>(mut exact: Vec<T>, list: &mut Vec<T>) -> Vec<T>
     requires { exact.items ≡ [] }
     ensures items { result.items ≡ list.old.items }

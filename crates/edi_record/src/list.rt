@@ -90,7 +90,8 @@ impl GroupOut for KeepNothing {
 pub fn read_sheet(alloc: Global, bytes: &[u8]) -> Result<Sheet, SheetFault>
     ensures sheet { IfOk result (λ sheet. (zones : List Entry) × IsZonesOf bytes.now zones × StatesSheet zones sheet) }
     ensures lines { OnOk result (IsUnbroken (BreaksLineRule bytes.now)) }
-    ensures records { OnOk result ((zones : List Entry) → IsZonesOf bytes.now zones → IsUnbroken (BreaksRecordRule zones)) }
+    ensures records { OnOk result ((zones : List Entry) → IsZonesOf bytes.now zones
+        → IsUnbroken (BreaksRecordRule zones)) }
     ensures refusal { IfErr result (IsSheetRefusal bytes.now) }
 {
     let (sheet, _) = read_sheet_beside(alloc, bytes, KeepNothing)?;
@@ -107,23 +108,27 @@ pub fn read_sheet_beside<O: GroupOut + Drop>(
     ensures sheet { IfOk result (λ read. (zones : List Entry) × IsZonesOf bytes.now zones × StatesSheet zones read.0) }
     ensures other { IfOk result (λ read. HasTakenAll bytes.now (O.Holds read.1)) }
     ensures lines { OnOk result (IsUnbroken (BreaksLineRule bytes.now)) }
-    ensures records { OnOk result ((zones : List Entry) → IsZonesOf bytes.now zones → IsUnbroken (BreaksRecordRule zones)) }
+    ensures records { OnOk result ((zones : List Entry) → IsZonesOf bytes.now zones
+        → IsUnbroken (BreaksRecordRule zones)) }
     ensures refusal { IfErr result (IsSheetRefusal bytes.now) }
 {
     read_sheet_from(alloc, FileBytes::Whole(CowSlice::Borrowed(bytes)), other)
 }
 
-/// What `read_sheet_beside` gives of a file that is let go as it is read: at once at the end of its lines, or piece by piece.
+/// What `read_sheet_beside` gives of a file that is let go as it is read: at once at the end of its lines, or piece by
+/// piece.
 pub fn read_sheet_from<O: GroupOut + Drop>(
     alloc: Global,
     file: FileBytes<'_>,
     other: O,
 ) -> Result<(Sheet, O), SheetFault>
     requires none_taken { O.Holds other [] }
-    ensures sheet { IfOk result (λ read. (zones : List Entry) × IsZonesOf (file_bytes file.entry) zones × StatesSheet zones read.0) }
+    ensures sheet { IfOk result (λ read. (zones : List Entry) × IsZonesOf (file_bytes file.entry) zones
+        × StatesSheet zones read.0) }
     ensures other { IfOk result (λ read. HasTakenAll (file_bytes file.entry) (O.Holds read.1)) }
     ensures lines { OnOk result (IsUnbroken (BreaksLineRule (file_bytes file.entry))) }
-    ensures records { OnOk result ((zones : List Entry) → IsZonesOf (file_bytes file.entry) zones → IsUnbroken (BreaksRecordRule zones)) }
+    ensures records { OnOk result ((zones : List Entry) → IsZonesOf (file_bytes file.entry) zones
+        → IsUnbroken (BreaksRecordRule zones)) }
     ensures refusal { IfErr result (IsSheetRefusal (file_bytes file.entry)) }
 {
     let mut both = RecordsAndOther {

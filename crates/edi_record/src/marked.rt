@@ -10,8 +10,8 @@ use std::simd::prelude::*;
 // How many bytes are looked at at once.
 const LANES: usize = 16;
 
-/// A text, and its semicolons, a bit each, if it has 16 to 32 bytes, as nearly each text of a pointer or a position has. Two vectors
-/// cover so many; then a cut takes some instructions where a search takes some for each byte.
+/// A text, and its semicolons, a bit each, if it has 16 to 32 bytes, as nearly each text of a pointer or a position
+/// has. Two vectors cover so many; then a cut takes some instructions where a search takes some for each byte.
 #[derive(Clone, Copy)]
 pub(crate) struct Marked<'a> {
     pub(crate) text: &'a [u8],

@@ -14,7 +14,8 @@ pub(crate) enum Only<'a> {
 impl<'a> Only<'a> {
     /// Takes the next text.
     pub(crate) fn take(&mut self, text: &'a [u8])
-        ensures { (left all : List (List ℕ)) → AreTexts self.old (text.entry.now ∷ left) all → AreTexts self.new left all }
+        ensures { (left all : List (List ℕ)) → AreTexts self.old (text.entry.now ∷ left) all
+            → AreTexts self.new left all }
     {
         *self = match *self {
             Only::Absent => Only::One(text),

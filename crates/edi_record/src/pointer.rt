@@ -21,7 +21,8 @@ pub struct Pointer<'a> {
 impl<'a> Pointer<'a> {
     /// The parts of a text with exactly three semicolons.
     pub fn read(text: &'a [u8]) -> Option<Pointer<'a>>
-        ensures { MatchOption result ((p : PointerText) → ¬ (IsPointer text.now p)) (λ p. IsPointer text.now (shown p)) }
+        ensures { MatchOption result ((p : PointerText) → ¬ (IsPointer text.now p))
+            (λ p. IsPointer text.now (shown p)) }
     {
         let (lot, rest) = cut(text)?;
         let (subset, rest) = rest.cut()?;

@@ -103,10 +103,13 @@ impl Points {
     /// The points of a node or an arc, and none of other records; or rule 206, where one of them is
     /// no place or their number isn't that of the type.
     pub(crate) fn finish(self, kind: Kind) -> Result<Vec<Point>, GroupFault>
-        ensures states { IfOk result (λ v. (group : List Entry) → (has_points kind ≡ true → StoresPoints self [] group) → (if has_points kind then map point (values (codes "COR") group) else []) ≡ map Some v.items) }
+        ensures states { IfOk result (λ v. (group : List Entry) → (has_points kind ≡ true → StoresPoints self [] group)
+            → (if has_points kind then map point (values (codes "COR") group) else []) ≡ map Some v.items) }
         ensures shape { IfOk result (λ v. may_have_points kind (length v.items) ≡ true) }
-        ensures sound { OnOk result ((group : List Entry) → kind_in group ≡ Some kind → (has_points kind ≡ true → StoresPoints self [] group) → has_bad_point group ≡ false) }
-        ensures breach { IfErr result (λ fault. (group : List Entry) → kind_in group ≡ Some kind → (has_points kind ≡ true → StoresPoints self [] group) → IsBreachOf 206 (has_bad_point group) fault) }
+        ensures sound { OnOk result ((group : List Entry) → kind_in group ≡ Some kind
+            → (has_points kind ≡ true → StoresPoints self [] group) → has_bad_point group ≡ false) }
+        ensures breach { IfErr result (λ fault. (group : List Entry) → kind_in group ≡ Some kind
+            → (has_points kind ≡ true → StoresPoints self [] group) → IsBreachOf 206 (has_bad_point group) fault) }
     {
         let Points {
             mut list,

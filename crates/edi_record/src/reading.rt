@@ -42,7 +42,8 @@ fn charset_of(alloc: Global, zones: &[Zone<'_>]) -> Result<Option<Text>, AllocEr
 fn zone_at<'a, 'b>(zones: &'b [Zone<'a>], at: usize) -> Option<(&'b Zone<'a>, &'b [Zone<'a>])>
     requires { at ≤ length zones.now }
     ensures { MatchOption result (length zones.now ≤ at)
-        (λ p. (at < length zones.now) × (entries (drop at zones.now) ≡ entry p.0.now ∷ entries p.1.now) × (p.1.now ≡ drop (at + 1) zones.now)) }
+        (λ p. (at < length zones.now) × (entries (drop at zones.now) ≡ entry p.0.now ∷ entries p.1.now)
+        × (p.1.now ≡ drop (at + 1) zones.now)) }
 {
     let (_, rest) = zones.split_at(at);
     match rest {
@@ -126,19 +127,26 @@ pub fn printed_records_break_no_rule()
 
 /// Known files state what they should.
 pub fn known_files_are_read()
-    ensures zones { (zones : List Entry) × IsZonesOf (one_node []) zones × (groups_of zones ≡ node_group ∷ []) × IsUnbroken (BreaksRecordRule zones) }
+    ensures zones { (zones : List Entry) × IsZonesOf (one_node []) zones × (groups_of zones ≡ node_group ∷ [])
+        × IsUnbroken (BreaksRecordRule zones) }
     ensures node { States node_group the_node }
-    ensures wrong_count { (zones : List Entry) × IsZonesOf (one_node (line (codes "ATCSN01:1") [])) zones × IsLeastBroken (BreaksRecordRule zones) 205 1 }
-    ensures unknown_pointer { (zones : List Entry) × IsZonesOf (one_node (line (codes "REFCP22:EDAB01;SeT1;PNO;Noeud_") [])) zones × IsLeastBroken (BreaksRecordRule zones) 208 1 }
-    ensures empty_pointer { (zones : List Entry) × IsZonesOf (one_node (line (codes "REFCP00:") [])) zones × IsUnbroken (BreaksRecordRule zones) }
+    ensures wrong_count { (zones : List Entry) × IsZonesOf (one_node (line (codes "ATCSN01:1") [])) zones
+        × IsLeastBroken (BreaksRecordRule zones) 205 1 }
+    ensures unknown_pointer { (zones : List Entry)
+        × IsZonesOf (one_node (line (codes "REFCP22:EDAB01;SeT1;PNO;Noeud_") [])) zones
+        × IsLeastBroken (BreaksRecordRule zones) 208 1 }
+    ensures empty_pointer { (zones : List Entry) × IsZonesOf (one_node (line (codes "REFCP00:") [])) zones
+        × IsUnbroken (BreaksRecordRule zones) }
 {}
 
 /// A group of zones that states a record breaks no rule on its type, its identifier or its class;
 /// and a text has one value.
 pub fn stated_records_have_names()
     ensures kind { (group : List Entry) (r : Record) → States group r → ¬ (LacksKind group) }
-    ensures identifier { (group : List Entry) (r : Record) → States group r → is_identifier r.rid ≡ true → has_no_identifier group ≡ false }
+    ensures identifier { (group : List Entry) (r : Record) → States group r → is_identifier r.rid ≡ true
+        → has_no_identifier group ≡ false }
     ensures class { (group : List Entry) (r : Record) → States group r → ¬ (LacksClass group) }
     ensures value { (may : Bool) (text : List ℕ) → (value : Value) × IsValueOf (may ≡ true) text value }
-    ensures one_value { (may : Bool) (text : List ℕ) (value other : Value) → IsValueOf (may ≡ true) text value → IsValueOf (may ≡ true) text other → value ≡ other }
+    ensures one_value { (may : Bool) (text : List ℕ) (value other : Value) → IsValueOf (may ≡ true) text value
+        → IsValueOf (may ≡ true) text other → value ≡ other }
 {}

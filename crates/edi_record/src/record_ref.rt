@@ -24,7 +24,15 @@ impl<'a> Model for RecordRef<'a> {
 
     ghost Value = { Record };
 
-    ghost view = { λ r. record { kind = r.kind; rid = r.rid.now; scp = r.scp.now; points = r.points.now; ends = r.ends.now; attributes = r.attributes.now; extras = r.extras.now } };
+    ghost view = { λ r. record {
+      kind = r.kind;
+      rid = r.rid.now;
+      scp = r.scp.now;
+      points = r.points.now;
+      ends = r.ends.now;
+      attributes = r.attributes.now;
+      extras = r.extras.now;
+    } };
 }
 
 impl<'a> RecordRef<'a> {

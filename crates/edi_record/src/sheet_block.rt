@@ -174,11 +174,11 @@ impl SheetBlock {
     }
 
     /// The identifier of a record, by its place from 0.
-    pub(crate) fn rid(&self, place: usize) -> &[u8]
+    pub(crate) fn rid(&self, place: usize) -> &Text
         requires { place < length (records_in self.now) }
         ensures { result.now ≡ (stated_at (records_in self.now) place).rid }
     {
-        self.heads[place].rid.as_slice()
+        &self.heads[place].rid
     }
 
     /// The ends of a record, by its place from 0.

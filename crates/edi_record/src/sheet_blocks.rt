@@ -9,6 +9,7 @@ use crate::record::{End, Kind, Record};
 use crate::record_ref::RecordRef;
 use crate::sheet_block::SheetBlock;
 use crate::spare_lists::SpareLists;
+use edi_line::Text;
 use std::alloc::{AllocError, Global};
 
 // How many records a closed block has.
@@ -106,7 +107,7 @@ impl SheetBlocks {
     }
 
     /// The identifier of a record, by its place from 0.
-    pub(crate) fn rid(&self, place: usize) -> &[u8]
+    pub(crate) fn rid(&self, place: usize) -> &Text
         requires within { AreWithin self.now }
         requires there { place < length (records_of self.now) }
         ensures { result.now ≡ (stated_at (records_of self.now) place).rid }

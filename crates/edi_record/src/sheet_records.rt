@@ -8,6 +8,7 @@ use crate::record_ref::RecordRef;
 use crate::sheet_blocks::SheetBlocks;
 use crate::sheet_rest::SheetRest;
 use crate::spare_lists::SpareLists;
+use edi_line::Text;
 use std::alloc::{AllocError, Global};
 use std::marker::Model;
 
@@ -93,7 +94,7 @@ impl SheetRecords {
     }
 
     /// The identifier of a record, by its place from 0.
-    pub fn rid(&self, place: usize) -> &[u8]
+    pub fn rid(&self, place: usize) -> &Text
         requires { place < length self.now }
         ensures { result.now ≡ (stated_at self.now place).rid }
     {

@@ -50,7 +50,8 @@ pub(crate) fn record_of(
     ensures shape { IfOk result (λ p. is_in_shape p.0 ≡ true) }
     ensures within { IfOk result (λ p. p.1 ≤ length behind.now) }
     ensures left { IfOk result (λ p. groups_of (entries (drop p.1 behind.now)) ≡ groups_of (entries behind.now)) }
-    ensures sound { OnOk result (first_broken (record_tests (entry head.now ∷ before_end (entries behind.now))) ≡ None) }
+    ensures sound { OnOk result
+        (first_broken (record_tests (entry head.now ∷ before_end (entries behind.now))) ≡ None) }
     ensures least { IfErr result (IsGroupRefusal (entry head.now ∷ before_end (entries behind.now))) }
 {
     let Some(kind) = kind_named(head.value.as_slice()) else {

@@ -18,4 +18,5 @@ no_values = record { initial = None; final_node = None; left = None; right = Non
 
 -- the new values have this one for the role, and those of the old for each other kind
 abbrev pub IsWith : {X : Type 0} → ByRole (Option X) → Role → X → ByRole (Option X) → Type 0
-IsWith old role value new = (r : Role) → is_plain r ≡ false → of_role new r ≡ (if same_role r role then Some value else of_role old r)
+IsWith old role value new =
+    (r : Role) → is_plain r ≡ false → of_role new r ≡ (if same_role r role then Some value else of_role old r)

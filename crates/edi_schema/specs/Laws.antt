@@ -15,8 +15,12 @@ abbrev pub SchemasArePaired : Type 0
 SchemasArePaired = (s : Classes) → IsSchema s → IsPaired s
 
 abbrev pub SchemasAreOrdered : Type 0
-SchemasAreOrdered = (s : Classes) → IsSchema s → (a b : ℕ) (m n : Name) → class_name_at s a ≡ Some m → class_name_at s b ≡ Some n → name_cmp m n ≡ nat_cmp a b
+SchemasAreOrdered =
+    (s : Classes) → IsSchema s → (a b : ℕ) (m n : Name) → class_name_at s a ≡ Some m → class_name_at s b ≡ Some n
+    → name_cmp m n ≡ nat_cmp a b
 
 -- two schemas of one file of classes, one dictionary and four codes are one
 abbrev pub SchemasAreOne : Type 0
-SchemasAreOne = (scd dic : List ℕ) (kinds : KindCodes) (s t : Classes) → IsGoodSchema scd dic kinds s → IsGoodSchema scd dic kinds t → s ≡ t
+SchemasAreOne =
+    (scd dic : List ℕ) (kinds : KindCodes) (s t : Classes) → IsGoodSchema scd dic kinds s → IsGoodSchema scd dic kinds t
+    → s ≡ t

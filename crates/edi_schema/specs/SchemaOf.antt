@@ -33,7 +33,8 @@ StatesWord group word = IsNamed group word.0 × (word.1 ≡ first (values (codes
 -- the TYP that the first DIP leads to
 pub data HasType (words : Words) (group : List Entry) : Option (List ℕ) → Type 0 where
   none : values (codes "DIP") group ≡ [] → HasType words group None
-  some : {text : List ℕ} {name : Name} {typ : Option (List ℕ)} → first (values (codes "DIP") group) ≡ Some text → PointsTo text name
+  some : {text : List ℕ} {name : Name} {typ : Option (List ℕ)} → first (values (codes "DIP") group) ≡ Some text
+      → PointsTo text name
       → lookup (is_name name) words ≡ Some typ → HasType words group typ
 
 -- the letter of a TYP: its one letter, and else `A`
@@ -56,7 +57,8 @@ pub record StatesClass (kinds : KindCodes) (words : Words) (group : List Entry) 
   pub letter : entry.1.letter ≡ letter_read typ
   pub number : entry.1.is_number ≡ is_number_type typ
 
--- The schema of the records of two files and four codes: the class of each record of the first, in the order of their names.
+-- The schema of the records of two files and four codes: the class of each record of the first, in the order of their
+-- names.
 pub record IsSchemaOf (classes entries : List (List Entry)) (kinds : KindCodes) (s : Classes) : Type 0 where
   pub words : Words
   pub stated : Classes

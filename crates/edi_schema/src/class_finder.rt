@@ -10,9 +10,9 @@ use std::marker::Model;
 // How many places there are for what came behind a class.
 const PLACES: usize = 64;
 
-/// Finds the classes of names under a schema. The classes of a sheet's records mostly come in the same turn, so what came last
-/// behind the class before is looked at first. It decides where a class is looked for first, and never what is found.
-/// Contracts see the schema alone.
+/// Finds the classes of names under a schema. The classes of a sheet's records mostly come in the same turn, so what
+/// came last behind the class before is looked at first. It decides where a class is looked for first, and never what
+/// is found. Contracts see the schema alone.
 #[derive(Drop)]
 pub struct ClassFinder<'a> {
     schema: &'a Schema,

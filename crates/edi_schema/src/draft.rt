@@ -54,7 +54,8 @@ pub(crate) struct Dictionary<'w, 'a> {
 /// The first TYP of the record that a pointer names.
 fn type_named<'a>(words: Dictionary<'_, 'a>, text: &[u8]) -> Option<Option<&'a [u8]>>
     requires { map named words.titles.now.keys ≡ map (λ d. (said d).name) words.records.now }
-    ensures { option_map (option_map (λ t. t.now)) result ≡ option_map (λ word. word.word_type) (word_in (map said words.entry.records.now) text.now) }
+    ensures { option_map (option_map (λ t. t.now)) result
+        ≡ option_map (λ word. word.word_type) (word_in (map said words.entry.records.now) text.now) }
 {
     let pointer = Pointer::read(text)?;
     let title = Title {
@@ -68,7 +69,8 @@ fn type_named<'a>(words: Dictionary<'_, 'a>, text: &[u8]) -> Option<Option<&'a [
 /// The first TYP of the record that the DIP of this one names; there is none where it has no DIP.
 fn type_of<'a>(words: Dictionary<'_, 'a>, definition: &Definition<'_>) -> Option<Option<&'a [u8]>>
     requires { map named words.titles.now.keys ≡ map (λ d. (said d).name) words.records.now }
-    ensures { option_map (option_map (λ t. t.now)) result ≡ type_by (map said words.entry.records.now) (said definition.now).word }
+    ensures { option_map (option_map (λ t. t.now)) result
+        ≡ type_by (map said words.entry.records.now) (said definition.now).word }
 {
     match definition.word {
         Some(text) => type_named(words, text),
@@ -104,7 +106,9 @@ pub(crate) fn drafts<'a>(
     records: &[Definition<'a>],
 ) -> Result<Vec<ClassDraft<'a>>, SchemaFault>
     requires { map named words.titles.now.keys ≡ map (λ d. (said d).name) words.records.now }
-    ensures drafts { IfOk result (λ drafts. map (class_in kinds.now (map said words.entry.records.now)) (map said records.now) ≡ map Some (map drafted drafts.items)) }
+    ensures drafts { IfOk result (λ drafts.
+        map (class_in kinds.now (map said words.entry.records.now)) (map said records.now)
+        ≡ map Some (map drafted drafts.items)) }
     ensures lacking { IfErr result (IfEntry (λ source rule at. (source ≡ Scd) × (rule ≡ 603)
         × IsFirstLacking (class_in kinds.now (map said words.entry.records.now)) (map said records.now) at)) }
 {

@@ -16,15 +16,26 @@ impl<'a> Model for Kinds<'a> {
 
     ghost Value = { KindCodes };
 
-    ghost view = { λ k. record { initial = k.codes.initial.now; final_node = k.codes.final_node.now; left = k.codes.left.now; right = k.codes.right.now } };
+    ghost view = { λ k. record {
+      initial = k.codes.initial.now;
+      final_node = k.codes.final_node.now;
+      left = k.codes.left.now;
+      right = k.codes.right.now;
+    } };
 
-    ghost invariant = { λ k. AreKindCodes (record { initial = k.codes.initial.now; final_node = k.codes.final_node.now; left = k.codes.left.now; right = k.codes.right.now }) };
+    ghost invariant = { λ k. AreKindCodes (record {
+      initial = k.codes.initial.now;
+      final_node = k.codes.final_node.now;
+      left = k.codes.left.now;
+      right = k.codes.right.now;
+    }) };
 }
 
 impl<'a> Kinds<'a> {
     /// IND, FND, LPO and RPO.
     pub fn usual() -> Kinds<'static>
-        ensures { result ≡ record { initial = codes "IND"; final_node = codes "FND"; left = codes "LPO"; right = codes "RPO" } }
+        ensures { result
+            ≡ record { initial = codes "IND"; final_node = codes "FND"; left = codes "LPO"; right = codes "RPO" } }
     {
         Kinds {
             codes: ByRole {
@@ -43,8 +54,11 @@ impl<'a> Kinds<'a> {
         left: &'a [u8],
         right: &'a [u8],
     ) -> Option<Kinds<'a>>
-        ensures good { IsSome result ↔ AreKindCodes (record { initial = initial.now; final_node = final_node.now; left = left.now; right = right.now }) }
-        ensures codes { IfSome result (λ k. k ≡ record { initial = initial.now; final_node = final_node.now; left = left.now; right = right.now }) }
+        ensures good { IsSome result
+            ↔ AreKindCodes
+            (record { initial = initial.now; final_node = final_node.now; left = left.now; right = right.now }) }
+        ensures codes { IfSome result (λ k. k
+            ≡ record { initial = initial.now; final_node = final_node.now; left = left.now; right = right.now }) }
     {
         if initial.is_empty() || final_node.is_empty() || left.is_empty() || right.is_empty() {
             return None;

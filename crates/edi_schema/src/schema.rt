@@ -55,7 +55,8 @@ fn zones_in<'a>(alloc: Global, file: Source, bytes: &'a [u8]) -> Result<Vec<Zone
     ensures zones { IfOk result (λ zones. IsZonesOf bytes.now (entries zones.items)) }
     ensures shape { IfOk result (λ zones. HasShape (entries zones.items)) }
     ensures sound { OnOk result (IsUnbroken (BreaksLineRule bytes.now)) }
-    ensures least { IfErr result (IfLine (λ source rule at. (source ≡ file) × IsLeastBroken (BreaksLineRule bytes.now) rule at)) }
+    ensures least { IfErr result (IfLine (λ source rule at. (source ≡ file)
+        × IsLeastBroken (BreaksLineRule bytes.now) rule at)) }
 {
     match zones(alloc, bytes) {
         Ok(zones) => Ok(zones),
@@ -71,7 +72,8 @@ fn stated<'a>(
     classes: &[Definition<'a>],
     words: &[Definition<'_>],
 ) -> Result<Vec<ClassDraft<'a>>, SchemaFault>
-    ensures stated { IfOk result (λ drafts. AreStated (map said classes.now) (map said words.now) kinds.now (map drafted drafts.items)) }
+    ensures stated { IfOk result (λ drafts.
+        AreStated (map said classes.now) (map said words.now) kinds.now (map drafted drafts.items)) }
     ensures stopped { IfErr result (IfEntry (StopsAt (map said classes.now) (map said words.now) kinds.now)) }
 {
     identified(Source::Scd, classes)?;

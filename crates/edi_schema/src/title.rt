@@ -30,7 +30,8 @@ impl<'a> Title<'a> {
 
     /// Adds the name to those that decide the key of a table.
     pub(crate) fn add_to(self, names: &mut KeyNames)
-        ensures { (parts : List (List ℕ)) → Holds names.old parts → Holds names.new (parts ++ name_parts (named self.entry)) }
+        ensures { (parts : List (List ℕ)) → Holds names.old parts
+            → Holds names.new (parts ++ name_parts (named self.entry)) }
     {
         names.add(self.rty);
         names.add(self.rid);

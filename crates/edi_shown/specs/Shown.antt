@@ -23,7 +23,8 @@ shown_char c =
     else if is_control c then flat_map escape (encode_utf8 c)
     else encode_utf8 c
 
--- of bytes that are no text: two backslashes for one, each other character of ASCII but a control character itself, and the rest as escapes
+-- of bytes that are no text: two backslashes for one, each other character of ASCII but a control character itself, and
+-- the rest as escapes
 abbrev pub shown_byte : ℕ → List ℕ
 shown_byte x =
     if x == backslash then backslash ∷ backslash ∷ []
@@ -36,4 +37,5 @@ shown_bytes bytes = if is_utf8 bytes then flat_map shown_char (chars bytes) else
 
 -- what a line shows is text without a control character
 abbrev pub ShowNoControl : Type 0
-ShowNoControl = (bytes : List ℕ) → IsUtf8 (shown_bytes bytes) × (list_any is_control (chars (shown_bytes bytes)) ≡ false)
+ShowNoControl =
+    (bytes : List ℕ) → IsUtf8 (shown_bytes bytes) × (list_any is_control (chars (shown_bytes bytes)) ≡ false)

@@ -1,4 +1,5 @@
-//! Identifiers, values and names of files, as a line shows them: so that no terminal acts on them, and a line stays one line.
+//! Identifiers, values and names of files, as a line shows them: so that no terminal acts on them, and a line stays one
+//! line.
 #![tactic(auto)]
 
 pub mod known;

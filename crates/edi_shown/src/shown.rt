@@ -7,8 +7,9 @@ ghost use Rattle.edi_shown.specs.Shown.{escape, hex_digit, shown_byte, shown_byt
 use std::alloc::AllocError;
 use std::str::from_utf8;
 
-/// Appends bytes as a line shows them: of text a control character as `\x` and two hexadecimal digits for each of its bytes, a backslash as
-/// two, and each other character as it is; of what isn't UTF-8 each byte from 128 on in this way too.
+/// Appends bytes as a line shows them: of text a control character as `\x` and two hexadecimal digits for each of its
+/// bytes, a backslash as two, and each other character as it is; of what isn't UTF-8 each byte from 128 on in this way
+/// too.
 ///
 /// The only error is a lack of memory; the text then begins with what it had.
 pub fn push_shown(text: &mut Vec<u8>, bytes: &[u8]) -> Result<(), AllocError>

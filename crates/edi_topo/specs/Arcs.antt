@@ -14,4 +14,5 @@ forward_keys p = map (λ k. forward (record_at p k).points) (places_of Par p)
 
 -- the numbers of the arcs of a plan, in file order, by their points in the forward direction
 abbrev pub IsForwardRanking : Drawing → List ℕ → Type 0
-IsForwardRanking p numbers = IsRanking points_cmp (λ m. slice_index_or (forward_keys p) m []) (length (places_of Par p)) numbers
+IsForwardRanking p numbers =
+    IsRanking points_cmp (λ m. slice_index_or (forward_keys p) m []) (length (places_of Par p)) numbers

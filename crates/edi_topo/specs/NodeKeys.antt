@@ -42,4 +42,5 @@ no_node = record { point = no_point; class = 0; attributes = []; extras = [] }
 
 -- the numbers of the nodes of a plan, in file order, by their keys
 abbrev pub IsNodeRanking : Drawing → List ℕ → Type 0
-IsNodeRanking p numbers = IsRanking node_key_cmp (λ m. slice_index_or (node_keys p) m no_node) (length (places_of Pno p)) numbers
+IsNodeRanking p numbers =
+    IsRanking node_key_cmp (λ m. slice_index_or (node_keys p) m no_node) (length (places_of Pno p)) numbers

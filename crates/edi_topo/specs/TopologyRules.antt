@@ -30,12 +30,14 @@ module _ (p : Drawing) where
 
     -- 401: the initial node isn't at the arc's first point
     abbrev pub StartsElsewhere : Type 0
-    StartsElsewhere = (a n : ℕ) × (first position : Point) × (others : List Point) × IsAt a × HasPoints Par a (first ∷ others)
+    StartsElsewhere =
+        (a n : ℕ) × (first position : Point) × (others : List Point) × IsAt a × HasPoints Par a (first ∷ others)
         × Side p a Initial n × HasPoints Pno n (position ∷ []) × (position ≢ first)
 
     -- 402: the final node isn't at the arc's last point
     abbrev pub EndsElsewhere : Type 0
-    EndsElsewhere = (a n : ℕ) × (last position : Point) × (others : List Point) × IsAt a × HasPoints Par a (others ++ last ∷ [])
+    EndsElsewhere =
+        (a n : ℕ) × (last position : Point) × (others : List Point) × IsAt a × HasPoints Par a (others ++ last ∷ [])
         × Side p a Final n × HasPoints Pno n (position ∷ []) × (position ≢ last)
 
     -- 403: a node with the position, the class, the attributes and the extras of an earlier node
@@ -48,13 +50,17 @@ module _ (p : Drawing) where
 
     -- 405: an arc with an earlier arc's points, in either direction
     abbrev pub RepeatsArc : Type 0
-    RepeatsArc = (a b : ℕ) × (earlier points : List Point) × IsAt b × (a < b) × HasPoints Par a earlier × HasPoints Par b points
+    RepeatsArc =
+        (a b : ℕ) × (earlier points : List Point) × IsAt b × (a < b) × HasPoints Par a earlier × HasPoints Par b points
         × ((points ≡ earlier) ⊎ (points ≡ reverse earlier))
 
     -- 406: a face that is on no side of an arc
     abbrev pub BoundsNothing : Type 0
-    BoundsNothing = (x : ℕ) × (points : List Point) × IsAt x × HasPoints Pfe x points × ((a : ℕ) → ¬ (Side p a Left x ⊎ Side p a Right x))
+    BoundsNothing =
+        (x : ℕ) × (points : List Point) × IsAt x × HasPoints Pfe x points
+        × ((a : ℕ) → ¬ (Side p a Left x ⊎ Side p a Right x))
 
+  -- the record at this place breaks the rule
   pub data BreaksTopologyRule (rule at : ℕ) : Type 0 where
     starts_elsewhere : rule ≡ 401 → StartsElsewhere at → BreaksTopologyRule rule at
     ends_elsewhere : rule ≡ 402 → EndsElsewhere at → BreaksTopologyRule rule at

@@ -133,7 +133,8 @@ fn rule_at(plan: &Plan, findings: &RecordFindings, place: u32) -> Option<u16>
 pub(crate) fn first_broken(plan: &Plan, findings: &RecordFindings) -> Option<(u16, u32)>
     requires joined { IsJoined plan.now }
     requires findings { AreFindings plan.now findings.now }
-    ensures { MatchOption result (IsUnbroken (BreaksTopologyRule plan.now)) (λ found. IsLeastBroken (BreaksTopologyRule plan.now) found.0 (found.1 + 1)) }
+    ensures { MatchOption result (IsUnbroken (BreaksTopologyRule plan.now))
+        (λ found. IsLeastBroken (BreaksTopologyRule plan.now) found.0 (found.1 + 1)) }
 {
     for place in 0..plan.len() {
         if let Some(rule) = rule_at(plan, findings, place) {

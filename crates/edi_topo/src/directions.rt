@@ -11,7 +11,8 @@ use std::cmp::Ordering;
 /// How the point at a place goes with the one as far from the other end.
 fn compare_across(points: &[Point], i: usize) -> Ordering
     requires { i < length points.now }
-    ensures { (d : Point) → result ≡ point_cmp (slice_index_or points.now i d) (slice_index_or (reverse points.now) i d) }
+    ensures { (d : Point)
+        → result ≡ point_cmp (slice_index_or points.now i d) (slice_index_or (reverse points.now) i d) }
 {
     points[i].cmp(&points[points.len() - 1 - i])
 }

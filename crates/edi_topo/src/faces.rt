@@ -21,7 +21,8 @@ fn mark(faced: &mut Vec<bool>, plan: &Plan, arc: u32, role: Role)
     requires role { role ≢ Plain }
     requires long { length faced.old.items ≡ length plan.now.list }
     ensures long { length faced.new.items ≡ length plan.now.list }
-    ensures marked { (x : ℕ) → (slice_index_or faced.new.items x false ≡ true) ↔ ((slice_index_or faced.old.items x false ≡ true) ⊎ Side plan.now arc role x) }
+    ensures marked { (x : ℕ) → (slice_index_or faced.new.items x false ≡ true)
+        ↔ ((slice_index_or faced.old.items x false ≡ true) ⊎ Side plan.now arc role x) }
 {
     plan.keeps();
     if let Some(face) = plan.side(arc, role) {

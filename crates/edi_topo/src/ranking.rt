@@ -28,8 +28,10 @@ fn keyed_members<L: Layer>(alloc: Global, layer: &L) -> Result<Vec<(L::Key, u32)
 /// Each member with its key, in the order of the keys, and of members where keys tie.
 fn members_by_key<L: Layer>(alloc: Global, layer: &L) -> Result<Vec<(L::Key, u32)>, AllocError>
     ensures few { OnOk result (L.size layer.now < 2 ^ 32) }
-    ensures permutation { IfOk result (λ pairs. IsPermutation (keyed (L.key_of layer.now) (L.size layer.now)) pairs.items) }
-    ensures sorted { IfOk result (λ pairs. IsSorted (λ x y. ordering_then (L.Key.cmp x.0 y.0) (nat_cmp x.1 y.1)) pairs.items) }
+    ensures permutation { IfOk result (λ pairs.
+        IsPermutation (keyed (L.key_of layer.now) (L.size layer.now)) pairs.items) }
+    ensures sorted { IfOk result (λ pairs.
+        IsSorted (λ x y. ordering_then (L.Key.cmp x.0 y.0) (nat_cmp x.1 y.1)) pairs.items) }
 {
     let _count = layer.len();
     let mut pairs = keyed_members(alloc, layer)?;
@@ -43,7 +45,8 @@ fn number_members<K>(alloc: Global, pairs: &[(K, u32)]) -> Result<Vec<u32>, Allo
     requires within { All (λ pair. pair.1 < length pairs.now) pairs.now }
     requires apart { AllPairs (λ x y. x.1 ≢ y.1) pairs.now }
     ensures length { IfOk result (λ numbers. length numbers.items ≡ length pairs.now) }
-    ensures places { IfOk result (λ numbers. (i : ℕ) (d : K × ℕ) → i < length pairs.now → slice_index numbers.items (slice_index_or pairs.now i d).1 ≡ i + 1) }
+    ensures places { IfOk result (λ numbers. (i : ℕ) (d : K × ℕ) → i < length pairs.now
+        → slice_index numbers.items (slice_index_or pairs.now i d).1 ≡ i + 1) }
 {
     let mut numbers = vec![in alloc; 0; pairs.len()]?;
     let mut number: u32 = 0;
@@ -68,7 +71,8 @@ fn lesser(least: Option<u32>, member: u32) -> u32
 fn is_repeat<K: Ord>(pairs: &[(K, u32)], i: usize) -> bool
     requires low { 1 ≤ i }
     requires within { i < length pairs.now }
-    ensures { MatchBool result ((d : K × ℕ) → K.cmp (slice_index_or pairs.now (i - 1) d).0 (slice_index_or pairs.now i d).0 ≡ Ordering.Equal)
+    ensures { MatchBool result ((d : K × ℕ)
+        → K.cmp (slice_index_or pairs.now (i - 1) d).0 (slice_index_or pairs.now i d).0 ≡ Ordering.Equal)
         ((d : K × ℕ) → K.cmp (slice_index_or pairs.now (i - 1) d).0 (slice_index_or pairs.now i d).0 ≢ Ordering.Equal) }
 {
     pairs[i - 1].0.cmp(&pairs[i].0).is_eq()
@@ -97,11 +101,14 @@ fn first_tie<K: Ord>(pairs: &[(K, u32)]) -> Option<u32>
 
 /// The number of each member, in the members' order.
 fn numbers_by_key<L: Layer>(alloc: Global, layer: &L) -> Result<Vec<u32>, TieFault>
-    ensures numbers { IfOk result (λ numbers. (m : ℕ) → m < L.size layer.now → slice_index numbers.items m ≡ rank L.Key.cmp (L.key_of layer.now) (L.size layer.now) m) }
+    ensures numbers { IfOk result (λ numbers. (m : ℕ) → m < L.size layer.now
+        → slice_index numbers.items m ≡ rank L.Key.cmp (L.key_of layer.now) (L.size layer.now) m) }
     ensures length { IfOk result (λ numbers. length numbers.items ≡ L.size layer.now) }
-    ensures tie { (m : ℕ) → IsErrOf result (TieFault.Tie m) → IsFirstTie L.Key.cmp (L.key_of layer.now) (L.size layer.now) m }
+    ensures tie { (m : ℕ) → IsErrOf result (TieFault.Tie m)
+        → IsFirstTie L.Key.cmp (L.key_of layer.now) (L.size layer.now) m }
     ensures apart { OnOk result (AllApart L.Key.cmp (L.key_of layer.now) (L.size layer.now)) }
-    ensures onto { IfOk result (λ numbers. (i : ℕ) → i < L.size layer.now → (m : ℕ) × (m < L.size layer.now) × (slice_index numbers.items m ≡ i + 1)) }
+    ensures onto { IfOk result (λ numbers. (i : ℕ) → i < L.size layer.now
+        → (m : ℕ) × (m < L.size layer.now) × (slice_index numbers.items m ≡ i + 1)) }
 {
     let pairs = match members_by_key(alloc, layer) {
         Ok(pairs) => pairs,

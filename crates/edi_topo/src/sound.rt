@@ -40,7 +40,8 @@ impl Model for Sound {
 
     ghost view = { λ s. s.plan };
 
-    ghost invariant = { λ s. IsUnbroken (BreaksTopologyRule s.plan) × IsNodeRanking s.plan s.nodes × IsForwardRanking s.plan s.arcs };
+    ghost invariant = { λ s. IsUnbroken (BreaksTopologyRule s.plan) × IsNodeRanking s.plan s.nodes
+        × IsForwardRanking s.plan s.arcs };
 }
 
 impl Sound {

@@ -22,7 +22,9 @@ values_of line = option_map (λ met. (
 
 -- the values of a line's option for a pairing's file, and of its argument FILE
 abbrev pub pairing_files_of : Text → Option (List (Option Text))
-pairing_files_of line = option_map (λ met. first_of (codes "pairing") met.1 ∷ first_of (codes "FILE") met.1 ∷ []) (subcommand_of edicad (words_in line))
+pairing_files_of line =
+    option_map (λ met. first_of (codes "pairing") met.1 ∷ first_of (codes "FILE") met.1 ∷ [])
+    (subcommand_of edicad (words_in line))
 
 -- the value of a line's option for a picture's file
 abbrev pub picture_of : Text → Option (Option Text)
@@ -47,6 +49,11 @@ with_schema_of line = option_map (λ met. one_of (codes "schema") met.1) (subcom
 -- the subcommand of a line, with the values of its last argument PATH
 abbrev pub paths_asked : Text → Option (Text × List Text)
 paths_asked line = option_map (λ met. (met.0, values_at (codes "PATH") met.1)) (subcommand_of edicad (words_in line))
+
+-- the values of a line's options for a manifest's file, and for a manifest to be checked
+abbrev pub manifests_asked : Text → Option (List (Option Text))
+manifests_asked line = option_map (λ met. first_of (codes "manifest") met.1 ∷ first_of (codes "check") met.1 ∷ [])
+    (subcommand_of edicad (words_in line))
 
 -- the subcommand of a line, with the values of its last argument VEC
 abbrev pub sheets_of : Text → Option (Text × List Text)

@@ -10,11 +10,11 @@ use Rattle.clap.specs.declared.error.kind.ErrorKind.{ErrorKind}
 use Rattle.clap.specs.declared.error.kind.ErrorKind.TheVariants.{OutOfMemory, DisplayHelp, DisplayVersion}
 use Rattle.edi_schema.specs.Roles.{KindCodes, AreKindCodes}
 use Rattle.edi_words.specs.declared.words.Request.{Request}
-use Rattle.edi_words.specs.declared.words.Request.TheVariants.{Bundle, Check, Canon, Pair, Hash, CheckList, Delivery, Explain, Draw, Changed, Misused, Answered}
+use Rattle.edi_words.specs.declared.words.Request.TheVariants.{Bundle, Check, Canon, Pair, Hash, CheckList, Delivery, Manifest, CheckManifest, Explain, Draw, Changed, Misused, Answered}
 use Rattle.edi_words.specs.declared.words.Request.TheVariants as asks
 use Rattle.edi_words.specs.declared.words.PairRequest.TheVariants.{Compare, Verify, Diff}
 use Rattle.edi_words.specs.declared.words.Misuse.{Misuse}
-use Rattle.edi_words.specs.declared.words.Misuse.TheVariants.{BadKinds, TwoStandard, NoSheet, NothingHashed, ListAndMore, StandardPairing, StandardPicture}
+use Rattle.edi_words.specs.declared.words.Misuse.TheVariants.{BadKinds, TwoStandard, NoSheet, NothingHashed, ListAndMore, StandardPairing, StandardPicture, NotOneManifest}
 use Rattle.edi_words.specs.declared.words.BadKinds.{BadKinds as BadCodes}
 use Rattle.edi_words.specs.declared.words.KindsFault.{KindsFault}
 use Rattle.edi_words.specs.declared.words.KindsFault.TheVariants.{Count, Empty, Twice}
@@ -66,13 +66,14 @@ optional_files_rule id =
 abbrev pub schema_flag_rule : Rule
 schema_flag_rule = record (new_rule (codes "schema")) { long = Some (codes "schema"); action = Some SetTrue }
 
--- the option with a list of digests that are held against those that are found, which has one value
-abbrev pub list_rule : Rule
-list_rule = record (new_rule (codes "check")) { long = Some (codes "check"); value_names = 1 }
+-- the option with a list or a manifest whose digests are held against those that are found, which has one value
+abbrev pub check_rule : Rule
+check_rule = record (new_rule (codes "check")) { long = Some (codes "check"); value_names = 1 }
 
 -- a subcommand over the files of a schema
 abbrev pub schema_command : Text → App
-schema_command name = with_rule (with_rule (with_rule (new_app name) kinds_rule) (file_rule (codes "SCD"))) (file_rule (codes "DIC"))
+schema_command name =
+    with_rule (with_rule (with_rule (new_app name) kinds_rule) (file_rule (codes "SCD"))) (file_rule (codes "DIC"))
 
 -- a subcommand over a sheet and the file that something goes to
 abbrev pub output_command : Text → App
@@ -86,13 +87,15 @@ abbrev pub canon_command : App
 canon_command = output_command (codes "canon")
 
 abbrev pub compare_command : App
-compare_command = with_rule (with_rule (with_rule (schema_command (codes "compare")) (file_rule (codes "A"))) (file_rule (codes "B"))) pairing_rule
+compare_command =
+    with_rule (with_rule (with_rule (schema_command (codes "compare")) (file_rule (codes "A")))
+    (file_rule (codes "B"))) pairing_rule
 
 abbrev pub hash_command : App
 hash_command =
     with_rule
     (with_rule (with_rule (schema_command (codes "hash")) (optional_files_rule (codes "VEC"))) schema_flag_rule)
-    list_rule
+    check_rule
 
 -- a rule's number, or the first file of a schema
 abbrev pub subject_rule : Rule
@@ -100,24 +103,35 @@ subject_rule = record (file_rule (codes "SCD")) { value_names = 1 }
 
 -- the subcommand that explains a rule or a sheet
 abbrev pub explain_command : App
-explain_command = with_rule (with_rule (with_rule (with_rule (new_app (codes "explain")) kinds_rule) subject_rule) (new_rule (codes "DIC"))) (new_rule (codes "VEC"))
+explain_command =
+    with_rule (with_rule (with_rule (with_rule (new_app (codes "explain")) kinds_rule) subject_rule)
+    (new_rule (codes "DIC"))) (new_rule (codes "VEC"))
 
 -- the subcommand over two sheets and a pairing's file
 abbrev pub verify_command : App
-verify_command = with_rule (with_rule (with_rule (schema_command (codes "verify")) (file_rule (codes "A"))) (file_rule (codes "B"))) (file_rule (codes "FILE"))
+verify_command =
+    with_rule (with_rule (with_rule (schema_command (codes "verify")) (file_rule (codes "A"))) (file_rule (codes "B")))
+    (file_rule (codes "FILE"))
 
 -- the subcommand that reports what differs between two sheets
 abbrev pub diff_command : App
-diff_command = with_rule (with_rule (with_rule (with_rule (with_rule (with_rule (schema_command (codes "diff")) (file_rule (codes "A")))
-    (file_rule (codes "B"))) brief_rule) records_rule) json_rule) picture_rule
+diff_command =
+    with_rule (with_rule (with_rule (with_rule (with_rule (with_rule (schema_command (codes "diff"))
+    (file_rule (codes "A"))) (file_rule (codes "B"))) brief_rule) records_rule) json_rule) picture_rule
 
 -- the subcommand over a sheet and where its picture goes
 abbrev pub draw_command : App
 draw_command = output_command (codes "draw")
 
+-- the option with the file that a manifest goes to
+abbrev pub manifest_rule : Rule
+manifest_rule = file_option_rule (codes "manifest")
+
 -- the subcommand over deliveries
 abbrev pub delivery_command : App
-delivery_command = with_rule (with_rule (new_app (codes "delivery")) kinds_rule) (files_rule (codes "PATH"))
+delivery_command =
+    with_rule (with_rule (with_rule (with_rule (new_app (codes "delivery")) kinds_rule) (files_rule (codes "PATH")))
+    manifest_rule) check_rule
 
 -- the subcommand over two lists of digests
 abbrev pub changed_command : App
@@ -129,7 +143,12 @@ abbrev pub versioned : App → App
 versioned a = record a { top = record a.top { has_version = true } }
 
 abbrev pub edicad : App
-edicad = with_subcommand (with_subcommand (with_subcommand (with_subcommand (with_subcommand (with_subcommand (with_subcommand (with_subcommand (with_subcommand (with_subcommand (versioned (new_app (codes "edicad"))) check_command.top) canon_command.top) compare_command.top) hash_command.top) explain_command.top) verify_command.top) diff_command.top) draw_command.top) delivery_command.top) changed_command.top
+edicad =
+    with_subcommand (with_subcommand (with_subcommand (with_subcommand (with_subcommand
+    (with_subcommand (with_subcommand (with_subcommand (with_subcommand (with_subcommand
+    (versioned (new_app (codes "edicad")))
+    check_command.top) canon_command.top) compare_command.top) hash_command.top) explain_command.top)
+    verify_command.top) diff_command.top) draw_command.top) delivery_command.top) changed_command.top
 
 -- IND, FND, LPO and RPO
 abbrev pub usual_kinds : KindCodes
@@ -163,7 +182,9 @@ values_at id rows = unwrap_or (all_of id rows) []
 
 -- the value of a flag with this text, which is true where it is given, and false where it isn't
 abbrev pub IsFlag : Option Text → Bool → Type 0
-IsFlag text value = (text ≡ None → value ≡ false) × (text ≡ Some (codes "true") → value ≡ true) × (text ≡ Some (codes "false") → value ≡ false)
+IsFlag text value =
+    (text ≡ None → value ≡ false) × (text ≡ Some (codes "true") → value ≡ true)
+    × (text ≡ Some (codes "false") → value ≡ false)
 
 -- the arguments give these codes
 abbrev pub GiveKinds : List Row → KindCodes → Type 0
@@ -193,12 +214,13 @@ abbrev pub first_twice : List (List ℕ) → Option (List ℕ)
 first_twice [] = None
 first_twice (code ∷ codes) = if list_any (bytes_eq code) codes then Some code else first_twice codes
 
--- What is wrong with codes: they are not four; they are four, and one is empty; they are four and none is empty, and this is the first that is
--- there twice.
+-- What is wrong with codes: they are not four; they are four, and one is empty; they are four and none is empty, and
+-- this is the first that is there twice.
 abbrev pub IsKindsFault : List (List ℕ) → KindsFault → Type 0
 IsKindsFault given Count = length given ≢ 4
 IsKindsFault given Empty = (length given ≡ 4) × (list_any (λ code. length code == 0) given ≡ true)
-IsKindsFault given (Twice code) = (length given ≡ 4) × (list_any (λ code. length code == 0) given ≡ false) × (first_twice given ≡ Some code.now)
+IsKindsFault given (Twice code) =
+    (length given ≡ 4) × (list_any (λ code. length code == 0) given ≡ false) × (first_twice given ≡ Some code.now)
 
 -- this is given as the codes, and that is wrong with it
 abbrev pub AreBadKinds : Option (List ℕ) → BadCodes → Type 0
@@ -223,7 +245,8 @@ standard_at id rows = standard_in (values_at id rows)
 
 abbrev pub standard_count : List Row → ℕ
 standard_count rows =
-    standard_at (codes "SCD") rows + standard_at (codes "DIC") rows + standard_at (codes "VEC") rows + standard_at (codes "A") rows + standard_at (codes "B") rows
+    standard_at (codes "SCD") rows + standard_at (codes "DIC") rows + standard_at (codes "VEC") rows
+    + standard_at (codes "A") rows + standard_at (codes "B") rows
     + standard_at (codes "FILE") rows + standard_at (codes "PATH") rows
     + standard_at (codes "BEFORE") rows + standard_at (codes "AFTER") rows + standard_at (codes "check") rows
 
@@ -242,12 +265,13 @@ AsksForDigests rows = (with_schema : Bool) × IsFlag (one_of (codes "schema") ro
 
 -- The arguments of a subcommand can't be meant: the codes are no codes, standard input is to be read twice, explain is
 -- given two files of three, hash is given no sheet and no list and isn't asked for the digest of the schema, or it is
--- given a list and one of these, or the pairing of a comparison or the picture of a difference is to go to standard
--- output.
+-- given a list and one of these, the pairing of a comparison or the picture of a difference is to go to standard
+-- output, or delivery is to make a manifest and to check one, or is to do one of these for several paths.
 abbrev pub IsMisuse : Text → List Row → Misuse → Type 0
 IsMisuse name rows (BadKinds bad) = HasBadKinds rows × AreBadKinds (first_of (codes "kinds") rows) bad
 IsMisuse name rows TwoStandard = 1 < standard_count rows
-IsMisuse name rows NoSheet = (name ≡ codes "explain") × (is_given (codes "DIC") rows ≡ true) × (is_given (codes "VEC") rows ≡ false)
+IsMisuse name rows NoSheet =
+    (name ≡ codes "explain") × (is_given (codes "DIC") rows ≡ true) × (is_given (codes "VEC") rows ≡ false)
 IsMisuse name rows NothingHashed =
     (name ≡ codes "hash") × IsFlag (one_of (codes "schema") rows) false × (is_given (codes "VEC") rows ≡ false)
     × (is_given (codes "check") rows ≡ false)
@@ -255,6 +279,10 @@ IsMisuse name rows ListAndMore =
     (name ≡ codes "hash") × (is_given (codes "check") rows ≡ true) × AsksForDigests rows
 IsMisuse name rows StandardPairing = (name ≡ codes "compare") × (is_option_standard (codes "pairing") rows ≡ true)
 IsMisuse name rows StandardPicture = (name ≡ codes "diff") × (is_option_standard (codes "picture") rows ≡ true)
+IsMisuse name rows NotOneManifest = (name ≡ codes "delivery")
+    × (((is_given (codes "manifest") rows ≡ true) × (is_given (codes "check") rows ≡ true))
+    ⊎ (((is_given (codes "manifest") rows || is_given (codes "check") rows) ≡ true)
+    × (length (values_at (codes "PATH") rows) ≢ 1)))
 
 -- what is said of it
 abbrev pub misuse_text : Misuse → List ℕ
@@ -265,18 +293,24 @@ misuse_text NothingHashed = codes "hash takes SCD, DIC and a VEC, or --schema"
 misuse_text ListAndMore = codes "hash --check LIST takes SCD and DIC alone"
 misuse_text StandardPairing = codes "--pairing takes a file, and not -"
 misuse_text StandardPicture = codes "--picture takes a file, and not -"
+misuse_text NotOneManifest = codes "delivery takes one PATH with --manifest or --check, and not both"
 
 -- the file that an option names, if it is given, and which isn't standard output
 abbrev pub IsOptionFile : Text → List Row → Option (Bor (List ℕ)) → Type 0
-IsOptionFile id rows file = (option_map (λ (p : Bor (List ℕ)). p.now) file ≡ first_of id rows) × (is_option_standard id rows ≡ false)
+IsOptionFile id rows file =
+    (option_map (λ (p : Bor (List ℕ)). p.now) file ≡ first_of id rows) × (is_option_standard id rows ≡ false)
 
--- what the subcommand and its arguments ask for, or want of memory for the paths of `hash` or `delivery`, whose status is 5
+-- what the subcommand and its arguments ask for, or want of memory for the paths of `hash` or `delivery`, whose status
+-- is 5
 abbrev pub Means : Option (Text × List Row) → Request → Type 0
 Means met Bundle = met ≡ None
-Means met (Check kinds files) = (rows : List Row) × (met ≡ Some (codes "check", rows)) × GiveKinds rows kinds × AreSheetFiles rows files
-Means met (Canon kinds files out) = (rows : List Row) × (met ≡ Some (codes "canon", rows)) × GiveKinds rows kinds × AreSheetFiles rows files
+Means met (Check kinds files) =
+    (rows : List Row) × (met ≡ Some (codes "check", rows)) × GiveKinds rows kinds × AreSheetFiles rows files
+Means met (Canon kinds files out) =
+    (rows : List Row) × (met ≡ Some (codes "canon", rows)) × GiveKinds rows kinds × AreSheetFiles rows files
     × (out.now ≡ value_at (codes "OUT") rows)
-Means met (Pair kinds files (Compare pairing)) = (rows : List Row) × (met ≡ Some (codes "compare", rows)) × GiveKinds rows kinds × ArePairFiles rows files
+Means met (Pair kinds files (Compare pairing)) =
+    (rows : List Row) × (met ≡ Some (codes "compare", rows)) × GiveKinds rows kinds × ArePairFiles rows files
     × IsOptionFile (codes "pairing") rows pairing
 Means met (Hash kinds files with_schema) =
     (rows : List Row) × (met ≡ Some (codes "hash", rows)) × GiveKinds rows kinds × AreManyFiles rows files
@@ -288,23 +322,36 @@ Means met (CheckList kinds files list) =
     × (is_given (codes "VEC") rows ≡ false)
 Means met (Delivery kinds paths) = (rows : List Row) × (met ≡ Some (codes "delivery", rows)) × GiveKinds rows kinds
     × (map (λ p. p.now) paths.items ≡ values_at (codes "PATH") rows)
-Means met (Explain kinds files) = (rows : List Row) × (met ≡ Some (codes "explain", rows)) × GiveKinds rows kinds × AreSheetFiles rows files
+    × (is_given (codes "manifest") rows ≡ false) × (is_given (codes "check") rows ≡ false)
+Means met (Manifest kinds path file) = (rows : List Row) × (met ≡ Some (codes "delivery", rows)) × GiveKinds rows kinds
+    × (values_at (codes "PATH") rows ≡ path.now ∷ []) × (first_of (codes "manifest") rows ≡ Some file.now)
+    × (is_given (codes "check") rows ≡ false)
+Means met (CheckManifest kinds path manifest) =
+    (rows : List Row) × (met ≡ Some (codes "delivery", rows)) × GiveKinds rows kinds
+    × (values_at (codes "PATH") rows ≡ path.now ∷ []) × (first_of (codes "check") rows ≡ Some manifest.now)
+    × (is_given (codes "manifest") rows ≡ false)
+Means met (Explain kinds files) =
+    (rows : List Row) × (met ≡ Some (codes "explain", rows)) × GiveKinds rows kinds × AreSheetFiles rows files
     × (is_given (codes "DIC") rows ≡ true) × (is_given (codes "VEC") rows ≡ true)
-Means met (asks.Rule word) = (rows : List Row) × (met ≡ Some (codes "explain", rows)) × (word.now ≡ value_at (codes "SCD") rows)
+Means met (asks.Rule word) =
+    (rows : List Row) × (met ≡ Some (codes "explain", rows)) × (word.now ≡ value_at (codes "SCD") rows)
     × (is_given (codes "DIC") rows ≡ false)
-Means met (Pair kinds files (Verify pairing)) = (rows : List Row) × (met ≡ Some (codes "verify", rows)) × GiveKinds rows kinds × ArePairFiles rows files
+Means met (Pair kinds files (Verify pairing)) =
+    (rows : List Row) × (met ≡ Some (codes "verify", rows)) × GiveKinds rows kinds × ArePairFiles rows files
     × (pairing.now ≡ value_at (codes "FILE") rows)
 Means met (Pair kinds files (Diff brief records json picture)) =
     (rows : List Row) × (met ≡ Some (codes "diff", rows)) × GiveKinds rows kinds × ArePairFiles rows files
     × IsFlag (one_of (codes "brief") rows) brief × IsFlag (one_of (codes "records") rows) records
     × IsFlag (one_of (codes "json") rows) json × IsOptionFile (codes "picture") rows picture
-Means met (Draw kinds files out) = (rows : List Row) × (met ≡ Some (codes "draw", rows)) × GiveKinds rows kinds × AreSheetFiles rows files
+Means met (Draw kinds files out) =
+    (rows : List Row) × (met ≡ Some (codes "draw", rows)) × GiveKinds rows kinds × AreSheetFiles rows files
     × (out.now ≡ value_at (codes "OUT") rows)
 Means met (Changed before after) =
     (rows : List Row) × (met ≡ Some (codes "changed", rows)) × (before.now ≡ value_at (codes "BEFORE") rows)
     × (after.now ≡ value_at (codes "AFTER") rows)
 Means met (Misused misuse) = (name : Text) × (rows : List Row) × (met ≡ Some (name, rows)) × IsMisuse name rows misuse
-Means met (Answered status) = (rows : List Row) × ((met ≡ Some (codes "hash", rows)) ⊎ (met ≡ Some (codes "delivery", rows))) × (status ≡ 5)
+Means met (Answered status) =
+    (rows : List Row) × ((met ≡ Some (codes "hash", rows)) ⊎ (met ≡ Some (codes "delivery", rows))) × (status ≡ 5)
 
 -- whether words in good form can't be meant
 abbrev pub is_misused : Request → Bool
@@ -331,4 +378,5 @@ IsRefused words _ = ⊥
 -- what the words ask for: they have no fault, mean it and read standard input once at most, or they are refused
 abbrev pub IsAsked : List Text → Request → Type 0
 IsAsked words request =
-    ((fault_of edicad words ≡ []) × Means (subcommand_of edicad words) request × ReadsInputOnce (subcommand_of edicad words) request) ⊎ IsRefused words request
+    ((fault_of edicad words ≡ []) × Means (subcommand_of edicad words) request
+    × ReadsInputOnce (subcommand_of edicad words) request) ⊎ IsRefused words request

@@ -1,7 +1,7 @@
 //! The command line, as clap takes it.
 ghost use Rattle.std.specs.Prelude.{◌≡◌, IfOk, IsOkAnd, codes};
 ghost use Rattle.clap.specs.Words.{AddsArg, AddsSubcommand, app_of, new_app, new_rule, rule_of, with_rule};
-ghost use Rattle.edi_words.specs.Requests.{brief_rule, canon_command, changed_command, check_command, compare_command, delivery_command, diff_command, draw_command, edicad, explain_command, file_option_rule, file_rule, files_rule, hash_command, json_rule, kinds_rule, list_rule, optional_files_rule, pairing_rule, picture_rule, records_rule, schema_command, schema_flag_rule, subject_rule, verify_command};
+ghost use Rattle.edi_words.specs.Requests.{brief_rule, canon_command, changed_command, check_command, check_rule, compare_command, delivery_command, diff_command, draw_command, edicad, explain_command, file_option_rule, file_rule, files_rule, hash_command, json_rule, kinds_rule, manifest_rule, optional_files_rule, pairing_rule, picture_rule, records_rule, schema_command, schema_flag_rule, subject_rule, verify_command};
 
 use clap::{Arg, ArgAction, Command};
 use std::alloc::{AllocError, Global};
@@ -128,7 +128,12 @@ fn hash<'a>(alloc: Global) -> Result<Command<'a>, AllocError>
     );
     let with_sheets = with_argument(over_schema, sheets_argument(alloc));
     let with_schema = with_argument(with_sheets, schema_flag(alloc));
-    with_argument(with_schema, list_option(alloc))
+    let check = check_option(
+        alloc,
+        "LIST",
+        "Says which digests of a list are still the same",
+    );
+    with_argument(with_schema, check)
 }
 
 // The subcommand that gives the digests of the sheets of deliveries.
@@ -140,7 +145,14 @@ fn delivery<'a>(alloc: Global) -> Result<Command<'a>, AllocError>
         "delivery",
         "Gives the digests of the sheets of deliveries",
     );
-    with_argument(with_kinds, paths_argument(alloc))
+    let with_paths = with_argument(with_kinds, paths_argument(alloc));
+    let with_manifest = with_argument(with_paths, manifest_option(alloc));
+    let check = check_option(
+        alloc,
+        "MANIFEST",
+        "Says which digests of a manifest are still the same",
+    );
+    with_argument(with_manifest, check)
 }
 
 // The subcommand that compares two lists of digests.
@@ -204,7 +216,8 @@ fn over_sheet<'a>(alloc: Global, name: &'a str, about: &'a str) -> Result<Comman
 
 // A subcommand over two sheets.
 fn over_pair<'a>(alloc: Global, name: &'a str, about: &'a str) -> Result<Command<'a>, AllocError>
-    ensures { IfOk result (λ c. app_of c ≡ with_rule (with_rule (schema_command name.entry.now) (file_rule (codes "A"))) (file_rule (codes "B"))) }
+    ensures { IfOk result (λ c. app_of c
+        ≡ with_rule (with_rule (schema_command name.entry.now) (file_rule (codes "A"))) (file_rule (codes "B"))) }
 {
     let over_schema = over_schema(alloc, name, about);
     let first = file(alloc, "A", "The first sheet, a file of type VEC");
@@ -286,14 +299,14 @@ fn schema_flag<'a>(alloc: Global) -> Arg<'a>
         .help("Gives the digest of the schema first")
 }
 
-// The option with a list of digests, which are held against those that are found.
-fn list_option<'a>(alloc: Global) -> Arg<'a>
-    ensures { rule_of result ≡ list_rule }
+// The option with a list or a manifest, whose digests are held against those that are found.
+fn check_option<'a>(alloc: Global, value: &'a str, help: &'a str) -> Arg<'a>
+    ensures { rule_of result ≡ check_rule }
 {
     Arg::new(alloc, "check")
         .long("check")
-        .value_name("LIST")
-        .help("Says which digests of a list are still the same")
+        .value_name(value)
+        .help(help)
 }
 
 // The option with the codes of the kinds.
@@ -315,6 +328,13 @@ fn pairing_option<'a>(alloc: Global) -> Arg<'a>
         "pairing",
         "Where a pairing goes if the plans are the same",
     )
+}
+
+// The option with the file that a manifest goes to.
+fn manifest_option<'a>(alloc: Global) -> Arg<'a>
+    ensures { rule_of result ≡ manifest_rule }
+{
+    file_option(alloc, "manifest", "Where the manifest of one delivery goes")
 }
 
 // The option with the file that a picture goes to.

@@ -49,8 +49,11 @@ impl<'a> GivenKinds<'a> {
         left: &'a [u8],
         right: &'a [u8],
     ) -> Option<GivenKinds<'a>>
-        ensures good { IsSome result ↔ AreKindCodes (record { initial = initial.now; final_node = final_node.now; left = left.now; right = right.now }) }
-        ensures codes { IfSome result (λ k. k ≡ record { initial = initial.now; final_node = final_node.now; left = left.now; right = right.now }) }
+        ensures good { IsSome result
+            ↔ AreKindCodes
+            (record { initial = initial.now; final_node = final_node.now; left = left.now; right = right.now }) }
+        ensures codes { IfSome result (λ k. k
+            ≡ record { initial = initial.now; final_node = final_node.now; left = left.now; right = right.now }) }
     {
         let kinds = Kinds::new(initial, final_node, left, right)?;
         Some(GivenKinds {

@@ -1,6 +1,6 @@
 //! What the words of the command line ask for.
 ghost use Rattle.std.specs.Prelude.{◌≡◌, ◌≢◌, ◌↔◌, ◌<◌, ◌≤◌, ◌^◌, ◌||◌, ◌∷◌, IsTrue, IfErr, IfOk, MatchOption, MatchResult, OnOk, Some, [], codes, false, length, map};
-ghost use Rattle.std.specs.Prelude.{option_map, string_bytes};
+ghost use Rattle.std.specs.Prelude.{option_map, string_bytes, true};
 ghost use Rattle.clap.specs.Words.{HasKind, fault_of, first_of, found_of, kind_of, one_of, rows_of, subcommand_of, subcommand_rows_of};
 ghost use Rattle.edi_schema.specs.Roles.{AreKindCodes, KindCodes};
 ghost use Rattle.edi_words.specs.Requests.{AreBadKinds, AreKindsIn, AreKindsOf, AreManyFiles, ArePairFiles, AreSheetFiles, IsAsked, IsFlag, IsKindsFault, GiveKinds, Means, ReadsInputOnce, codes_in, edicad, is_given, is_standard_path, standard_at, standard_count, standard_in, status_of_kind, value_at, values_at};
@@ -88,6 +88,18 @@ pub enum Request<'a> {
         kinds: GivenKinds<'a>,
         files: SheetFiles<'a>,
     },
+    /// The manifest of a delivery, and where it goes.
+    Manifest {
+        kinds: GivenKinds<'a>,
+        path: &'a str,
+        file: &'a str,
+    },
+    /// Whether a delivery has the digests of a manifest.
+    CheckManifest {
+        kinds: GivenKinds<'a>,
+        path: &'a str,
+        manifest: &'a str,
+    },
     /// What the rule of this number means.
     Rule {
         word: &'a str,
@@ -147,6 +159,8 @@ pub enum Misuse<'a> {
     StandardPairing,
     /// A picture is to go to standard output, which gets what differs.
     StandardPicture,
+    /// A manifest is to be both made and checked, or of several deliveries.
+    NotOneManifest,
 }
 
 /// What is given as the codes of the kinds, and what is wrong with it.
@@ -212,7 +226,8 @@ fn subcommand_meant<'a, R: Eprint + AllocGlobal>(
     given: &ArgMatches<'a>,
     kinds: GivenKinds<'a>,
 ) -> Request<'a>
-    ensures { IsOwn (Some (name.now, rows_of (found_of given.now))) → GiveKinds (rows_of (found_of given.now)) kinds.entry
+    ensures { IsOwn (Some (name.now, rows_of (found_of given.now)))
+        → GiveKinds (rows_of (found_of given.now)) kinds.entry
         → Means (Some (name.now, rows_of (found_of given.now))) result }
 {
     match name {
@@ -251,7 +266,8 @@ fn subcommand_meant<'a, R: Eprint + AllocGlobal>(
 
 // What the arguments of `compare` ask for.
 fn compared<'a>(given: &ArgMatches<'a>, kinds: GivenKinds<'a>) -> Request<'a>
-    ensures { GiveKinds (rows_of (found_of given.now)) kinds.entry → Means (Some (codes "compare", rows_of (found_of given.now))) result }
+    ensures { GiveKinds (rows_of (found_of given.now)) kinds.entry
+        → Means (Some (codes "compare", rows_of (found_of given.now))) result }
 {
     if is_standard(path(given, "pairing")) {
         return Request::Misused(Misuse::StandardPairing);
@@ -271,7 +287,8 @@ fn hashed<'a, R: Eprint + AllocGlobal>(
     given: &ArgMatches<'a>,
     kinds: GivenKinds<'a>,
 ) -> Request<'a>
-    ensures { GiveKinds (rows_of (found_of given.now)) kinds.entry → Means (Some (codes "hash", rows_of (found_of given.now))) result }
+    ensures { GiveKinds (rows_of (found_of given.now)) kinds.entry
+        → Means (Some (codes "hash", rows_of (found_of given.now))) result }
 {
     match list_given(given) {
         Some(list) => listed(rt, given, kinds, list),
@@ -336,11 +353,59 @@ fn delivered<'a, R: Eprint + AllocGlobal>(
     given: &ArgMatches<'a>,
     kinds: GivenKinds<'a>,
 ) -> Request<'a>
-    ensures { GiveKinds (rows_of (found_of given.now)) kinds.entry → Means (Some (codes "delivery", rows_of (found_of given.now))) result }
+    ensures { GiveKinds (rows_of (found_of given.now)) kinds.entry
+        → Means (Some (codes "delivery", rows_of (found_of given.now))) result }
 {
+    if is_given(given, "manifest") || is_given(given, "check") {
+        return of_manifest(given, kinds);
+    }
     match paths(rt.alloc(), given, "PATH") {
         Ok(paths) => Request::Delivery { kinds, paths },
         Err(_) => Request::Answered(out_of_memory(rt)),
+    }
+}
+
+// What the arguments of `delivery` ask for where a manifest is to be made or checked.
+fn of_manifest<'a>(given: &ArgMatches<'a>, kinds: GivenKinds<'a>) -> Request<'a>
+    requires { (is_given (codes "manifest") (rows_of (found_of given.now))
+        || is_given (codes "check") (rows_of (found_of given.now))) ≡ true }
+    ensures { GiveKinds (rows_of (found_of given.now)) kinds.entry
+        → Means (Some (codes "delivery", rows_of (found_of given.now))) result }
+{
+    let Some(path) = only_path(given) else {
+        return Request::Misused(Misuse::NotOneManifest);
+    };
+    match (given.get_str("manifest"), given.get_str("check")) {
+        (Some(file), None) => Request::Manifest { kinds, path, file },
+        (None, Some(manifest)) => Request::CheckManifest {
+            kinds,
+            path,
+            manifest,
+        },
+        (Some(_), Some(_)) => Request::Misused(Misuse::NotOneManifest),
+        (None, None) => Request::Misused(Misuse::NotOneManifest),
+    }
+}
+
+// The path of a delivery, if there is one alone.
+fn only_path<'a>(given: &ArgMatches<'a>) -> Option<&'a str>
+    ensures { MatchOption result (length (values_at (codes "PATH") (rows_of (found_of given.now))) ≢ 1)
+        (λ path. values_at (codes "PATH") (rows_of (found_of given.now)) ≡ path.now ∷ []) }
+{
+    match given.get_strs("PATH") {
+        Some(paths) => only_of(paths),
+        None => None,
+    }
+}
+
+// The only one of some paths.
+fn only_of<'a>(paths: &[&'a str]) -> Option<&'a str>
+    ensures { MatchOption result (length (map (λ p. p.now) paths.now) ≢ 1)
+        (λ path. map (λ p. p.now) paths.now ≡ path.now ∷ []) }
+{
+    match paths {
+        [path] => Some(*path),
+        _ => None,
     }
 }
 
@@ -353,7 +418,8 @@ fn asks_for_digests(given: &ArgMatches<'_>, with_schema: bool) -> bool
 
 // What the arguments of `diff` ask for.
 fn differing<'a>(given: &ArgMatches<'a>, kinds: GivenKinds<'a>) -> Request<'a>
-    ensures { GiveKinds (rows_of (found_of given.now)) kinds.entry → Means (Some (codes "diff", rows_of (found_of given.now))) result }
+    ensures { GiveKinds (rows_of (found_of given.now)) kinds.entry
+        → Means (Some (codes "diff", rows_of (found_of given.now))) result }
 {
     if is_standard(path(given, "picture")) {
         return Request::Misused(Misuse::StandardPicture);
@@ -372,7 +438,8 @@ fn differing<'a>(given: &ArgMatches<'a>, kinds: GivenKinds<'a>) -> Request<'a>
 
 // What the arguments of `explain` ask for.
 fn explained<'a>(given: &ArgMatches<'a>, kinds: GivenKinds<'a>) -> Request<'a>
-    ensures { GiveKinds (rows_of (found_of given.now)) kinds.entry → Means (Some (codes "explain", rows_of (found_of given.now))) result }
+    ensures { GiveKinds (rows_of (found_of given.now)) kinds.entry
+        → Means (Some (codes "explain", rows_of (found_of given.now))) result }
 {
     match (is_given(given, "DIC"), is_given(given, "VEC")) {
         (false, _) => Request::Rule {
@@ -503,7 +570,8 @@ fn path<'a>(given: &ArgMatches<'a>, name: &str) -> &'a str
 // Four codes parted by commas, or the usual ones where none are given.
 fn kinds_of(text: Option<&str>) -> Result<GivenKinds<'_>, BadKinds<'_>>
     ensures { MatchResult result (AreKindsOf (option_map (λ t. t.now) text.entry))
-        (λ bad. ((k : KindCodes) → ¬ (AreKindsOf (option_map (λ t. t.now) text.entry) k)) × AreBadKinds (option_map (λ t. t.now) text.entry) bad) }
+        (λ bad. ((k : KindCodes) → ¬ (AreKindsOf (option_map (λ t. t.now) text.entry) k))
+        × AreBadKinds (option_map (λ t. t.now) text.entry) bad) }
 {
     let Some(text) = text else {
         return Ok(GivenKinds::usual());
@@ -516,7 +584,8 @@ fn kinds_of(text: Option<&str>) -> Result<GivenKinds<'_>, BadKinds<'_>>
 
 // Four codes parted by commas.
 fn kinds_in(text: &str) -> Result<GivenKinds<'_>, KindsFault<'_>>
-    ensures { MatchResult result (AreKindsIn text.now) (λ fault. ((k : KindCodes) → ¬ (AreKindsIn text.now k)) × IsKindsFault (codes_in text.now) fault) }
+    ensures { MatchResult result (AreKindsIn text.now) (λ fault. ((k : KindCodes) → ¬ (AreKindsIn text.now k))
+        × IsKindsFault (codes_in text.now) fault) }
 {
     let Some((initial, final_node, left, right)) = four_codes(text) else {
         return Err(KindsFault::Count);
@@ -554,7 +623,8 @@ fn fault_of_four<'a>(
     left: &'a str,
     right: &'a str,
 ) -> KindsFault<'a>
-    requires { ¬ (AreKindCodes (record { initial = initial.now; final_node = final_node.now; left = left.now; right = right.now })) }
+    requires { ¬ (AreKindCodes
+        (record { initial = initial.now; final_node = final_node.now; left = left.now; right = right.now })) }
     ensures { IsKindsFault (initial.now ∷ final_node.now ∷ left.now ∷ right.now ∷ []) result }
 {
     if initial.is_empty() || final_node.is_empty() || left.is_empty() || right.is_empty() {

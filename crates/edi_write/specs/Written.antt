@@ -18,7 +18,8 @@ use Rattle.edi_write.specs.Layout.{class_name_of, name_in, number_in, identifier
 
 -- what the schema says of each name: the letter of its values, and whether they are numbers
 abbrev pub letters : Classes → Letters
-letters s = record { letter = λ n. unwrap_or (letter_named s n) 65; is_number = λ n. unwrap_or (is_number_named s n) false }
+letters s =
+    record { letter = λ n. unwrap_or (letter_named s n) 65; is_number = λ n. unwrap_or (is_number_named s n) false }
 
 -- an attribute as it is written: the name of its class, and its value as a text
 abbrev pub written_attribute : Classes → PlanAttribute → Attribute
@@ -51,7 +52,8 @@ written_records s p = written_from s p 0 p.list
 
 -- each attribute's class is of type ATT
 abbrev pub HasAttributeClasses : Classes → Drawing → Type 0
-HasAttributeClasses s p = AllByRecursion (λ r. AllByRecursion (λ a. (class_name_of s a.atp).rty ≡ codes "ATT") r.attributes) p.list
+HasAttributeClasses s p =
+    AllByRecursion (λ r. AllByRecursion (λ a. (class_name_of s a.atp).rty ≡ codes "ATT") r.attributes) p.list
 
 -- a name can be printed: no semicolon, and one line
 abbrev pub IsPrintableName : Name → Type 0
@@ -59,7 +61,9 @@ IsPrintableName name = IsName name × IsLineName name
 
 -- where the name of a class of a kind can be printed, so can that of its partner
 abbrev pub HasPrintableKinds : Classes → Type 0
-HasPrintableKinds s = (class : ℕ) → is_plain (role_of s class) ≡ false → IsPrintableName (class_name_of s class) → IsPrintableName (class_name_of s (partner_of s class))
+HasPrintableKinds s =
+    (class : ℕ) → is_plain (role_of s class) ≡ false → IsPrintableName (class_name_of s class)
+    → IsPrintableName (class_name_of s (partner_of s class))
 
 -- what records and their character set need to be printed and read again
 pub record CanBePrinted (cse : Option (List ℕ)) (rs : List Record) : Type 0 where

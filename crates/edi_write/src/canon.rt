@@ -38,7 +38,8 @@ pub fn write_canon(
 
 /// Writes what stands before the records: the first zone, and the character set if there is one.
 fn write_begin(page: &mut Page, set: Option<&[u8]>) -> Result<(), AllocError>
-    ensures { OnOk result (page.new.file.items ≡ page.old.file.items ++ printed (begin_zone ∷ map cse_zone (option_to_list (option_copied set.entry)))) }
+    ensures { OnOk result (page.new.file.items
+        ≡ page.old.file.items ++ printed (begin_zone ∷ map cse_zone (option_to_list (option_copied set.entry)))) }
 {
     page.write(BEGIN, b"CANON.VEC")?;
     match set {

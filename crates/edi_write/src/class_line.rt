@@ -36,7 +36,8 @@ impl ClassLine {
         requires line { IsLineOf schema.now self.old }
         requires class { class < length schema.now }
         ensures line { OnOk result (IsLineOf schema.now self.new) }
-        ensures printed { OnOk result (self.new.page.file.items ≡ printed_zone (zone_headed (codes "SCPCP") (class_text (class_name_of schema.now class)))) }
+        ensures printed { OnOk result (self.new.page.file.items
+            ≡ printed_zone (zone_headed (codes "SCPCP") (class_text (class_name_of schema.now class)))) }
     {
         if self.class == Some(class) {
             return Ok(());
@@ -57,7 +58,8 @@ impl ClassLine {
         requires line { IsLineOf schema.now self.old }
         requires class { class < length schema.now }
         ensures line { OnOk result (IsLineOf schema.now self.new) }
-        ensures written { OnOk result (page.new.file.items ≡ page.old.file.items ++ printed_zone (zone_headed (codes "SCPCP") (class_text (class_name_of schema.now class)))) }
+        ensures written { OnOk result (page.new.file.items ≡ page.old.file.items
+            ++ printed_zone (zone_headed (codes "SCPCP") (class_text (class_name_of schema.now class)))) }
     {
         self.turn_to(schema, class)?;
         page.file.extend_from_slice(&self.page.file)

@@ -15,7 +15,8 @@ ghost use Rattle.edi_write.specs.Laws.{
   SchemasHavePrintableLetters,
 };
 
-/// The layout of a plan is that of records; each end finds what it names; read again they break no rule of references, and their plan is that plan.
+/// The layout of a plan is that of records; each end finds what it names; read again they break no rule of references,
+/// and their plan is that plan.
 pub fn written_is_read_again()
     ensures layout { WrittenLayout }
     ensures named { WrittenIsNamed }
@@ -29,13 +30,15 @@ pub fn written_is_printable()
     ensures sheet { WrittenIsPrintable }
 {}
 
-/// The plan in canonical order keeps what each plan keeps; the classes of its attributes are of type ATT, where the plan that was read breaks no rule of references.
+/// The plan in canonical order keeps what each plan keeps; the classes of its attributes are of type ATT, where the
+/// plan that was read breaks no rule of references.
 pub fn written_is_from_what_was_read()
     ensures plan { ArrangedIsPlan }
     ensures classes { WrittenHasAttributeClasses }
 {}
 
-/// The bytes of a plan break no rule of lines, records and references, and each sheet that is read of them has that plan.
+/// The bytes of a plan break no rule of lines, records and references, and each sheet that is read of them has that
+/// plan.
 pub fn layout_is_read_again()
     ensures sound { LayoutIsSound }
     ensures references { LayoutPreservesReferences }

@@ -38,7 +38,9 @@ fn write_others(
     requires numbered { length labels.now.numbers ≡ length plan.now.list }
     requires there { AllByRecursion (λ e. IsPlace plan.now e.target) others.now }
     requires order { GivesEach order.now others.now }
-    ensures { OnOk result (page.new.file.items ≡ page.old.file.items ++ printed (flat_map numbered_end_zones (map (numbered plan.now (number_of labels.now)) (ends_at order.now others.now)))) }
+    ensures { OnOk result (page.new.file.items ≡ page.old.file.items
+        ++ printed (flat_map numbered_end_zones
+        (map (numbered plan.now (number_of labels.now)) (ends_at order.now others.now)))) }
 {
     for index in 0..others.len() {
         let end = end_in_order(order, others, index);
@@ -58,7 +60,9 @@ pub(crate) fn write_ends(
     requires ordered { length labels.now.others ≡ length plan.now.list }
     requires place { IsPlace plan.now place }
     requires order { OthersInOrder plan.now (number_of labels.now) labels.now.others place }
-    ensures { OnOk result (page.new.file.items ≡ page.old.file.items ++ printed (flat_map numbered_end_zones (ends_key plan.now (number_of labels.now) (record_at plan.now place).ends))) }
+    ensures { OnOk result (page.new.file.items ≡ page.old.file.items
+        ++ printed
+        (flat_map numbered_end_zones (ends_key plan.now (number_of labels.now) (record_at plan.now place).ends))) }
 {
     plan.keeps();
     match plan.ends(place) {

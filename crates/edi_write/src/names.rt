@@ -57,7 +57,8 @@ fn identifier_line(kind: Kind) -> [u8; 9]
 /// Writes the zone of the identifier of a record: the letter of its type, and its number. What stands before the number
 /// has a known size, so that it is copied without a call.
 pub(crate) fn write_identifier(page: &mut Page, kind: Kind, number: u32) -> Result<(), AllocError>
-    ensures { OnOk result (page.new.file.items ≡ page.old.file.items ++ printed_zone (headed IDENTIFIER (identifier kind number))) }
+    ensures { OnOk result (page.new.file.items
+        ≡ page.old.file.items ++ printed_zone (headed IDENTIFIER (identifier kind number))) }
 {
     let mut digits = Buffer::new();
     let digits = digits.format(number).as_bytes();
@@ -72,7 +73,8 @@ pub(crate) fn write_identifier(page: &mut Page, kind: Kind, number: u32) -> Resu
 
 /// Writes the zone of the pointer of an end to a record, in the same way.
 pub(crate) fn write_end_pointer(page: &mut Page, kind: Kind, number: u32) -> Result<(), AllocError>
-    ensures { OnOk result (page.new.file.items ≡ page.old.file.items ++ printed_zone (headed END_TARGET (end_text (numbered_name kind number)))) }
+    ensures { OnOk result (page.new.file.items
+        ≡ page.old.file.items ++ printed_zone (headed END_TARGET (end_text (numbered_name kind number)))) }
 {
     let mut digits = Buffer::new();
     let digits = digits.format(number).as_bytes();

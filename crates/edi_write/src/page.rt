@@ -36,7 +36,8 @@ impl Page {
 
     /// Writes a zone with the text as its value.
     pub(crate) fn write_text(&mut self, head: ZoneHead) -> Result<(), AllocError>
-        ensures { OnOk result (self.new.file.items ≡ self.old.file.items ++ printed_zone (headed head self.old.text.items)) }
+        ensures { OnOk result (self.new.file.items
+            ≡ self.old.file.items ++ printed_zone (headed head self.old.text.items)) }
     {
         write_zone(&mut self.file, head, &self.text)
     }

@@ -18,7 +18,8 @@ use std::alloc::AllocError;
 
 /// Writes a pointer to a class.
 pub(crate) fn write_class(page: &mut Page, head: ZoneHead, class: &Name) -> Result<(), AllocError>
-    ensures { OnOk result (page.new.file.items ≡ page.old.file.items ++ printed_zone (headed head (class_text class.now))) }
+    ensures { OnOk result (page.new.file.items
+        ≡ page.old.file.items ++ printed_zone (headed head (class_text class.now))) }
 {
     put_class_pointer(&mut page.text, class)?;
     page.write_text(head)
@@ -61,7 +62,8 @@ fn put_point(text: &mut Vec<u8>, point: Point) -> Result<(), AllocError>
 
 /// Writes a value: a number in its plain spelling, or bytes as they are.
 fn write_value(page: &mut Page, head: ZoneHead, value: &Value) -> Result<(), AllocError>
-    ensures { OnOk result (page.new.file.items ≡ page.old.file.items ++ printed_zone (headed head (value_text value.now))) }
+    ensures { OnOk result (page.new.file.items
+        ≡ page.old.file.items ++ printed_zone (headed head (value_text value.now))) }
 {
     match value {
         Value::Number(number) => {
@@ -80,7 +82,8 @@ pub(crate) fn write_attribute(
     attribute: &PlanAttribute,
 ) -> Result<(), AllocError>
     requires { AttributeAgrees schema.now attribute.now }
-    ensures { OnOk result (page.new.file.items ≡ page.old.file.items ++ printed (attribute_zones schema.now attribute.now)) }
+    ensures { OnOk result (page.new.file.items
+        ≡ page.old.file.items ++ printed (attribute_zones schema.now attribute.now)) }
 {
     write_class(page, ATTRIBUTE, schema.name(attribute.atp))?;
     if let Some(set) = &attribute.tex {

@@ -52,7 +52,8 @@ fn zone_of_two() -> &'static [u8]
 
 /// Writes the count of a record's attributes. Most records have none.
 fn write_attribute_count(page: &mut Page, count: usize) -> Result<(), AllocError>
-    ensures { OnOk result (page.new.file.items ≡ page.old.file.items ++ printed_zone (headed ATTRIBUTE_COUNT (decimal count))) }
+    ensures { OnOk result (page.new.file.items
+        ≡ page.old.file.items ++ printed_zone (headed ATTRIBUTE_COUNT (decimal count))) }
 {
     if count == 0 {
         return page.file.extend_from_slice(zone_of_none());
@@ -62,7 +63,8 @@ fn write_attribute_count(page: &mut Page, count: usize) -> Result<(), AllocError
 
 /// Writes the count of a link's ends. Nearly each link has two.
 fn write_end_count(page: &mut Page, count: usize) -> Result<(), AllocError>
-    ensures { OnOk result (page.new.file.items ≡ page.old.file.items ++ printed_zone (headed END_COUNT (decimal count))) }
+    ensures { OnOk result (page.new.file.items
+        ≡ page.old.file.items ++ printed_zone (headed END_COUNT (decimal count))) }
 {
     if count == 2 {
         return page.file.extend_from_slice(zone_of_two());
@@ -94,7 +96,8 @@ fn write_attributes(
     attributes: &[&PlanAttribute],
 ) -> Result<(), AllocError>
     requires { AllByRecursion (λ a. AttributeAgrees schema.now a.now) attributes.now }
-    ensures { OnOk result (page.new.file.items ≡ page.old.file.items ++ printed (flat_map (attribute_zones schema.now) (map (λ a. a.now) attributes.now))) }
+    ensures { OnOk result (page.new.file.items
+        ≡ page.old.file.items ++ printed (flat_map (attribute_zones schema.now) (map (λ a. a.now) attributes.now))) }
 {
     for attribute in attributes {
         write_attribute(page, schema, attribute)?;
@@ -125,7 +128,9 @@ fn write_head(
     requires place { IsPlace plan.now place }
     requires line { IsLineOf schema.now line.old }
     ensures line { OnOk result (IsLineOf schema.now line.new) }
-    ensures written { OnOk result (page.new.file.items ≡ page.old.file.items ++ printed (head_zones schema.now (number_of labels.now place) (arranged_record schema.now labels.now plan.now place))) }
+    ensures written { OnOk result (page.new.file.items ≡ page.old.file.items
+        ++ printed (head_zones schema.now (number_of labels.now place)
+        (arranged_record schema.now labels.now plan.now place))) }
 {
     let kind = plan.kind(place);
     page.file.extend_from_slice(type_zone(kind))?;
@@ -152,7 +157,8 @@ fn write_link(page: &mut Page, plan: &Plan, labels: &Labels, place: u32) -> Resu
     requires ordered { length labels.now.others ≡ length plan.now.list }
     requires place { IsPlace plan.now place }
     requires order { OthersInOrder plan.now (number_of labels.now) labels.now.others place }
-    ensures { OnOk result (page.new.file.items ≡ page.old.file.items ++ printed (link_body labels.now plan.now (record_at plan.now place).ends)) }
+    ensures { OnOk result (page.new.file.items
+        ≡ page.old.file.items ++ printed (link_body labels.now plan.now (record_at plan.now place).ends)) }
 {
     write_end_count(page, plan.ends(place).len())?;
     write_ends(page, plan, labels, place)
@@ -165,7 +171,8 @@ fn write_body(page: &mut Page, plan: &Plan, labels: &Labels, place: u32) -> Resu
     requires ordered { length labels.now.others ≡ length plan.now.list }
     requires place { IsPlace plan.now place }
     requires order { OthersInOrder plan.now (number_of labels.now) labels.now.others place }
-    ensures { OnOk result (page.new.file.items ≡ page.old.file.items ++ printed (numbered_body labels.now plan.now place (record_at plan.now place).kind)) }
+    ensures { OnOk result (page.new.file.items
+        ≡ page.old.file.items ++ printed (numbered_body labels.now plan.now place (record_at plan.now place).kind)) }
 {
     match plan.kind(place) {
         Kind::Pno => write_forward(page, plan.points(place)),
@@ -185,7 +192,8 @@ fn write_tail(
 ) -> Result<(), AllocError>
     requires agrees { Agrees schema.now plan.now }
     requires place { IsPlace plan.now place }
-    ensures { OnOk result (page.new.file.items ≡ page.old.file.items ++ printed (ordered_tail schema.now (record_at plan.now place))) }
+    ensures { OnOk result (page.new.file.items
+        ≡ page.old.file.items ++ printed (ordered_tail schema.now (record_at plan.now place))) }
 {
     let attributes = sorted_attributes(alloc, plan.attributes(place))?;
     write_attribute_count(page, attributes.len())?;
@@ -208,7 +216,8 @@ fn write_record(
     requires place { IsPlace plan.now place }
     requires line { IsLineOf schema.now line.old }
     ensures line { OnOk result (IsLineOf schema.now line.new) }
-    ensures written { OnOk result (page.new.file.items ≡ page.old.file.items ++ printed (numbered_zones schema.now labels.now plan.now place)) }
+    ensures written { OnOk result (page.new.file.items
+        ≡ page.old.file.items ++ printed (numbered_zones schema.now labels.now plan.now place)) }
 {
     write_head(page, line, schema, plan, labels, place)?;
     write_body(page, plan, labels, place)?;
@@ -226,7 +235,8 @@ fn write_kind(
 ) -> Result<(), AllocError>
     requires agrees { Agrees schema.now plan.now }
     requires labels { AreLabels schema.now plan.now labels.now }
-    ensures { OnOk result (page.new.file.items ≡ page.old.file.items ++ printed (flat_map (numbered_zones schema.now labels.now plan.now) (order_of labels.now kind))) }
+    ensures { OnOk result (page.new.file.items ≡ page.old.file.items
+        ++ printed (flat_map (numbered_zones schema.now labels.now plan.now) (order_of labels.now kind))) }
 {
     let places = labels.order(kind);
     let mut line = ClassLine::new(alloc);
@@ -246,7 +256,8 @@ pub(crate) fn write_records(
 ) -> Result<(), AllocError>
     requires agrees { Agrees schema.now plan.now }
     requires labels { AreLabels schema.now plan.now labels.now }
-    ensures { OnOk result (page.new.file.items ≡ page.old.file.items ++ printed (flat_map (numbered_zones schema.now labels.now plan.now) (old_places labels.now))) }
+    ensures { OnOk result (page.new.file.items ≡ page.old.file.items
+        ++ printed (flat_map (numbered_zones schema.now labels.now plan.now) (old_places labels.now))) }
 {
     write_kind(alloc, page, schema, plan, labels, Kind::Pno)?;
     write_kind(alloc, page, schema, plan, labels, Kind::Par)?;

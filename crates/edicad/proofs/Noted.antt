@@ -2,7 +2,7 @@
 use Rattle.std.proofs.Common.{◌≡◌, ℕ, List, [], inl, inr, ◌∙◌}
 use Rattle.edi_schema.specs.Roles.{KindCodes}
 use Rattle.edi_words.specs.declared.words.Request.{Request}
-use Rattle.edi_words.specs.declared.words.Request.TheVariants.{Bundle, Check, Canon, Pair, Hash, CheckList, Delivery, Explain, Rule, Draw, Changed, Misused, Answered}
+use Rattle.edi_words.specs.declared.words.Request.TheVariants.{Bundle, Check, Canon, Pair, Hash, CheckList, Delivery, Manifest, CheckManifest, Explain, Rule, Draw, Changed, Misused, Answered}
 use Rattle.edi_answers.specs.Effects.{Inputs}
 use Rattle.edi_answers.specs.Notes.{HasNoteOf, IsNoteOf, IsNotedAs}
 use Rattle.edicad.specs.inner.Notes.{LeavesNoteOf}
@@ -20,6 +20,8 @@ note_left inputs (Pair kinds files what) s old new none h = noted inputs kinds f
 note_left inputs (Hash kinds files with_schema) s old new none h = h ∙ none
 note_left inputs (CheckList kinds files list) s old new none h = h ∙ none
 note_left inputs (Delivery kinds paths) s old new none h = h ∙ none
+note_left inputs (Manifest kinds path file) s old new none h = h ∙ none
+note_left inputs (CheckManifest kinds path manifest) s old new none h = h ∙ none
 note_left inputs (Explain kinds files) s old new none h = h ∙ none
 note_left inputs (Rule word) s old new none h = h ∙ none
 note_left inputs (Draw kinds files out) s old new none h = noted inputs kinds files.scd.now old new s none h

@@ -3,7 +3,9 @@ use Rattle.std.specs.Prelude.{◌≡◌, ◌⊎◌, ℕ, List, [], IsTrue, Match
 use Rattle.std.specs.Bool.{MatchBool}
 use Rattle.edi_changes.specs.Checks.{IsHeldStatus}
 use Rattle.edi_changes.specs.Statuses.{IsChangedStatus}
+use Rattle.edi_deliveries.specs.Checks.{IsCheckStatus}
 use Rattle.edi_deliveries.specs.Deliveries.{IsDeliveryStatus, Listings}
+use Rattle.edi_deliveries.specs.Manifests.{IsManifestStatus}
 use Rattle.edi_answers.specs.Explains.{IsExplainStatus, IsRuleStatus}
 use Rattle.edi_answers.specs.Hashes.{IsHashStatus}
 use Rattle.edi_files.specs.declared.product.Product.{Product}
@@ -22,17 +24,20 @@ use Rattle.edi_words.specs.declared.words.PairRequest.{PairRequest}
 use Rattle.edi_words.specs.declared.words.PairRequest.TheVariants.{Compare, Verify, Diff}
 use Rattle.edi_words.specs.declared.words.SheetFiles.{SheetFiles}
 use Rattle.edi_words.specs.declared.words.Request.{Request}
-use Rattle.edi_words.specs.declared.words.Request.TheVariants.{Bundle, Check, Canon, Pair, Hash, CheckList, Delivery, Explain, Rule, Draw, Changed, Misused, Answered}
+use Rattle.edi_words.specs.declared.words.Request.TheVariants.{Bundle, Check, Canon, Pair, Hash, CheckList, Delivery, Manifest, CheckManifest, Explain, Rule, Draw, Changed, Misused, Answered}
 
 -- The status of what is made of a sheet, which is sent to the output or put at a path.
 abbrev pub IsMadeStatus : Effects → Stream → Stream → Product → KindCodes → SheetFiles → List ℕ → ℕ → Type 0
-IsMadeStatus run out err product kinds files path s = MatchBool (is_standard_path path) (run.untouched × IsSendStatus run out err product kinds files s)
+IsMadeStatus run out err product kinds files path s =
+    MatchBool (is_standard_path path) (run.untouched × IsSendStatus run out err product kinds files s)
     (IsPutStatus run out err product kinds files path s)
 
--- The status of words that can't be meant: 3, and the stream of errors says why; or 5, where there was no memory to show what was given.
+-- The status of words that can't be meant: 3, and the stream of errors says why; or 5, where there was no memory to
+-- show what was given.
 abbrev pub IsMisusedStatus : Stream → Stream → Misuse → ℕ → Type 0
 IsMisusedStatus out err misuse s =
-    ((s ≡ 3) × Complains out err (misuse_lines misuse)) ⊎ ((s ≡ 5) × IsTrue (shows_words misuse) × Prints out [] × LacksMemory err)
+    ((s ≡ 3) × Complains out err (misuse_lines misuse))
+    ⊎ ((s ≡ 5) × IsTrue (shows_words misuse) × Prints out [] × LacksMemory err)
 
 -- The status of what was asked of two sheets. Where no FILE is named to which something goes, nothing in the folder has
 -- changed.
@@ -46,8 +51,8 @@ IsPairReplied run out err kinds files (Diff brief records json picture) s =
     MatchOption picture (run.untouched × IsDiffStatus run out err kinds files (form_asked brief records json) s)
     (λ path. IsPictureStatus run out err kinds files (form_asked brief records json) path.now s)
 
--- The status of what was asked for but for the note on kinds, over what was found in the folder and left there, and what the two streams
--- have before and after. Where no OUT or FILE is named, nothing in the folder has changed.
+-- The status of what was asked for but for the note on kinds, over what was found in the folder and left there, and
+-- what the two streams have before and after. Where no OUT or FILE is named, nothing in the folder has changed.
 abbrev pub IsReplied : Effects → Listings → Stream → Stream → Request → ℕ → Type 0
 IsReplied run listings out err Bundle s = run.untouched × IsBundleStatus run out err s
 IsReplied run listings out err (Check kinds files) s = run.untouched × IsFileStatus run out err kinds files s
@@ -57,7 +62,12 @@ IsReplied run listings out err (Hash kinds files with_schema) s =
     run.untouched × IsHashStatus run out err kinds files with_schema s
 IsReplied run listings out err (CheckList kinds files list) s =
     run.untouched × IsHeldStatus run out err kinds files list.now s
-IsReplied run listings out err (Delivery kinds paths) s = run.untouched × IsDeliveryStatus run listings kinds paths.items out err s
+IsReplied run listings out err (Delivery kinds paths) s =
+    run.untouched × IsDeliveryStatus run listings kinds paths.items out err s
+IsReplied run listings out err (Manifest kinds path file) s =
+    IsManifestStatus run listings kinds path.now file.now out err s
+IsReplied run listings out err (CheckManifest kinds path manifest) s = run.untouched
+    × IsCheckStatus run listings kinds manifest.now path.now out err s
 IsReplied run listings out err (Explain kinds files) s = run.untouched × IsExplainStatus run out err kinds files s
 IsReplied run listings out err (Rule word) s = run.untouched × IsRuleStatus out err word.now s
 IsReplied run listings out err (Draw kinds files path) s = IsMadeStatus run out err Picture kinds files path.now s
@@ -66,8 +76,8 @@ IsReplied run listings out err (Changed before after) s =
 IsReplied run listings out err (Misused misuse) s = run.untouched × IsMisusedStatus out err misuse s
 IsReplied run listings out err (Answered status) s = run.untouched × (s ≡ status) × Prints out [] × Prints err []
 
--- The status of what was asked for: it was replied, and then the stream of errors got the note on the kinds that no class has, if there is
--- one.
+-- The status of what was asked for: it was replied, and then the stream of errors got the note on the kinds that no
+-- class has, if there is one.
 abbrev pub IsAnswered : Effects → Listings → Stream → Stream → Request → ℕ → Type 0
 IsAnswered run listings out err request s = (note : List ℕ) × IsNoteOf run.inputs request s note
     × InTurn err (λ e. IsReplied run listings out e request s) (λ e. Notes e note)
@@ -79,4 +89,5 @@ IsUnread run out err s = run.untouched × Prints out []
 
 -- the words ask for something, and this is its answer
 abbrev pub AnswersWords : Effects → Listings → Stream → Stream → List (List ℕ) → ℕ → Type 0
-AnswersWords run listings out err words s = (request : Request) × IsAsked words request × IsAnswered run listings out err request s
+AnswersWords run listings out err words s =
+    (request : Request) × IsAsked words request × IsAnswered run listings out err request s

@@ -23,39 +23,47 @@ IsMadeOf Picture kinds name s d v bytes = IsPictureUnder kinds name s d v bytes
 
 -- what is made of the sheet, of which this holds
 abbrev pub OfMade : Inputs → Product → KindCodes → SheetFiles → (List ℕ → Type 0) → Type 0
-OfMade inputs product kinds files P = OfFiles inputs files (λ s d v. (bytes : List ℕ) × IsMadeOf product kinds files.vec.now s d v bytes × P bytes)
+OfMade inputs product kinds files P =
+    OfFiles inputs files (λ s d v. (bytes : List ℕ) × IsMadeOf product kinds files.vec.now s d v bytes × P bytes)
 
 -- OUT is one of the inputs, and none of them
 abbrev pub IsInput : (List ℕ → List ℕ → Bool → Type 0) → SheetFiles → List ℕ → Type 0
-IsInput is_one files out = Meets is_one out files.scd.now ⊎ (Meets is_one out files.dic.now ⊎ Meets is_one out files.vec.now)
+IsInput is_one files out =
+    Meets is_one out files.scd.now ⊎ (Meets is_one out files.dic.now ⊎ Meets is_one out files.vec.now)
 
 abbrev pub IsNoInput : (List ℕ → List ℕ → Bool → Type 0) → SheetFiles → List ℕ → Type 0
-IsNoInput is_one files out = IsApart is_one out files.scd.now × IsApart is_one out files.dic.now × IsApart is_one out files.vec.now
+IsNoInput is_one files out =
+    IsApart is_one out files.scd.now × IsApart is_one out files.dic.now × IsApart is_one out files.vec.now
 
 -- What is made of the sheet is at OUT, which is no input.
 abbrev pub IsPut : Effects → Product → KindCodes → SheetFiles → List ℕ → Type 0
-IsPut run product kinds files out = IsNoInput run.is_one files out × OfMade run.inputs product kinds files (run.Puts out)
+IsPut run product kinds files out =
+    IsNoInput run.is_one files out × OfMade run.inputs product kinds files (run.Puts out)
 
--- Why it is not: OUT is an input, and nothing was opened; or the run has no answer. Nothing in the folder has changed, unless the fault
--- came while writing to OUT.
+-- Why it is not: OUT is an input, and nothing was opened; or the run has no answer. Nothing in the folder has changed,
+-- unless the fault came while writing to OUT.
 abbrev pub PutFault : Effects → Product → KindCodes → SheetFiles → List ℕ → RunFault → Type 0
 PutFault run product kinds files out e =
     (IsInput run.is_one files out × (e ≡ Write (record { count = 0 })) × run.untouched)
-    ⊎ (IsNoInput run.is_one files out × FileFault run.inputs kinds files (λ count. OfMade run.inputs product kinds files (run.Stops out count)) e
+    ⊎ (IsNoInput run.is_one files out
+    × FileFault run.inputs kinds files (λ count. OfMade run.inputs product kinds files (run.Stops out count)) e
     × BeforeWriting e run.untouched)
 
 -- at each moment OUT has the file that it had, or the whole of what is made of the sheet
 abbrev pub IsReplaced : Effects → Product → KindCodes → SheetFiles → List ℕ → Type 0
-IsReplaced run product kinds files out = run.Replaces out (λ bytes. OfFiles run.inputs files (λ s d v. IsMadeOf product kinds files.vec.now s d v bytes))
+IsReplaced run product kinds files out =
+    run.Replaces out (λ bytes. OfFiles run.inputs files (λ s d v. IsMadeOf product kinds files.vec.now s d v bytes))
 
 -- the names of the files of two sheets, as they were given
 abbrev pub names_of_pair : PairFiles → FileNames
 names_of_pair files = record { first = files.first.now; second = files.second.now }
 
 -- this differs between the two sheets of these names, and the bytes are a picture that shows it
-abbrev pub ShowsDifference : KindCodes → FileNames → TextForm → Difference → List ℕ → List ℕ → List ℕ → List ℕ → List ℕ → Type 0
+abbrev pub ShowsDifference : KindCodes → FileNames → TextForm → Difference → List ℕ → List ℕ → List ℕ → List ℕ → List ℕ
+    → Type 0
 ShowsDifference kinds names form difference s d a b bytes =
-    (drawn : DrawnDifference) × IsDrawnDifferenceUnder kinds names s d a b form drawn × (drawn.difference ≡ difference) × (drawn.picture.items ≡ bytes)
+    (drawn : DrawnDifference) × IsDrawnDifferenceUnder kinds names s d a b form drawn × (drawn.difference ≡ difference)
+    × (drawn.picture.items ≡ bytes)
 
 -- the bytes are a picture that shows what differs between the two sheets
 abbrev pub IsPictureOfPair : KindCodes → FileNames → TextForm → List ℕ → List ℕ → List ℕ → List ℕ → List ℕ → Type 0

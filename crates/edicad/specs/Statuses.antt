@@ -15,7 +15,7 @@ use Rattle.edicad.specs.Made.{IsInput, IsPictureOfPair, IsPut, IsReplaced, OfMad
 use Rattle.edi_words.specs.declared.words.PairFiles.{PairFiles}
 use Rattle.edi_words.specs.declared.words.SheetFiles.{SheetFiles}
 use Rattle.edi_words.specs.declared.words.Request.{Request}
-use Rattle.edi_words.specs.declared.words.Request.TheVariants.{Bundle, Check, Canon, Pair, Hash, CheckList, Delivery, Explain, Rule, Draw, Changed, Misused, Answered}
+use Rattle.edi_words.specs.declared.words.Request.TheVariants.{Bundle, Check, Canon, Pair, Hash, CheckList, Delivery, Manifest, CheckManifest, Explain, Rule, Draw, Changed, Misused, Answered}
 use Rattle.edi_answers.specs.Statuses.{Answers, AreFourTried, AreTried, Complains, IsPageStatus, IsPairStatus, IsSheetStatus, MeansStatus, Prints, PrintsFirst, SaysPairRefusal, SaysRefusal, pair_paths_of, paths_of}
 use Rattle.edi_diff.specs.declared.form.TextForm.{TextForm}
 
@@ -28,6 +28,8 @@ IsStatusOf (Pair kinds files what) s = IsPairStatus s
 IsStatusOf (Hash kinds files with_schema) s = IsSheetStatus s
 IsStatusOf (CheckList kinds files list) s = IsPairStatus s
 IsStatusOf (Delivery kinds paths) s = IsSheetStatus s
+IsStatusOf (Manifest kinds path file) s = IsSheetStatus s
+IsStatusOf (CheckManifest kinds path manifest) s = IsPairStatus s
 IsStatusOf (Explain kinds files) s = IsSheetStatus s
 IsStatusOf (Rule word) s = IsPageStatus s
 IsStatusOf (Draw kinds files out) s = IsSheetStatus s
@@ -43,51 +45,66 @@ HasStatus words s = (request : Request) × IsAsked words request × IsStatusOf r
 abbrev pub IsStatus : ℕ → Type 0
 IsStatus s = ((words : List (List ℕ)) × HasStatus words s) ⊎ ((s ≡ 3) ⊎ (s ≡ 5))
 
--- The status of a run that puts what is made of a sheet at a path: 0 only where it is there, 2 only of a refused sheet. On a refusal nothing in the folder has changed; and whatever the
--- status is, what was made is there, or such a fault says what became of the path.
-pub record IsPutStatus (run : Effects) (out err : Stream) (product : Product) (kinds : KindCodes) (files : SheetFiles) (path : List ℕ) (s : ℕ) : Type 0 where
+-- The status of a run that puts what is made of a sheet at a path: 0 only where it is there, 2 only of a refused sheet.
+-- On a refusal nothing in the folder has changed; and whatever the status is, what was made is there, or such a fault
+-- says what became of the path.
+pub record IsPutStatus (run : Effects) (out err : Stream) (product : Product) (kinds : KindCodes) (files : SheetFiles)
+    (path : List ℕ) (s : ℕ) : Type 0 where
   pub tried : IsInput run.is_one files path ⊎ AreTried run.inputs files
   pub means : MeansStatus (IsPut run product kinds files path × Answers out err (ended (codes "accepted")))
-      (OfFiles run.inputs files (SaysRefusal (Answers out err) kinds) × run.untouched) (λ e. PutFault run product kinds files path e × Prints out [])
+      (OfFiles run.inputs files (SaysRefusal (Answers out err) kinds)
+      × run.untouched) (λ e. PutFault run product kinds files path e × Prints out [])
       run.why (paths_of files path) out err s
   pub leaves : IsPut run product kinds files path ⊎ ((e : RunFault) × PutFault run product kinds files path e)
   pub replaced : IsReplaced run product kinds files path
 
--- The same of a run that sends what is made of the sheet to standard output, which gets nothing else: a refusal goes to standard error.
-pub record IsSendStatus (run : Effects) (out err : Stream) (product : Product) (kinds : KindCodes) (files : SheetFiles) (s : ℕ) : Type 0 where
+-- The same of a run that sends what is made of the sheet to standard output, which gets nothing else: a refusal goes to
+-- standard error.
+pub record IsSendStatus (run : Effects) (out err : Stream) (product : Product) (kinds : KindCodes) (files : SheetFiles)
+    (s : ℕ) : Type 0 where
   pub tried : AreTried run.inputs files
-  pub means : MeansStatus (OfMade run.inputs product kinds files (Answers out err)) (OfFiles run.inputs files (SaysRefusal (Complains out err) kinds))
-      (λ e. FileFault run.inputs kinds files (λ count. IsTrue out.failed × OfMade run.inputs product kinds files (PrintsFirst out count)) e
+  pub means : MeansStatus (OfMade run.inputs product kinds files (Answers out err))
+      (OfFiles run.inputs files (SaysRefusal (Complains out err) kinds))
+      (λ e. FileFault run.inputs kinds files (λ count. IsTrue out.failed
+      × OfMade run.inputs product kinds files (PrintsFirst out count)) e
       × BeforeWriting e (Prints out []))
       run.why (paths_of files (codes "-")) out err s
 
 -- this differs between the two sheets, the plans are the same or not, and the text of the difference went out
 abbrev pub TellsDifference : Inputs → Stream → Stream → KindCodes → PairFiles → TextForm → Bool → Type 0
 TellsDifference inputs out err kinds files form same =
-    (difference : Difference) × OfPair inputs files (λ scd dic a b. IsDifferenceUnder kinds scd dic a b form difference) × (difference.same ≡ same)
+    (difference : Difference) × OfPair inputs files (λ scd dic a b. IsDifferenceUnder kinds scd dic a b form difference)
+    × (difference.same ≡ same)
     × Answers out err difference.text.items
 
--- The status of a run that reports what differs between two sheets: 0 only where the plans are the same, 1 only where they are
--- not, and the output gets the text of the difference; 2 only where a sheet is refused, which is said.
-pub record IsDiffStatus (run : Effects) (out err : Stream) (kinds : KindCodes) (files : PairFiles) (form : TextForm) (s : ℕ) : Type 0 where
+-- The status of a run that reports what differs between two sheets: 0 only where the plans are the same, 1 only where
+-- they are not, and the output gets the text of the difference; 2 only where a sheet is refused, which is said.
+pub record IsDiffStatus (run : Effects) (out err : Stream) (kinds : KindCodes) (files : PairFiles) (form : TextForm)
+    (s : ℕ) : Type 0 where
   pub tried : AreFourTried run.inputs files
   pub different : s ≡ 1 → TellsDifference run.inputs out err kinds files form false
-  pub means : MeansStatus (TellsDifference run.inputs out err kinds files form true) (OfPair run.inputs files (SaysPairRefusal (Answers out err) kinds))
-      (λ e. PairFileFault run.inputs kinds files (λ _. ⊥) e × Prints out []) run.why (pair_paths_of files (codes "-")) out err s
+  pub means : MeansStatus (TellsDifference run.inputs out err kinds files form true)
+      (OfPair run.inputs files (SaysPairRefusal (Answers out err) kinds))
+      (λ e. PairFileFault run.inputs kinds files (λ _. ⊥) e
+      × Prints out []) run.why (pair_paths_of files (codes "-")) out err s
 
--- this differs between the two sheets, the plans are the same or not, a picture that shows it was put, and the text of the
--- difference went out
+-- this differs between the two sheets, the plans are the same or not, a picture that shows it was put, and the text of
+-- the difference went out
 abbrev pub TellsDrawnDifference : Effects → Stream → Stream → KindCodes → PairFiles → TextForm → List ℕ → Bool → Type 0
 TellsDrawnDifference run out err kinds files form path same =
-    (difference : Difference) × IsPairPut run (ShowsDifference kinds (names_of_pair files) form difference) files path × (difference.same ≡ same) × Answers out err difference.text.items
+    (difference : Difference) × IsPairPut run (ShowsDifference kinds (names_of_pair files) form difference) files path
+    × (difference.same ≡ same) × Answers out err difference.text.items
 
--- The same of a run that also puts a picture of what differs at a path. On a refusal nothing in the folder has changed; and whatever the
--- status is, the picture is there, or such a fault says what became of the path.
-pub record IsPictureStatus (run : Effects) (out err : Stream) (kinds : KindCodes) (files : PairFiles) (form : TextForm) (path : List ℕ) (s : ℕ) : Type 0 where
+-- The same of a run that also puts a picture of what differs at a path. On a refusal nothing in the folder has changed;
+-- and whatever the status is, the picture is there, or such a fault says what became of the path.
+pub record IsPictureStatus (run : Effects) (out err : Stream) (kinds : KindCodes) (files : PairFiles) (form : TextForm)
+    (path : List ℕ) (s : ℕ) : Type 0 where
   pub tried : IsPairInput run.is_one files path ⊎ AreFourTried run.inputs files
   pub different : s ≡ 1 → TellsDrawnDifference run out err kinds files form path false
   pub means : MeansStatus (TellsDrawnDifference run out err kinds files form path true)
       (OfPair run.inputs files (SaysPairRefusal (Answers out err) kinds) × run.untouched)
-      (λ e. PutPairFault run (IsPictureOfPair kinds (names_of_pair files) form) kinds files path e × Prints out []) run.why (pair_paths_of files path) out err s
-  pub leaves : IsPairPut run (IsPictureOfPair kinds (names_of_pair files) form) files path ⊎ ((e : RunFault) × PutPairFault run (IsPictureOfPair kinds (names_of_pair files) form) kinds files path e)
+      (λ e. PutPairFault run (IsPictureOfPair kinds (names_of_pair files) form) kinds files path e
+      × Prints out []) run.why (pair_paths_of files path) out err s
+  pub leaves : IsPairPut run (IsPictureOfPair kinds (names_of_pair files) form) files path
+      ⊎ ((e : RunFault) × PutPairFault run (IsPictureOfPair kinds (names_of_pair files) form) kinds files path e)
   pub replaced : IsPairReplaced run (IsPictureOfPair kinds (names_of_pair files) form) files path

@@ -17,7 +17,9 @@ use edi_answers::hashes::hash;
 use edi_answers::{notes, report};
 use edi_changes::answer::changed;
 use edi_changes::checks::check_list;
+use edi_deliveries::checks::check_manifest;
 use edi_deliveries::deliveries::answer_paths;
+use edi_deliveries::manifests::put_manifest;
 use edi_diff::{Difference, TextForm};
 use edi_files::Product::{self, Canonical, Picture};
 use edi_files::{CommandLine, Disk, Errors, Folder, Listing, Words};
@@ -52,7 +54,8 @@ pub fn run_line<R: Eprint + AllocGlobal, W: Words, F: Folder + Listing, O: ByteO
     err: &mut E,
 ) -> u8
     ensures { ((words : List (List ℕ)) × W.gives line.now words × HasStatus words result
-        × AnswersWords (effects F.Folder F.Reader.ByteIn F.Sink.ByteOut F.NewFile.ByteOut folder.old folder.new) (listings F.Listing folder.old)
+        × AnswersWords (effects F.Folder F.Reader.ByteIn F.Sink.ByteOut F.NewFile.ByteOut folder.old folder.new)
+        (listings F.Listing folder.old)
         (written O.ByteOut out.old out.new) (written E.ByteOut err.old err.new) words result)
         ⊎ IsUnread (effects F.Folder F.Reader.ByteIn F.Sink.ByteOut F.NewFile.ByteOut folder.old folder.new)
         (written O.ByteOut out.old out.new) (written E.ByteOut err.old err.new) result }
@@ -84,15 +87,17 @@ pub fn run_over<R: Eprint + AllocGlobal, F: Folder + Listing, O: ByteOut, E: Byt
     words: &[String],
 ) -> u8
     ensures status { HasStatus (map string_bytes words.now) result }
-    ensures answer { AnswersWords (effects F.Folder F.Reader.ByteIn F.Sink.ByteOut F.NewFile.ByteOut folder.old folder.new) (listings F.Listing folder.old)
+    ensures answer { AnswersWords
+        (effects F.Folder F.Reader.ByteIn F.Sink.ByteOut F.NewFile.ByteOut folder.old folder.new)
+        (listings F.Listing folder.old)
         (written O.ByteOut out.old out.new) (written E.ByteOut err.old err.new) (map string_bytes words.now) result }
 {
     let request = asked(rt, words);
     answered(rt.alloc(), folder, out, err, request)
 }
 
-/// Does what is asked for, and gives the exit status. Behind the answer to a request over one or two sheets, the errors get a note on the
-/// kinds of links that no class has.
+/// Does what is asked for, and gives the exit status. Behind the answer to a request over one or two sheets, the errors
+/// get a note on the kinds of links that no class has.
 pub fn answered<F: Folder + Listing, O: ByteOut, E: ByteOut>(
     alloc: Global,
     folder: &mut F,
@@ -101,7 +106,9 @@ pub fn answered<F: Folder + Listing, O: ByteOut, E: ByteOut>(
     request: Request<'_>,
 ) -> u8
     ensures status { IsStatusOf request.entry result }
-    ensures answer { IsAnswered (effects F.Folder F.Reader.ByteIn F.Sink.ByteOut F.NewFile.ByteOut folder.old folder.new) (listings F.Listing folder.old)
+    ensures answer { IsAnswered
+        (effects F.Folder F.Reader.ByteIn F.Sink.ByteOut F.NewFile.ByteOut folder.old folder.new)
+        (listings F.Listing folder.old)
         (written O.ByteOut out.old out.new) (written E.ByteOut err.old err.new) request.entry result }
 {
     let mut note = Vec::new(alloc);
@@ -120,9 +127,11 @@ fn replied<F: Folder + Listing, O: ByteOut, E: ByteOut>(
     request: Request<'_>,
 ) -> u8
     ensures status { IsStatusOf request.entry result }
-    ensures answer { IsReplied (effects F.Folder F.Reader.ByteIn F.Sink.ByteOut F.NewFile.ByteOut folder.old folder.new) (listings F.Listing folder.old)
+    ensures answer { IsReplied (effects F.Folder F.Reader.ByteIn F.Sink.ByteOut F.NewFile.ByteOut folder.old folder.new)
+        (listings F.Listing folder.old)
         (written O.ByteOut out.old out.new) (written E.ByteOut err.old err.new) request.entry result }
-    ensures note { LeavesNoteOf (inputs F.Folder F.Reader.ByteIn folder.old) request.entry result note.old.items note.new.items }
+    ensures note { LeavesNoteOf
+        (inputs F.Folder F.Reader.ByteIn folder.old) request.entry result note.old.items note.new.items }
 {
     match request {
         Request::Bundle => bundle(alloc, folder, out, err),
@@ -146,6 +155,14 @@ fn replied<F: Folder + Listing, O: ByteOut, E: ByteOut>(
             check_list(alloc, folder, &kinds, &files, list, out, err)
         }
         Request::Delivery { kinds, paths } => answer_paths(alloc, folder, &kinds, &paths, out, err),
+        Request::Manifest { kinds, path, file } => {
+            put_manifest(alloc, folder, &kinds, path, file, out, err)
+        }
+        Request::CheckManifest {
+            kinds,
+            path,
+            manifest,
+        } => check_manifest(alloc, folder, &kinds, manifest, path, out, err),
         Request::Changed { before, after } => changed(alloc, folder, before, after, out, err),
         Request::Explain { kinds, files } => explain(alloc, folder, &kinds, &files, out, err),
         Request::Rule { word } => explain_rule(alloc, word, out, err),
@@ -171,9 +188,11 @@ fn replied_of_pair<F: Folder, O: ByteOut, E: ByteOut>(
     note: &mut Vec<u8>,
 ) -> u8
     ensures status { IsPairStatus result }
-    ensures answer { IsPairReplied (effects F.Folder F.Reader.ByteIn F.Sink.ByteOut F.NewFile.ByteOut folder.old folder.new)
+    ensures answer { IsPairReplied
+        (effects F.Folder F.Reader.ByteIn F.Sink.ByteOut F.NewFile.ByteOut folder.old folder.new)
         (written O.ByteOut out.old out.new) (written E.ByteOut err.old err.new) kinds.now files.now what.entry result }
-    ensures note { HasNoteOf (inputs F.Folder F.Reader.ByteIn folder.old) kinds.now files.now.scd.now result note.old.items note.new.items }
+    ensures note { HasNoteOf
+        (inputs F.Folder F.Reader.ByteIn folder.old) kinds.now files.now.scd.now result note.old.items note.new.items }
 {
     match what {
         PairRequest::Compare { pairing } => {
@@ -207,9 +226,12 @@ fn make<F: Folder, O: ByteOut, E: ByteOut>(
     note: &mut Vec<u8>,
 ) -> u8
     ensures status { IsSheetStatus result }
-    ensures answer { IsMadeStatus (effects F.Folder F.Reader.ByteIn F.Sink.ByteOut F.NewFile.ByteOut folder.old folder.new)
-        (written O.ByteOut out.old out.new) (written E.ByteOut err.old err.new) product kinds.now files.now path.now result }
-    ensures note { HasNoteOf (inputs F.Folder F.Reader.ByteIn folder.old) kinds.now files.now.scd.now result note.old.items note.new.items }
+    ensures answer { IsMadeStatus
+        (effects F.Folder F.Reader.ByteIn F.Sink.ByteOut F.NewFile.ByteOut folder.old folder.new)
+        (written O.ByteOut out.old out.new) (written E.ByteOut err.old err.new) product kinds.now files.now path.now
+        result }
+    ensures note { HasNoteOf
+        (inputs F.Folder F.Reader.ByteIn folder.old) kinds.now files.now.scd.now result note.old.items note.new.items }
 {
     if is_standard(path) {
         send(alloc, folder, product, kinds, files, out, err, note)
@@ -231,9 +253,12 @@ fn put<F: Folder, O: ByteOut, E: ByteOut>(
     note: &mut Vec<u8>,
 ) -> u8
     ensures status { IsSheetStatus result }
-    ensures answer { IsPutStatus (effects F.Folder F.Reader.ByteIn F.Sink.ByteOut F.NewFile.ByteOut folder.old folder.new)
-        (written O.ByteOut out.old out.new) (written E.ByteOut err.old err.new) product kinds.now files.now path.now result }
-    ensures note { HasNoteOf (inputs F.Folder F.Reader.ByteIn folder.old) kinds.now files.now.scd.now result note.old.items note.new.items }
+    ensures answer { IsPutStatus
+        (effects F.Folder F.Reader.ByteIn F.Sink.ByteOut F.NewFile.ByteOut folder.old folder.new)
+        (written O.ByteOut out.old out.new) (written E.ByteOut err.old err.new) product kinds.now files.now path.now
+        result }
+    ensures note { HasNoteOf
+        (inputs F.Folder F.Reader.ByteIn folder.old) kinds.now files.now.scd.now result note.old.items note.new.items }
 {
     let paths = [files.scd, files.dic, files.vec, path];
     match sheets::put(alloc, folder, product, kinds, files, path, note) {
@@ -254,9 +279,11 @@ fn send<F: Folder, O: ByteOut, E: ByteOut>(
     note: &mut Vec<u8>,
 ) -> u8
     ensures status { IsSheetStatus result }
-    ensures answer { IsSendStatus (effects F.Folder F.Reader.ByteIn F.Sink.ByteOut F.NewFile.ByteOut folder.now folder.now)
+    ensures answer { IsSendStatus
+        (effects F.Folder F.Reader.ByteIn F.Sink.ByteOut F.NewFile.ByteOut folder.now folder.now)
         (written O.ByteOut out.old out.new) (written E.ByteOut err.old err.new) product kinds.now files.now result }
-    ensures note { HasNoteOf (inputs F.Folder F.Reader.ByteIn folder.now) kinds.now files.now.scd.now result note.old.items note.new.items }
+    ensures note { HasNoteOf
+        (inputs F.Folder F.Reader.ByteIn folder.now) kinds.now files.now.scd.now result note.old.items note.new.items }
 {
     let paths = [files.scd, files.dic, files.vec, "-"];
     match sheets::send(alloc, folder, product, kinds, files, out, note) {
@@ -293,9 +320,12 @@ fn diff_or_draw<F: Folder, O: ByteOut, E: ByteOut>(
     ensures answer { MatchOption picture.entry ((folder.new ≡ folder.old)
         × IsDiffStatus (effects F.Folder F.Reader.ByteIn F.Sink.ByteOut F.NewFile.ByteOut folder.old folder.new)
         (written O.ByteOut out.old out.new) (written E.ByteOut err.old err.new) kinds.now files.now form result)
-        (λ path. IsPictureStatus (effects F.Folder F.Reader.ByteIn F.Sink.ByteOut F.NewFile.ByteOut folder.old folder.new)
-        (written O.ByteOut out.old out.new) (written E.ByteOut err.old err.new) kinds.now files.now form path.now result) }
-    ensures note { HasNoteOf (inputs F.Folder F.Reader.ByteIn folder.old) kinds.now files.now.scd.now result note.old.items note.new.items }
+        (λ path. IsPictureStatus
+        (effects F.Folder F.Reader.ByteIn F.Sink.ByteOut F.NewFile.ByteOut folder.old folder.new)
+        (written O.ByteOut out.old out.new) (written E.ByteOut err.old err.new) kinds.now files.now form path.now
+        result) }
+    ensures note { HasNoteOf
+        (inputs F.Folder F.Reader.ByteIn folder.old) kinds.now files.now.scd.now result note.old.items note.new.items }
 {
     match picture {
         Some(path) => draw_difference(alloc, folder, kinds, files, form, path, out, err, note),
@@ -315,9 +345,11 @@ fn diff<F: Folder, O: ByteOut, E: ByteOut>(
     note: &mut Vec<u8>,
 ) -> u8
     ensures status { IsPairStatus result }
-    ensures answer { IsDiffStatus (effects F.Folder F.Reader.ByteIn F.Sink.ByteOut F.NewFile.ByteOut folder.now folder.now)
+    ensures answer { IsDiffStatus
+        (effects F.Folder F.Reader.ByteIn F.Sink.ByteOut F.NewFile.ByteOut folder.now folder.now)
         (written O.ByteOut out.old out.new) (written E.ByteOut err.old err.new) kinds.now files.now form result }
-    ensures note { HasNoteOf (inputs F.Folder F.Reader.ByteIn folder.now) kinds.now files.now.scd.now result note.old.items note.new.items }
+    ensures note { HasNoteOf
+        (inputs F.Folder F.Reader.ByteIn folder.now) kinds.now files.now.scd.now result note.old.items note.new.items }
 {
     let paths = [files.scd, files.dic, files.first, files.second, "-"];
     match sheets::diff(alloc, folder, kinds, files, form, note) {
@@ -339,9 +371,12 @@ fn draw_difference<F: Folder, O: ByteOut, E: ByteOut>(
     note: &mut Vec<u8>,
 ) -> u8
     ensures status { IsPairStatus result }
-    ensures answer { IsPictureStatus (effects F.Folder F.Reader.ByteIn F.Sink.ByteOut F.NewFile.ByteOut folder.old folder.new)
-        (written O.ByteOut out.old out.new) (written E.ByteOut err.old err.new) kinds.now files.now form path.now result }
-    ensures note { HasNoteOf (inputs F.Folder F.Reader.ByteIn folder.old) kinds.now files.now.scd.now result note.old.items note.new.items }
+    ensures answer { IsPictureStatus
+        (effects F.Folder F.Reader.ByteIn F.Sink.ByteOut F.NewFile.ByteOut folder.old folder.new)
+        (written O.ByteOut out.old out.new) (written E.ByteOut err.old err.new) kinds.now files.now form path.now
+        result }
+    ensures note { HasNoteOf
+        (inputs F.Folder F.Reader.ByteIn folder.old) kinds.now files.now.scd.now result note.old.items note.new.items }
 {
     let paths = [files.scd, files.dic, files.first, files.second, path];
     match sheets::draw_difference(alloc, folder, kinds, files, form, path, note) {
@@ -353,7 +388,8 @@ fn draw_difference<F: Folder, O: ByteOut, E: ByteOut>(
 // Writes what differs, and gives the status.
 fn put_difference<O: ByteOut, E: ByteOut>(difference: &Difference, out: &mut O, err: &mut E) -> u8
     ensures status { (result ≡ 4) ⊎ MatchBool difference.now.same (result ≡ 0) (result ≡ 1) }
-    ensures answer { result < 3 → Answers (written O.ByteOut out.old out.new) (written E.ByteOut err.old err.new) difference.now.text.items }
+    ensures answer { result < 3
+        → Answers (written O.ByteOut out.old out.new) (written E.ByteOut err.old err.new) difference.now.text.items }
     ensures unsaid { result ≡ 4 → IsUnsaid (written O.ByteOut out.old out.new) (written E.ByteOut err.old err.new) }
 {
     if put_all(out, &difference.text).is_err() {

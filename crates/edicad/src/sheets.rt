@@ -36,15 +36,20 @@ pub fn put<F: Folder>(
     out: &str,
     note: &mut Vec<u8>,
 ) -> Result<(), RunFault>
-    ensures ok { OnOk result (IsPut (effects F.Folder F.Reader.ByteIn F.Sink.ByteOut F.NewFile.ByteOut folder.old folder.new)
+    ensures ok { OnOk result
+        (IsPut (effects F.Folder F.Reader.ByteIn F.Sink.ByteOut F.NewFile.ByteOut folder.old folder.new)
         product kinds.now files.now out.now) }
-    ensures err { IfErr result (PutFault (effects F.Folder F.Reader.ByteIn F.Sink.ByteOut F.NewFile.ByteOut folder.old folder.new)
+    ensures err { IfErr result
+        (PutFault (effects F.Folder F.Reader.ByteIn F.Sink.ByteOut F.NewFile.ByteOut folder.old folder.new)
         product kinds.now files.now out.now) }
-    ensures replaced { IsReplaced (effects F.Folder F.Reader.ByteIn F.Sink.ByteOut F.NewFile.ByteOut folder.old folder.new)
+    ensures replaced { IsReplaced
+        (effects F.Folder F.Reader.ByteIn F.Sink.ByteOut F.NewFile.ByteOut folder.old folder.new)
         product kinds.now files.now out.now }
     ensures names { IfErr result (λ e. FaultHasNames e 4) }
-    ensures noted { OnOk result (GivesNote (inputs F.Folder F.Reader.ByteIn folder.old) kinds.now files.now.scd.now note.new.items) }
-    ensures unnoted { IfErr result (λ e. HasNoteOf (inputs F.Folder F.Reader.ByteIn folder.old) kinds.now files.now.scd.now (status_of_fault e)
+    ensures noted { OnOk result
+        (GivesNote (inputs F.Folder F.Reader.ByteIn folder.old) kinds.now files.now.scd.now note.new.items) }
+    ensures unnoted { IfErr result (λ e.
+        HasNoteOf (inputs F.Folder F.Reader.ByteIn folder.old) kinds.now files.now.scd.now (status_of_fault e)
         note.old.items note.new.items) }
 {
     if is_input(folder, files, out) {
@@ -68,13 +73,17 @@ pub fn send<F: Folder, O: ByteOut>(
 ) -> Result<(), RunFault>
     ensures ok { OnOk result (OfMade (inputs F.Folder F.Reader.ByteIn folder.now) product kinds.now
         files.now (Appends (O.contents out.old) (O.contents out.new))) }
-    ensures err { IfErr result (FileFault (inputs F.Folder F.Reader.ByteIn folder.now) kinds.now files.now (λ count. IsTrue (O.has_failed out.new)
-        × OfMade (inputs F.Folder F.Reader.ByteIn folder.now) product kinds.now files.now (λ bytes. (count ≤ length bytes)
+    ensures err { IfErr result (FileFault (inputs F.Folder F.Reader.ByteIn folder.now) kinds.now files.now
+        (λ count. IsTrue (O.has_failed out.new)
+        × OfMade (inputs F.Folder F.Reader.ByteIn folder.now) product kinds.now files.now
+        (λ bytes. (count ≤ length bytes)
         × Appends (O.contents out.old) (O.contents out.new) (take count bytes)))) }
     ensures unwritten { IfErr result (λ e. BeforeWriting e (out.new ≡ out.old)) }
     ensures names { IfErr result (λ e. FaultHasNames e 4) }
-    ensures noted { OnOk result (GivesNote (inputs F.Folder F.Reader.ByteIn folder.now) kinds.now files.now.scd.now note.new.items) }
-    ensures unnoted { IfErr result (λ e. HasNoteOf (inputs F.Folder F.Reader.ByteIn folder.now) kinds.now files.now.scd.now (status_of_fault e)
+    ensures noted { OnOk result
+        (GivesNote (inputs F.Folder F.Reader.ByteIn folder.now) kinds.now files.now.scd.now note.new.items) }
+    ensures unnoted { IfErr result (λ e.
+        HasNoteOf (inputs F.Folder F.Reader.ByteIn folder.now) kinds.now files.now.scd.now (status_of_fault e)
         note.old.items note.new.items) }
 {
     match make(alloc, folder, product, kinds, files, note) {
@@ -83,8 +92,8 @@ pub fn send<F: Folder, O: ByteOut>(
     }
 }
 
-/// What differs between the two sheets of four files, or that without the lines of records. All are opened before the first is
-/// read.
+/// What differs between the two sheets of four files, or that without the lines of records. All are opened before the
+/// first is read.
 pub fn diff<F: Folder>(
     alloc: Global,
     folder: &F,
@@ -95,10 +104,13 @@ pub fn diff<F: Folder>(
 ) -> Result<Difference, RunFault>
     ensures ok { IfOk result (λ difference. OfPair (inputs F.Folder F.Reader.ByteIn folder.now) files.now
         (λ s d a b. IsDifferenceUnder kinds.now s d a b form difference)) }
-    ensures err { IfErr result (PairFileFault (inputs F.Folder F.Reader.ByteIn folder.now) kinds.now files.now (λ _. ⊥)) }
+    ensures err { IfErr result
+        (PairFileFault (inputs F.Folder F.Reader.ByteIn folder.now) kinds.now files.now (λ _. ⊥)) }
     ensures names { IfErr result (λ e. FaultHasNames e 5) }
-    ensures noted { IfOk result (λ _. GivesNote (inputs F.Folder F.Reader.ByteIn folder.now) kinds.now files.now.scd.now note.new.items) }
-    ensures unnoted { IfErr result (λ e. HasNoteOf (inputs F.Folder F.Reader.ByteIn folder.now) kinds.now files.now.scd.now (status_of_fault e)
+    ensures noted { IfOk result (λ _.
+        GivesNote (inputs F.Folder F.Reader.ByteIn folder.now) kinds.now files.now.scd.now note.new.items) }
+    ensures unnoted { IfErr result (λ e.
+        HasNoteOf (inputs F.Folder F.Reader.ByteIn folder.now) kinds.now files.now.scd.now (status_of_fault e)
         note.old.items note.new.items) }
 {
     let pair = open_pair(alloc, folder, kinds, files, note)?;
@@ -120,8 +132,9 @@ pub fn diff<F: Folder>(
     )
 }
 
-/// What differs between the two sheets of four files, or that without the lines of records. A picture of both that shows it goes to a
-/// path that is none of the four, whether they differ or not; a file is replaced whole or not at all.
+/// What differs between the two sheets of four files, or that without the lines of records. A picture of both that
+/// shows it goes to a path that is none of the four, whether they differ or not; a file is replaced whole or not at
+/// all.
 pub fn draw_difference<F: Folder>(
     alloc: Global,
     folder: &mut F,
@@ -131,15 +144,20 @@ pub fn draw_difference<F: Folder>(
     out: &str,
     note: &mut Vec<u8>,
 ) -> Result<Difference, RunFault>
-    ensures ok { IfOk result (λ difference. IsPairPut (effects F.Folder F.Reader.ByteIn F.Sink.ByteOut F.NewFile.ByteOut folder.old folder.new)
+    ensures ok { IfOk result (λ difference.
+        IsPairPut (effects F.Folder F.Reader.ByteIn F.Sink.ByteOut F.NewFile.ByteOut folder.old folder.new)
         (ShowsDifference kinds.now (names_of_pair files.now) form difference) files.now out.now) }
-    ensures err { IfErr result (PutPairFault (effects F.Folder F.Reader.ByteIn F.Sink.ByteOut F.NewFile.ByteOut folder.old folder.new)
+    ensures err { IfErr result
+        (PutPairFault (effects F.Folder F.Reader.ByteIn F.Sink.ByteOut F.NewFile.ByteOut folder.old folder.new)
         (IsPictureOfPair kinds.now (names_of_pair files.now) form) kinds.now files.now out.now) }
-    ensures replaced { IsPairReplaced (effects F.Folder F.Reader.ByteIn F.Sink.ByteOut F.NewFile.ByteOut folder.old folder.new)
+    ensures replaced { IsPairReplaced
+        (effects F.Folder F.Reader.ByteIn F.Sink.ByteOut F.NewFile.ByteOut folder.old folder.new)
         (IsPictureOfPair kinds.now (names_of_pair files.now) form) files.now out.now }
     ensures names { IfErr result (λ e. FaultHasNames e 5) }
-    ensures noted { IfOk result (λ _. GivesNote (inputs F.Folder F.Reader.ByteIn folder.old) kinds.now files.now.scd.now note.new.items) }
-    ensures unnoted { IfErr result (λ e. HasNoteOf (inputs F.Folder F.Reader.ByteIn folder.old) kinds.now files.now.scd.now (status_of_fault e)
+    ensures noted { IfOk result (λ _.
+        GivesNote (inputs F.Folder F.Reader.ByteIn folder.old) kinds.now files.now.scd.now note.new.items) }
+    ensures unnoted { IfErr result (λ e.
+        HasNoteOf (inputs F.Folder F.Reader.ByteIn folder.old) kinds.now files.now.scd.now (status_of_fault e)
         note.old.items note.new.items) }
 {
     if is_pair_input(folder, files, out) {
@@ -170,10 +188,13 @@ fn drawn_difference<F: Folder>(
 ) -> Result<DrawnDifference, RunFault>
     ensures ok { IfOk result (λ drawn. OfPair (inputs F.Folder F.Reader.ByteIn folder.now) files.now
         (λ s d a b. IsDrawnDifferenceUnder kinds.now (names_of_pair files.now) s d a b form drawn)) }
-    ensures err { IfErr result (PairFileFault (inputs F.Folder F.Reader.ByteIn folder.now) kinds.now files.now (λ _. ⊥)) }
+    ensures err { IfErr result
+        (PairFileFault (inputs F.Folder F.Reader.ByteIn folder.now) kinds.now files.now (λ _. ⊥)) }
     ensures names { IfErr result (λ e. FaultHasNames e 5) }
-    ensures noted { IfOk result (λ _. GivesNote (inputs F.Folder F.Reader.ByteIn folder.now) kinds.now files.now.scd.now note.new.items) }
-    ensures unnoted { IfErr result (λ e. HasNoteOf (inputs F.Folder F.Reader.ByteIn folder.now) kinds.now files.now.scd.now (status_of_fault e)
+    ensures noted { IfOk result (λ _.
+        GivesNote (inputs F.Folder F.Reader.ByteIn folder.now) kinds.now files.now.scd.now note.new.items) }
+    ensures unnoted { IfErr result (λ e.
+        HasNoteOf (inputs F.Folder F.Reader.ByteIn folder.now) kinds.now files.now.scd.now (status_of_fault e)
         note.old.items note.new.items) }
 {
     let pair = open_pair(alloc, folder, kinds, files, note)?;
@@ -228,8 +249,10 @@ fn make<F: Folder>(
         (λ s d v. IsMadeOf product kinds.now files.now.vec.now s d v bytes.items)) }
     ensures err { IfErr result (FileFault (inputs F.Folder F.Reader.ByteIn folder.now) kinds.now files.now (λ _. ⊥)) }
     ensures names { IfErr result (λ e. FaultHasNames e 4) }
-    ensures noted { IfOk result (λ _. GivesNote (inputs F.Folder F.Reader.ByteIn folder.now) kinds.now files.now.scd.now note.new.items) }
-    ensures unnoted { IfErr result (λ e. HasNoteOf (inputs F.Folder F.Reader.ByteIn folder.now) kinds.now files.now.scd.now (status_of_fault e)
+    ensures noted { IfOk result (λ _.
+        GivesNote (inputs F.Folder F.Reader.ByteIn folder.now) kinds.now files.now.scd.now note.new.items) }
+    ensures unnoted { IfErr result (λ e.
+        HasNoteOf (inputs F.Folder F.Reader.ByteIn folder.now) kinds.now files.now.scd.now (status_of_fault e)
         note.old.items note.new.items) }
 {
     let mut scd = opened(folder, files.scd, 1)?;
@@ -271,7 +294,8 @@ fn made_of<S: ByteIn, D: ByteIn, V: ByteIn>(
 
 // Whether a path is that of an input, or leads to its file.
 fn is_input<F: Folder>(folder: &F, files: &SheetFiles<'_>, out: &str) -> bool
-    ensures { MatchBool result (IsInput (F.is_one folder.now) files.now out.now) (IsNoInput (F.is_one folder.now) files.now out.now) }
+    ensures { MatchBool result (IsInput (F.is_one folder.now) files.now out.now)
+        (IsNoInput (F.is_one folder.now) files.now out.now) }
 {
     meets(folder, files.scd, out) || meets(folder, files.dic, out) || meets(folder, files.vec, out)
 }

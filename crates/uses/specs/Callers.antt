@@ -24,7 +24,8 @@ GetsForm s sheet old new = (c : List ℕ) × IsFormOf s sheet c × Appends old n
 
 -- a writer got the first bytes of the canonical file of the sheet, this many
 abbrev pub GetsFirst : Classes → List ℕ → ℕ → Option (List ℕ) → Option (List ℕ) → Type 0
-GetsFirst s sheet count old new = (c : List ℕ) × IsFormOf s sheet c × (count ≤ length c) × Appends old new (take count c)
+GetsFirst s sheet count old new =
+    (c : List ℕ) × IsFormOf s sheet c × (count ≤ length c) × Appends old new (take count c)
 
 -- the pairing carries the plan of the one sheet onto that of the other
 abbrev pub SomePairing : Classes → List ℕ → List ℕ → Pairing → Type 0
@@ -32,4 +33,5 @@ SomePairing s a b pairing = (p q : Drawing) × IsPlanOfFile s a p × IsPlanOfFil
 
 -- the four kinds by the identifiers of their classes
 abbrev pub own_kinds : KindCodes
-own_kinds = record { initial = codes "INI_id"; final_node = codes "FIN_id"; left = codes "GCH_id"; right = codes "DRT_id" }
+own_kinds =
+    record { initial = codes "INI_id"; final_node = codes "FIN_id"; left = codes "GCH_id"; right = codes "DRT_id" }

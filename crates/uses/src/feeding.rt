@@ -33,7 +33,8 @@ pub fn zones_of_stream<R: ByteIn>(
     alloc: Global,
     stream: &mut R,
 ) -> Result<Vec<Zone<'static>>, StreamFault>
-    ensures zones { IfOk result (λ zones. IfSome (R.contents stream.old) (λ bytes. IsZonesOf bytes (entries zones.items))) }
+    ensures zones { IfOk result (λ zones.
+        IfSome (R.contents stream.old) (λ bytes. IsZonesOf bytes (entries zones.items))) }
     ensures fault { IfErr result (IsStreamFault (R.contents stream.old) (R.has_failed stream.new)) }
 {
     let mut feed = Feed::new(alloc);

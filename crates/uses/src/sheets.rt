@@ -24,7 +24,8 @@ use std::alloc::{AllocError, Global};
 
 /// How many records the plan of a sheet has.
 pub fn count_records(alloc: Global, schema: &Schema, sheet: &[u8]) -> Result<u32, Fault>
-    ensures count { IfOk result (λ count. (p : Drawing) × IsPlanOfFile schema.now sheet.now p × (count ≡ length p.list)) }
+    ensures count { IfOk result (λ count. (p : Drawing) × IsPlanOfFile schema.now sheet.now p
+        × (count ≡ length p.list)) }
     ensures refusal { IfErr result (IsRefusal schema.now sheet.now) }
 {
     match accept(alloc, schema, sheet) {
@@ -89,7 +90,8 @@ pub fn found_pairing(
     first: &[u8],
     second: &[u8],
 ) -> Result<Option<Pairing>, CompareFault>
-    ensures pairing { IfOk result (λ found. MatchOption found (¬ (StateSame schema.now first.now second.now)) (SomePairing schema.now first.now second.now)) }
+    ensures pairing { IfOk result (λ found. MatchOption found (¬ (StateSame schema.now first.now second.now))
+        (SomePairing schema.now first.now second.now)) }
     ensures refusal { IfErr result (IsPairRefusal schema.now first.now second.now) }
 {
     match compare(alloc, schema, first, second) {
@@ -99,9 +101,9 @@ pub fn found_pairing(
     }
 }
 
-/// A pairing that carries the plan of one accepted sheet onto that of another, or none where no pairing does. It is found and
-/// then checked, and neither sheet is read again. The check trusts nothing of how the pairing was found, and never denies one
-/// that comparing found.
+/// A pairing that carries the plan of one accepted sheet onto that of another, or none where no pairing does. It is
+/// found and then checked, and neither sheet is read again. The check trusts nothing of how the pairing was found, and
+/// never denies one that comparing found.
 pub fn pairing_of_accepted(
     alloc: Global,
     schema: &Schema,
@@ -111,7 +113,8 @@ pub fn pairing_of_accepted(
     requires first { IsHeldPlan schema.now first.now }
     requires second { IsHeldPlan schema.now second.now }
     requires classes { HasClasses schema.now first.now }
-    ensures { IfOk result (λ found. MatchOption found (¬ (Same schema.now first.now second.now)) (PairingCarries schema.now first.now second.now)) }
+    ensures { IfOk result (λ found.
+        MatchOption found (¬ (Same schema.now first.now second.now)) (PairingCarries schema.now first.now second.now)) }
 {
     match compare_accepted(alloc, schema, first, second)? {
         Verdict::Same(pairing) => {
@@ -132,7 +135,8 @@ pub fn checked_pairing(
     first: &[u8],
     second: &[u8],
 ) -> Result<Option<Pairing>, CompareFault>
-    ensures pairing { IfOk result (λ found. MatchOption found (¬ (StateSame schema.now first.now second.now)) (SomePairing schema.now first.now second.now)) }
+    ensures pairing { IfOk result (λ found. MatchOption found (¬ (StateSame schema.now first.now second.now))
+        (SomePairing schema.now first.now second.now)) }
     ensures refusal { IfErr result (IsPairRefusal schema.now first.now second.now) }
 {
     let accepted = match accept(alloc, schema, first) {
@@ -167,8 +171,9 @@ fn kinds() -> Kinds<'static>
     }
 }
 
-/// The place of the first record of an accepted sheet that a pairing doesn't carry onto one of another; none where it carries each, or
-/// where something else keeps it from carrying: an entry that is missing, the character sets, or a record of the other that is left.
+/// The place of the first record of an accepted sheet that a pairing doesn't carry onto one of another; none where it
+/// carries each, or where something else keeps it from carrying: an entry that is missing, the character sets, or a
+/// record of the other that is left.
 pub fn first_wrong_record(
     alloc: Global,
     schema: &Schema,
@@ -179,7 +184,8 @@ pub fn first_wrong_record(
     requires { HasClasses schema.now first.now }
     ensures wrong { IfOk result (λ found. IfSome found (λ place. (why : WrongPartner)
         × IsUncarriedBy schema.now first.now second.now pairing.now (Uncarried.Record place why))) }
-    ensures not { IfOk result (λ found. IfSome found (λ _. ¬ (PairingCarries schema.now first.now second.now pairing.now))) }
+    ensures not { IfOk result (λ found. IfSome found (λ _.
+        ¬ (PairingCarries schema.now first.now second.now pairing.now))) }
 {
     match first_uncarried(alloc, schema, first, second, pairing)? {
         Some(Uncarried::Record { place, .. }) => Ok(Some(place)),

@@ -7,20 +7,11 @@ use Rattle.edi_answers.specs.Effects.{Inputs, Stream}
 use Rattle.edi_answers.specs.Hashes.{IsAnswerOf, TellsFault}
 use Rattle.edi_answers.specs.Replies.{Reply}
 use Rattle.edi_answers.specs.Statuses.{Warns}
-use Rattle.edi_answers.specs.WholeInputs.{WholeInputFault, OfWholeInput}
 use Rattle.edi_changes.specs.Checks.{IsFilePath, IsNoFilePath}
-use Rattle.edi_changes.specs.ListText.{IsNoList}
 use Rattle.edi_changes.specs.declared.checks.NoDigest.{NoDigest}
 use Rattle.edi_changes.specs.declared.checks.NoDigest.TheVariants.{NoFile, Fault}
-use Rattle.edi_changes.specs.declared.checks.NoList.{NoList}
-use Rattle.edi_changes.specs.declared.checks.NoList.TheVariants.{Unread, Other}
 use Rattle.edi_changes.specs.declared.verdict.Said.{Said}
 use Rattle.edi_changes.specs.declared.verdict.Said.TheVariants.{Whole, CutOff}
-
--- why there is no list at a path
-abbrev pub MatchNoList : Inputs → List ℕ → NoList → Type 0
-MatchNoList inputs path (Unread e) = WholeInputFault inputs path e
-MatchNoList inputs path Other = OfWholeInput inputs path IsNoList
 
 -- why the sheet of a name in a list has no digest
 abbrev pub MatchNoDigest : Inputs → Classes → List ℕ → NoDigest → Type 0

@@ -36,10 +36,14 @@ IsWrongAt m i why = IsWrongPartner m.classes (slice_index m.to) (turned_at m.tur
 
 -- the record and the one that it goes to agree in a part
 abbrev pub AgreeAt : Matching → ℕ → RecordPart → Type 0
-AgreeAt m i part = AgreeIn m.classes (slice_index m.to) (turned_at m.turned) i (record_at m.plan i) (record_at m.other (slice_index m.to i)) part
+AgreeAt m i part =
+    AgreeIn m.classes (slice_index m.to) (turned_at m.turned) i (record_at m.plan i)
+    (record_at m.other (slice_index m.to i)) part
 
 abbrev pub IsUnlikeAt : Matching → ℕ → RecordPart → Type 0
-IsUnlikeAt m i part = IsFirstUnlike m.classes (slice_index m.to) (turned_at m.turned) i (record_at m.plan i) (record_at m.other (slice_index m.to i)) part
+IsUnlikeAt m i part =
+    IsFirstUnlike m.classes (slice_index m.to) (turned_at m.turned) i (record_at m.plan i)
+    (record_at m.other (slice_index m.to i)) part
 
 -- they agree in what needs no order
 pub record HaveSameBody (m : Matching) (i : ℕ) : Type 0 where
@@ -55,7 +59,8 @@ HaveOtherBody m i Reversal = ¬ (AgreeAt m i Reversal)
 HaveOtherBody m i Kind = AgreeAt m i Reversal × (¬ (AgreeAt m i Kind))
 HaveOtherBody m i Class = AgreeAt m i Reversal × AgreeAt m i Kind × (¬ (AgreeAt m i Class))
 HaveOtherBody m i Points = AgreeAt m i Reversal × AgreeAt m i Kind × AgreeAt m i Class × (¬ (AgreeAt m i Points))
-HaveOtherBody m i Extras = AgreeAt m i Reversal × AgreeAt m i Kind × AgreeAt m i Class × AgreeAt m i Points × (¬ (AgreeAt m i Extras))
+HaveOtherBody m i Extras =
+    AgreeAt m i Reversal × AgreeAt m i Kind × AgreeAt m i Class × AgreeAt m i Points × (¬ (AgreeAt m i Extras))
 HaveOtherBody m i _ = ⊥
 
 -- the marks of places: those to which the first so many records go

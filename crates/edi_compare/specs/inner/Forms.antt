@@ -29,7 +29,8 @@ pub record HasForm (s : Classes) (b : List ℕ) (form : Form) : Type 0 where
   pub plan : IsPlanOfFile s b form.labelled.sound
   pub plan_form : IsPlanForm s form.labelled.sound form.labelled.labels form.file.items
 
--- what is stored of the form of a plan while that of another is made: its canonical file, and of its records what pairs them
+-- what is stored of the form of a plan while that of another is made: its canonical file, and of its records what pairs
+-- them
 pub record HasFirst (s : Classes) (p : Drawing) (f : FirstForm) : Type 0 where
   pub labels : Labelling
   pub plan_form : IsPlanForm s p labels f.file.items

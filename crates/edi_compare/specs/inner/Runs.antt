@@ -7,11 +7,14 @@ use Rattle.edi_compare.specs.Runs.{RefusesSchema, RefusesSheet, RefusesSecond, M
 
 -- the fault of a sheet that was read: its schema is refused, or itself
 abbrev pub SheetFault : KindCodes → List ℕ → List ℕ → List ℕ → RunFault → Type 0
-SheetFault kinds scd dic b e = MatchFault e (λ _. ⊥) (λ _. ⊥) (RefusesSchema kinds scd dic) (RefusesSheet kinds scd dic b) (λ _. ⊥) (λ _. ⊥)
+SheetFault kinds scd dic b e =
+    MatchFault e (λ _. ⊥) (λ _. ⊥) (RefusesSchema kinds scd dic) (RefusesSheet kinds scd dic b) (λ _. ⊥) (λ _. ⊥)
 
 -- the fault of two sheets that were read: their schema is refused, or the first, or the second
 abbrev pub PairFault : KindCodes → List ℕ → List ℕ → List ℕ → List ℕ → RunFault → Type 0
-PairFault kinds scd dic a b e = MatchFault e (λ _. ⊥) (λ _. ⊥) (RefusesSchema kinds scd dic) (RefusesSheet kinds scd dic a) (RefusesSecond kinds scd dic a b) (λ _. ⊥)
+PairFault kinds scd dic a b e =
+    MatchFault e (λ _. ⊥) (λ _. ⊥) (RefusesSchema kinds scd dic) (RefusesSheet kinds scd dic a)
+    (RefusesSecond kinds scd dic a b) (λ _. ⊥)
 
 abbrev pub BundleFault : KindCodes → List ℕ → RunFault → Type 0
 BundleFault kinds bundle e = MatchFault e (λ _. ⊥) (λ _. ⊥) (λ f. OfParts bundle (λ s d v. RefusesSchema kinds s d f))

@@ -23,7 +23,8 @@ FindsFirst names table = (key : List ℕ)
 
 -- the paths of those of its VEC files that are there
 abbrev pub vec_paths : List ℕ → List (List ℕ) → Lot → List (List ℕ)
-vec_paths before names lot = flat_map (λ own. option_to_list (found_path before names (file_name lot.name Vec own))) lot.vecs
+vec_paths before names lot =
+    flat_map (λ own. option_to_list (found_path before names (file_name lot.name Vec own))) lot.vecs
 
 -- the paths of the classes and the dictionary, and those
 pub record AreLotPaths (before : List ℕ) (names : List (List ℕ)) (lot : Lot) (paths : LotPaths) : Type 0 where

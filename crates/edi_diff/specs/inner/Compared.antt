@@ -10,7 +10,8 @@ use Rattle.edi_diff.specs.declared.differing.ComparedSheets.{ComparedSheets}
 use Rattle.edi_diff.specs.declared.form.TextForm.{TextForm}
 
 -- the matching of two sheets, what became of the records that it leaves out, and the text and the answer by these
-pub record AreCompared (s : Classes) (first second : LocatedSheet) (form : TextForm) (compared : ComparedSheets) : Type 0 where
+pub record AreCompared (s : Classes) (first second : LocatedSheet) (form : TextForm)
+    (compared : ComparedSheets) : Type 0 where
   pub holds : MatchingHolds s first.accepted second.accepted compared.unchanged
   pub total : IsTotalIfSame s first.accepted second.accepted compared.unchanged
   pub partners : MatchesPartners first.accepted second.accepted compared.unchanged

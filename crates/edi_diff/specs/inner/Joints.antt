@@ -12,16 +12,19 @@ use Rattle.edi_diff.specs.contracts.proposing.LinkClassOrd.TheImpl.{ghosts as li
 use Rattle.edi_diff.specs.inner.Codes.{code_at, is_of_second, place_by}
 use Rattle.edi_diff.specs.inner.Progress.{Progress, class_at, name_of, plan_of}
 
--- that a link joins a record without a name with one that has a name, by the class of the link and that name; else nothing
+-- that a link joins a record without a name with one that has a name, by the class of the link and that name; else
+-- nothing
 abbrev pub joint_of : Progress → ℕ → ℕ → ℕ → List (ℕ × (LinkClass × ℕ))
 joint_of m link place with_place =
     if is_some (name_of m (is_of_second link) place) then []
-    else map (λ name. (code_at (is_of_second link) place, (class_at m (is_of_second link) (place_by link), name))) (option_to_list (name_of m (is_of_second link) with_place))
+    else map (λ name. (code_at (is_of_second link) place, (class_at m (is_of_second link) (place_by link), name)))
+    (option_to_list (name_of m (is_of_second link) with_place))
 
 -- what a link joins: its origin with each other end, and that with its origin
 abbrev pub joints_by_ends : Progress → ℕ → List PlanEnd → List (ℕ × (LinkClass × ℕ))
 joints_by_ends m link [] = []
-joints_by_ends m link (origin ∷ others) = flat_map (λ end. joint_of m link origin.target end.target ++ joint_of m link end.target origin.target) others
+joints_by_ends m link (origin ∷ others) =
+    flat_map (λ end. joint_of m link origin.target end.target ++ joint_of m link end.target origin.target) others
 
 -- the record with a code
 abbrev pub record_by : Progress → ℕ → PlanRecord
@@ -33,7 +36,9 @@ joints_of m link = joints_by_ends m link (record_by m link).ends
 
 -- what the links of both plans join
 abbrev pub all_joints : Progress → List (ℕ × (LinkClass × ℕ))
-all_joints m = flat_map (λ place. joints_of m (code_at false place)) (places_of Lnk m.plan) ++ flat_map (λ place. joints_of m (code_at true place)) (places_of Lnk m.other)
+all_joints m =
+    flat_map (λ place. joints_of m (code_at false place)) (places_of Lnk m.plan)
+    ++ flat_map (λ place. joints_of m (code_at true place)) (places_of Lnk m.other)
 
 -- these go by the code of the record, then by the class of the link, then by the name
 abbrev pub joint_cmp : (ℕ × (LinkClass × ℕ)) → (ℕ × (LinkClass × ℕ)) → Ordering

@@ -44,13 +44,18 @@ is_there p place = nat_lt place (length p.list)
 
 -- a node or an arc by its type and its points, in their forward direction
 abbrev pub points_key : Drawing → ℕ → Option (Kind × List Point)
-points_key p place = if is_there p place && has_points (record_at p place).kind then Some ((record_at p place).kind, forward (record_at p place).points) else None
+points_key p place =
+    if is_there p place && has_points (record_at p place).kind
+    then Some ((record_at p place).kind, forward (record_at p place).points) else None
 
 -- a record, but for a link, by its type, its class, its attributes and its extra zones
 abbrev pub contents_key : Drawing → ℕ → Option ((Kind × ℕ) × (List PlanAttribute × List Extra))
 contents_key p place =
     if is_there p place && not (is_link (record_at p place).kind)
-    then Some (((record_at p place).kind, (record_at p place).class), (sort_by attribute_cmp (record_at p place).attributes, (record_at p place).extras))
+    then Some (
+      ((record_at p place).kind, (record_at p place).class),
+      (sort_by attribute_cmp (record_at p place).attributes, (record_at p place).extras),
+    )
     else None
 
 -- a list that isn't empty
@@ -75,7 +80,8 @@ all_known (Some x ∷ xs) = option_map (λ rest. x ∷ rest) (all_known xs)
 abbrev pub ends_key : Progress → ℕ → Option (LinkClass × List ℕ)
 ends_key m code =
     if is_there (plan_of m (is_of_second code)) (place_by code) && is_link (record_by m code).kind
-    then option_map (λ names. (class_at m (is_of_second code) (place_by code), names)) (all_known (map (λ end. name_of m (is_of_second code) end.target) (record_by m code).ends))
+    then option_map (λ names. (class_at m (is_of_second code) (place_by code), names))
+    (all_known (map (λ end. name_of m (is_of_second code) end.target) (record_by m code).ends))
     else None
 
 -- keys by points go by type, then by points
@@ -83,12 +89,17 @@ abbrev pub points_key_cmp : (Kind × List Point) → (Kind × List Point) → Or
 points_key_cmp a b = ordering_then (kinds.cmp a.0 b.0) (points_cmp a.1 b.1)
 
 -- keys by contents go by type, class, attributes and extra zones
-abbrev pub contents_key_cmp : ((Kind × ℕ) × (List PlanAttribute × List Extra)) → ((Kind × ℕ) × (List PlanAttribute × List Extra)) → Ordering
-contents_key_cmp a b = ordering_then (ordering_then (kinds.cmp a.0.0 b.0.0) (nat_cmp a.0.1 b.0.1)) (ordering_then (slice_cmp attributes.cmp a.1.0 b.1.0) (slice_cmp extras.cmp a.1.1 b.1.1))
+abbrev pub contents_key_cmp : ((Kind × ℕ) × (List PlanAttribute × List Extra))
+    → ((Kind × ℕ) × (List PlanAttribute × List Extra)) → Ordering
+contents_key_cmp a b =
+    ordering_then (ordering_then (kinds.cmp a.0.0 b.0.0) (nat_cmp a.0.1 b.0.1))
+    (ordering_then (slice_cmp attributes.cmp a.1.0 b.1.0) (slice_cmp extras.cmp a.1.1 b.1.1))
 
 -- keys by what links join go by type, then by these in their order
 abbrev pub joined_key_cmp : (Kind × List (LinkClass × ℕ)) → (Kind × List (LinkClass × ℕ)) → Ordering
-joined_key_cmp a b = ordering_then (kinds.cmp a.0 b.0) (slice_cmp (λ x y. ordering_then (link_classes.cmp x.0 y.0) (nat_cmp x.1 y.1)) a.1 b.1)
+joined_key_cmp a b =
+    ordering_then (kinds.cmp a.0 b.0)
+    (slice_cmp (λ x y. ordering_then (link_classes.cmp x.0 y.0) (nat_cmp x.1 y.1)) a.1 b.1)
 
 -- keys by ends go by class, then by the names of the ends
 abbrev pub ends_key_cmp : (LinkClass × List ℕ) → (LinkClass × List ℕ) → Ordering

@@ -43,14 +43,17 @@ AreLonePairs cmp pairs found = (w : Proposal) → Contains found w ↔ IsLonePai
 
 -- the record at the place in the list has this key
 abbrev pub HasKeyAt : {K : Type 0} → (K → K → Ordering) → List (K × ℕ) → Option ℕ → K → Type 0
-HasKeyAt {K} cmp pairs at key = (k : ℕ) × (at ≡ Some k) × (k < length pairs) × ((d : K × ℕ) → cmp (slice_index_or pairs k d).0 key ≡ Equal)
+HasKeyAt {K} cmp pairs at key =
+    (k : ℕ) × (at ≡ Some k) × (k < length pairs) × ((d : K × ℕ) → cmp (slice_index_or pairs k d).0 key ≡ Equal)
 
--- the record at the place in the list and the next have one key, which those beside them don't have, and the proposal is of these two
+-- the record at the place in the list and the next have one key, which those beside them don't have, and the proposal
+-- is of these two
 pub record IsLoneAt {K : Type 0} (cmp : K → K → Ordering) (pairs : List (K × ℕ)) (at : ℕ) (w : Proposal) : Type 0 where
   pub within : at + 1 < length pairs
   pub one_key : (d : K × ℕ) → cmp (slice_index_or pairs at d).0 (slice_index_or pairs (at + 1) d).0 ≡ Equal
   pub before : (d : K × ℕ) → 0 < at → cmp (slice_index_or pairs (at - 1) d).0 (slice_index_or pairs at d).0 ≢ Equal
-  pub behind : (d : K × ℕ) → at + 2 < length pairs → cmp (slice_index_or pairs (at + 2) d).0 (slice_index_or pairs at d).0 ≢ Equal
+  pub behind : (d : K × ℕ) → at + 2 < length pairs
+      → cmp (slice_index_or pairs (at + 2) d).0 (slice_index_or pairs at d).0 ≢ Equal
   pub is : (d : K × ℕ) → proposal_by (slice_index_or pairs at d).1 (slice_index_or pairs (at + 1) d).1 ≡ Some w
 
 -- the proposal is of these two, if there is one
@@ -63,15 +66,21 @@ AreLoneNeighbours cmp pairs found = (w : Proposal) → Contains found w ↔ ((at
 
 -- what is proposed of the records that are still open: nodes and arcs by their points
 abbrev pub AreByPoints : Progress → List Proposal → Type 0
-AreByPoints m found = AreLonePairs points_key_cmp (keyed_by (λ code. points_key (plan_of m (is_of_second code)) (place_by code)) (open_codes m)) found
+AreByPoints m found =
+    AreLonePairs points_key_cmp
+    (keyed_by (λ code. points_key (plan_of m (is_of_second code)) (place_by code)) (open_codes m)) found
 
 -- records by their contents
 abbrev pub AreByContents : Progress → List Proposal → Type 0
-AreByContents m found = AreLonePairs contents_key_cmp (keyed_by (λ code. contents_key (plan_of m (is_of_second code)) (place_by code)) (open_codes m)) found
+AreByContents m found =
+    AreLonePairs contents_key_cmp
+    (keyed_by (λ code. contents_key (plan_of m (is_of_second code)) (place_by code)) (open_codes m)) found
 
 -- records by what links join them with
 abbrev pub AreByJoints : Progress → List Proposal → Type 0
-AreByJoints m found = (joints : List (ℕ × (LinkClass × ℕ))) × AreJoints m joints × AreLonePairs joined_key_cmp (keyed_by (joined_key m joints) (open_codes m)) found
+AreByJoints m found =
+    (joints : List (ℕ × (LinkClass × ℕ))) × AreJoints m joints
+    × AreLonePairs joined_key_cmp (keyed_by (joined_key m joints) (open_codes m)) found
 
 -- links by their ends
 abbrev pub AreByEnds : Progress → List Proposal → Type 0

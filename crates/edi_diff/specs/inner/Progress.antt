@@ -11,7 +11,8 @@ use Rattle.edi_diff.specs.declared.proposing.Open.{Open}
 use Rattle.edi_diff.specs.declared.proposing.LinkClass.TheVariants.{OfKind, Plain as OfClass}
 use Rattle.edi_diff.specs.inner.Codes.{code_at}
 
--- two plans, and where the records of the first went so far, which of its arcs are reversed, and which records of the second were reached
+-- two plans, and where the records of the first went so far, which of its arcs are reversed, and which records of the
+-- second were reached
 pub record Progress : Type 0 where
   pub plan : Drawing
   pub other : Drawing
@@ -21,7 +22,14 @@ pub record Progress : Type 0 where
 
 -- the same of two plans and of changes
 abbrev pub progress_by : Drawing → Drawing → Changes → Progress
-progress_by plan other changes = record { plan = plan; other = other; to = changes.to.items; turned = changes.turned.items; reached = changes.reached.items }
+progress_by plan other changes =
+    record {
+      plan = plan;
+      other = other;
+      to = changes.to.items;
+      turned = changes.turned.items;
+      reached = changes.reached.items;
+    }
 
 -- what the code has of it
 abbrev pub progress_of : Open → Progress
@@ -31,10 +39,12 @@ progress_of m = progress_by m.plan.now m.other.now m.changes.now
 abbrev pub plan_of : Progress → Bool → Drawing
 plan_of m of_second = if of_second then m.other else m.plan
 
--- the name of a record, if it is known: the place in the second sheet where it went, or its own if it is of that sheet and was reached
+-- the name of a record, if it is known: the place in the second sheet where it went, or its own if it is of that sheet
+-- and was reached
 abbrev pub name_of : Progress → Bool → ℕ → Option ℕ
 name_of m of_second place =
-    if of_second then (if slice_index_or m.reached place false then Some place else None) else slice_index_or m.to place None
+    if of_second
+    then (if slice_index_or m.reached place false then Some place else None) else slice_index_or m.to place None
 
 -- the first arc among the ends of a link
 abbrev pub arc_of : Drawing → List PlanEnd → Option ℕ
@@ -43,7 +53,8 @@ arc_of p ends = find (λ place. is_arc (record_at p place).kind) (map (λ end. e
 -- whether the arc of a link is reversed in the second sheet, if its name is known: an arc of that sheet is not
 abbrev pub reversal_of : Progress → Bool → Drawing → ℕ → Option Bool
 reversal_of m of_second p place =
-    option_and_then (λ arc. option_and_then (λ name. if of_second then Some false else slice_get m.turned arc) (name_of m of_second arc)) (arc_of p (record_at p place).ends)
+    option_and_then (λ arc. option_and_then (λ name. if of_second then Some false else slice_get m.turned arc)
+    (name_of m of_second arc)) (arc_of p (record_at p place).ends)
 
 -- of two kinds that a reversal exchanges the first
 abbrev pub first_of_pair : Role → Role
@@ -65,12 +76,14 @@ link_class class role reversal = if is_plain role then OfClass class else OfKind
 -- the class of the link at a place
 abbrev pub class_at : Progress → Bool → ℕ → LinkClass
 class_at m of_second place =
-    link_class (record_at (plan_of m of_second) place).class (record_at (plan_of m of_second) place).role (reversal_of m of_second (plan_of m of_second) place)
+    link_class (record_at (plan_of m of_second) place).class (record_at (plan_of m of_second) place).role
+    (reversal_of m of_second (plan_of m of_second) place)
 
 -- the places, from one on, of the values of a list that pass a test
 abbrev pub places_where : {X : Type 0} → (X → Bool) → ℕ → List X → List ℕ
 places_where test place [] = []
-places_where test place (x ∷ xs) = if test x then place ∷ places_where test (place + 1) xs else places_where test (place + 1) xs
+places_where test place (x ∷ xs) =
+    if test x then place ∷ places_where test (place + 1) xs else places_where test (place + 1) xs
 
 -- the records of the second sheet that weren't reached, by their codes
 abbrev pub open_seconds : Progress → List ℕ

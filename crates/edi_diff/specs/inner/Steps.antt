@@ -12,6 +12,7 @@ pub record MayGo (p q : Drawing) (i j : ℕ) : Type 0 where
   pub type : (record_at q j).kind ≡ (record_at p i).kind
 
 -- changes, with the places that are reached
-pub record AreSteps (p q : Drawing) (unchanged : Matching) (to : List (Option ℕ)) (turned : List Bool) (reached : List Bool) : Type 0 where
+pub record AreSteps (p q : Drawing) (unchanged : Matching) (to : List (Option ℕ)) (turned : List Bool)
+    (reached : List Bool) : Type 0 where
   pub changes : AreChanges p q unchanged (record { to = to; turned = turned })
   pub marks : AreMarks to (length q.list) reached

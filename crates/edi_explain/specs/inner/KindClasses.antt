@@ -15,11 +15,15 @@ use Rattle.edi_explain.specs.declared.kind_causes.KindsCause.{KindsCause}
 
 -- the zones of a record state a class of a kind
 abbrev pub StatesClassOf : KindCodes → List Entry → Role → Type 0
-StatesClassOf kinds group role = (name : Name) × IsNamed group name × (role_by kinds (first (values (codes "KND") group)) name.rid ≡ role) × (role ≢ Plain)
+StatesClassOf kinds group role =
+    (name : Name) × IsNamed group name × (role_by kinds (first (values (codes "KND") group)) name.rid ≡ role)
+    × (role ≢ Plain)
 
 -- the type of the record with a number, from 1, holds a semicolon
 abbrev pub HoldsSemicolon : List (List Entry) → ℕ → Type 0
-HoldsSemicolon groups n = (group : List Entry) × (rty : List ℕ) × (slice_get groups (n - 1) ≡ Some group) × (first (values (codes "RTY") group) ≡ Some rty)
+HoldsSemicolon groups n =
+    (group : List Entry) × (rty : List ℕ) × (slice_get groups (n - 1) ≡ Some group)
+    × (first (values (codes "RTY") group) ≡ Some rty)
     × (list_any is_semicolon rty ≡ true)
 
 -- over the records of the file and the codes

@@ -17,10 +17,12 @@ pub record IsSiteAmong (groups : List (List Entry)) (number : ℕ) (site : Recor
 -- The site of the group with this number is sought, and these groups have come: it was found; or so many come before it
 -- and it; or nothing is sought, by the number 0.
 abbrev pub IsSought : ℕ → List (List Entry) → SoughtSite → Type 0
-IsSought number come s = MatchOption s.found (MatchOption s.left (number ≡ 0) (λ left. left + suc (length come) ≡ number)) (λ site. (s.left ≡ None) × IsSiteAmong come number site)
+IsSought number come s =
+    MatchOption s.found (MatchOption s.left (number ≡ 0) (λ left. left + suc (length come) ≡ number))
+    (λ site. (s.left ≡ None) × IsSiteAmong come number site)
 
--- The same of two. Handing on says of what takes groups no more than what holds after those that came; so the numbers stand in
--- front of them, each as a group of so many zones.
+-- The same of two. Handing on says of what takes groups no more than what holds after those that came; so the numbers
+-- stand in front of them, each as a group of so many zones.
 abbrev pub AreSought : SoughtSites → List (List Entry) → Type 0
 AreSought s [] = ⊥
 AreSought s (first ∷ []) = ⊥

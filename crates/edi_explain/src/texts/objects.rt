@@ -8,5 +8,5 @@ pub(crate) static OBJECTS: [RuleText; 1] = [RuleText {
     sentence: "an object with the class, attributes, extras and pieces of an earlier object",
     reason: "Two objects of which the sheet says the same are one object that was written twice.",
     cause: "An object was copied, or an object lost the links or attributes that set it apart from another.",
-    remedy: "Remove the later object, or give it back the attributes or links that set it apart from the earlier one.",
+    remedy: "Tell the producer both lines, and ask which of the two objects holds, or what sets them apart.",
 }];

@@ -27,7 +27,8 @@ abbrev pub behind : List Entry → Zoned → Zoned
 behind given z = record { done = given ++ z.done; open_zone = z.open_zone }
 
 -- the lines in front of those that are left have come; of their zones these were given, and the reader holds the others
-pub record IsAtLines (lines left : List Reading) (given : List Entry) (r : Reader) (charset : Option (List ℕ)) : Type 0 where
+pub record IsAtLines (lines left : List Reading) (given : List Entry) (r : Reader)
+    (charset : Option (List ℕ)) : Type 0 where
   pub done : List Reading
   pub cut : lines ≡ done ++ left
   pub counted : r.line ≡ length done
@@ -39,7 +40,8 @@ pub record IsAtLines (lines left : List Reading) (given : List Entry) (r : Reade
   pub charset_is : charset ≡ charset_in (before_end given)
 
 -- more lines have come, and the records that are done were handed on
-pub record WentOn (lines left : List Reading) (given : List Entry) (r : Reader) (charset : Option (List ℕ)) (Before After : List (List Entry) → Type 0) : Type 0 where
+pub record WentOn (lines left : List Reading) (given : List Entry) (r : Reader) (charset : Option (List ℕ))
+    (Before After : List (List Entry) → Type 0) : Type 0 where
   pub given_now : List Entry
   pub at : IsAtLines lines left given_now r charset
   pub handed : (groups : List (List Entry)) → Before (groups ++ groups_of given) → After (groups ++ groups_of given_now)

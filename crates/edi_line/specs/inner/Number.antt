@@ -52,5 +52,6 @@ number_by sign None millionths = None
 unfoldable pub number : List ℕ → Option ℤ
 number text =
     if nat_lt 0 (length (whole_of (body_of text)) + length (fraction_of (body_of text)))
-    then number_by (sign_of text) (whole_number (whole_of (body_of text))) (fraction_number (fraction_of (body_of text)))
+    then number_by (sign_of text) (whole_number (whole_of (body_of text)))
+    (fraction_number (fraction_of (body_of text)))
     else None

@@ -43,4 +43,11 @@ parts_after before [] = []
 parts_after before (line ∷ lines) = part_of (suc before) line ∷ parts_after (suc before) lines
 
 abbrev pub with_more : List ℕ → Entry → Entry
-with_more more zone = record { line = zone.line; code = zone.code; nature = zone.nature; format = zone.format; value = zone.value ++ more }
+with_more more zone =
+    record {
+      line = zone.line;
+      code = zone.code;
+      nature = zone.nature;
+      format = zone.format;
+      value = zone.value ++ more;
+    }

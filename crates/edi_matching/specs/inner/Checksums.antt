@@ -34,7 +34,9 @@ abbrev pub point_checksum : Point → ℕ
 point_checksum p = hash_of (points.hash_input p)
 
 abbrev pub attribute_checksum : PlanAttribute → ℕ
-attribute_checksum a = folding.finish (fold folding.write (fold folding.write (fold folding.write folding.initial (classes.hash_input a.atp)) (fed.option (fed.slice fed.u8) a.tex)) (value_input a.value))
+attribute_checksum a =
+    folding.finish (fold folding.write (fold folding.write (fold folding.write folding.initial
+    (classes.hash_input a.atp)) (fed.option (fed.slice fed.u8) a.tex)) (value_input a.value))
 
 abbrev pub extra_checksum : Extra → ℕ
 extra_checksum e = folding.finish (fold folding.write (folding.write folding.initial e.code) (value_input e.value))

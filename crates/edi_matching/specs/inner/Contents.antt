@@ -11,7 +11,8 @@ use Rattle.edi_matching.specs.inner.Additions.{AreInOrder, HasKey, IsFirstFrom}
 use Rattle.edi_matching.specs.inner.Entries.{contents_of}
 
 -- one more than the first position whose key isn't less, if that has the key, and else 0
-pub record IsNumberIn {K X : Type 0} (cmp : K → K → Ordering) (eq : K → K → Bool) (order : List (K × X)) (key : K) (number : ℕ) : Type 0 where
+pub record IsNumberIn {K X : Type 0} (cmp : K → K → Ordering) (eq : K → K → Bool) (order : List (K × X)) (key : K)
+    (number : ℕ) : Type 0 where
   pub at : ℕ
   pub first : IsFirstFrom cmp order 0 key at
   pub is : (HasKey eq order at key × (number ≡ at + 1)) ⊎ (¬ (HasKey eq order at key) × (number ≡ 0))
@@ -24,7 +25,8 @@ held_at p k = if nat_lt k (length p.list) then Some (contents_of (record_at p k)
 module _ (cmp : ContentKey → ContentKey → Ordering) (eq : ContentKey → ContentKey → Bool) where
   -- the number of what a record of this type holds, or 0 for another record
   abbrev pub IsContentNumber : Kind → List (ContentKey × ℕ) → PlanRecord → ℕ → Type 0
-  IsContentNumber kind order r number = ((r.kind ≡ kind) × IsNumberIn cmp eq order (contents_of r) number) ⊎ ((r.kind ≢ kind) × (number ≡ 0))
+  IsContentNumber kind order r number =
+      ((r.kind ≡ kind) × IsNumberIn cmp eq order (contents_of r) number) ⊎ ((r.kind ≢ kind) × (number ≡ 0))
 
   -- a number for each record of a plan
   pub record AreNumbersOf (kind : Kind) (order : List (ContentKey × ℕ)) (p : Drawing) (numbers : List ℕ) : Type 0 where

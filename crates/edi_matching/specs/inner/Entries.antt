@@ -1,8 +1,10 @@
 -- What objects and links are found by, with the places where their ends go.
-use Rattle.std.specs.Prelude.{ℕ, ◌++◌, Bool, false, List, [], ◌∷◌, Option, Some, None, filter_map, find, if◌then◌else◌, is_some, length, nat_lt, option_and_then, option_map, slice_index_or}
+use Rattle.std.specs.Prelude.{ℕ, ◌++◌, Bool, false, List, [], ◌∷◌, Option, Some, None, filter_map, find, flat_map, if◌then◌else◌, is_some, length, nat_lt, option_and_then, option_map, slice_index_or}
+use Rattle.edi_record.specs.declared.record.Kind.TheVariants.{Fea, Lnk}
 use Rattle.edi_schema.specs.Classes.{Classes, partner_of}
 use Rattle.edi_schema.specs.Sorted.{sort_by}
 use Rattle.edi_plan.specs.Orders.{attribute_cmp}
+use Rattle.edi_plan.specs.Places.{places_of}
 use Rattle.edi_plan.specs.Plans.{Drawing, is_object, record_at}
 use Rattle.edi_plan.specs.declared.record.PlanEnd.{PlanEnd}
 use Rattle.edi_plan.specs.declared.record.PlanRecord.{PlanRecord}
@@ -23,7 +25,9 @@ object_among p ends = option_map (λ e. e.target) (find (λ e. is_object (record
 
 -- an end, with the place where it goes, if it goes anywhere
 abbrev pub end_there : Drawing → List (Option ℕ) → PlanEnd → Option NumberedEnd
-end_there p to e = option_and_then (λ j. if nat_lt e.target (length p.list) then Some (numbered p (λ k. j) e) else None) (slice_index_or to e.target None)
+end_there p to e =
+    option_and_then (λ j. if nat_lt e.target (length p.list) then Some (numbered p (λ k. j) e) else None)
+    (slice_index_or to e.target None)
 
 -- these ends with the places where they go, if each goes somewhere
 abbrev pub all_there : Drawing → List (Option ℕ) → List PlanEnd → Option (List NumberedEnd)
@@ -33,17 +37,22 @@ all_there p to (e ∷ es) = option_and_then (λ x. option_map (λ xs. x ∷ xs) 
 -- the same of the ends of a link: the others in order, and the origin last
 abbrev pub ends_there : Drawing → List (Option ℕ) → List PlanEnd → Option (List NumberedEnd)
 ends_there p to [] = None
-ends_there p to (origin ∷ others) = option_and_then (λ x. option_map (λ xs. sort_by end_cmp xs ++ x ∷ []) (all_there p to others)) (end_there p to origin)
+ends_there p to (origin ∷ others) =
+    option_and_then (λ x. option_map (λ xs. sort_by end_cmp xs ++ x ∷ []) (all_there p to others))
+    (end_there p to origin)
 
 -- what a link holds, with this class and these ends
 abbrev pub link_key_with : ℕ → List NumberedEnd → PlanRecord → LinkKey
-link_key_with class ends r = record { class = class; ends = ends; attributes = sort_by attribute_cmp r.attributes; extras = r.extras }
+link_key_with class ends r =
+    record { class = class; ends = ends; attributes = sort_by attribute_cmp r.attributes; extras = r.extras }
 
--- what a link holds after the reversals, with the places where its ends go, if it isn't plain and each of them goes somewhere
+-- what a link holds after the reversals, with the places where its ends go, if it isn't plain and each of them goes
+-- somewhere
 abbrev pub link_there : Classes → Drawing → List (Option ℕ) → List Bool → PlanRecord → Option LinkKey
 link_there s p to turned r =
     if is_some (plain_ends r) then None
-    else option_map (λ ends. link_key_with (class_after (partner_of s) (turned_at turned) r) ends r) (ends_there p to r.ends)
+    else option_map (λ ends. link_key_with (class_after (partner_of s) (turned_at turned) r) ends r)
+    (ends_there p to r.ends)
 
 -- the places for which there is a key, each with that
 abbrev pub keyed_places : {K : Type 0} → (ℕ → Option K) → List ℕ → List (K × ℕ)
@@ -63,16 +72,34 @@ content_entry p l done k = if slice_index_or done k false then None else content
 
 -- an object, by the class of a link, the number that an end of that link has where it goes, if it goes anywhere, and
 -- the number of what the object holds
-abbrev pub neighbour_entry : Drawing → Labelling → List (Option ℕ) → ℕ → ℕ → Member → PlanEnd → Option (NeighbourKey × Member)
+abbrev pub neighbour_entry : Drawing → Labelling → List (Option ℕ) → ℕ → ℕ → Member → PlanEnd
+    → Option (NeighbourKey × Member)
 neighbour_entry p there to class contents member e =
-    option_map (λ x. (record { class = class; end = record x { number = number_of there x.number }; contents = contents }, member)) (end_there p to e)
+    option_map (λ x.
+    (record { class = class; end = record x { number = number_of there x.number }; contents = contents }, member))
+    (end_there p to e)
 
 -- The entries of an object of a link, if there is one that isn't done: one for each end of the link that goes
 -- somewhere. The contents have the number of what each object holds.
-abbrev pub entries_of : Drawing → Labelling → Labelling → List ℕ → List (Option ℕ) → List Bool → PlanRecord → Option ℕ → List (NeighbourKey × Member)
+abbrev pub entries_of : Drawing → Labelling → Labelling → List ℕ → List (Option ℕ) → List Bool → PlanRecord → Option ℕ
+    → List (NeighbourKey × Member)
 entries_of p here there contents to done r None = []
 entries_of p here there contents to done r (Some object) =
-    if slice_index_or done object false then [] else filter_map (neighbour_entry p there to r.class (slice_index_or contents object 0) (member_at here object)) r.ends
+    if slice_index_or done object false then []
+    else filter_map
+    (neighbour_entry p there to r.class (slice_index_or contents object 0) (member_at here object)) r.ends
 
-abbrev pub link_entries : Drawing → Labelling → Labelling → List ℕ → List (Option ℕ) → List Bool → ℕ → List (NeighbourKey × Member)
-link_entries p here there contents to done k = entries_of p here there contents to done (record_at p k) (object_among p (record_at p k).ends)
+abbrev pub link_entries : Drawing → Labelling → Labelling → List ℕ → List (Option ℕ) → List Bool → ℕ
+    → List (NeighbourKey × Member)
+link_entries p here there contents to done k =
+    entries_of p here there contents to done (record_at p k) (object_among p (record_at p k).ends)
+
+-- those of all links of a plan
+abbrev pub neighbour_entries : Drawing → Labelling → Labelling → List ℕ → List (Option ℕ) → List Bool
+    → List (NeighbourKey × Member)
+neighbour_entries p here there contents to done =
+    flat_map (link_entries p here there contents to done) (places_of Lnk p)
+
+-- the objects of a plan that aren't done, by what they hold
+abbrev pub content_entries : Drawing → Labelling → List Bool → List (ContentKey × Member)
+content_entries p l done = filter_map (content_entry p l done) (places_of Fea p)

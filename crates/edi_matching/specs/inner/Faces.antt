@@ -21,7 +21,9 @@ pub record IsLeftFor (m : Proposal) (marks : List Bool) (to : List (Option ℕ))
   pub left : slice_index_or to f None ≡ None
   pub free : IsFree m marks f g
 
--- two that the arc and the one that it goes to have by the role, of which the one is left for the other; or there are none
+-- two that the arc and the one that it goes to have by the role, of which the one is left for the other; or there are
+-- none
 abbrev pub IsForcedIfAny : Proposal → List Bool → List (Option ℕ) → Role → ℕ → Option (ℕ × ℕ) → Type 0
-IsForcedIfAny m marks to role arc found = MatchOption found ((f g : ℕ) → HasBeside m role arc f g → ¬ (IsMatched to f) → ¬ (IsFree m marks f g))
+IsForcedIfAny m marks to role arc found =
+    MatchOption found ((f g : ℕ) → HasBeside m role arc f g → ¬ (IsMatched to f) → ¬ (IsFree m marks f g))
     (λ w. IsPlace m.plan w.0 × HasBeside m role arc w.0 w.1 × IsLeftFor m marks to w.0 w.1)

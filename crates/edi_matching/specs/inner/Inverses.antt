@@ -4,7 +4,8 @@ use Rattle.edi_rank.specs.Labelling.{turned_at}
 use Rattle.edi_matching.specs.Matchings.{GoesTo, IsMatched}
 use Rattle.edi_matching.specs.declared.matching.Matching.{Matching}
 
--- Of so many places each goes back to one of the first so many records that went there, if there is one, and is reversed as that was.
+-- Of so many places each goes back to one of the first so many records that went there, if there is one, and is
+-- reversed as that was.
 pub record IsInverse (m : Matching) (count places : ℕ) (back : Matching) : Type 0 where
   pub all_entered : length back.to ≡ count
   pub all_directed : length back.turned ≡ count

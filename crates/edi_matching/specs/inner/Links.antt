@@ -50,7 +50,9 @@ moved_key p to class r = record {
 
 -- the key that the link at the place i has where its ends go, with its class after the reversals
 abbrev pub key_there : Proposal → ℕ → LinkKey
-key_there m i = moved_key m.plan (slice_index m.targets) (class_after (partner_of m.classes) (turned_at m.turned) (record_at m.plan i)) (record_at m.plan i)
+key_there m i =
+    moved_key m.plan (slice_index m.targets)
+    (class_after (partner_of m.classes) (turned_at m.turned) (record_at m.plan i)) (record_at m.plan i)
 
 -- the record at the place i is carried, with all its ends, onto that at the place j, which isn't marked
 pub record IsFree (m : Proposal) (marks : List Bool) (i j : ℕ) : Type 0 where
@@ -65,7 +67,9 @@ IsMissedIfAny m marks i found = MatchOption found ((j : ℕ) → ¬ (IsFree m ma
 
 -- the same, where the record at the place i goes nowhere yet
 abbrev pub IsLeftIfAny : Proposal → List Bool → List (Option ℕ) → ℕ → Option ℕ → Type 0
-IsLeftIfAny m marks to i found = MatchOption found (¬ (IsMatched to i) → (j : ℕ) → ¬ (IsFree m marks i j)) (λ j. (slice_index_or to i None ≡ None) × IsFree m marks i j)
+IsLeftIfAny m marks to i found =
+    MatchOption found (¬ (IsMatched to i) → (j : ℕ) → ¬ (IsFree m marks i j))
+    (λ j. (slice_index_or to i None ≡ None) × IsFree m marks i j)
 
 -- the records go there, with the arcs that are turned
 abbrev pub matching_so : Proposal → List (Option ℕ) → Matching

@@ -22,5 +22,6 @@ plain_ends r = if is_empty r.attributes && is_empty r.extras then bare_pair r.en
 -- a plain link by its class after the reversals and the places where its two ends go, if both go somewhere
 abbrev pub plain_link : Classes → List (Option ℕ) → List Bool → PlanRecord → Option PlainLink
 plain_link s to turned r =
-    option_and_then (λ ends. option_and_then (λ i. option_map (λ j. record { class = class_after (partner_of s) (turned_at turned) r; origin = i; other = j })
+    option_and_then (λ ends. option_and_then (λ i. option_map (λ j.
+    record { class = class_after (partner_of s) (turned_at turned) r; origin = i; other = j })
     (slice_index_or to ends.1.target None)) (slice_index_or to ends.0.target None)) (plain_ends r)

@@ -9,7 +9,8 @@ use Rattle.edi_rank.specs.Same.{class_after, directed, CarriesRecord}
 use Rattle.edi_plan.specs.Agreeing.{HasClasses}
 use Rattle.edi_matching.specs.Matchings.{GoesTo, IsMatched}
 
--- two plans of one schema, where it is proposed that the records of the first go, if anywhere, the same as places, and which are turned
+-- two plans of one schema, where it is proposed that the records of the first go, if anywhere, the same as places, and
+-- which are turned
 pub record Proposal : Type 0 where
   pub classes : Classes
   pub plan : Drawing
@@ -28,7 +29,8 @@ pub record IsFitting (m : Proposal) : Type 0 where
 
 -- the record at the place i is carried onto that at the place j of the other plan
 abbrev pub IsCarried : Proposal → ℕ → ℕ → Type 0
-IsCarried m i j = CarriesRecord m.classes (slice_index m.targets) (turned_at m.turned) i (record_at m.plan i) (record_at m.other j)
+IsCarried m i j =
+    CarriesRecord m.classes (slice_index m.targets) (turned_at m.turned) i (record_at m.plan i) (record_at m.other j)
 
 -- of that what needs no order: kind, class, points and extra zones
 pub record HasSameBody (m : Proposal) (i j : ℕ) : Type 0 where

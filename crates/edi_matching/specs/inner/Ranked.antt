@@ -48,7 +48,9 @@ text_input (Some text) = text ∷ []
 
 -- the hash of an end: of the number and the type of what it names, and of its SNS
 abbrev pub end_checksum : Drawing → Labelling → PlanEnd → ℕ
-end_checksum p l e = folding.finish (fold folding.write (fold folding.write (fold folding.write folding.initial (fed.u32 (number_of l e.target))) (type_input p e.target)) (text_input e.sns))
+end_checksum p l e =
+    folding.finish (fold folding.write (fold folding.write (fold folding.write folding.initial
+    (fed.u32 (number_of l e.target))) (type_input p e.target)) (text_input e.sns))
 
 -- what is hashed of the ends of a record: the origin, and the others in any order
 abbrev pub ends_input : Drawing → Labelling → List PlanEnd → HashWrites
@@ -57,7 +59,9 @@ ends_input p l (origin ∷ others) = fed.u64 (end_checksum p l origin) ++ fed.u6
 
 -- what is hashed of the record at a place: what it holds, which kind of link it is after the reversals, and its ends
 abbrev pub record_input : Drawing → Labelling → ℕ → HashWrites
-record_input p l place = fed.u64 (record_checksum (record_at p place)) ++ (fed.u8 (role_number (role_after l (record_at p place))) ++ ends_input p l (record_at p place).ends)
+record_input p l place =
+    fed.u64 (record_checksum (record_at p place))
+    ++ (fed.u8 (role_number (role_after l (record_at p place))) ++ ends_input p l (record_at p place).ends)
 
 -- the same, if there is a record
 abbrev pub input_if_any : Drawing → Labelling → ℕ → HashWrites

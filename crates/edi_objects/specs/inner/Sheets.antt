@@ -9,6 +9,8 @@ use Rattle.edi_objects.specs.Differing.{arrives, outline_differs}
 use Rattle.edi_objects.specs.Elements.{most_named}
 use Rattle.edi_objects.specs.LinksOf.{index_of}
 use Rattle.edi_objects.specs.Objects.{has_further_outline, has_other_outline}
+use Rattle.edi_objects.specs.declared.account.Notes.{Notes}
+use Rattle.edi_objects.specs.declared.bounds.BoundCounts.{BoundCounts}
 
 -- whether a place is marked
 abbrev pub test_of : List Bool → ℕ → Bool
@@ -36,10 +38,10 @@ abbrev pub names_further : (ℕ → Bool) → Drawing → ℕ → Bool
 names_further test p place = list_any test (drop most_named (targets (record_at p place)))
 
 -- the index of the plan; the records of which the test holds, and those whose outlines differ
-pub record AreNotes (test : ℕ → Bool) (p : Drawing) (index : List (ℕ × ℕ)) (marks outlines : List Bool) : Type 0 where
-  pub indexed : index ≡ index_of p
-  pub marked : AreTested test (length p.list) marks
-  pub outlined : AreOutlined test p outlines
+pub record AreNotes (test : ℕ → Bool) (p : Drawing) (notes : Notes) : Type 0 where
+  pub indexed : notes.index.items ≡ index_of p
+  pub marked : AreTested test (length p.list) notes.marks.items
+  pub outlined : AreOutlined test p notes.outlines.items
 
 -- so many links that bound each record are counted, of which the test holds
 abbrev pub AreCounted : (ℕ → Bool) → Drawing → List ℕ → Type 0
@@ -47,7 +49,7 @@ AreCounted test p counts = (i : ℕ) → IsPlace p i → slice_index_or counts i
 
 -- how many links that bound the records of the first sheet are gone or changed, and how many that bound those of the
 -- second are new
-pub record AreBoundCounts (r : Report) (gone new changed : List ℕ) : Type 0 where
-  pub all_gone : AreCounted (is_lost r) r.first.accepted gone
-  pub all_new : AreCounted (arrives r) r.second.accepted new
-  pub all_changed : AreCounted (is_bent r) r.first.accepted changed
+pub record AreBoundCounts (r : Report) (counts : BoundCounts) : Type 0 where
+  pub all_gone : AreCounted (is_lost r) r.first.accepted counts.gone.items
+  pub all_new : AreCounted (arrives r) r.second.accepted counts.new.items
+  pub all_changed : AreCounted (is_bent r) r.first.accepted counts.changed.items

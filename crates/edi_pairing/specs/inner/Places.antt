@@ -10,4 +10,6 @@ name_of n = record { kind = n.kind; rid = n.rid.now }
 
 -- the place of a name, or there is none
 abbrev pub IsPlaceIfAny : List RecordName → RecordName → Option ℕ → Type 0
-IsPlaceIfAny names name found = MatchOption found ((t : ℕ) → t < length names → name_at names t ≡ name → ⊥) (λ t. (t < length names) × (name_at names t ≡ name))
+IsPlaceIfAny names name found =
+    MatchOption found ((t : ℕ) → t < length names → name_at names t ≡ name → ⊥)
+    (λ t. (t < length names) × (name_at names t ≡ name))

@@ -15,7 +15,8 @@ pub record IsCutAtMark (text front end : List ℕ) : Type 0 where
   pub is : is_mark mark ≡ true
 
 -- the text begins with a line that pairs the name with a record of B, and this comes behind it
-pub record BeginsWith (b : List RecordName) (name : RecordName) (text : List ℕ) (to : ℕ) (turned : Bool) (behind : List ℕ) : Type 0 where
+pub record BeginsWith (b : List RecordName) (name : RecordName) (text : List ℕ) (to : ℕ) (turned : Bool)
+    (behind : List ℕ) : Type 0 where
   pub within : to < length b
   pub typed : (name_at b to).kind ≡ name.kind
   pub cut : text ≡ line_of name (name_at b to).rid turned ++ behind

@@ -36,11 +36,13 @@ module _ (s : Classes) (list : List Record) where
 
   -- the table has what the links before the place join
   abbrev pub IsJoinIfAny : ℕ → ℕ → Role → Option ℕ → Type 0
-  IsJoinIfAny place a role found = MatchOption found ((x : ℕ) → ¬ (JoinsBefore place a role x)) (JoinsBefore place a role)
+  IsJoinIfAny place a role found =
+      MatchOption found ((x : ℕ) → ¬ (JoinsBefore place a role x)) (JoinsBefore place a role)
 
   -- no record before the place breaks a rule, and the table has what the links before it join
   pub record IsDone (place : ℕ) (table : List (ByRole (Option ℕ))) : Type 0 where
     pub long : length table ≡ length list
     pub unbroken : (k rule : ℕ) → k < place → ¬ (BreaksReferenceRule s list rule (suc k))
-    pub joined : (k : ℕ) (r : Record) (role : Role) → k < place → IsLinkAt k r role → (a : ℕ) × (x : ℕ) × JoinsIn r role a x
+    pub joined : (k : ℕ) (r : Record) (role : Role) → k < place → IsLinkAt k r role
+        → (a : ℕ) × (x : ℕ) × JoinsIn r role a x
     pub noted : (a : ℕ) (role : Role) → is_plain role ≡ false → IsJoinIfAny place a role (side_at table a role)

@@ -23,11 +23,15 @@ place_in table name = lookup (λ n. is_name (named name) (named n)) table
 
 -- the new table has this place for the name if the old has none, and what the old has for each other
 abbrev pub IsPut : List (RecordNameRef × ℕ) → RecordNameRef → ℕ → List (RecordNameRef × ℕ) → Type 0
-IsPut old name place new = (other : RecordNameRef) → place_in new other ≡ option_or (place_in old other) (if is_name (named name) (named other) then Some place else None)
+IsPut old name place new =
+    (other : RecordNameRef) → place_in new other
+    ≡ option_or (place_in old other) (if is_name (named name) (named other) then Some place else None)
 
 -- each name of a record that is no link has the place of the first record of that name, and no other such name has one
 abbrev pub AreNamesOf : List Record → Names → Type 0
-AreNamesOf list names = (name : RecordNameRef) → is_link name.kind ≡ false → place_in names.places.entries name ≡ place_named list (named name)
+AreNamesOf list names =
+    (name : RecordNameRef) → is_link name.kind ≡ false
+    → place_in names.places.entries name ≡ place_named list (named name)
 
 -- the names of such records go into a table: all, but for those of links where these rise
 abbrev pub is_tabled : Bool → Kind → Bool
@@ -38,7 +42,9 @@ tabled links_rise list = filter (λ r. is_tabled links_rise r.kind) list
 
 -- the record at this place has the name of an earlier one
 abbrev pub RepeatsAt : List Record → ℕ → Type 0
-RepeatsAt list k = (j : ℕ) × (q r : Record) × (j < k) × (slice_get list j ≡ Some q) × (slice_get list k ≡ Some r) × (own_name q ≡ own_name r)
+RepeatsAt list k =
+    (j : ℕ) × (q r : Record) × (j < k) × (slice_get list j ≡ Some q) × (slice_get list k ≡ Some r)
+    × (own_name q ≡ own_name r)
 
 -- and none before it does
 pub record IsFirstRepeat (list : List Record) (k : ℕ) : Type 0 where

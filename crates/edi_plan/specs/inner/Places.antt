@@ -16,4 +16,5 @@ listed table Lnk = table.links.items
 
 -- the table has the type of each record, and the places of the records of each type
 abbrev pub ArePlacesOf : List PlanRecord → Places → Type 0
-ArePlacesOf list table = (table.kinds.items ≡ map (λ r. r.kind) list) × ((kind : Kind) → listed table kind ≡ places_from kind 0 list)
+ArePlacesOf list table =
+    (table.kinds.items ≡ map (λ r. r.kind) list) × ((kind : Kind) → listed table kind ≡ places_from kind 0 list)

@@ -72,7 +72,8 @@ abbrev pub role_of_link : Classes → Record → Role
 role_of_link s r = if is_link r.kind then unwrap_or (role_named s r.scp) Plain else Plain
 
 -- 302 to 307, for a record whose ends have these targets, over the table of the links before it
-abbrev pub reference_tests : Classes → Option Subset → List (Option Target) → List (ByRole (Option ℕ)) → Record → List Test
+abbrev pub reference_tests : Classes → Option Subset → List (Option Target) → List (ByRole (Option ℕ)) → Record
+    → List Test
 reference_tests s subset targets table r =
     test 302 (is_none (place_of s r.scp))
     ∷ test 303 (list_any (lacks_class s) r.attributes)

@@ -35,7 +35,8 @@ pub record HoldsSides (p : Drawing) (table : List (ByRole (Option ℕ))) : Type 
 abbrev pub join_of_two : Kind → Target → Target → Option Join
 join_of_two kind d e =
     if same_kind d.kind Par && same_kind e.kind kind then Some (record { arc = d.place; other = e.place })
-    else (if same_kind e.kind Par && same_kind d.kind kind then Some (record { arc = e.place; other = d.place }) else None)
+    else (if same_kind e.kind Par && same_kind d.kind kind then Some (record { arc = e.place; other = d.place })
+    else None)
 
 abbrev pub join_in : Kind → List (Option Target) → Option Join
 join_in kind [] = None
@@ -67,7 +68,8 @@ side_after old role None a r = old
 side_after old role (Some j) a r = if same_role r role && nat_eq a j.arc then Some j.other else old
 
 -- the table with the join of a link noted
-pub record IsNoted (old : List (ByRole (Option ℕ))) (role : Role) (join : Option Join) (new : List (ByRole (Option ℕ))) : Type 0 where
+pub record IsNoted (old : List (ByRole (Option ℕ))) (role : Role) (join : Option Join)
+    (new : List (ByRole (Option ℕ))) : Type 0 where
   pub long : length new ≡ length old
   pub each : (a : ℕ) (r : Role) → is_plain r ≡ false → side_at new a r ≡ side_after (side_at old a r) role join a r
 

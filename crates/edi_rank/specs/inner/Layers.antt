@@ -16,7 +16,8 @@ use Rattle.edi_rank.specs.Layers.{no_side, face_keys}
 
 -- the numbers of the faces by their keys, where the arcs have these numbers
 abbrev pub IsFaceRanking : Drawing → List ℕ → List ℕ → Type 0
-IsFaceRanking p arcs numbers = IsRanking face_key_cmp (λ m. slice_index_or (face_keys p arcs) m no_side) (length (places_of Pfe p)) numbers
+IsFaceRanking p arcs numbers =
+    IsRanking face_key_cmp (λ m. slice_index_or (face_keys p arcs) m no_side) (length (places_of Pfe p)) numbers
 
 -- what the keys of links are made of: the plan, the schema, which records are turned, and the number of each record
 pub record LinkSource : Type 0 where
@@ -27,7 +28,9 @@ pub record LinkSource : Type 0 where
 
 -- the key of the link at a place after the reversals
 abbrev pub turned_link_key : LinkSource → ℕ → LinkKey
-turned_link_key l place = link_key l.plan (slice_index l.numbers) (turned_record (partner_of l.classes) (turned_at l.turned) place (record_at l.plan place))
+turned_link_key l place =
+    link_key l.plan (slice_index l.numbers)
+    (turned_record (partner_of l.classes) (turned_at l.turned) place (record_at l.plan place))
 
 -- a link by its key, and then by its place
 abbrev pub placed_link_key : LinkSource → ℕ → LinkKey × ℕ
@@ -38,7 +41,9 @@ placed_link_cmp a b = ordering_then (link_key_cmp a.0 b.0) (nat_cmp a.1 b.1)
 
 -- the numbers of the links, in file order
 abbrev pub IsLinkRanking : LinkSource → List ℕ → Type 0
-IsLinkRanking l numbers = IsRanking placed_link_cmp (λ m. placed_link_key l (slice_index (places_of Lnk l.plan) m)) (length (places_of Lnk l.plan)) numbers
+IsLinkRanking l numbers =
+    IsRanking placed_link_cmp (λ m. placed_link_key l (slice_index (places_of Lnk l.plan) m))
+    (length (places_of Lnk l.plan)) numbers
 
 -- the numbers of the records of a type: from 1 to their count, no two equal
 pub record AreNumbersOf (p : Drawing) (kind : Kind) (numbers : List ℕ) : Type 0 where
@@ -48,4 +53,5 @@ pub record AreNumbersOf (p : Drawing) (kind : Kind) (numbers : List ℕ) : Type 
 -- the places of the records of a type, in the order of these numbers
 pub record ArePlacesBy (p : Drawing) (kind : Kind) (numbers order : List ℕ) : Type 0 where
   pub all : length order ≡ length (places_of kind p)
-  pub each : (m : ℕ) → m < length (places_of kind p) → slice_index order (slice_index numbers m - 1) ≡ slice_index (places_of kind p) m
+  pub each : (m : ℕ) → m < length (places_of kind p)
+      → slice_index order (slice_index numbers m - 1) ≡ slice_index (places_of kind p) m

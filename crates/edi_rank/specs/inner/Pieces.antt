@@ -16,11 +16,14 @@ is_owner (Some k) object = k == object
 -- the places of the links that are pieces of an object, from a place on
 abbrev pub pieces_from : Drawing → ℕ → ℕ → List PlanRecord → List ℕ
 pieces_from p object place [] = []
-pieces_from p object place (r ∷ rs) = if is_piece p object r then place ∷ pieces_from p object (place + 1) rs else pieces_from p object (place + 1) rs
+pieces_from p object place (r ∷ rs) =
+    if is_piece p object r then place ∷ pieces_from p object (place + 1) rs else pieces_from p object (place + 1) rs
 
 abbrev pub piece_places : Drawing → ℕ → List ℕ
 piece_places p object = pieces_from p object 0 p.list
 
 -- the numbers of the objects by their keys, in file order
 abbrev pub IsObjectRanking : ObjectSource → List ℕ → Type 0
-IsObjectRanking l numbers = IsRanking object_key_cmp (λ m. object_key_at l (slice_index (places_of Fea l.plan) m)) (length (places_of Fea l.plan)) numbers
+IsObjectRanking l numbers =
+    IsRanking object_key_cmp (λ m. object_key_at l (slice_index (places_of Fea l.plan) m))
+    (length (places_of Fea l.plan)) numbers

@@ -37,7 +37,8 @@ end_of e = record { kind = packed_kind e.packed; number = e.packed - least_packe
 
 -- the key of a link of two ends without SNS, and nothing else
 abbrev pub pair_key : ℕ → PlainPair → LinkKey
-pair_key class pair = record { class = class; ends = end_of pair.origin ∷ end_of pair.other ∷ []; attributes = []; extras = [] }
+pair_key class pair =
+    record { class = class; ends = end_of pair.origin ∷ end_of pair.other ∷ []; attributes = []; extras = [] }
 
 -- the key that these parts make with a class
 abbrev pub key_in : ℕ → LinkParts → LinkKey
@@ -71,4 +72,5 @@ abbrev pub placed_cmp : LinkKey × ℕ → LinkKey × ℕ → Ordering
 placed_cmp a b = ordering_then (links.cmp a.0 b.0) (nat_cmp a.1 b.1)
 
 pub placed_total : IsTotalOrder placed_cmp
-placed_total = then_total (on_total (λ (a : LinkKey × ℕ). a.0) total-law) (on_total (λ (a : LinkKey × ℕ). a.1) nat_cmp_total)
+placed_total =
+    then_total (on_total (λ (a : LinkKey × ℕ). a.0) total-law) (on_total (λ (a : LinkKey × ℕ). a.1) nat_cmp_total)

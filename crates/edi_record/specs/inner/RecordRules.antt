@@ -55,12 +55,14 @@ some_no_pointer texts = list_any (λ text. is_none (pointer text)) texts
 -- how many zones with a code come before the next that ends the stretch
 abbrev pub count_until : (Entry → Bool) → List ℕ → List Entry → ℕ
 count_until ends code [] = 0
-count_until ends code (z ∷ zs) = if ends z then 0 else (if has_code code z then 1 + count_until ends code zs else count_until ends code zs)
+count_until ends code (z ∷ zs) =
+    if ends z then 0 else (if has_code code z then 1 + count_until ends code zs else count_until ends code zs)
 
 -- behind a zone that opens a stretch, the code comes twice or more in it
 abbrev pub repeats : (Entry → Bool) → (Entry → Bool) → List ℕ → List Entry → Bool
 repeats opens_it ends_it code [] = false
-repeats opens_it ends_it code (z ∷ zs) = (opens_it z && nat_le 2 (count_until ends_it code zs)) || repeats opens_it ends_it code zs
+repeats opens_it ends_it code (z ∷ zs) =
+    (opens_it z && nat_le 2 (count_until ends_it code zs)) || repeats opens_it ends_it code zs
 
 -- 204: an ATP is no pointer; an ATV with no open attribute; a second TEX in one open attribute
 abbrev pub has_bad_attribute : List Entry → Bool

@@ -22,7 +22,8 @@ only (x ∷ y ∷ xs) = None
 -- the first character set before the attribute's end
 unfoldable pub set_after : List Entry → Option (List ℕ)
 set_after [] = None
-set_after (z ∷ zs) = if opens z || closes z then None else (if has_code (codes "TEX") z then Some z.value else set_after zs)
+set_after (z ∷ zs) =
+    if opens z || closes z then None else (if has_code (codes "TEX") z then Some z.value else set_after zs)
 
 -- the first value before the next attribute
 unfoldable pub value_after : List Entry → List ℕ
@@ -34,7 +35,8 @@ attribute class tex atv = option_map (λ name. record { atp = name; tex = tex; a
 
 unfoldable pub attributes : List Entry → List (Option Attribute)
 attributes [] = []
-attributes (z ∷ zs) = if opens z then attribute z.value (set_after zs) (value_after zs) ∷ attributes zs else attributes zs
+attributes (z ∷ zs) =
+    if opens z then attribute z.value (set_after zs) (value_after zs) ∷ attributes zs else attributes zs
 
 -- the SNS before the next end
 unfoldable pub sns_after : List Entry → Option (List ℕ)
@@ -42,7 +44,9 @@ sns_after [] = None
 sns_after (z ∷ zs) = if points_at z then None else (if has_code (codes "SNS") z then Some z.value else sns_after zs)
 
 abbrev pub end_of : List ℕ → Option (List ℕ) → Option End
-end_of text sns = option_map (λ p. record { lot = p.lot; subset = p.subset; target = record { rty = p.rty; rid = p.rid }; sns = sns }) (pointer text)
+end_of text sns =
+    option_map (λ p. record { lot = p.lot; subset = p.subset; target = record { rty = p.rty; rid = p.rid }; sns = sns })
+    (pointer text)
 
 unfoldable pub ends : List Entry → List (Option End)
 ends [] = []
@@ -67,7 +71,8 @@ abbrev pub value_of : Bool → List ℕ → Value
 value_of may text = if may then unwrap_or (option_map Number (number text)) (Bytes text) else Bytes text
 
 abbrev pub extra : Entry → Extra
-extra z = record { code = z.code; nature = z.nature; format = z.format; value = value_of (may_be_number z.format) z.value }
+extra z =
+    record { code = z.code; nature = z.nature; format = z.format; value = value_of (may_be_number z.format) z.value }
 
 abbrev pub extras : Kind → List Entry → List Extra
 extras rty group = map (λ p. extra p.zone) (filter (is_extra rty) (placed false group))

@@ -74,7 +74,8 @@ pub record HasRoom (block : SheetBlock) (r : Record) : Type 0 where
   pub heads : vec_len block.heads + 1 ≤ vec_capacity block.heads
   pub points : 0 < vec_len block.points → vec_len block.points + length r.points ≤ vec_capacity block.points
   pub ends : 0 < vec_len block.ends → vec_len block.ends + length r.ends ≤ vec_capacity block.ends
-  pub attributes : 0 < vec_len block.attributes → vec_len block.attributes + length r.attributes ≤ vec_capacity block.attributes
+  pub attributes : 0 < vec_len block.attributes
+      → vec_len block.attributes + length r.attributes ≤ vec_capacity block.attributes
   pub extras : 0 < vec_len block.extras → vec_len block.extras + length r.extras ≤ vec_capacity block.extras
 
 -- the parts of the next record will end here

@@ -1,4 +1,5 @@
--- The records of a sheet that are left, as they are gone through: those of a block from a place on, and those of the blocks ahead.
+-- The records of a sheet that are left, as they are gone through: those of a block from a place on, and those of the
+-- blocks ahead.
 use Rattle.std.specs.Prelude.{◌≡◌, ℕ, ◌≤◌, List, [], ◌++◌, length, flat_map}
 use Rattle.std.specs.List.{AllByRecursion}
 use Rattle.std.specs.Vec.Iter.{into_iter_items}

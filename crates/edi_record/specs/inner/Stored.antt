@@ -26,10 +26,14 @@ use Rattle.edi_record.specs.declared.draft.Draft.{Draft}
 -- the role of a code that isn't known in every record
 abbrev pub body_role_in : Kind → List ℕ → ZoneRole
 body_role_in Pno code = if bytes_eq code (codes "COR") then Position else Unknown
-body_role_in Par code = if bytes_eq code (codes "COR") then Position else (if bytes_eq code (codes "PTC") then BodyCount else Unknown)
+body_role_in Par code =
+    if bytes_eq code (codes "COR") then Position else (if bytes_eq code (codes "PTC") then BodyCount else Unknown)
 body_role_in Pfe code = Unknown
 body_role_in Fea code = Unknown
-body_role_in Lnk code = if bytes_eq code (codes "FTC") then BodyCount else (if bytes_eq code (codes "FTP") then EndPointer else (if bytes_eq code (codes "SNS") then EndSense else Unknown))
+body_role_in Lnk code =
+    if bytes_eq code (codes "FTC") then BodyCount
+    else (if bytes_eq code (codes "FTP") then EndPointer else
+    (if bytes_eq code (codes "SNS") then EndSense else Unknown))
 
 -- what a zone with a code is to a record
 abbrev pub role_in : Kind → List ℕ → ZoneRole
@@ -53,7 +57,9 @@ AreTexts Repeated left all = 2 ≤ length all
 
 -- a zone with this code and value goes from those that are left to those that have come
 abbrev pub Takes : {Part : Type 0} → (Part → List Entry → List Entry → Type 0) → List ℕ → List ℕ → Part → Part → Type 0
-Takes Keeps code value old new = (z : Entry) (left group : List Entry) → has_code code z ≡ true → z.value ≡ value → Keeps old (z ∷ left) group → Keeps new left group
+Takes Keeps code value old new =
+    (z : Entry) (left group : List Entry) → has_code code z ≡ true → z.value ≡ value → Keeps old (z ∷ left) group
+    → Keeps new left group
 
 -- a value where no attribute is open
 abbrev pub is_stray : Placed → Bool
@@ -66,7 +72,8 @@ set_with None left = set_after left
 
 -- the attribute with its character set and this value
 abbrev pub attribute_of : OpenAttribute → Option (List ℕ) → List ℕ → Attribute
-attribute_of opened set value = record { atp = record { rty = opened.class.rty.now; rid = opened.class.rid.now }; tex = set; atv = value }
+attribute_of opened set value =
+    record { atp = record { rty = opened.class.rty.now; rid = opened.class.rid.now }; tex = set; atv = value }
 
 abbrev pub set_come : OpenAttribute → Option (List ℕ)
 set_come opened = option_map (λ s. s.now) opened.set
@@ -74,7 +81,8 @@ set_come opened = option_map (λ s. s.now) opened.set
 -- the attributes that the zones which are left make with the open one
 abbrev pub attributes_with : Option OpenAttribute → List Entry → List (Option Attribute)
 attributes_with None left = attributes left
-attributes_with (Some opened) left = Some (attribute_of opened (set_with (set_come opened) left) (value_after left)) ∷ attributes left
+attributes_with (Some opened) left =
+    Some (attribute_of opened (set_with (set_come opened) left) (value_after left)) ∷ attributes left
 
 -- the open attribute, closed with a value
 abbrev pub closed_with : List ℕ → Option OpenAttribute → List Attribute
@@ -84,13 +92,16 @@ closed_with value (Some opened) = attribute_of opened (set_come opened) value �
 -- among the zones that are left is a second character set, of the open attribute or of a later one
 abbrev pub repeats_with : Option OpenAttribute → List Entry → Bool
 repeats_with None left = repeats opens (λ z. opens z || closes z) (codes "TEX") left
-repeats_with (Some opened) left = nat_le (if is_some opened.set then 1 else 2) (count_until (λ z. opens z || closes z) (codes "TEX") left) || repeats opens (λ z. opens z || closes z) (codes "TEX") left
+repeats_with (Some opened) left =
+    nat_le (if is_some opened.set then 1 else 2) (count_until (λ z. opens z || closes z) (codes "TEX") left)
+    || repeats opens (λ z. opens z || closes z) (codes "TEX") left
 
 -- of a group's attributes so much is stored, where these zones are left
 pub record StoresAttributes (a : Attributes) (left group : List Entry) : Type 0 where
   pub broken : a.is_broken ≡ true → has_bad_attribute group ≡ true
   pub made : a.is_broken ≡ false → attributes group ≡ map Some a.done.items ++ attributes_with a.opened left
-  pub stray : a.is_broken ≡ false → list_any is_stray (placed false group) ≡ list_any is_stray (placed (is_some a.opened) left)
+  pub stray : a.is_broken ≡ false
+      → list_any is_stray (placed false group) ≡ list_any is_stray (placed (is_some a.opened) left)
   pub repeated : a.is_broken ≡ false → repeats_with None group ≡ repeats_with a.opened left
 
 -- where the rule isn't broken then, it wasn't before, and an attribute is open then or none is
@@ -100,7 +111,8 @@ LeavesOpen is_open old new = new.is_broken ≡ false → (old.is_broken ≡ fals
 -- of a group's points so much is stored, where these zones are left
 pub record StoresPoints (p : Points) (left group : List Entry) : Type 0 where
   pub broken : p.is_broken ≡ true → list_any is_none (map point (values (codes "COR") group)) ≡ true
-  pub made : p.is_broken ≡ false → map point (values (codes "COR") group) ≡ map Some p.list.items ++ map point (values (codes "COR") left)
+  pub made : p.is_broken ≡ false
+      → map point (values (codes "COR") group) ≡ map Some p.list.items ++ map point (values (codes "COR") left)
 
 -- an SNS comes before any end
 abbrev pub has_stray : List Entry → Bool
@@ -136,7 +148,9 @@ ended_with (Some opened) = end_with opened (sns_come opened) ∷ []
 -- among the zones that are left is an SNS before any end, or a second one, of the open end or of a later one
 abbrev pub bad_sns_with : Option OpenEnd → List Entry → Bool
 bad_sns_with None left = has_stray left || repeats points_at points_at (codes "SNS") left
-bad_sns_with (Some opened) left = nat_le (if is_some opened.sense then 1 else 2) (count_until points_at (codes "SNS") left) || repeats points_at points_at (codes "SNS") left
+bad_sns_with (Some opened) left =
+    nat_le (if is_some opened.sense then 1 else 2) (count_until points_at (codes "SNS") left)
+    || repeats points_at points_at (codes "SNS") left
 
 -- of a group's ends so much is stored, where these zones are left
 pub record StoresEnds (e : Ends) (left group : List Entry) : Type 0 where
@@ -152,11 +166,14 @@ extras_after kind is_open zs = map (λ (p : Placed). extra p.zone) (filter (is_e
 pub record StoresExtras (kind : Kind) (is_open : Bool) (e : Extras) (left group : List Entry) : Type 0 where
   pub broken : e.is_broken ≡ true → list_any (is_unknown_pointer kind) (placed false group) ≡ true
   pub made : e.is_broken ≡ false → extras kind group ≡ e.list.items ++ extras_after kind is_open left
-  pub unknown : e.is_broken ≡ false → list_any (is_unknown_pointer kind) (placed false group) ≡ list_any (is_unknown_pointer kind) (placed is_open left)
+  pub unknown : e.is_broken ≡ false → list_any (is_unknown_pointer kind) (placed false group)
+      ≡ list_any (is_unknown_pointer kind) (placed is_open left)
 
 -- an extra goes from the zones that are left to those that have come
 abbrev pub TakesExtra : Entry → Extras → Extras → Type 0
-TakesExtra z old new = (kind : Kind) (is_open : Bool) (left group : List Entry) → is_extra kind (record { open_before = is_open; zone = z }) ≡ true
+TakesExtra z old new =
+    (kind : Kind) (is_open : Bool) (left group : List Entry)
+    → is_extra kind (record { open_before = is_open; zone = z }) ≡ true
     → StoresExtras kind is_open old (z ∷ left) group → StoresExtras kind (is_open_after is_open z) new left group
 
 -- of a group so much is stored, where these zones are left
@@ -164,10 +181,13 @@ pub record StoresRecord (d : Draft) (left group : List Entry) : Type 0 where
   pub identifier : AreTexts d.identifier (values (codes "RID") left) (values (codes "RID") group)
   pub class : AreTexts d.class (values (codes "SCP") left) (values (codes "SCP") group)
   pub attribute_count : AreTexts d.attribute_count (values (codes "ATC") left) (values (codes "ATC") group)
-  pub point_count : is_arc d.kind ≡ true → AreTexts d.body_count (values (codes "PTC") left) (values (codes "PTC") group)
+  pub point_count : is_arc d.kind ≡ true
+      → AreTexts d.body_count (values (codes "PTC") left) (values (codes "PTC") group)
   pub end_count : is_link d.kind ≡ true → AreTexts d.body_count (values (codes "FTC") left) (values (codes "FTC") group)
-  pub counted_points : has_points d.kind ≡ true → length (values (codes "COR") group) ≡ d.counted + length (values (codes "COR") left)
-  pub counted_ends : is_link d.kind ≡ true → length (values (codes "FTP") group) ≡ d.counted + length (values (codes "FTP") left)
+  pub counted_points : has_points d.kind ≡ true
+      → length (values (codes "COR") group) ≡ d.counted + length (values (codes "COR") left)
+  pub counted_ends : is_link d.kind ≡ true
+      → length (values (codes "FTP") group) ≡ d.counted + length (values (codes "FTP") left)
   pub attributes : StoresAttributes d.attributes left group
   pub points : has_points d.kind ≡ true → StoresPoints d.points left group
   pub ends : is_link d.kind ≡ true → StoresEnds d.ends left group

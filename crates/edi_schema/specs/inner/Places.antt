@@ -29,12 +29,17 @@ pub record ArePlaces (s : Classes) (p : ByRole (Option ℕ)) : Type 0 where
 
 -- a kind has two classes, or one where the kind that it is exchanged with has none
 abbrev pub AreUnpaired : Classes → Type 0
-AreUnpaired s = (role : Role) × (is_plain role ≡ false) × ((1 < count_by (has_role role) s) ⊎ ((0 < count_by (has_role role) s) × (count_by (has_role (exchanged role)) s ≡ 0)))
+AreUnpaired s =
+    (role : Role) × (is_plain role ≡ false) × ((1 < count_by (has_role role) s)
+    ⊎ ((0 < count_by (has_role role) s) × (count_by (has_role (exchanged role)) s ≡ 0)))
 
 -- of each kind, a pointer can name a class if one can name a class of the kind that it is exchanged with
 abbrev pub ArePointable : Classes → Type 0
-ArePointable s = (role : Role) → is_plain role ≡ false → list_any (is_pointable role) s ≡ list_any (is_pointable (exchanged role)) s
+ArePointable s =
+    (role : Role) → is_plain role ≡ false → list_any (is_pointable role) s ≡ list_any (is_pointable (exchanged role)) s
 
 -- of some kind, a pointer can name a class, and none of the kind that it is exchanged with
 abbrev pub AreUnpointable : Classes → Type 0
-AreUnpointable s = (role : Role) × (is_plain role ≡ false) × (list_any (is_pointable role) s ≡ true) × (list_any (is_pointable (exchanged role)) s ≡ false)
+AreUnpointable s =
+    (role : Role) × (is_plain role ≡ false) × (list_any (is_pointable role) s ≡ true)
+    × (list_any (is_pointable (exchanged role)) s ≡ false)

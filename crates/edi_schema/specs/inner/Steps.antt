@@ -88,11 +88,15 @@ module _ (classes words : List Said) (kinds : KindCodes) where
   -- the first record at which the steps stop
   pub data StopsAt (file : Source) (rule at : ℕ) : Type 0 where
     class_unidentified : file ≡ Scd → rule ≡ 601 → IsFirstUnidentified classes at → StopsAt file rule at
-    word_unidentified : file ≡ Dic → rule ≡ 601 → AreIdentified classes → IsFirstUnidentified words at → StopsAt file rule at
-    class_repeats : file ≡ Scd → rule ≡ 602 → AreIdentified classes → AreIdentified words → IsFirstRepeat (names_of classes) at → StopsAt file rule at
-    word_repeats : file ≡ Dic → rule ≡ 602 → AreIdentified classes → AreIdentified words → IsDistinct is_name (names_of classes)
+    word_unidentified : file ≡ Dic → rule ≡ 601 → AreIdentified classes → IsFirstUnidentified words at
+        → StopsAt file rule at
+    class_repeats : file ≡ Scd → rule ≡ 602 → AreIdentified classes → AreIdentified words
+        → IsFirstRepeat (names_of classes) at → StopsAt file rule at
+    word_repeats : file ≡ Dic → rule ≡ 602 → AreIdentified classes → AreIdentified words
+        → IsDistinct is_name (names_of classes)
         → IsFirstRepeat (names_of words) at → StopsAt file rule at
-    lacks_word : file ≡ Scd → rule ≡ 603 → AreNamed → IsFirstLacking (class_in kinds words) classes at → StopsAt file rule at
+    lacks_word : file ≡ Scd → rule ≡ 603 → AreNamed → IsFirstLacking (class_in kinds words) classes at
+        → StopsAt file rule at
 
   -- the classes that the records state, in the order of their names
   pub record AreStated (s : Classes) : Type 0 where

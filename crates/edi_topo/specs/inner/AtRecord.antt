@@ -27,7 +27,8 @@ IsLeastAtIfAny p place found = MatchOption found (IsUnbrokenAt p place) (IsLeast
 abbrev pub IsUpTo : Option ℕ → ℕ → Type 0
 IsUpTo found place = (k : ℕ) → found ≡ Some k → place ≤ k
 
--- what was found: the numbers of the nodes and of the arcs, or the first that repeats an earlier one, and which faces are on a side
+-- what was found: the numbers of the nodes and of the arcs, or the first that repeats an earlier one, and which faces
+-- are on a side
 pub record AreFindings (p : Drawing) (found : RecordFindings) : Type 0 where
   pub nodes : IfOk found.nodes (IsNodeRanking p)
   pub node_repeat : Nodes.IsFirstRepeatIfAny p (result_err found.nodes)

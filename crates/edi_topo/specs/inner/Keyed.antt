@@ -16,11 +16,14 @@ pub record IsLeastRepeat {K : Type 0} (cmp : K → K → Ordering) (pairs : List
   pub seen : place + 1 < n
   pub repeats : (d : K × ℕ) → cmp (slice_index_or pairs place d).0 (slice_index_or pairs (place + 1) d).0 ≡ Equal
   pub is : (d : K × ℕ) → (slice_index_or pairs (place + 1) d).1 ≡ member
-  pub least : (k : ℕ) (d : K × ℕ) → k + 1 < n → cmp (slice_index_or pairs k d).0 (slice_index_or pairs (k + 1) d).0 ≡ Equal → member ≤ (slice_index_or pairs (k + 1) d).1
+  pub least : (k : ℕ) (d : K × ℕ) → k + 1 < n → cmp (slice_index_or pairs k d).0 (slice_index_or pairs (k + 1) d).0
+      ≡ Equal → member ≤ (slice_index_or pairs (k + 1) d).1
 
 -- the least repeat among the first n places, if there is one
 abbrev pub IsLeastRepeatIfAny : {K : Type 0} → (K → K → Ordering) → List (K × ℕ) → ℕ → Option ℕ → Type 0
-IsLeastRepeatIfAny cmp pairs n least = MatchOption least (AllAdjacentBelow (λ x y. cmp x.0 y.0 ≢ Equal) pairs n) (λ member. IsLeastRepeat cmp pairs n member)
+IsLeastRepeatIfAny cmp pairs n least =
+    MatchOption least (AllAdjacentBelow (λ x y. cmp x.0 y.0 ≢ Equal) pairs n)
+    (λ member. IsLeastRepeat cmp pairs n member)
 
 -- an earlier member has the key
 abbrev pub HasEarlier : {K : Type 0} → (K → K → Ordering) → (ℕ → K) → ℕ → Type 0

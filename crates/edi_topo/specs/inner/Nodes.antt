@@ -9,4 +9,6 @@ RepeatsAnEarlier p n = (m : ℕ) × (m < n) × AreEqualNodes p m n
 
 -- the least place of a node equal to an earlier one; or there is none
 abbrev pub IsFirstRepeatIfAny : Drawing → Option ℕ → Type 0
-IsFirstRepeatIfAny p found = MatchOption found ((n : ℕ) → ¬ (RepeatsAnEarlier p n)) (λ n. RepeatsAnEarlier p n × ((k : ℕ) → RepeatsAnEarlier p k → n ≤ k))
+IsFirstRepeatIfAny p found =
+    MatchOption found ((n : ℕ) → ¬ (RepeatsAnEarlier p n))
+    (λ n. RepeatsAnEarlier p n × ((k : ℕ) → RepeatsAnEarlier p k → n ≤ k))

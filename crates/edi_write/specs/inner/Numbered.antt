@@ -31,7 +31,8 @@ pointer_begun kind = codes "CANON;S;" ++ (kind_code kind ++ (codes ";" ++ kind_l
 
 -- the zones of an end by the type and the number of what it names
 abbrev pub numbered_end_zones : NumberedEnd → List Entry
-numbered_end_zones e = zone_headed (codes "FTPCP") (end_text (numbered_name e.kind e.number)) ∷ map sns_zone (option_to_list e.sns)
+numbered_end_zones e =
+    zone_headed (codes "FTPCP") (end_text (numbered_name e.kind e.number)) ∷ map sns_zone (option_to_list e.sns)
 
 -- the count of an arc's points, and these in its direction
 abbrev pub arc_body : Bool → List Point → List Entry
@@ -39,7 +40,8 @@ arc_body turned points = zone_headed (codes "PTCSN") (decimal (length points)) �
 
 -- the count of a link's ends, the origin, and then the other ends in order
 abbrev pub link_body : Labelling → Drawing → List PlanEnd → List Entry
-link_body l p ends = zone_headed (codes "FTCSN") (decimal (length ends)) ∷ flat_map numbered_end_zones (ends_key p (number_of l) ends)
+link_body l p ends =
+    zone_headed (codes "FTCSN") (decimal (length ends)) ∷ flat_map numbered_end_zones (ends_key p (number_of l) ends)
 
 -- what stands between the class and the attributes of the record at a place
 abbrev pub numbered_body : Labelling → Drawing → ℕ → Kind → List Entry
@@ -57,4 +59,5 @@ ordered_tail s r = zone_headed (codes "ATCSN") (decimal (length (sort_by attribu
 -- the zones of the record at a place, with its number and those of its ends
 abbrev pub numbered_zones : Classes → Labelling → Drawing → ℕ → List Entry
 numbered_zones s l p place =
-    head_zones s (number_of l place) (arranged_record s l p place) ++ (numbered_body l p place (record_at p place).kind ++ ordered_tail s (record_at p place))
+    head_zones s (number_of l place) (arranged_record s l p place)
+    ++ (numbered_body l p place (record_at p place).kind ++ ordered_tail s (record_at p place))

@@ -1,12 +1,12 @@
 -- The note on the kinds of links that no class has, while a command runs.
 use Rattle.std.specs.Prelude.{◌≡◌, ℕ, List}
 use Rattle.edi_words.specs.declared.words.Request.{Request}
-use Rattle.edi_words.specs.declared.words.Request.TheVariants.{Bundle, Check, Canon, Pair, Hash, CheckList, Delivery, Explain, Rule, Draw, Changed, Misused, Answered}
+use Rattle.edi_words.specs.declared.words.Request.TheVariants.{Bundle, Check, Canon, Pair, Hash, CheckList, Delivery, Manifest, CheckManifest, Explain, Rule, Draw, Changed, Misused, Answered}
 use Rattle.edi_answers.specs.Effects.{Inputs}
 use Rattle.edi_answers.specs.Notes.{HasNoteOf}
 
--- a place for the note has that of the request, by its file of classes, or what it had where the status says that there is no answer; a
--- request that has no note leaves the place as it was
+-- a place for the note has that of the request, by its file of classes, or what it had where the status says that there
+-- is no answer; a request that has no note leaves the place as it was
 abbrev pub LeavesNoteOf : Inputs → Request → ℕ → List ℕ → List ℕ → Type 0
 LeavesNoteOf inputs Bundle status old new = new ≡ old
 LeavesNoteOf inputs (Check kinds files) status old new = HasNoteOf inputs kinds files.scd.now status old new
@@ -15,6 +15,8 @@ LeavesNoteOf inputs (Pair kinds files what) status old new = HasNoteOf inputs ki
 LeavesNoteOf inputs (Hash kinds files with_schema) status old new = new ≡ old
 LeavesNoteOf inputs (CheckList kinds files list) status old new = new ≡ old
 LeavesNoteOf inputs (Delivery kinds paths) status old new = new ≡ old
+LeavesNoteOf inputs (Manifest kinds path file) status old new = new ≡ old
+LeavesNoteOf inputs (CheckManifest kinds path manifest) status old new = new ≡ old
 LeavesNoteOf inputs (Explain kinds files) status old new = new ≡ old
 LeavesNoteOf inputs (Rule word) status old new = new ≡ old
 LeavesNoteOf inputs (Draw kinds files out) status old new = HasNoteOf inputs kinds files.scd.now status old new

@@ -5,7 +5,8 @@ use Rattle.edi_schema.specs.SchemaRefusal.{IsGoodSchema, IsSchemaRefusal}
 use Rattle.edi_compare.specs.PlanOfFile.{IsPlanOfFile}
 use Rattle.edi_compare.specs.Refused.{IsRefusal}
 use Rattle.edi_compare.specs.Rules.{IsAccepted}
-use Rattle.edi_explain.specs.Explained.{DescribesPlan, ExplainsSchema, ExplainsSheet}
+use Rattle.edi_explain.specs.ClassCounts.{DescribesSheet}
+use Rattle.edi_explain.specs.Explained.{ExplainsSchema, ExplainsSheet}
 use Rattle.edi_explain.specs.KindClasses.{codes_of}
 use Rattle.edi_answers.proofs.Explaining.{accepted_said, schema_said, sheet_said}
 use Rattle.edi_answers.proofs.explains.said_of.Goals as goal
@@ -23,7 +24,7 @@ returns-in-Ok-examine c =
     let plan = subst (λ (b : List ℕ). IsPlanOfFile s b p) c.deref-in-Ok.ensures.value c.in-Ok-examine.ensures.plan in
     IfOk-weaker c.said_of_accepted.result _ _
     (λ said h. accepted_said kinds c.args.files.now bytes.scd.items bytes.dic.items bytes.vec.items said.is_accepted said.text.items s good p accepted plan
-    (h.0, (h.1.0, subst (λ q. DescribesPlan q h.1.0) c.plan.ensures.plan h.1.1, h.1.2)))
+    (h.0, (h.1.0, subst (λ q. DescribesSheet s q h.1.0) c.plan.ensures.plan h.1.1, h.1.2)))
     c.said_of_accepted.ensures
 
 pub returns-in-Ok : goal.returns-in-Ok

@@ -9,4 +9,4 @@ returns-in-Fault-clause-said g c =
     let err = written g.E.ByteOut c.args.err.now c.warned.new.err in
     rw c.in-Fault.is
     (said_of_warned (g.F.Folder.why c.args.folder.now) (g.O.ByteOut.contents c.args.out.now) (g.O.ByteOut.has_failed c.args.out.now) err c.in-Fault.fault
-    (texts c.args.paths.now) c.warned.result (omega arith) c.warned.ensures)
+    (texts c.args.paths.now) c.warned.result (omega arith) c.warned.ensures.said)

@@ -1,4 +1,4 @@
-use Rattle.std.proofs.Common.{Some, eqb, sym, ap, ◌+◌, ◌∙◌, drop, arith}
+use Rattle.std.proofs.Common.{Some, eqb, sym, ap, ◌+◌, ◌∙◌, arith}
 use lib.Count.{count_trailing_zeros}
 use Rattle.edi_line.proofs.Lanes.{found_in_lanes, none_in_lanes, found_behind, none_behind_either, left_found}
 use Rattle.edi_line.proofs.lines.feed_in.Goals as goal

@@ -15,11 +15,11 @@ invariant_of-result c =
     let second = c.plan-2.ensures.plan ∙ (c.sound-2.ensures ∙ ap (λ (x : Report). x.second.accepted) c.report.view_is) in
     let differing = c.in_ok-differing.differing.items in
     let arriving = c.in_ok-arriving.arriving.items in (
-      subst (λ (p : Drawing). AreNotes (is_differing r) p here.index.items here.marks.items here.outlines.items) first
-          (notes_are (is_differing r) c.plan.result.now here.index.items differing here.marks.items here.outlines.items
+      subst (λ (p : Drawing). AreNotes (is_differing r) p here) first
+          (notes_are (is_differing r) c.plan.result.now differing here
           (subst (λ (p : Drawing). AreTested (is_differing r) (length p.list) differing) (sym first) c.in_ok-differing.ensures) c.in_ok-here.ensures.index c.in_ok-here.ensures.marks c.in_ok-here.ensures.outlines),
-      subst (λ (p : Drawing). AreNotes (arrives r) p there.index.items there.marks.items there.outlines.items) second
-          (notes_are (arrives r) c.plan-2.result.now there.index.items arriving there.marks.items there.outlines.items
+      subst (λ (p : Drawing). AreNotes (arrives r) p there) second
+          (notes_are (arrives r) c.plan-2.result.now arriving there
           (subst (λ (p : Drawing). AreTested (arrives r) (length p.list) arriving) (sym second) c.in_ok-arriving.ensures) c.in_ok-there.ensures.index c.in_ok-there.ensures.marks c.in_ok-there.ensures.outlines),
       c.requires.first,
       c.requires.second,
@@ -33,7 +33,7 @@ further_outlines-requires-clause-here c =
     let here = c.in_ok-here.here in
     let first = c.plan.ensures.plan ∙ (c.sound.ensures ∙ ap (λ (x : Report). x.first.accepted) c.report.view_is) in
     let differing = c.in_ok-differing.differing.items in
-    let notes = notes_are (is_differing r) c.plan.result.now here.index.items differing here.marks.items here.outlines.items
+    let notes = notes_are (is_differing r) c.plan.result.now differing here
     (subst (λ (p : Drawing). AreTested (is_differing r) (length p.list) differing) (sym first) c.in_ok-differing.ensures) c.in_ok-here.ensures.index c.in_ok-here.ensures.marks c.in_ok-here.ensures.outlines in
     subst (λ (p : Drawing). AreOutlined (is_differing r) p c.deref.result.now) first
     (subst (λ (marks : List Bool). AreOutlined (is_differing r) c.plan.result.now marks) (sym c.deref.ensures.value) notes.outlined)
@@ -44,7 +44,7 @@ further_outlines-requires-clause-there c =
     let there = c.in_ok-there.there in
     let second = c.plan-2.ensures.plan ∙ (c.sound-2.ensures ∙ ap (λ (x : Report). x.second.accepted) c.report.view_is) in
     let arriving = c.in_ok-arriving.arriving.items in
-    let notes = notes_are (arrives r) c.plan-2.result.now there.index.items arriving there.marks.items there.outlines.items
+    let notes = notes_are (arrives r) c.plan-2.result.now arriving there
     (subst (λ (p : Drawing). AreTested (arrives r) (length p.list) arriving) (sym second) c.in_ok-arriving.ensures) c.in_ok-there.ensures.index c.in_ok-there.ensures.marks c.in_ok-there.ensures.outlines in
     subst (λ (p : Drawing). AreOutlined (arrives r) p c.deref-2.result.now) second
     (subst (λ (marks : List Bool). AreOutlined (arrives r) c.plan-2.result.now marks) (sym c.deref-2.ensures.value) notes.outlined)
@@ -55,8 +55,8 @@ of-requires-3-clause-here c =
     let here = c.in_ok-here.here in
     let first = c.plan.ensures.plan ∙ (c.sound.ensures ∙ ap (λ (x : Report). x.first.accepted) c.report.view_is) in
     let differing = c.in_ok-differing.differing.items in
-    subst (λ (p : Drawing). AreNotes (is_differing r) p here.index.items here.marks.items here.outlines.items) first
-    (notes_are (is_differing r) c.plan.result.now here.index.items differing here.marks.items here.outlines.items
+    subst (λ (p : Drawing). AreNotes (is_differing r) p here) first
+    (notes_are (is_differing r) c.plan.result.now differing here
     (subst (λ (p : Drawing). AreTested (is_differing r) (length p.list) differing) (sym first) c.in_ok-differing.ensures) c.in_ok-here.ensures.index c.in_ok-here.ensures.marks c.in_ok-here.ensures.outlines)
 
 pub of-requires-3-clause-there : goal.of-requires-3-clause-there
@@ -65,6 +65,6 @@ of-requires-3-clause-there c =
     let there = c.in_ok-there.there in
     let second = c.plan-2.ensures.plan ∙ (c.sound-2.ensures ∙ ap (λ (x : Report). x.second.accepted) c.report.view_is) in
     let arriving = c.in_ok-arriving.arriving.items in
-    subst (λ (p : Drawing). AreNotes (arrives r) p there.index.items there.marks.items there.outlines.items) second
-    (notes_are (arrives r) c.plan-2.result.now there.index.items arriving there.marks.items there.outlines.items
+    subst (λ (p : Drawing). AreNotes (arrives r) p there) second
+    (notes_are (arrives r) c.plan-2.result.now arriving there
     (subst (λ (p : Drawing). AreTested (arrives r) (length p.list) arriving) (sym second) c.in_ok-arriving.ensures) c.in_ok-there.ensures.index c.in_ok-there.ensures.marks c.in_ok-there.ensures.outlines)

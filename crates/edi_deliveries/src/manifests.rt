@@ -1,0 +1,284 @@
+//! The manifest of a delivery, which is put at a path or sent to the output.
+ghost use Rattle.std.specs.Prelude.{◌≡◌, [], Any, IfErr, IfOk, IsTrue, OnOk, map, string_bytes};
+ghost use Rattle.std.specs.Bool.{MatchBool};
+ghost use Rattle.std.specs.List.{AllByRecursion};
+ghost use Rattle.edi_answers.specs.Effects.{effects, inputs, written};
+ghost use Rattle.edi_answers.specs.SheetRuns.{IsApart, Meets};
+ghost use Rattle.edi_answers.specs.Statuses.{IsSheetStatus, Prints};
+ghost use Rattle.edi_outcome.specs.Words.{FaultHasNames};
+ghost use Rattle.edi_manifest.specs.ManifestText.{manifest_text};
+ghost use Rattle.edi_deliveries.specs.Deliveries.{Opens, listings};
+ghost use Rattle.edi_deliveries.specs.Manifests.{IfAllFound, IsFileIn, IsManifestPut, IsManifestReplaced, IsManifestStatus, IsManifestThere, IsNoFileIn, IsPrinted, IsStored, IsUnput, paths_in};
+ghost use Rattle.edi_deliveries.specs.inner.Opening.{opened_of};
+
+use crate::found::FolderNames;
+use crate::lot_files::path_in;
+use crate::opening::{OpenDelivery, open_delivery};
+use crate::parts::find_lines;
+use crate::said::found_names;
+use edi_answers::report;
+use edi_answers::sheets::meets;
+use edi_compare::RunFault;
+use edi_files::{Folder, Listing, output};
+use edi_line::ByteOut;
+use edi_manifest::{ManifestLine, manifest};
+use edi_words::{GivenKinds, is_standard};
+use edi_write::{Written, put_all};
+use std::alloc::{AllocError, Global};
+
+/// Puts the manifest of the delivery that a path leads to at FILE, or sends it to `out` where that is `-`, and gives 0.
+/// FILE is replaced whole or not at all, and only where each part of the delivery has a digest and FILE is none of its
+/// files. Else `err` says what is wrong, of parts as for `answer_paths`, and the status is the greatest of these.
+pub fn put_manifest<F: Folder + Listing, O: ByteOut, E: ByteOut>(
+    alloc: Global,
+    folder: &mut F,
+    kinds: &GivenKinds<'_>,
+    path: &str,
+    file: &str,
+    out: &mut O,
+    err: &mut E,
+) -> u8
+    ensures status { IsSheetStatus result }
+    ensures answer { IsManifestStatus
+        (effects F.Folder F.Reader.ByteIn F.Sink.ByteOut F.NewFile.ByteOut folder.old folder.new)
+        (listings F.Listing folder.old) kinds.now path.now file.now (written O.ByteOut out.old out.new)
+        (written E.ByteOut err.old err.new) result }
+    ensures made { result ≡ 0 → IsManifestThere
+        (effects F.Folder F.Reader.ByteIn F.Sink.ByteOut F.NewFile.ByteOut folder.old folder.new)
+        (listings F.Listing folder.old) kinds.now path.now file.now (written O.ByteOut out.old out.new) }
+{
+    match open_delivery(alloc, folder, path, err) {
+        Ok(opened) => manifest_of(alloc, folder, kinds, &opened, path, file, out, err),
+        Err(status) => status,
+    }
+}
+
+// Puts the manifest of a delivery that was opened, or sends it.
+fn manifest_of<F: Folder + Listing, O: ByteOut, E: ByteOut>(
+    alloc: Global,
+    folder: &mut F,
+    kinds: &GivenKinds<'_>,
+    opened: &OpenDelivery,
+    path: &str,
+    file: &str,
+    out: &mut O,
+    err: &mut E,
+) -> u8
+    requires { Opens (inputs F.Folder F.Reader.ByteIn folder.old) (listings F.Listing folder.old) path.now
+        (opened_of opened.now) }
+    ensures status { IsSheetStatus result }
+    ensures answer { IsManifestStatus
+        (effects F.Folder F.Reader.ByteIn F.Sink.ByteOut F.NewFile.ByteOut folder.old folder.new)
+        (listings F.Listing folder.old) kinds.now path.now file.now (written O.ByteOut out.old out.new)
+        (written E.ByteOut err.old err.new) result }
+{
+    let Ok(names) = FolderNames::new(alloc, &opened.names) else {
+        return report::out_of_memory(err);
+    };
+    if is_standard(file) {
+        send(alloc, folder, kinds, opened, &names, out, err)
+    } else {
+        put(alloc, folder, kinds, opened, &names, path, file, err)
+    }
+}
+
+// Sends the manifest of a delivery to the output.
+fn send<F: Folder, O: ByteOut, E: ByteOut>(
+    alloc: Global,
+    folder: &F,
+    kinds: &GivenKinds<'_>,
+    opened: &OpenDelivery,
+    names: &FolderNames<'_>,
+    out: &mut O,
+    err: &mut E,
+) -> u8
+    requires { names.now ≡ (opened_of opened.now).names }
+    ensures status { IsSheetStatus result }
+    ensures answer { IfAllFound (inputs F.Folder F.Reader.ByteIn folder.now) (F.why folder.now) kinds.now
+        (opened_of opened.now) (IsPrinted (written O.ByteOut out.old out.new))
+        (Prints (written O.ByteOut out.old out.new) []) (written E.ByteOut err.old err.new) result }
+{
+    let mut lines = Vec::new(alloc);
+    let status = find_lines(alloc, folder, kinds, opened, names, &mut lines, err);
+    if status == 0 {
+        print(alloc, &lines, out, err)
+    } else {
+        status
+    }
+}
+
+// Writes the manifest of lines to the output, and gives the status.
+fn print<O: ByteOut, E: ByteOut>(
+    alloc: Global,
+    lines: &[ManifestLine],
+    out: &mut O,
+    err: &mut E,
+) -> u8
+    ensures status { IsSheetStatus result }
+    ensures answer { IsPrinted (written O.ByteOut out.old out.new) lines.now (written E.ByteOut err.old err.new)
+        result }
+    ensures stays { IsTrue (E.has_failed err.old) → IsTrue (E.has_failed err.new) }
+{
+    let Ok(text) = manifest(alloc, lines) else {
+        return report::out_of_memory(err);
+    };
+    match put_all(out, &text) {
+        Ok(()) => 0,
+        Err(_) => report::unwritten(err),
+    }
+}
+
+// Puts the manifest of a delivery at FILE, which is none of its files.
+fn put<F: Folder + Listing, E: ByteOut>(
+    alloc: Global,
+    folder: &mut F,
+    kinds: &GivenKinds<'_>,
+    opened: &OpenDelivery,
+    names: &FolderNames<'_>,
+    path: &str,
+    file: &str,
+    err: &mut E,
+) -> u8
+    requires names { names.now ≡ (opened_of opened.now).names }
+    requires opens { Opens (inputs F.Folder F.Reader.ByteIn folder.old) (listings F.Listing folder.old) path.now
+        (opened_of opened.now) }
+    ensures status { IsSheetStatus result }
+    ensures answer { IsManifestPut
+        (effects F.Folder F.Reader.ByteIn F.Sink.ByteOut F.NewFile.ByteOut folder.old folder.new)
+        (listings F.Listing folder.old) kinds.now path.now file.now (opened_of opened.now)
+        (written E.ByteOut err.old err.new) result }
+    ensures replaced { IsManifestReplaced
+        (effects F.Folder F.Reader.ByteIn F.Sink.ByteOut F.NewFile.ByteOut folder.old folder.new)
+        (listings F.Listing folder.old) kinds.now path.now file.now }
+{
+    match is_file_in(alloc, folder, opened, names, file) {
+        Ok(true) => {
+            let fault = RunFault::Write(Written { count: 0 });
+            report::warned(alloc, folder, err, &fault, &[path, file])
+        }
+        Ok(false) => put_found(alloc, folder, kinds, opened, names, path, file, err),
+        Err(_) => report::out_of_memory(err),
+    }
+}
+
+// Whether FILE is one of the files of a delivery, or leads to one.
+fn is_file_in<F: Folder>(
+    alloc: Global,
+    folder: &F,
+    opened: &OpenDelivery,
+    names: &FolderNames<'_>,
+    file: &str,
+) -> Result<bool, AllocError>
+    requires { names.now ≡ (opened_of opened.now).names }
+    ensures { IfOk result (λ is. MatchBool is (IsFileIn (F.is_one folder.now) (opened_of opened.now) file.now)
+        (IsNoFileIn (F.is_one folder.now) (opened_of opened.now) file.now)) }
+{
+    let paths = paths_in(alloc, opened, names)?;
+    Ok(meets_any(folder, &paths, file))
+}
+
+// The paths of the files of a delivery.
+fn paths_in(
+    alloc: Global,
+    opened: &OpenDelivery,
+    names: &FolderNames<'_>,
+) -> Result<Vec<String>, AllocError>
+    requires { names.now ≡ (opened_of opened.now).names }
+    ensures { IfOk result (λ paths. map string_bytes paths.items ≡ paths_in (opened_of opened.now)) }
+{
+    let found = found_names(alloc, names, opened.delivery.lots())?;
+    let mut paths = Vec::new(alloc);
+    paths.push(String::from_str(alloc, &opened.thf)?)?;
+    for name in &found {
+        paths.push(path_in(alloc, opened.before.as_str(), name)?)?;
+    }
+    Ok(paths)
+}
+
+// Whether one of these paths is FILE, or leads to its file.
+fn meets_any<F: Folder>(folder: &F, paths: &[String], file: &str) -> bool
+    ensures { MatchBool result (Any (Meets (F.is_one folder.now) file.now) (map string_bytes paths.now))
+        (AllByRecursion (IsApart (F.is_one folder.now) file.now) (map string_bytes paths.now)) }
+{
+    for path in paths {
+        if meets(folder, path, file) {
+            return true;
+        }
+    }
+    false
+}
+
+// Puts the manifest of a delivery at FILE, if each part of it is found.
+fn put_found<F: Folder + Listing, E: ByteOut>(
+    alloc: Global,
+    folder: &mut F,
+    kinds: &GivenKinds<'_>,
+    opened: &OpenDelivery,
+    names: &FolderNames<'_>,
+    path: &str,
+    file: &str,
+    err: &mut E,
+) -> u8
+    requires names { names.now ≡ (opened_of opened.now).names }
+    requires opens { Opens (inputs F.Folder F.Reader.ByteIn folder.old) (listings F.Listing folder.old) path.now
+        (opened_of opened.now) }
+    ensures status { IsSheetStatus result }
+    ensures answer { IfAllFound (inputs F.Folder F.Reader.ByteIn folder.old) (F.why folder.new) kinds.now
+        (opened_of opened.now)
+        (IsStored (effects F.Folder F.Reader.ByteIn F.Sink.ByteOut F.NewFile.ByteOut folder.old folder.new) path.now
+        file.now) (folder.new ≡ folder.old) (written E.ByteOut err.old err.new) result }
+    ensures replaced { IsManifestReplaced
+        (effects F.Folder F.Reader.ByteIn F.Sink.ByteOut F.NewFile.ByteOut folder.old folder.new)
+        (listings F.Listing folder.old) kinds.now path.now file.now }
+{
+    let mut lines = Vec::new(alloc);
+    let status = find_lines(alloc, folder, kinds, opened, names, &mut lines, err);
+    if status == 0 {
+        store(alloc, folder, &lines, path, file, err)
+    } else {
+        status
+    }
+}
+
+// Puts the manifest of lines at FILE, or says why it can't be put, and gives the status.
+fn store<F: Folder, E: ByteOut>(
+    alloc: Global,
+    folder: &mut F,
+    lines: &[ManifestLine],
+    path: &str,
+    file: &str,
+    err: &mut E,
+) -> u8
+    ensures status { IsSheetStatus result }
+    ensures answer { IsStored (effects F.Folder F.Reader.ByteIn F.Sink.ByteOut F.NewFile.ByteOut folder.old folder.new)
+        path.now file.now lines.now (written E.ByteOut err.old err.new) result }
+    ensures replaced { (effects F.Folder F.Reader.ByteIn F.Sink.ByteOut F.NewFile.ByteOut folder.old
+        folder.new).Replaces file.now (λ bytes. bytes ≡ manifest_text lines.now) }
+    ensures stays { IsTrue (E.has_failed err.old) → IsTrue (E.has_failed err.new) }
+{
+    match put_lines(alloc, folder, lines, file) {
+        Ok(()) => 0,
+        Err(fault) => report::warned(alloc, folder, err, &fault, &[path, file]),
+    }
+}
+
+// Puts the manifest of lines at FILE.
+fn put_lines<F: Folder>(
+    alloc: Global,
+    folder: &mut F,
+    lines: &[ManifestLine],
+    file: &str,
+) -> Result<(), RunFault>
+    ensures ok { OnOk result
+        ((effects F.Folder F.Reader.ByteIn F.Sink.ByteOut F.NewFile.ByteOut folder.old folder.new).Puts file.now
+        (manifest_text lines.now)) }
+    ensures err { IfErr result
+        (IsUnput (effects F.Folder F.Reader.ByteIn F.Sink.ByteOut F.NewFile.ByteOut folder.old folder.new) file.now
+        (manifest_text lines.now)) }
+    ensures names { IfErr result (λ e. FaultHasNames e 2) }
+    ensures replaced { (effects F.Folder F.Reader.ByteIn F.Sink.ByteOut F.NewFile.ByteOut folder.old
+        folder.new).Replaces file.now (λ bytes. bytes ≡ manifest_text lines.now) }
+{
+    let text = manifest(alloc, lines)?;
+    output::put(folder, file, &text)
+}

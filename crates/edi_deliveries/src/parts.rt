@@ -1,0 +1,406 @@
+//! The lines of a manifest that are found of the lots of a delivery.
+ghost use Rattle.std.specs.Prelude.{◌≡◌, IfOk, IsTrue, string_bytes};
+ghost use Rattle.edi_answers.specs.Effects.{inputs, written};
+ghost use Rattle.edi_answers.specs.Statuses.{IsSheetStatus};
+ghost use Rattle.edi_delivery.specs.NameParts.{file_name};
+ghost use Rattle.edi_deliveries.specs.Found.{AreClassesFound, AreLotsFound, ArePartsFound, AreSheetsFound, EachFound, FindsLine, IsAnyGeoFound, IsBytesAnswer, IsGeoFound, IsLotFound, IsPartFound, IsSchemaFound, IsSheetFound, placed, schema_part};
+ghost use Rattle.edi_deliveries.specs.inner.Finding.{AddsFound, IsPartThere, placed_of};
+ghost use Rattle.edi_deliveries.specs.inner.Opening.{opened_of};
+
+use crate::found::FolderNames;
+use crate::lot_files::{found_path, lot_paths};
+use crate::lots::say_missing;
+use crate::opening::OpenDelivery;
+use crate::said::{say_lines, unnamed_lines};
+use edi_answers::hashes::{digest_of, loaded, path_of_schema, tell_fault};
+use edi_answers::whole::read_whole;
+use edi_answers::{notes, report};
+use edi_compare::RunFault;
+use edi_delivery::{Extension, FileName, Lot, NamePart};
+use edi_files::Folder;
+use edi_line::ByteOut;
+use edi_manifest::{Digested, ManifestLine};
+use edi_schema::Schema;
+use edi_schema_text::schema_digest;
+use edi_words::{GivenKinds, ManyFiles};
+use sha2::{Digest, Sha256};
+use std::alloc::{AllocError, Global};
+
+// A lot, with the names in the folder of its THF file, and what stands before these in paths.
+#[derive(Drop)]
+struct LotInFolder<'a> {
+    before: &'a str,
+    names: &'a FolderNames<'a>,
+    lot: &'a Lot,
+}
+
+// A file of a lot that is there: its name by the THF file, and its path.
+#[derive(Drop)]
+struct LotFile {
+    name: FileName,
+    path: String,
+}
+
+// The file of a lot by its own name, if it is there.
+fn part_of(
+    alloc: Global,
+    placed: &LotInFolder<'_>,
+    extension: Extension,
+    own: &NamePart,
+) -> Result<Option<LotFile>, AllocError>
+    ensures { IfOk result
+        (IsPartThere (placed_of placed.now) (file_name placed.now.lot.now.name extension own.now)) }
+{
+    let name = placed.lot.file(alloc, extension, own)?;
+    match found_path(alloc, placed.before, placed.names, &name)? {
+        Some(path) => Ok(Some(LotFile { name, path })),
+        None => Ok(None),
+    }
+}
+
+// Adds the line of a part that has a digest, or says why it has none, and gives the status.
+fn add_part<F: Folder, E: ByteOut>(
+    alloc: Global,
+    folder: &F,
+    part: LotFile,
+    digested: Digested,
+    answer: Result<[u8; 32], RunFault>,
+    lines: &mut Vec<ManifestLine>,
+    err: &mut E,
+) -> u8
+    ensures status { IsSheetStatus result }
+    ensures found { AddsFound (IsPartFound (F.why folder.now) part.name digested (string_bytes part.path) answer)
+        lines.old.items lines.new.items (written E.ByteOut err.old err.new) result }
+    ensures stays { IsTrue (E.has_failed err.old) → IsTrue (E.has_failed err.new) }
+{
+    let LotFile { name, path } = part;
+    match answer {
+        Ok(digest) => {
+            let line = ManifestLine {
+                name,
+                digested,
+                digest,
+            };
+            add_line(lines, line, err)
+        }
+        Err(fault) => tell_fault(alloc, folder, &fault, &path, err),
+    }
+}
+
+// Adds a line, or says that there is no memory for it, and gives the status.
+fn add_line<E: ByteOut>(lines: &mut Vec<ManifestLine>, line: ManifestLine, err: &mut E) -> u8
+    ensures status { IsSheetStatus result }
+    ensures found { AddsFound (FindsLine line)
+        lines.old.items lines.new.items (written E.ByteOut err.old err.new) result }
+    ensures stays { IsTrue (E.has_failed err.old) → IsTrue (E.has_failed err.new) }
+{
+    match lines.push(line) {
+        Ok(()) => 0,
+        Err(_) => report::out_of_memory(err),
+    }
+}
+
+// Finds a sheet of a lot under a schema.
+fn find_sheet<F: Folder, E: ByteOut>(
+    alloc: Global,
+    folder: &F,
+    schema: &Schema,
+    placed: &LotInFolder<'_>,
+    own: &NamePart,
+    lines: &mut Vec<ManifestLine>,
+    err: &mut E,
+) -> u8
+    ensures status { IsSheetStatus result }
+    ensures found { AddsFound (IsSheetFound (inputs F.Folder F.Reader.ByteIn folder.now) (F.why folder.now)
+        schema.now (placed_of placed.now) own.now)
+        lines.old.items lines.new.items (written E.ByteOut err.old err.new) result }
+    ensures stays { IsTrue (E.has_failed err.old) → IsTrue (E.has_failed err.new) }
+{
+    match part_of(alloc, placed, Extension::Vec, own) {
+        Ok(Some(part)) => {
+            let answer = digest_of(alloc, folder, schema, &part.path);
+            add_part(alloc, folder, part, Digested::Sheet, answer, lines, err)
+        }
+        Ok(None) => 0,
+        Err(_) => report::out_of_memory(err),
+    }
+}
+
+// The digest of the bytes of a path.
+fn digest_of_bytes<F: Folder>(alloc: Global, folder: &F, path: &str) -> Result<[u8; 32], RunFault>
+    ensures { IsBytesAnswer (inputs F.Folder F.Reader.ByteIn folder.now) path.now result }
+{
+    let bytes = read_whole(alloc, folder, path)?;
+    Ok(Sha256::digest(&bytes))
+}
+
+// Finds the coordinate system of a lot.
+fn find_geo<F: Folder, E: ByteOut>(
+    alloc: Global,
+    folder: &F,
+    placed: &LotInFolder<'_>,
+    own: &NamePart,
+    lines: &mut Vec<ManifestLine>,
+    err: &mut E,
+) -> u8
+    ensures status { IsSheetStatus result }
+    ensures found { AddsFound (IsGeoFound (inputs F.Folder F.Reader.ByteIn folder.now) (F.why folder.now)
+        (placed_of placed.now) own.now)
+        lines.old.items lines.new.items (written E.ByteOut err.old err.new) result }
+    ensures stays { IsTrue (E.has_failed err.old) → IsTrue (E.has_failed err.new) }
+{
+    match part_of(alloc, placed, Extension::Geo, own) {
+        Ok(Some(part)) => {
+            let answer = digest_of_bytes(alloc, folder, &part.path);
+            add_part(
+                alloc,
+                folder,
+                part,
+                Digested::Coordinates,
+                answer,
+                lines,
+                err,
+            )
+        }
+        Ok(None) => 0,
+        Err(_) => report::out_of_memory(err),
+    }
+}
+
+// The line of a lot's schema.
+fn schema_part(alloc: Global, schema: &Schema, lot: &Lot) -> Result<ManifestLine, AllocError>
+    ensures { IfOk result (λ line. line ≡ schema_part lot.now schema.now) }
+{
+    Ok(ManifestLine {
+        name: lot.file(alloc, Extension::Scd, &lot.scd)?,
+        digested: Digested::Schema,
+        digest: schema_digest(alloc, schema)?,
+    })
+}
+
+// Adds the line of a lot's schema, or says that there is no memory for it, and gives the status.
+fn find_schema<E: ByteOut>(
+    alloc: Global,
+    schema: &Schema,
+    lot: &Lot,
+    lines: &mut Vec<ManifestLine>,
+    err: &mut E,
+) -> u8
+    ensures status { IsSheetStatus result }
+    ensures found { AddsFound (FindsLine (schema_part lot.now schema.now))
+        lines.old.items lines.new.items (written E.ByteOut err.old err.new) result }
+    ensures stays { IsTrue (E.has_failed err.old) → IsTrue (E.has_failed err.new) }
+{
+    match schema_part(alloc, schema, lot) {
+        Ok(line) => add_line(lines, line, err),
+        Err(_) => report::out_of_memory(err),
+    }
+}
+
+// Finds the sheets of a lot under its schema, in their order, and gives the greatest status.
+fn find_each_sheet<F: Folder, E: ByteOut>(
+    alloc: Global,
+    folder: &F,
+    schema: &Schema,
+    placed: &LotInFolder<'_>,
+    lines: &mut Vec<ManifestLine>,
+    err: &mut E,
+) -> u8
+    ensures status { IsSheetStatus result }
+    ensures found { AddsFound (EachFound (IsSheetFound (inputs F.Folder F.Reader.ByteIn folder.now) (F.why folder.now)
+        schema.now (placed_of placed.now)) placed.now.lot.now.vecs)
+        lines.old.items lines.new.items (written E.ByteOut err.old err.new) result }
+    ensures stays { IsTrue (E.has_failed err.old) → IsTrue (E.has_failed err.new) }
+{
+    let mut worst = 0;
+    for own in placed.lot.vecs.as_slice() {
+        let status = find_sheet(alloc, folder, schema, placed, own, lines, err);
+        worst = worst.max(status);
+    }
+    worst
+}
+
+// Finds the schema of a lot and the sheets under it.
+fn find_sheets<F: Folder, E: ByteOut>(
+    alloc: Global,
+    folder: &F,
+    schema: &Schema,
+    placed: &LotInFolder<'_>,
+    lines: &mut Vec<ManifestLine>,
+    err: &mut E,
+) -> u8
+    ensures status { IsSheetStatus result }
+    ensures found { AddsFound (AreSheetsFound (inputs F.Folder F.Reader.ByteIn folder.now) (F.why folder.now)
+        schema.now (placed_of placed.now))
+        lines.old.items lines.new.items (written E.ByteOut err.old err.new) result }
+    ensures stays { IsTrue (E.has_failed err.old) → IsTrue (E.has_failed err.new) }
+{
+    let head = find_schema(alloc, schema, placed.lot, lines, err);
+    let sheets = find_each_sheet(alloc, folder, schema, placed, lines, err);
+    head.max(sheets)
+}
+
+// Loads the schema of a lot and finds it with the sheets under it, or says why there is none.
+fn find_under<F: Folder, E: ByteOut>(
+    alloc: Global,
+    folder: &F,
+    kinds: &GivenKinds<'_>,
+    files: &ManyFiles<'_>,
+    placed: &LotInFolder<'_>,
+    lines: &mut Vec<ManifestLine>,
+    err: &mut E,
+) -> u8
+    ensures status { IsSheetStatus result }
+    ensures found { AddsFound (IsSchemaFound (inputs F.Folder F.Reader.ByteIn folder.now) (F.why folder.now)
+        kinds.now files.now (placed_of placed.now))
+        lines.old.items lines.new.items (written E.ByteOut err.old err.new) result }
+    ensures stays { IsTrue (E.has_failed err.old) → IsTrue (E.has_failed err.new) }
+{
+    match loaded(alloc, folder, kinds, files) {
+        Ok(loaded) => {
+            notes::say(err, &loaded.note);
+            find_sheets(alloc, folder, &loaded.schema, placed, lines, err)
+        }
+        Err(fault) => tell_fault(alloc, folder, &fault, path_of_schema(files, &fault), err),
+    }
+}
+
+// Finds the schema of a lot and its sheets, where its classes and its dictionary are there.
+fn find_classes<F: Folder, E: ByteOut>(
+    alloc: Global,
+    folder: &F,
+    kinds: &GivenKinds<'_>,
+    placed: &LotInFolder<'_>,
+    lines: &mut Vec<ManifestLine>,
+    err: &mut E,
+) -> u8
+    ensures status { IsSheetStatus result }
+    ensures found { AddsFound (AreClassesFound (inputs F.Folder F.Reader.ByteIn folder.now) (F.why folder.now)
+        kinds.now (placed_of placed.now))
+        lines.old.items lines.new.items (written E.ByteOut err.old err.new) result }
+    ensures stays { IsTrue (E.has_failed err.old) → IsTrue (E.has_failed err.new) }
+{
+    match lot_paths(alloc, placed.before, placed.names, placed.lot) {
+        Ok(Some(paths)) => {
+            let files = ManyFiles {
+                scd: paths.scd.as_str(),
+                dic: paths.dic.as_str(),
+                sheets: Vec::new(alloc),
+            };
+            find_under(alloc, folder, kinds, &files, placed, lines, err)
+        }
+        Ok(None) => 0,
+        Err(_) => report::out_of_memory(err),
+    }
+}
+
+// Finds the coordinate system of a lot, if it has one.
+fn find_any_geo<F: Folder, E: ByteOut>(
+    alloc: Global,
+    folder: &F,
+    placed: &LotInFolder<'_>,
+    lines: &mut Vec<ManifestLine>,
+    err: &mut E,
+) -> u8
+    ensures status { IsSheetStatus result }
+    ensures found { AddsFound (IsAnyGeoFound (inputs F.Folder F.Reader.ByteIn folder.now) (F.why folder.now)
+        (placed_of placed.now))
+        lines.old.items lines.new.items (written E.ByteOut err.old err.new) result }
+    ensures stays { IsTrue (E.has_failed err.old) → IsTrue (E.has_failed err.new) }
+{
+    match &placed.lot.geo {
+        Some(own) => find_geo(alloc, folder, placed, own, lines, err),
+        None => 0,
+    }
+}
+
+// Finds the schema, the sheets and the coordinate system of a lot.
+fn find_parts<F: Folder, E: ByteOut>(
+    alloc: Global,
+    folder: &F,
+    kinds: &GivenKinds<'_>,
+    placed: &LotInFolder<'_>,
+    lines: &mut Vec<ManifestLine>,
+    err: &mut E,
+) -> u8
+    ensures status { IsSheetStatus result }
+    ensures found { AddsFound (ArePartsFound (inputs F.Folder F.Reader.ByteIn folder.now) (F.why folder.now)
+        kinds.now (placed_of placed.now))
+        lines.old.items lines.new.items (written E.ByteOut err.old err.new) result }
+    ensures stays { IsTrue (E.has_failed err.old) → IsTrue (E.has_failed err.new) }
+{
+    let classes = find_classes(alloc, folder, kinds, placed, lines, err);
+    let geo = find_any_geo(alloc, folder, placed, lines, err);
+    classes.max(geo)
+}
+
+// Finds the parts of a lot, and says which of its files are missing.
+fn find_lot<F: Folder, E: ByteOut>(
+    alloc: Global,
+    folder: &F,
+    kinds: &GivenKinds<'_>,
+    placed: &LotInFolder<'_>,
+    lines: &mut Vec<ManifestLine>,
+    err: &mut E,
+) -> u8
+    ensures status { IsSheetStatus result }
+    ensures found { AddsFound (IsLotFound (inputs F.Folder F.Reader.ByteIn folder.now) (F.why folder.now)
+        kinds.now (placed_of placed.now))
+        lines.old.items lines.new.items (written E.ByteOut err.old err.new) result }
+    ensures stays { IsTrue (E.has_failed err.old) → IsTrue (E.has_failed err.new) }
+{
+    let missing = say_missing(alloc, placed.before, placed.names, placed.lot, err);
+    let parts = find_parts(alloc, folder, kinds, placed, lines, err);
+    missing.max(parts)
+}
+
+// Finds the parts of lots, in their order, and gives the greatest status.
+fn find_each_lot<'x, F: Folder, E: ByteOut>(
+    alloc: Global,
+    folder: &F,
+    kinds: &GivenKinds<'_>,
+    before: &'x str,
+    names: &'x FolderNames<'x>,
+    lots: &'x [Lot],
+    lines: &mut Vec<ManifestLine>,
+    err: &mut E,
+) -> u8
+    ensures status { IsSheetStatus result }
+    ensures found { AddsFound (EachFound (λ lot. IsLotFound (inputs F.Folder F.Reader.ByteIn folder.now)
+        (F.why folder.now) kinds.now (placed before.now names.now lot)) lots.now)
+        lines.old.items lines.new.items (written E.ByteOut err.old err.new) result }
+    ensures stays { IsTrue (E.has_failed err.old) → IsTrue (E.has_failed err.new) }
+{
+    let mut worst = 0;
+    for lot in lots {
+        let placed = LotInFolder { before, names, lot };
+        let status = find_lot(alloc, folder, kinds, &placed, lines, err);
+        worst = worst.max(status);
+    }
+    worst
+}
+
+/// Finds the lines of a delivery, which are added to others, and gives the status: 0 where each part has one, and else
+/// the greatest of what the errors say of the rest.
+pub(crate) fn find_lines<F: Folder, E: ByteOut>(
+    alloc: Global,
+    folder: &F,
+    kinds: &GivenKinds<'_>,
+    opened: &OpenDelivery,
+    names: &FolderNames<'_>,
+    lines: &mut Vec<ManifestLine>,
+    err: &mut E,
+) -> u8
+    requires { names.now ≡ (opened_of opened.now).names }
+    ensures status { IsSheetStatus result }
+    ensures found { AddsFound (AreLotsFound (inputs F.Folder F.Reader.ByteIn folder.now) (F.why folder.now)
+        kinds.now (opened_of opened.now))
+        lines.old.items lines.new.items (written E.ByteOut err.old err.new) result }
+    ensures stays { IsTrue (E.has_failed err.old) → IsTrue (E.has_failed err.new) }
+{
+    let before = opened.before.as_str();
+    let lots = opened.delivery.lots();
+    let worst = find_each_lot(alloc, folder, kinds, before, names, lots, lines, err);
+    let unnamed = say_lines(err, &unnamed_lines(alloc, before, names, lots), 0);
+    worst.max(unnamed)
+}

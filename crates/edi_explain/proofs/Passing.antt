@@ -1,0 +1,105 @@
+-- Zones that pass tests, at places of a record.
+use Rattle.std.proofs.Common.{◌≡◌, ◌∙◌, ◌↔◌, ◌+◌, ◌-◌, ◌<◌, ℕ, suc, Bool, true, false, not, ◌&&◌, eqb, List, length, take, drop, get_or, slice_get, Option, Some, None, is_some, MatchOption, IsTrue, refl, sym, ap, subst, arith}
+use Rattle.std.specs.Str.{all_ascii_digits}
+use Rattle.std.specs.Str.Parse.{digits_value}
+use Rattle.std.proofs.lemmas.Bool.{eqb-true, eq-eqb}
+use Rattle.std.proofs.lemmas.List.{length-map, length-drop, take-map, drop-map, take_all, get_or-map}
+use Rattle.std.proofs.lemmas.Option.{slice_get_read}
+use Rattle.edi_line.specs.Entry.{Entry, entry, entries}
+use Rattle.edi_line.specs.Zones.{groups_of}
+use Rattle.edi_line.specs.declared.zone.Zone.{Zone}
+use Rattle.edi_line.proofs.NumberRead.{digits_test, test_digits}
+use Rattle.edi_record.specs.RecordRules.{IsNoPointer}
+use Rattle.edi_record.specs.Texts.{IsCount, IsPointer, IsPosition, PointerText, shown}
+use Rattle.edi_record.specs.declared.pointer.Pointer.{Pointer}
+use Rattle.edi_record.specs.declared.record.Point.{Point}
+use Rattle.edi_record.specs.inner.Texts.{point}
+use Rattle.edi_record.proofs.TextParts.{place_is}
+use Rattle.edi_explain.specs.BreakingZones.{IsBreakingZone, IsFirstPassing, Passes, PassesAt, count_beside, test_of}
+use Rattle.edi_explain.specs.declared.breaking.ZoneTest.{ZoneTest}
+
+-- ---- texts
+
+pub no_pointer_is : (text : List ℕ) (r : Option Pointer) (t : Bool) → is_some r ≡ not t
+    → MatchOption r ((p : PointerText) → ¬ (IsPointer text p)) (λ p. IsPointer text (shown p)) → IsTrue t ↔ IsNoPointer text
+no_pointer_is text None true e h = (λ i. h, λ n. refl)
+no_pointer_is text None false e h = absurd cc
+no_pointer_is text (Some p) true e h = absurd cc
+no_pointer_is text (Some p) false e h = (λ i. absurd cc, λ n. absurd (n (shown p) h))
+
+pub no_position_is : (text : List ℕ) (r : Option Point) (t : Bool) → is_some r ≡ not t → r ≡ point text
+    → IsTrue t ↔ ((p : Point) → ¬ (IsPosition text p))
+no_position_is text None true e h = (λ i p k. let f : ◌≡◌ {A = Option Point} None (Some p) = h ∙ (place_is text p).1 k in cc, λ n. refl)
+no_position_is text None false e h = absurd cc
+no_position_is text (Some p) true e h = absurd cc
+no_position_is text (Some p) false e h = (λ i. absurd cc, λ n. absurd (n p ((place_is text p).0 (sym h))))
+
+pub other_count_is : (text : List ℕ) (n : ℕ) (w : Bool) → 0 < length text → w ≡ (all_ascii_digits text && eqb (digits_value 10 text) n)
+    → IsTrue (not w) ↔ ¬ (IsCount text n)
+other_count_is text n w full e = go (all_ascii_digits text) refl (eqb (digits_value 10 text) n) refl e
+  where
+    go : (a : Bool) → all_ascii_digits text ≡ a → (b : Bool) → eqb (digits_value 10 text) n ≡ b → w ≡ (a && b) → IsTrue (not w) ↔ ¬ (IsCount text n)
+    go true p true q e = (λ i. absurd cc, λ no. absurd (no (full, digits_test text p, sym (eqb-true _ _ q))))
+    go true p false q e = (λ i k. let f = sym q ∙ eq-eqb (digits_value 10 text) n (sym k.2) in cc, λ no. cc)
+    go false p b q e = (λ i k. let f = sym p ∙ test_digits text k.1 in cc, λ no. cc)
+
+-- ---- places
+
+module _ (zs : List Zone) (place : ℕ) (z : Zone) (less : place < length zs) (is : z ≡ get_or zs place z) where
+  pub zone_there : slice_get (entries zs) place ≡ Some (entry z)
+  zone_there =
+      slice_get_read (entries zs) (length zs) place (entry z) (sym (length-map zs entry)) less
+      (ap entry is ∙ sym (get_or-map entry zs place z (entry z) less))
+
+pub same_entry : (a b : Entry) → Some a ≡ Some b → a ≡ b
+same_entry a b e = cc
+
+module _ (zs : List Zone) (place : ℕ) (z : Zone) (test : ZoneTest) (less : place < length zs) (is : z ≡ get_or zs place z) where
+  front_is : entries (take place zs) ≡ take place (entries zs)
+  front_is = sym (take-map entry place zs)
+
+  behind_is : entries (take (length zs - (place + 1)) (drop (place + 1) zs)) ≡ drop (suc place) (entries zs)
+  behind_is =
+      ap entries (take_all (length zs - (place + 1)) (drop (place + 1) zs) (omega (arith, length-drop (place + 1) zs)))
+      ∙ sym (drop-map entry (place + 1) zs) ∙ ap (λ n. drop n (entries zs)) next
+    where
+      next : place + 1 ≡ suc place
+      next = omega arith
+
+  abbrev PassesThere : Type 0
+  PassesThere = Passes (entries zs) (entries (take place zs)) (entry z) (entries (take (length zs - (place + 1)) (drop (place + 1) zs))) test
+
+  pub passes_there : PassesThere → PassesAt test (entries zs) place
+  passes_there h = (
+    entry z,
+    zone_there zs place z less is,
+    subst (λ b. Passes (entries zs) (take place (entries zs)) (entry z) b test) behind_is
+        (subst (λ f. Passes (entries zs) f (entry z) (entries (take (length zs - (place + 1)) (drop (place + 1) zs))) test) front_is h),
+  )
+
+  pub there_passes : PassesAt test (entries zs) place → PassesThere
+  there_passes h =
+      let same = same_entry h.0 (entry z) (sym h.1 ∙ zone_there zs place z less is) in
+      subst (λ f. Passes (entries zs) f (entry z) (entries (take (length zs - (place + 1)) (drop (place + 1) zs))) test) (sym front_is)
+      (subst (λ b. Passes (entries zs) (take place (entries zs)) (entry z) b test) (sym behind_is)
+      (subst (λ x. Passes (entries zs) (take place (entries zs)) x (drop (suc place) (entries zs)) test) same h.2))
+
+-- ---- records
+
+same_group : (a b : List Entry) → Some a ≡ Some b → a ≡ b
+same_group a b e = cc
+
+same_test : (a b : ZoneTest) → Some a ≡ Some b → a ≡ b
+same_test a b e = cc
+
+module _ (zones : List Entry) (rule number place : ℕ) (group : List Entry) (test : ZoneTest) (n : number ≡ suc place)
+    (there : slice_get (groups_of zones) place ≡ Some group) (t : test_of rule ≡ Some test) where
+  pub zone_found : (z : Entry) (count : Option ℕ) → IsFirstPassing test group z → count ≡ count_beside group z.code → IsBreakingZone zones rule number z count
+  zone_found z count h e = (place, group, test, n, there, t, h, e)
+
+  pub no_zone_found : ((z : Entry) → ¬ (IsFirstPassing test group z)) → (z : Entry) (count : Option ℕ) → ¬ (IsBreakingZone zones rule number z count)
+  no_zone_found h z count k =
+      let at : k.0 ≡ place = omega (arith, k.3, n) in
+      let own : k.1 ≡ group = same_group k.1 group (sym k.4 ∙ (ap (slice_get (groups_of zones)) at ∙ there)) in
+      let tested : k.2 ≡ test = same_test k.2 test (sym k.5 ∙ t) in
+      h z (subst (λ g. IsFirstPassing test g z) own (subst (λ x. IsFirstPassing x k.1 z) tested k.6))

@@ -1,0 +1,55 @@
+-- Pointers that name what they may not.
+use Rattle.std.proofs.Common.{Bor, ◌≡◌, ◌≢◌, ◌∙◌, ◌↔◌, ◌⊎◌, inl, inr, ℕ, Bool, not, List, Option, Some, None, codes, IsTrue, MatchOption, suc, sym, ap, subst, arith, slice_get, unwrap_or}
+use Rattle.edi_line.specs.Entry.{Entry, entry}
+use Rattle.edi_line.specs.Zones.{groups_of}
+use Rattle.edi_line.specs.declared.zone.Zone.{Zone}
+use Rattle.edi_record.specs.Texts.{IsPointer, PointerText}
+use Rattle.edi_record.proofs.TextParts.{pointer_one}
+use Rattle.edi_schema.specs.Classes.{Classes, place_of}
+use Rattle.edi_explain.specs.AstrayZones.{AreApart, IsAstrayZone, IsFirstAstray, NamesNoAttribute, first_end_at}
+
+module _ (s : Classes) (text : List ℕ) (p : PointerText) (h : IsPointer text p) where
+  pub no_attribute_type : p.rty ≢ codes "ATT" → NamesNoAttribute s text
+  no_attribute_type n q k = inl (λ e. n (ap (λ (x : PointerText). x.rty) (pointer_one text p q h k) ∙ e))
+
+  pub no_attribute_class : ¬ (p.rty ≢ codes "ATT") → (t : Bool) → IsTrue t ↔ (place_of s (record { rty = p.rty; rid = p.rid }) ≡ None) → IsTrue t ↔ NamesNoAttribute s text
+  no_attribute_class not t e = (into, λ n. from (n p h))
+    where
+      into : IsTrue t → NamesNoAttribute s text
+      into i q k = inr (ap (λ (x : PointerText). place_of s (record { rty = x.rty; rid = x.rid })) (pointer_one text q p k h) ∙ e.0 i)
+
+      from : (p.rty ≢ codes "ATT") ⊎ (place_of s (record { rty = p.rty; rid = p.rid }) ≡ None) → IsTrue t
+      from (inl n) = absurd (not n)
+      from (inr none) = e.1 none
+
+module _ (text other : List ℕ) (p q : PointerText) (h : IsPointer text p) (k : IsPointer other q) where
+  pub apart_by_subset : ¬ (p.lot ≢ q.lot) → (t : Bool) → IsTrue t ↔ (p.subset ≢ q.subset) → IsTrue t ↔ AreApart text other
+  apart_by_subset not t e = (λ i. (p, q, h, k, inr (e.0 i)), λ x. from x.0 x.1 (pointer_one text p x.0 h x.2) (pointer_one other q x.1 k x.3) x.4)
+    where
+      from : (a b : PointerText) → p ≡ a → q ≡ b → (a.lot ≢ b.lot) ⊎ (a.subset ≢ b.subset) → IsTrue t
+      from a b f g (inl n) = absurd (not (λ r. n (sym (ap (λ (x : PointerText). x.lot) f) ∙ (r ∙ ap (λ (x : PointerText). x.lot) g))))
+      from a b f g (inr n) = e.1 (λ r. n (sym (ap (λ (x : PointerText). x.subset) f) ∙ (r ∙ ap (λ (x : PointerText). x.subset) g)))
+
+pub in_neither : {X Y C : Type 0} → ¬ X → ¬ Y → X ⊎ (Y × C) → ⊥
+in_neither left right (inl x) = left x
+in_neither left right (inr y) = right y.0
+
+pub none_of : {X A : Type 0} (B : X → Type 0) (o : Option X) → o ≡ None → MatchOption o A B → A
+none_of B None e h = h
+none_of B (Some x) e h = absurd cc
+
+same_group : (a b : List Entry) → Some a ≡ Some b → a ≡ b
+same_group a b e = cc
+
+module _ (s : Classes) (zones : List Entry) (earlier : Option ℕ) (rule number place : ℕ) (group : List Entry) (n : number ≡ suc place)
+    (there : slice_get (groups_of zones) place ≡ Some group) (end : Option (List ℕ)) (is : end ≡ first_end_at zones (unwrap_or earlier place)) where
+  pub astray_found : (found : Option (Bor Zone))
+      → MatchOption found ((z : Entry) → ¬ (IsFirstAstray s end rule group z)) (λ z. IsFirstAstray s end rule group (entry z.now))
+      → MatchOption found ((z : Entry) → ¬ (IsAstrayZone s zones earlier rule number z)) (λ z. IsAstrayZone s zones earlier rule number (entry z.now))
+  astray_found (Some z) h = (place, group, n, there, subst (λ e. IsFirstAstray s e rule group (entry z.now)) is h)
+  astray_found None h = λ z k.
+      let at : k.0 ≡ place = omega (arith, k.2, n) in
+      let own : k.1 ≡ group = same_group k.1 group (sym k.3 ∙ (ap (slice_get (groups_of zones)) at ∙ there)) in
+      h z (subst (λ e. IsFirstAstray s e rule group z) (sym is)
+      (subst (λ g. IsFirstAstray s (first_end_at zones (unwrap_or earlier place)) rule g z) own
+      (subst (λ m. IsFirstAstray s (first_end_at zones (unwrap_or earlier m)) rule k.1 z) at k.4)))

@@ -1,0 +1,51 @@
+-- The zone with which a record breaks rule 303 or 304: a pointer that names what it may not.
+use Rattle.std.specs.Prelude.{◌≡◌, ◌≢◌, ◌⊎◌, ℕ, suc, true, List, Option, Some, None, codes, option_and_then, slice_get, unwrap_or}
+use Rattle.edi_line.specs.Entry.{Entry, has_code}
+use Rattle.edi_line.specs.Zones.{groups_of}
+use Rattle.edi_record.specs.Records.{first, values}
+use Rattle.edi_record.specs.Texts.{IsPointer, PointerText}
+use Rattle.edi_schema.specs.Classes.{Classes, place_of}
+use Rattle.edi_explain.specs.BreakingZones.{IsBreakingZone}
+use Rattle.edi_explain.specs.Partners.{IsLeast}
+
+-- a pointer names no class of an attribute: its type isn't ATT, or its name is none of the schema's
+abbrev pub NamesNoAttribute : Classes → List ℕ → Type 0
+NamesNoAttribute s text = (p : PointerText) → IsPointer text p
+    → (p.rty ≢ codes "ATT") ⊎ (place_of s (record { rty = p.rty; rid = p.rid }) ≡ None)
+
+-- two pointers are of different lots or subsets
+abbrev pub AreApart : List ℕ → List ℕ → Type 0
+AreApart text other = (p q : PointerText) × IsPointer text p × IsPointer other q × ((p.lot ≢ q.lot)
+    ⊎ (p.subset ≢ q.subset))
+
+-- a zone that breaks 303, or 304 with this end
+abbrev pub IsAstray : Classes → Option (List ℕ) → ℕ → Entry → Type 0
+IsAstray s end rule z = ((rule ≡ 303) × (has_code (codes "ATP") z ≡ true) × NamesNoAttribute s z.value)
+    ⊎ ((rule ≡ 304) × (has_code (codes "FTP") z ≡ true) × ((text : List ℕ) × (end ≡ Some text)
+    × AreApart z.value text))
+
+-- the zone at a place of a record does; places are from 0
+abbrev pub IsAstrayAt : Classes → Option (List ℕ) → ℕ → List Entry → ℕ → Type 0
+IsAstrayAt s end rule group place = (z : Entry) × (slice_get group place ≡ Some z) × IsAstray s end rule z
+
+-- the first zone of a record that does
+abbrev pub IsFirstAstray : Classes → Option (List ℕ) → ℕ → List Entry → Entry → Type 0
+IsFirstAstray s end rule group z = (place : ℕ) × IsLeast (IsAstrayAt s end rule group) place
+    × (slice_get group place ≡ Some z)
+
+-- the first end of the record at a place, if it has one
+abbrev pub first_end_at : List Entry → ℕ → Option (List ℕ)
+first_end_at zones place =
+    option_and_then (λ group. first (values (codes "FTP") group)) (slice_get (groups_of zones) place)
+
+-- The zone with which the record with this number, from 1, breaks 303 or 304. The first end of all links is that of
+-- the earlier record of 304, or else its own.
+abbrev pub IsAstrayZone : Classes → List Entry → Option ℕ → ℕ → ℕ → Entry → Type 0
+IsAstrayZone s zones earlier rule number z = (place : ℕ) × (group : List Entry) × (number ≡ suc place)
+    × (slice_get (groups_of zones) place ≡ Some group)
+    × IsFirstAstray s (first_end_at zones (unwrap_or earlier place)) rule group z
+
+-- the zone with which a record of a sheet breaks a rule, and how many zones it should count
+abbrev pub IsZoneOfSheet : Classes → List Entry → Option ℕ → ℕ → ℕ → Entry → Option ℕ → Type 0
+IsZoneOfSheet s zones earlier rule number z count =
+    IsBreakingZone zones rule number z count ⊎ (IsAstrayZone s zones earlier rule number z × (count ≡ None))
