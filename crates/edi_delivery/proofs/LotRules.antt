@@ -13,6 +13,7 @@ use Rattle.edi_record.specs.RecordRules.{Counts}
 use Rattle.edi_record.specs.Texts.{IsCount}
 use Rattle.edi_record.specs.inner.Texts.{count}
 use Rattle.edi_record.specs.inner.RecordRules.{counts_right}
+use Rattle.edi_record.proofs.Counted.{right_said, right_read}
 use Rattle.edi_delivery.specs.NameParts.{is_name_part, is_same_name}
 use Rattle.edi_delivery.specs.Lots.{is_lot, StatesLot, StatesLots, files_of}
 use Rattle.edi_delivery.specs.DeliveryRules.{file_codes, ShareFile, HasUnsafe, HasSeveral, BreaksLotRule}
@@ -65,38 +66,6 @@ module _ (before : List (List Entry)) (group : List Entry) where
   files_test a = list_any-from_Any (λ code. list_any is_unsafe (values code group)) file_codes (a.0, a.1, a.2, a.3, unsafe_test (values a.1 group) a.4)
 
 -- ---- counts
-
-count_said : (text : List ℕ) (m : ℕ) → count text ≡ Some m → IsCount text m
-unfolding count
-count_said text m e = go (ltb 0 (length text)) refl (all_ascii_digits text) refl e
-  where
-    go : (a : Bool) → ltb 0 (length text) ≡ a → (b : Bool) → all_ascii_digits text ≡ b → cond (a && b) (Some (digits_value 10 text)) None ≡ Some m → IsCount text m
-    go true p true q e = (ltb-true _ _ p, digits_test text q, (let h : digits_value 10 text ≡ m = cc in sym h))
-    go true p false q e = absurd cc
-    go false p b q e = absurd cc
-
-count_read : (text : List ℕ) (m : ℕ) → IsCount text m → count text ≡ Some m
-unfolding count
-count_read text m h = rw (lt-ltb 0 (length text) h.0, test_digits text h.1) (ap (λ n. Some n) (sym h.2))
-
-counted_one : (text : List ℕ) (n m : ℕ) → count text ≡ Some m → counts_right (text ∷ []) n ≡ eqb m n
-counted_one text n m e = rw e refl
-
-counted_none : (text : List ℕ) (n : ℕ) → count text ≡ None → counts_right (text ∷ []) n ≡ false
-counted_none text n e = rw e refl
-
-right_said : (texts : List (List ℕ)) (n : ℕ) → counts_right texts n ≡ true → Counts texts n
-right_said [] n e = inl refl
-right_said (text ∷ []) n e = go (count text) refl
-  where
-    go : (o : Option ℕ) → count text ≡ o → Counts (text ∷ []) n
-    go None q = let f : false ≡ true = sym (counted_none text n q) ∙ e in absurd cc
-    go (Some m) q = inr (text, refl, subst (IsCount text) (eqb-true m n (sym (counted_one text n m q) ∙ e)) (count_said text m q))
-right_said (text ∷ other ∷ texts) n e = let f : false ≡ true = e in absurd cc
-
-right_read : (texts : List (List ℕ)) (n : ℕ) → Counts texts n → counts_right texts n ≡ true
-right_read texts n (inl e) = ap (λ t. counts_right t n) e
-right_read texts n (inr h) = ap (λ t. counts_right t n) h.1 ∙ counted_one h.0 n n (count_read h.0 n h.2) ∙ eq-eqb n n refl
 
 miscounts_said : (counts vecs : List (List ℕ)) → miscounts counts vecs ≡ true → (vecs ≡ []) ⊎ (¬ (Counts counts (length vecs)))
 miscounts_said counts [] e = inl refl

@@ -1,20 +1,15 @@
 -- Zones that pass tests, at places of a record.
-use Rattle.std.proofs.Common.{◌≡◌, ◌∙◌, ◌↔◌, ◌+◌, ◌-◌, ◌<◌, ℕ, suc, Bool, true, false, not, ◌&&◌, eqb, List, length, take, drop, get_or, slice_get, Option, Some, None, is_some, MatchOption, IsTrue, refl, sym, ap, subst, arith}
-use Rattle.std.specs.Str.{all_ascii_digits}
-use Rattle.std.specs.Str.Parse.{digits_value}
-use Rattle.std.proofs.lemmas.Bool.{eqb-true, eq-eqb}
+use Rattle.std.proofs.Common.{◌≡◌, ◌∙◌, ◌↔◌, ◌+◌, ◌-◌, ◌<◌, ℕ, suc, Bool, true, false, not, List, length, take, drop, get_or, slice_get, Option, Some, None, is_some, MatchOption, IsTrue, refl, sym, ap, subst, arith}
+use Rattle.std.specs.Bool.{MatchBool}
 use Rattle.std.proofs.lemmas.List.{length-map, length-drop, take-map, drop-map, take_all, get_or-map}
 use Rattle.std.proofs.lemmas.Option.{slice_get_read}
 use Rattle.edi_line.specs.Entry.{Entry, entry, entries}
 use Rattle.edi_line.specs.Zones.{groups_of}
 use Rattle.edi_line.specs.declared.zone.Zone.{Zone}
-use Rattle.edi_line.proofs.NumberRead.{digits_test, test_digits}
 use Rattle.edi_record.specs.RecordRules.{IsNoPointer}
 use Rattle.edi_record.specs.Texts.{IsCount, IsPointer, IsPosition, PointerText, shown}
 use Rattle.edi_record.specs.declared.pointer.Pointer.{Pointer}
 use Rattle.edi_record.specs.declared.record.Point.{Point}
-use Rattle.edi_record.specs.inner.Texts.{point}
-use Rattle.edi_record.proofs.TextParts.{place_is}
 use Rattle.edi_explain.specs.BreakingZones.{IsBreakingZone, IsFirstPassing, Passes, PassesAt, count_beside, test_of}
 use Rattle.edi_explain.specs.declared.breaking.ZoneTest.{ZoneTest}
 
@@ -27,21 +22,14 @@ no_pointer_is text None false e h = absurd cc
 no_pointer_is text (Some p) true e h = absurd cc
 no_pointer_is text (Some p) false e h = (λ i. absurd cc, λ n. absurd (n (shown p) h))
 
-pub no_position_is : (text : List ℕ) (r : Option Point) (t : Bool) → is_some r ≡ not t → r ≡ point text
-    → IsTrue t ↔ ((p : Point) → ¬ (IsPosition text p))
-no_position_is text None true e h = (λ i p k. let f : ◌≡◌ {A = Option Point} None (Some p) = h ∙ (place_is text p).1 k in cc, λ n. refl)
-no_position_is text None false e h = absurd cc
-no_position_is text (Some p) true e h = absurd cc
-no_position_is text (Some p) false e h = (λ i. absurd cc, λ n. absurd (n p ((place_is text p).0 (sym h))))
+pub no_position_is : (text : List ℕ) (t : Bool) → MatchBool t ((p : Point) × IsPosition text p) ((p : Point) → ¬ (IsPosition text p))
+    → IsTrue (not t) ↔ ((p : Point) → ¬ (IsPosition text p))
+no_position_is text true h = (λ i. absurd cc, λ n. absurd (n h.0 h.1))
+no_position_is text false h = (λ i. h, λ n. refl)
 
-pub other_count_is : (text : List ℕ) (n : ℕ) (w : Bool) → 0 < length text → w ≡ (all_ascii_digits text && eqb (digits_value 10 text) n)
-    → IsTrue (not w) ↔ ¬ (IsCount text n)
-other_count_is text n w full e = go (all_ascii_digits text) refl (eqb (digits_value 10 text) n) refl e
-  where
-    go : (a : Bool) → all_ascii_digits text ≡ a → (b : Bool) → eqb (digits_value 10 text) n ≡ b → w ≡ (a && b) → IsTrue (not w) ↔ ¬ (IsCount text n)
-    go true p true q e = (λ i. absurd cc, λ no. absurd (no (full, digits_test text p, sym (eqb-true _ _ q))))
-    go true p false q e = (λ i k. let f = sym q ∙ eq-eqb (digits_value 10 text) n (sym k.2) in cc, λ no. cc)
-    go false p b q e = (λ i k. let f = sym p ∙ test_digits text k.1 in cc, λ no. cc)
+pub other_count_is : (text : List ℕ) (n : ℕ) (t : Bool) → IsTrue t ↔ IsCount text n → IsTrue (not t) ↔ ¬ (IsCount text n)
+other_count_is text n true h = (λ i. absurd cc, λ no. absurd (no (h.0 refl)))
+other_count_is text n false h = (λ i k. let f : false ≡ true = h.1 k in cc, λ no. refl)
 
 -- ---- places
 

@@ -9,9 +9,8 @@ ghost use Rattle.edi_record.specs.declared.record.Point.{Point as Points};
 ghost use Rattle.edi_explain.specs.BreakingZones.{IsBreakingZone, IsFirstPassing, IsSecond, Passes, PassesAt, count_beside as count_beside_code, counted_by as counted_by_code, is_typed, test_of as test_of_rule};
 ghost use Rattle.edi_explain.specs.declared.breaking.ZoneTest.TheVariants.{BadCount};
 
-use crate::count_texts::is_other_count;
-use crate::positions::is_no_position;
 use crate::site::group_of;
+use crate::wrong_texts::{is_no_position, is_other_count};
 use edi_line::Zone;
 use edi_line::codes::RID;
 use edi_record::Pointer;

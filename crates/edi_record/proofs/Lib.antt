@@ -1,5 +1,7 @@
+pub mod Counted
 pub mod TextMarks
 pub mod TextParts
+pub mod TextsTold
 pub mod Unique
 pub mod Stated
 pub mod RowsHold

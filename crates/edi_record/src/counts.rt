@@ -1,11 +1,12 @@
 //! Counts of zones.
 
-ghost use Rattle.std.specs.Prelude.{◌≡◌, ℕ, List, [], ◌∷◌, ◌==◌, ◌&&◌, not};
+ghost use Rattle.std.specs.Prelude.{◌≡◌, ◌↔◌, ℕ, List, [], ◌∷◌, ◌==◌, ◌&&◌, not, IsTrue};
 ghost use Rattle.std.specs.Char.{is_ascii_digit, digit_value};
 ghost use Rattle.std.specs.Str.{all_ascii_digits};
 ghost use Rattle.std.specs.Str.Parse.{digits_value};
 ghost use Rattle.edi_record.specs.inner.RecordRules.{counts_right};
 ghost use Rattle.edi_record.specs.inner.Stored.{AreTexts};
+ghost use Rattle.edi_record.specs.Texts.{IsCount};
 
 use crate::only::Only;
 
@@ -37,6 +38,13 @@ fn says(text: &[u8], number: usize) -> bool
     ensures { result ≡ counts_right (text.now ∷ []) number }
 {
     !text.is_empty() && are_worth(text, number)
+}
+
+/// Whether a text is a count of so many: digits, one at least, that are worth the number.
+pub fn is_count(text: &[u8], number: usize) -> bool
+    ensures { IsTrue result ↔ IsCount text.now number }
+{
+    says(text, number)
 }
 
 /// Whether a count is repeated, isn't digits, or isn't this number. It may be absent.

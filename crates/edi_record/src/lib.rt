@@ -28,11 +28,13 @@ pub mod sheet_rest;
 mod spare_lists;
 mod stating;
 
+pub use counts::is_count;
 pub use fault::{RecordFault, SheetFault};
 pub use groups::{first_value, group_here, lacks_identifier};
 pub use list::{KeepNothing, read_sheet, read_sheet_beside, read_sheet_from};
 pub use name::Name;
 pub use pointer::{Pointer, texts_are_unique};
+pub use points::is_position;
 pub use reading::{
     known_files_are_read, printed_records_break_no_rule, printed_sheets_are_sound,
     read_sheets_are_printable, records, records_are_read_again, records_are_unique,

@@ -9,6 +9,9 @@ ghost use Rattle.edi_record.specs.Records.{values, has_points};
 ghost use Rattle.edi_record.specs.inner.RecordRules.{kind_in, has_bad_point};
 ghost use Rattle.edi_record.specs.inner.RecordRefusal.{IsBreachOf};
 ghost use Rattle.edi_record.specs.inner.Stored.{Takes, StoresPoints};
+ghost use Rattle.std.specs.Bool.{MatchBool};
+ghost use Rattle.edi_record.specs.Texts.{IsPosition};
+ghost use Rattle.edi_record.specs.declared.record.Point.{Point as Position};
 
 use crate::fault::GroupFault;
 use crate::marked::cut;
@@ -67,6 +70,13 @@ impl Point {
         }
         high(x, y, last(third.text)?)
     }
+}
+
+/// Whether a text is a position: two or three numbers parted by semicolons, with or without one at the end.
+pub fn is_position(text: &[u8]) -> bool
+    ensures { MatchBool result ((p : Position) × IsPosition text.now p) ((p : Position) → ¬ (IsPosition text.now p)) }
+{
+    Point::read(text).is_some()
 }
 
 /// The points of the zones that have come.
