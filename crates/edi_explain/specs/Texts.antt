@@ -35,7 +35,7 @@ line_texts =
     record {
       rule = 101;
       sentence = codes "a line that isn't skipped has no head in form";
-      reason = codes "Each zone of an " ++ edigeo ++ codes " file begins with its code, its nature, its format, the length of its value and a colon; without them nothing says what the line holds.";
+      reason = codes "A zone begins with its code, nature, format, the length of its value and a colon; without them nothing says what the line holds.";
       cause = codes "The file was edited by hand, saved in another form or joined from pieces, or it is no " ++ edigeo ++ codes " file.";
       remedy = codes "Look whether it is the file as it was delivered, unpacked and not stored by an editor, and "
           ++ codes "fetch it again; if it says the same, tell the producer the line.";
@@ -44,7 +44,7 @@ line_texts =
       rule = 102;
       sentence = codes "fewer bytes follow the head than its length says";
       reason = codes "The head says how many bytes the value has; where fewer are there, part of the value is lost.";
-      cause = codes "The line was cut, or a value was shortened by hand and its length was not changed, or the character set was converted, which changes how many bytes a letter takes.";
+      cause = codes "The line was cut, a value was changed by hand and its length wasn't, or the text was converted, so that letters take other numbers of bytes.";
       remedy = codes "Take the file as it was delivered, or fetch it again; if it says the same, tell the producer "
           ++ codes "the line.";
     } ∷
@@ -124,7 +124,7 @@ record_texts =
     record {
       rule = 202;
       sentence = codes "not exactly one RID in form";
-      reason = codes "A record is named by its identifier, and pointers are parted by semicolons; without just one identifier that a pointer can hold, links can't name the record.";
+      reason = codes "Links name a record by its identifier, in pointers that are parted by semicolons; so it needs one, and one that a pointer can hold.";
       cause = codes "RID is missing, stands twice, is empty, is too long or holds a semicolon.";
       remedy = codes "Tell the producer the line; a record has one RID of 1 to 255 bytes without a semicolon.";
     } ∷
@@ -154,7 +154,7 @@ record_texts =
       rule = 206;
       sentence = codes "a COR of a node or arc is no coordinate; a node without exactly one; an arc with fewer than two";
       reason = codes "A node is one position; an arc joins two or more.";
-      cause = codes "A COR is missing, stands twice at a node, or isn't two or three numbers parted by semicolons; a number may have too many digits or a comma for its point.";
+      cause = codes "A COR is missing, stands twice at a node, or isn't two or three numbers parted by semicolons; or a number has too many digits or a comma.";
       remedy = codes "Tell the producer the line; a position is x;y; with a point before the decimals, and a node "
           ++ codes "has one, an arc two or more.";
     } ∷
@@ -280,7 +280,7 @@ topology_texts =
       rule = 406;
       sentence = codes "a face on no side of an arc";
       reason = codes "A face is what arcs bound; without one it has no place in the plan.";
-      cause = codes "The links to the left and right faces of its arcs are missing or have other codes than the usual ones, or the face was left over when two parcels were joined.";
+      cause = codes "The links that put it left or right of its arcs are missing or have unusual codes, or it was left over when two parcels were joined.";
       remedy = codes "Where the schema has other codes for the links to faces, name them with --kinds; else tell "
           ++ codes "the producer the line of the face.";
     } ∷
@@ -326,7 +326,7 @@ schema_texts =
     } ∷
     record {
       rule = 604;
-      sentence = codes "two classes of one kind, or a class of a kind without one of its partner's kind, or a class of a kind whose type holds `;`, so that no pointer can name it, while its partner's type holds none";
+      sentence = codes "two classes of one kind, a class of a kind without one of its partner's kind, or a class whose type holds `;` while its partner's holds none";
       reason = codes "A link of one of the four kinds is written with one class, and an arc that is turned needs the class of the other side.";
       cause = codes "The codes of --kinds are those of another producer, or the SCD file defines a class twice or lacks one of the four.";
       remedy = codes "Check the four codes against the KND values of the SCD file, and name them with --kinds; if "

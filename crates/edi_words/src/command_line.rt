@@ -29,7 +29,9 @@ pub fn command<'a>(alloc: Global) -> Result<Command<'a>, AllocError>
     let bare = Command::new(alloc, "edicad")
         .version(VERSION)
         .about(
-            "Reads EDIGeO sheets of the French cadastral plan.\n\nWithout a command, it reads SCD, DIC and VEC one after the other from\nstandard input, and writes the canonical file to standard output.",
+            "Reads EDIGeO sheets of the French cadastral plan.\n\n\
+             Without a command, it reads SCD, DIC and VEC one after the other from\n\
+             standard input, and writes the canonical file to standard output.",
         )
         .after_help(STATUSES);
     let with_check = with_subcommand(Ok(bare), check(alloc));

@@ -7,7 +7,7 @@ pub(crate) static LINES: [RuleText; 10] = [
     RuleText {
         rule: 101,
         sentence: "a line that isn't skipped has no head in form",
-        reason: "Each zone of an EDIGéO file begins with its code, its nature, its format, the length of its value and a colon; without them nothing says what the line holds.",
+        reason: "A zone begins with its code, nature, format, the length of its value and a colon; without them nothing says what the line holds.",
         cause: "The file was edited by hand, saved in another form or joined from pieces, or it is no EDIGéO file.",
         remedy: "Look whether it is the file as it was delivered, unpacked and not stored by an editor, and fetch \
             it again; if it says the same, tell the producer the line.",
@@ -16,7 +16,7 @@ pub(crate) static LINES: [RuleText; 10] = [
         rule: 102,
         sentence: "fewer bytes follow the head than its length says",
         reason: "The head says how many bytes the value has; where fewer are there, part of the value is lost.",
-        cause: "The line was cut, or a value was shortened by hand and its length was not changed, or the character set was converted, which changes how many bytes a letter takes.",
+        cause: "The line was cut, a value was changed by hand and its length wasn't, or the text was converted, so that letters take other numbers of bytes.",
         remedy: "Take the file as it was delivered, or fetch it again; if it says the same, tell the producer the \
             line.",
     },

@@ -15,7 +15,7 @@ pub(crate) static RECORDS: [RuleText; 8] = [
     RuleText {
         rule: 202,
         sentence: "not exactly one RID in form",
-        reason: "A record is named by its identifier, and pointers are parted by semicolons; without just one identifier that a pointer can hold, links can't name the record.",
+        reason: "Links name a record by its identifier, in pointers that are parted by semicolons; so it needs one, and one that a pointer can hold.",
         cause: "RID is missing, stands twice, is empty, is too long or holds a semicolon.",
         remedy: "Tell the producer the line; a record has one RID of 1 to 255 bytes without a semicolon.",
     },
@@ -45,7 +45,7 @@ pub(crate) static RECORDS: [RuleText; 8] = [
         rule: 206,
         sentence: "a COR of a node or arc is no coordinate; a node without exactly one; an arc with fewer than two",
         reason: "A node is one position; an arc joins two or more.",
-        cause: "A COR is missing, stands twice at a node, or isn't two or three numbers parted by semicolons; a number may have too many digits or a comma for its point.",
+        cause: "A COR is missing, stands twice at a node, or isn't two or three numbers parted by semicolons; or a number has too many digits or a comma.",
         remedy: "Tell the producer the line; a position is x;y; with a point before the decimals, and a node has \
             one, an arc two or more.",
     },

@@ -46,7 +46,7 @@ pub(crate) static TOPOLOGY: [RuleText; 6] = [
         rule: 406,
         sentence: "a face on no side of an arc",
         reason: "A face is what arcs bound; without one it has no place in the plan.",
-        cause: "The links to the left and right faces of its arcs are missing or have other codes than the usual ones, or the face was left over when two parcels were joined.",
+        cause: "The links that put it left or right of its arcs are missing or have unusual codes, or it was left over when two parcels were joined.",
         remedy: "Where the schema has other codes for the links to faces, name them with --kinds; else tell the \
             producer the line of the face.",
     },
