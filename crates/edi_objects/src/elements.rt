@@ -1,9 +1,11 @@
 //! Nodes, arcs, faces and other records, as the text calls them, and how it tells that they differ.
 
-ghost use Rattle.std.specs.Prelude.{◌≡◌, ◌++◌, ◌<◌, OnOk, codes};
+ghost use Rattle.std.specs.Prelude.{◌≡◌, ◌++◌, ◌<◌, OnOk, codes, decimal, length};
+ghost use Rattle.edi_line.specs.Number.{size_text};
 ghost use Rattle.edi_plan.specs.Agreeing.{Agrees};
 ghost use Rattle.edi_plan.specs.Plans.{IsPlace, record_at};
 ghost use Rattle.edi_report.specs.Reports.{HasSites, site_at};
+ghost use Rattle.edi_objects.specs.Distances.{farthest, side_by_side, unlike_count};
 ghost use Rattle.edi_objects.specs.Elements.{arc_change, element_text, first_position, last_position, lone_element, more_text, name_of_record, node_change, other_text, others_text, points_change, coordinates_text, third_coordinate_text};
 ghost use Rattle.edi_objects.specs.Names.{shown_class};
 
@@ -242,22 +244,39 @@ fn push_arc(text: &mut Vec<u8>, points: &[Point]) -> Result<(), AllocError>
     push_last(text, points)
 }
 
+/// Appends how many points of an arc differ, of how many, and by how much at most.
+fn push_moves(text: &mut Vec<u8>, points: &[Point], others: &[Point]) -> Result<(), AllocError>
+    ensures { OnOk result (text.new.items
+        ≡ text.old.items ++ (decimal (unlike_count (side_by_side points.now others.now))
+        ++ codes " of " ++ decimal (length points.now) ++ codes ", by at most "
+        ++ size_text (farthest (side_by_side points.now others.now)))) }
+{
+    let moves = moves_between(points, others);
+    push_number(text, moves.count as u64)?;
+    text.extend_from_slice(b" of ")?;
+    push_number(text, points.len() as u64)?;
+    text.extend_from_slice(b", by at most ")?;
+    push_millionths(text, moves.farthest)
+}
+
+/// Appends how many points an arc had, and how many it has.
+fn push_lengths(text: &mut Vec<u8>, had: usize, has: usize) -> Result<(), AllocError>
+    ensures { OnOk result (text.new.items ≡ text.old.items ++ (decimal had ++ codes ", then " ++ decimal has)) }
+{
+    push_number(text, had as u64)?;
+    text.extend_from_slice(b", then ")?;
+    push_number(text, has as u64)
+}
+
 /// Appends how the points of an arc became those of another.
 fn push_arc_change(text: &mut Vec<u8>, points: &[Point], others: &[Point]) -> Result<(), AllocError>
     ensures { OnOk result (text.new.items ≡ text.old.items ++ arc_change points.now others.now) }
 {
     text.extend_from_slice(b" points (")?;
     if points.len() == others.len() {
-        let moves = moves_between(points, others);
-        push_number(text, moves.count as u64)?;
-        text.extend_from_slice(b" of ")?;
-        push_number(text, points.len() as u64)?;
-        text.extend_from_slice(b", by at most ")?;
-        push_millionths(text, moves.farthest)?;
+        push_moves(text, points, others)?;
     } else {
-        push_number(text, points.len() as u64)?;
-        text.extend_from_slice(b", then ")?;
-        push_number(text, others.len() as u64)?;
+        push_lengths(text, points.len(), others.len())?;
     }
     text.extend_from_slice(b")")
 }

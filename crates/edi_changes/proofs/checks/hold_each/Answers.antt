@@ -64,3 +64,8 @@ returns-in-CutOff-clause-answer g c =
     (g.O.ByteOut.contents c.hold_line.new.out) (g.E.ByteOut.contents c.hold_line.new.err)
     (g.O.ByteOut.has_failed c.loop-line.out) (g.E.ByteOut.has_failed c.loop-line.err) (g.O.ByteOut.has_failed c.hold_line.new.out) (g.E.ByteOut.has_failed c.hold_line.new.err)
     c.loop-line.worst c.in-CutOff.status c.loop-line-test.true c.loop-line.invariant.0 told c.hold_line.ensures.out_stays c.hold_line.ensures.err_stays)
+
+pub returns-in-CutOff-clause-status : goal.returns-in-CutOff-clause-status
+returns-in-CutOff-clause-status g c =
+    let status = subst (λ said. IsPairStatus (status_of_said said)) c.in-CutOff.is c.hold_line.ensures.status in
+    subst IsPairStatus (sym c.max.ensures) (of_greater IsPairStatus c.loop-line.worst c.in-CutOff.status c.loop-line.invariant.1 status)
