@@ -20,11 +20,11 @@ def explains(room, sheet):
     report = room.report
     room.write("v", sheet)
     classes, left_out = described(b"s", room.read("s"), CODES), b"quality zones left out: 0\nremarks left out: 0\n"
-    held = b"accepted\nnodes: 1\narcs: 0\nfaces: 0\nobjects: 0\nlinks: 0\nx: 10.5 to 10.5\ny: 20 to 20\ncharacter set: IRV\nclass PGE NOD_id: 1\n" + classes + left_out
+    held = b"accepted\nnodes: 1\narcs: 0\nfaces: 0\nobjects: 0\nlinks: 0\nx: 10.5 to 10.5\ny: 20 to 20\ncharacter set: IRV\nclass PGE NOD_id: 1\nextra zones: 0\n" + classes + left_out
     room.expect("what an accepted sheet holds", ["explain", "s", "d", "v"], (0, held, b""))
     room.expect("the sheet on standard input, explained", ["explain", "s", "d", "-"], (0, held, b""), room.read("v"))
     room.write("empty", "BOMT 01:X\nEOMT 00:\n")
-    none = b"accepted\nnodes: 0\narcs: 0\nfaces: 0\nobjects: 0\nlinks: 0\ncharacter set: none\n" + classes + left_out
+    none = b"accepted\nnodes: 0\narcs: 0\nfaces: 0\nobjects: 0\nlinks: 0\ncharacter set: none\nextra zones: 0\n" + classes + left_out
     room.expect("what a sheet without records holds", ["explain", "s", "d", "empty"], (0, none, b""))
     node = "RTYSA03:PNO\nRIDSA0{0}:{1}\nSCPCP22:EDAB01;SeSD;PGE;NOD_id\nCORCC0{2}:{3};0;\n"
     spread = "BOMT 01:X\n" + node.format(1, "a", 8, "-0.50") + node.format(1, "b", 4, "7") + "EOMT 00:\n"
@@ -33,6 +33,8 @@ def explains(room, sheet):
     feature = "RTYSA03:FEA\nRIDSA01:{0}\nSCPCP27:EDAB01;SeSD;OBJ;PARCELLE_id\nATPCP22:EDAB01;SeSD;ATT;NOM_id\nATVSA01:{0}\n"
     room.write("classes", "BOMT 01:X\n" + node.format(1, "a", 4, "7") + feature.format("o") + node.format(1, "b", 4, "8") + "EOMT 00:\n")
     counted = [it for it in room.run(["explain", "s", "d", "classes"])[1].split(b"\n") if it.startswith(b"class ")]
+    room.write("extra", "BOMT 01:X\n" + node.format(1, "a", 4, "7") + "XYZSA01:1\nTEXSA01:2\nPTCSA01:3\nQACSA00:\nEOMT 00:\n")
+    report.holds("extra zones", b"\nextra zones: 3\n" in room.run(["explain", "s", "d", "extra"])[1])
     report.check("how many records have each class", counted, [b"class OBJ PARCELLE_id: 1", b"class PGE NOD_id: 2"])
     room.write("two", "BOMT 01:X\n" + node.format(1, "a", 4, "7") + "\n" + node.format(2, "bb", 4, "8") + node.format(1, "a", 4, "9") + "EOMT 00:\n")
     named = ("refused 301 record 3\ntwo:11: PNO a: type and identifier of an earlier record [301]\ntwo:2: PNO a: the earlier record [301]\ntwo:12: RID a: the identifier [301]\n").encode()
@@ -116,7 +118,7 @@ def explains_partners(room):
     front += "RTYSA03:PAR\nRIDSA01:c\nSCPCP22:EDAB01;SeSD;PGE;ARC_id\nCORCC04:0;0;\nCORCC04:1;0;\n"
     link = "RTYSA03:LNK\nRIDSA01:{0}\nSCPCP22:EDAB01;SeSD;REL;{1}_id\nFTPCP17:EDAB01;SeT1;PAR;c\nFTPCP17:EDAB01;SeT1;PNO;a\n"
     room.write("sides", front + link.format("k", "FIN") + link.format("m", "INI") + link.format("n", "INI") + "EOMT 00:\n")
-    sides = b"refused 307 record 5\nsides:21: LNK n: a link of a kind whose arc has an earlier link of that kind [307]\nsides:16: LNK m: the earlier link [307]\n"
+    sides = b"refused 307 record 5\nsides:21: LNK n: a link of a kind whose arc has an earlier link of that kind [307]\nsides:16: LNK m: the earlier link [307]\nsides:24: FTP EDAB01;SeT1;PAR;c: the arc [307]\n"
     room.expect("an arc with two links of a kind", ["explain", "s", "d", "sides"], (2, sides, b""))
     record = "RTYSA03:FEA\nRIDSA01:{0}\nSCPCP27:EDAB01;SeSD;OBJ;PARCELLE_id\n"
     full = record.format("o") + "ATPCP22:EDAB01;SeSD;ATT;NOM_id\nATVSA01:x\n"
@@ -260,6 +262,12 @@ def explains_zones(room):
     said("an arc of one point", record("PAR", rid, arc, at), 206, None)
     said("an end that is no pointer", record("LNK", rid, link, ends[0], ("FTP", "PAR;c")), 207, "6: FTP PAR;c: no pointer")
     said("a link of one end", record("LNK", rid, link, ends[0]), 207, None)
+    unknown = lambda code, value: f"{code}CP{len(value):02}:{value}\n"
+    said("a pointer that isn't known", record("PNO", rid, node, at, ("XYZ", "k")) + unknown("UVW", "") + unknown("XYZ", "k;l"), 208, "8: XYZ k;l: a pointer that isn't known")
+    said("a count of points of a node that is a pointer", record("PNO", rid, node, at) + unknown("PTC", "2"), 208, "6: PTC 2: a pointer that isn't known")
+    said("an end of an object", record("FEA", rid, ("SCP", pointer.format("OBJ;PARCELLE_id"))) + unknown("FTP", "EDAB01;SeT1;PAR;c"), 208, "5: FTP EDAB01;SeT1;PAR;c: a pointer that isn't known")
+    texts = record("PNO", rid, node, at, named) + unknown("TEX", "a") + one("ATV", "b")
+    said("a character set behind its attribute", texts + unknown("TEX", "c"), 208, "9: TEX c: a pointer that isn't known")
     said("an identifier of an earlier record", record("PNO", rid, node, at) + record("PNO", node, at, rid), 301, "9: RID a: the identifier")
     said("a class that there is none of", record("PNO", rid, ("SCP", pointer.format("PGE;X")), at), 302, "4: SCP EDAB01;SeSD;PGE;X: the class")
     said("an attribute that there is no class of", record("PNO", rid, node, at, named, ("ATP", pointer.format("ATT;X"))), 303, "7: ATP EDAB01;SeSD;ATT;X: no class of an attribute")
@@ -269,6 +277,9 @@ def explains_zones(room):
     said("an end of another subset than that before it", joined + record("LNK", rid, link, ends[0], ("FTP", "EDAB01;SeT2;PNO;a")), 304, "15: FTP EDAB01;SeT2;PNO;a: another lot or subset")
     other = record("LNK", ("RID", "b"), link, ends[0], ("FTP", "EDAB02;SeT1;PNO;a"))
     said("an end of another lot than the first", joined + record("LNK", rid, link, *ends) + other, 304, "20: FTP EDAB02;SeT1;PNO;a: another lot or subset")
+    said("a link of a kind of three ends", joined + record("LNK", rid, link, *ends, ends[1]), 306, "13: SCP EDAB01;SeSD;REL;INI_id: the class, which is of a kind")
+    twice = record("LNK", rid, link, *ends) + record("LNK", ("RID", "b"), link, ends[1], ends[0])
+    said("a second link of a kind", joined + twice, 307, "20: FTP EDAB01;SeT1;PAR;c: the arc")
     said("a node that is equal to an earlier one", record("PNO", rid, node, at) + record("PNO", ("RID", "b"), node, at), 403, "9: COR 7;0;: the position")
     initial, final = ("SCP", pointer.format("REL;INI_id")), ("SCP", pointer.format("REL;FIN_id"))
     line = record("PAR", ("RID", "c"), arc, ("COR", "1;1"), ("COR", "2;2"), ("COR", "3;3"))

@@ -9,6 +9,8 @@ pub mod InTurn
 pub mod OneArc
 pub mod Equal
 pub mod Sought
+pub mod ZoneFound
+pub mod ExtraZonesOf
 pub mod Quality
 pub mod Parts
 pub mod Barred
@@ -17,7 +19,6 @@ pub mod Counted
 pub mod Earlier
 pub mod Remarks
 pub mod Zipped
-pub mod SitesFound
 pub mod KindRows
 pub mod Passing
 pub mod Feeds

@@ -4,13 +4,12 @@ use Rattle.std.specs.Bool.{MatchBool}
 use Rattle.std.proofs.lemmas.List.{length-map, length-drop, take-map, drop-map, take_all, get_or-map}
 use Rattle.std.proofs.lemmas.Option.{slice_get_read}
 use Rattle.edi_line.specs.Entry.{Entry, entry, entries}
-use Rattle.edi_line.specs.Zones.{groups_of}
 use Rattle.edi_line.specs.declared.zone.Zone.{Zone}
 use Rattle.edi_record.specs.RecordRules.{IsNoPointer}
 use Rattle.edi_record.specs.Texts.{IsCount, IsPointer, IsPosition, PointerText, shown}
 use Rattle.edi_record.specs.declared.pointer.Pointer.{Pointer}
 use Rattle.edi_record.specs.declared.record.Point.{Point}
-use Rattle.edi_explain.specs.BreakingZones.{IsBreakingZone, IsFirstPassing, Passes, PassesAt, count_beside, test_of}
+use Rattle.edi_explain.specs.BreakingZones.{IsBreakingZoneOf, IsFirstPassing, Passes, PassesAt, test_of}
 use Rattle.edi_explain.specs.declared.breaking.ZoneTest.{ZoneTest}
 
 -- ---- texts
@@ -74,20 +73,9 @@ module _ (zs : List Zone) (place : ℕ) (z : Zone) (test : ZoneTest) (less : pla
 
 -- ---- records
 
-same_group : (a b : List Entry) → Some a ≡ Some b → a ≡ b
-same_group a b e = cc
-
 same_test : (a b : ZoneTest) → Some a ≡ Some b → a ≡ b
 same_test a b e = cc
 
-module _ (zones : List Entry) (rule number place : ℕ) (group : List Entry) (test : ZoneTest) (n : number ≡ suc place)
-    (there : slice_get (groups_of zones) place ≡ Some group) (t : test_of rule ≡ Some test) where
-  pub zone_found : (z : Entry) (count : Option ℕ) → IsFirstPassing test group z → count ≡ count_beside group z.code → IsBreakingZone zones rule number z count
-  zone_found z count h e = (place, group, test, n, there, t, h, e)
-
-  pub no_zone_found : ((z : Entry) → ¬ (IsFirstPassing test group z)) → (z : Entry) (count : Option ℕ) → ¬ (IsBreakingZone zones rule number z count)
-  no_zone_found h z count k =
-      let at : k.0 ≡ place = omega (arith, k.3, n) in
-      let own : k.1 ≡ group = same_group k.1 group (sym k.4 ∙ (ap (slice_get (groups_of zones)) at ∙ there)) in
-      let tested : k.2 ≡ test = same_test k.2 test (sym k.5 ∙ t) in
-      h z (subst (λ g. IsFirstPassing test g z) own (subst (λ x. IsFirstPassing x k.1 z) tested k.6))
+pub no_zone_found : (group : List Entry) (rule : ℕ) (test : ZoneTest) → test_of rule ≡ Some test → ((z : Entry) → ¬ (IsFirstPassing test group z))
+    → (z : Entry) (count : Option ℕ) → ¬ (IsBreakingZoneOf group rule z count)
+no_zone_found group rule test t h z count k = h z (subst (λ x. IsFirstPassing x group z) (same_test k.0 test (sym k.1 ∙ t)) k.2)

@@ -1,15 +1,18 @@
 -- What was found when all groups have come.
-use Rattle.std.proofs.Common.{◌≡◌, ◌+◌, ◌-◌, ◌≤◌, ℕ, suc, zero, List, [], ◌∷◌, length, replicate, Option, Some, None, MatchOption, ap, subst, arith, refl}
-use Rattle.std.proofs.lemmas.Option.{slice_get_within}
+use Rattle.std.proofs.Common.{◌≡◌, ◌+◌, ◌-◌, ◌≤◌, ◌<◌, ◌∙◌, ℕ, suc, zero, List, [], ◌∷◌, length, replicate, Option, Some, None, MatchOption, option_map, ap, subst, sym, arith, refl, slice_get}
+use Rattle.std.proofs.lemmas.Option.{slice_get_past}
+use Rattle.std.specs.Global.{Vec}
 use Rattle.std.specs.Option.{SomeIff}
-use Rattle.edi_line.specs.Entry.{Entry}
+use Rattle.edi_line.specs.Entry.{Entry, entries}
 use Rattle.edi_line.specs.Zones.{groups_of}
-use Rattle.edi_explain.specs.Refusals.{AreSites, IsSiteAtIfAny}
+use Rattle.edi_line.specs.declared.zone.Zone.{Zone}
+use Rattle.edi_explain.specs.Refusals.{IsSiteAtIfAny}
 use Rattle.edi_explain.specs.Sites.{IsSiteIfAny}
-use Rattle.edi_explain.specs.declared.seeking.SoughtSite.{SoughtSite}
-use Rattle.edi_explain.specs.declared.seeking.SoughtSites.{SoughtSites}
+use Rattle.edi_explain.specs.declared.seeking.SoughtRecord.{SoughtRecord}
+use Rattle.edi_explain.specs.declared.seeking.SoughtRecords.{SoughtRecords}
 use Rattle.edi_explain.specs.declared.site.RecordSite.{RecordSite}
-use Rattle.edi_explain.specs.inner.Seeking.{AreSought, IsSought, IsSiteAmong, number_of}
+use Rattle.edi_explain.specs.inner.Seeking.{AreFound, AreSought, IsSought, IsGroupAmong, group_numbered, number_of}
+use Rattle.edi_explain.specs.inner.Sites.{IsGroupSite}
 
 abbrev blank_zone : Entry
 blank_zone = record { line = 0; code = []; nature = 0; format = 0; value = [] }
@@ -28,25 +31,59 @@ numbered_back n (Some k) h = omega (arith, h.0, h.1)
 numbered_back zero None h = refl
 numbered_back (suc n) None h = absurd (h (omega arith))
 
-pub found_site : (zones : List Entry) (number : ℕ) (s : SoughtSite) → IsSought number (groups_of zones) s → IsSiteIfAny zones number s.found
-found_site zones number s h = go s.found s.left h
-  where
-    go : (found : Option RecordSite) (left : Option ℕ) → MatchOption found (MatchOption left (number ≡ 0) (λ l. l + suc (length (groups_of zones)) ≡ number)) (λ site. (left ≡ None) × IsSiteAmong (groups_of zones) number site) → IsSiteIfAny zones number found
-    go (Some site) left k = let d = k.1 in record { place = d.place; group = d.group; number_is = d.number_is; there = d.there; has_site = d.has_site }
-    go None None k = λ site d. omega (arith, k, d.number_is)
-    go None (Some l) k = λ site d. omega (arith, k, d.number_is, slice_get_within (groups_of zones) d.place d.group d.there)
+-- behind the last group there is none
+past_groups : (groups : List (List Entry)) (number left : ℕ) → left + suc (length groups) ≡ number → None ≡ group_numbered groups number
+past_groups groups zero left e = refl
+past_groups groups (suc place) left e = sym (slice_get_past groups place (omega (arith, e)))
 
-pub found_earlier : (zones : List Entry) (earlier : Option ℕ) (s : SoughtSite) → IsSought (number_of earlier) (groups_of zones) s → IsSiteAtIfAny zones earlier s.found
-found_earlier zones (Some place) s h = found_site zones (suc place) s h
-found_earlier zones None s h = go s.found (found_site zones 0 s h)
+pub found_group : (groups : List (List Entry)) (number : ℕ) (s : SoughtRecord) → IsSought number groups s → option_map (λ v. entries v.items) s.found ≡ group_numbered groups number
+found_group groups number s h = go s.found s.left h
   where
-    go : (found : Option RecordSite) → IsSiteIfAny zones 0 found → found ≡ None
-    go None k = refl
-    go (Some site) k = absurd (omega (arith, k.number_is))
+    go : (found : Option (Vec Zone)) (left : Option ℕ) → MatchOption found (MatchOption left (number ≡ 0) (λ l. l + suc (length groups) ≡ number)) (λ v. (left ≡ None) × IsGroupAmong groups number v.items)
+        → option_map (λ v. entries v.items) found ≡ group_numbered groups number
+    go (Some v) left k = let d = k.1 in sym (ap (group_numbered groups) d.number_is ∙ d.there)
+    go None None k = sym (ap (group_numbered groups) k)
+    go None (Some l) k = past_groups groups number l k
 
-pub found_sites : (zones : List Entry) (number : ℕ) (earlier : Option ℕ) (s : SoughtSites) → AreSought s (so_many number ∷ so_many (number_of earlier) ∷ groups_of zones)
-    → AreSites zones number earlier (record { here = s.here.found; earlier = s.earlier.found })
-found_sites zones number earlier s h = record {
-  here = found_site zones number s.here (subst (λ n. IsSought n (groups_of zones) s.here) (so_long number) h.0);
-  earlier_site = found_earlier zones earlier s.earlier (subst (λ n. IsSought n (groups_of zones) s.earlier) (so_long (number_of earlier)) h.1);
+pub found_groups : (zones : List Entry) (number : ℕ) (earlier : Option ℕ) (s : SoughtRecords) → AreSought s (so_many number ∷ so_many (number_of earlier) ∷ groups_of zones)
+    → AreFound zones number earlier (record { here = s.here.found; earlier = s.earlier.found })
+found_groups zones number earlier s h = record {
+  here = found_group (groups_of zones) number s.here (subst (λ n. IsSought n (groups_of zones) s.here) (so_long number) h.0);
+  earlier_one = found_group (groups_of zones) (number_of earlier) s.earlier (subst (λ n. IsSought n (groups_of zones) s.earlier) (so_long (number_of earlier)) h.1);
 }
+
+-- ---- sites
+
+-- the place of a group that has a number
+pub numbered_group : (groups : List (List Entry)) (number : ℕ) (group : List Entry) → Some group ≡ group_numbered groups number
+    → (place : ℕ) × (number ≡ suc place) × (slice_get groups place ≡ Some group)
+numbered_group groups zero group e = absurd cc
+numbered_group groups (suc place) group e = (place, refl, sym e)
+
+-- no group has the number
+pub none_numbered : (groups : List (List Entry)) (number place : ℕ) (group : List Entry) → None ≡ group_numbered groups number
+    → number ≡ suc place → slice_get groups place ≡ Some group → ⊥
+none_numbered groups number place group e n there =
+    let f : ◌≡◌ {A = Option (List Entry)} None (Some group) = e ∙ (ap (group_numbered groups) n ∙ there) in cc
+
+same_group : (a b : List Entry) → Some a ≡ Some b → a ≡ b
+same_group a b e = cc
+
+module _ (zones : List Entry) (number : ℕ) where
+  pub no_site : None ≡ group_numbered (groups_of zones) number → IsSiteIfAny zones number None
+  no_site e = λ site d. none_numbered (groups_of zones) number d.place d.group e d.number_is d.there
+
+  pub its_site : (group : List Entry) (found : Option RecordSite) → Some group ≡ group_numbered (groups_of zones) number → IsGroupSite group found → IsSiteIfAny zones number found
+  its_site group (Some site) e h =
+      let at = numbered_group (groups_of zones) number group e in
+      record { place = at.0; group = group; number_is = at.1; there = at.2; has_site = h }
+  its_site group None e h = λ site d.
+      let f : ◌≡◌ {A = Option (List Entry)} (Some group) (Some d.group) = e ∙ (ap (group_numbered (groups_of zones)) d.number_is ∙ d.there) in
+      let same = same_group group d.group f in
+      let g : d.has_site.head ∷ d.has_site.rest ≡ [] = sym d.has_site.is ∙ (sym same ∙ h) in cc
+
+-- the earlier record, by its place
+pub site_of_earlier : (zones : List Entry) (earlier : Option ℕ) (found : Option RecordSite) → IsSiteIfAny zones (number_of earlier) found → IsSiteAtIfAny zones earlier found
+site_of_earlier zones (Some place) found h = h
+site_of_earlier zones None None h = refl
+site_of_earlier zones None (Some site) h = absurd (omega (arith, h.number_is))

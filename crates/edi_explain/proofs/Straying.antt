@@ -1,12 +1,10 @@
 -- Pointers that name what they may not.
 use Rattle.std.proofs.Common.{Bor, ◌≡◌, ◌≢◌, ◌∙◌, ◌↔◌, ◌⊎◌, inl, inr, ℕ, Bool, not, List, Option, Some, None, codes, IsTrue, MatchOption, suc, sym, ap, subst, arith, slice_get, unwrap_or}
-use Rattle.edi_line.specs.Entry.{Entry, entry}
-use Rattle.edi_line.specs.Zones.{groups_of}
-use Rattle.edi_line.specs.declared.zone.Zone.{Zone}
 use Rattle.edi_record.specs.Texts.{IsPointer, PointerText}
 use Rattle.edi_record.proofs.TextParts.{pointer_one}
 use Rattle.edi_schema.specs.Classes.{Classes, place_of}
-use Rattle.edi_explain.specs.AstrayZones.{AreApart, IsAstrayZone, IsFirstAstray, NamesNoAttribute, first_end_at}
+use Rattle.edi_explain.specs.AstrayZones.{AreApart, NamesNoAttribute}
+use Rattle.edi_explain.specs.BreakingZones.{NamesType}
 
 module _ (s : Classes) (text : List ℕ) (p : PointerText) (h : IsPointer text p) where
   pub no_attribute_type : p.rty ≢ codes "ATT" → NamesNoAttribute s text
@@ -30,6 +28,10 @@ module _ (text other : List ℕ) (p q : PointerText) (h : IsPointer text p) (k :
       from a b f g (inl n) = absurd (not (λ r. n (sym (ap (λ (x : PointerText). x.lot) f) ∙ (r ∙ ap (λ (x : PointerText). x.lot) g))))
       from a b f g (inr n) = e.1 (λ r. n (sym (ap (λ (x : PointerText). x.subset) f) ∙ (r ∙ ap (λ (x : PointerText). x.subset) g)))
 
+-- a pointer that names a record of a type
+pub type_named : (text rty : List ℕ) (p : PointerText) → IsPointer text p → (t : Bool) → IsTrue t ↔ (p.rty ≡ rty) → IsTrue t ↔ NamesType rty text
+type_named text rty p h t e = (λ i. (p, h, e.0 i), λ n. e.1 (ap (λ (x : PointerText). x.rty) (pointer_one text p n.0 h n.1) ∙ n.2))
+
 pub in_neither : {X Y C : Type 0} → ¬ X → ¬ Y → X ⊎ (Y × C) → ⊥
 in_neither left right (inl x) = left x
 in_neither left right (inr y) = right y.0
@@ -37,19 +39,3 @@ in_neither left right (inr y) = right y.0
 pub none_of : {X A : Type 0} (B : X → Type 0) (o : Option X) → o ≡ None → MatchOption o A B → A
 none_of B None e h = h
 none_of B (Some x) e h = absurd cc
-
-same_group : (a b : List Entry) → Some a ≡ Some b → a ≡ b
-same_group a b e = cc
-
-module _ (s : Classes) (zones : List Entry) (earlier : Option ℕ) (rule number place : ℕ) (group : List Entry) (n : number ≡ suc place)
-    (there : slice_get (groups_of zones) place ≡ Some group) (end : Option (List ℕ)) (is : end ≡ first_end_at zones (unwrap_or earlier place)) where
-  pub astray_found : (found : Option (Bor Zone))
-      → MatchOption found ((z : Entry) → ¬ (IsFirstAstray s end rule group z)) (λ z. IsFirstAstray s end rule group (entry z.now))
-      → MatchOption found ((z : Entry) → ¬ (IsAstrayZone s zones earlier rule number z)) (λ z. IsAstrayZone s zones earlier rule number (entry z.now))
-  astray_found (Some z) h = (place, group, n, there, subst (λ e. IsFirstAstray s e rule group (entry z.now)) is h)
-  astray_found None h = λ z k.
-      let at : k.0 ≡ place = omega (arith, k.2, n) in
-      let own : k.1 ≡ group = same_group k.1 group (sym k.3 ∙ (ap (slice_get (groups_of zones)) at ∙ there)) in
-      h z (subst (λ e. IsFirstAstray s e rule group z) (sym is)
-      (subst (λ g. IsFirstAstray s (first_end_at zones (unwrap_or earlier place)) rule g z) own
-      (subst (λ m. IsFirstAstray s (first_end_at zones (unwrap_or earlier m)) rule k.1 z) at k.4)))

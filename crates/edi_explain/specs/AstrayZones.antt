@@ -5,7 +5,7 @@ use Rattle.edi_line.specs.Zones.{groups_of}
 use Rattle.edi_record.specs.Records.{first, values}
 use Rattle.edi_record.specs.Texts.{IsPointer, PointerText}
 use Rattle.edi_schema.specs.Classes.{Classes, place_of}
-use Rattle.edi_explain.specs.BreakingZones.{IsBreakingZone}
+use Rattle.edi_explain.specs.BreakingZones.{IsBreakingZone, IsBreakingZoneOf}
 use Rattle.edi_explain.specs.Partners.{IsLeast}
 
 -- a pointer names no class of an attribute: its type isn't ATT, or its name is none of the schema's
@@ -44,6 +44,12 @@ abbrev pub IsAstrayZone : Classes → List Entry → Option ℕ → ℕ → ℕ 
 IsAstrayZone s zones earlier rule number z = (place : ℕ) × (group : List Entry) × (number ≡ suc place)
     × (slice_get (groups_of zones) place ≡ Some group)
     × IsFirstAstray s (first_end_at zones (unwrap_or earlier place)) rule group z
+
+-- the zone with which a record of a sheet breaks a rule, with this first end of all links, and how many zones it
+-- should count
+abbrev pub IsZoneOfRecord : Classes → List Entry → Option (List ℕ) → ℕ → Entry → Option ℕ → Type 0
+IsZoneOfRecord s group end rule z count =
+    IsBreakingZoneOf group rule z count ⊎ (IsFirstAstray s end rule group z × (count ≡ None))
 
 -- the zone with which a record of a sheet breaks a rule, and how many zones it should count
 abbrev pub IsZoneOfSheet : Classes → List Entry → Option ℕ → ℕ → ℕ → Entry → Option ℕ → Type 0

@@ -6,6 +6,7 @@ use Rattle.edi_plan.specs.Plans.{Drawing}
 use Rattle.edi_record.specs.declared.name.Name.{Name}
 use Rattle.edi_schema.specs.Classes.{Classes}
 use Rattle.edi_explain.specs.Explained.{DescribesPlan}
+use Rattle.edi_explain.specs.ExtraZones.{extra_line}
 use Rattle.edi_shown.specs.Shown.{shown_bytes}
 
 -- how many records of a plan have the class at a place of the schema, from 0
@@ -28,7 +29,7 @@ class_count_lines p place (name ∷ names) =
 abbrev pub DescribesClasses : Classes → Drawing → List ℕ → Type 0
 DescribesClasses s p lines = lines ≡ class_count_lines p 0 (keys_of s)
 
--- the lines on an accepted sheet: those on its plan, and those on its classes
+-- the lines on an accepted sheet: those on its plan, those on its classes, and the line on its extra zones
 abbrev pub DescribesSheet : Classes → Drawing → List ℕ → Type 0
 DescribesSheet s p lines = (plan classes : List ℕ) × DescribesPlan p plan × DescribesClasses s p classes
-    × (lines ≡ plan ++ classes)
+    × (lines ≡ plan ++ classes ++ extra_line p)

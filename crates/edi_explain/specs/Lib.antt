@@ -11,6 +11,7 @@ pub mod AstrayZones
 pub mod ZoneLines
 pub mod Cuts
 pub mod Explained
+pub mod ExtraZones
 pub mod Barring
 pub mod Hints
 pub mod Lengths

@@ -3,12 +3,11 @@
 ghost use Rattle.std.specs.Prelude.{◌≡◌, ◌≢◌, ◌↔◌, ◌<◌, ℕ, List, None, true, IfOk, IsTrue, MatchOption, Option, Some, codes, length, option_map};
 ghost use Rattle.edi_line.specs.Entry.{Entry, entries, entry, has_code};
 ghost use Rattle.edi_schema.specs.Classes.{place_of};
-ghost use Rattle.edi_explain.specs.AstrayZones.{AreApart, IsAstray, IsAstrayAt, IsAstrayZone, IsFirstAstray, IsZoneOfSheet, NamesNoAttribute, first_end_at as end_of_place};
+ghost use Rattle.edi_explain.specs.AstrayZones.{AreApart, IsAstray, IsAstrayAt, IsFirstAstray, IsZoneOfRecord, NamesNoAttribute};
 
 use crate::breaking::breaking_zone;
-use crate::site::group_of;
 use edi_line::{Text, Zone};
-use edi_record::{Name, Pointer, first_value};
+use edi_record::{Name, Pointer};
 use edi_schema::Schema;
 use std::alloc::{AllocError, Global};
 
@@ -121,54 +120,24 @@ fn first_astray<'a, 'b>(
     Ok(None)
 }
 
-/// The first end of the record at a place, if it has one.
-fn end_at<'b>(zones: &'b [Zone<'_>], place: u64) -> Option<&'b [u8]>
-    ensures { option_map (λ e. e.now) result ≡ end_of_place (entries zones.now) place }
-{
-    first_value(group_of(zones, place)?, FTP)
-}
-
-/// The zone with which the record with a number breaks 303 or 304, if it does.
-fn astray_zone<'a, 'b>(
+/// The zone with which a record of a sheet breaks a rule, with this first end of all links, and how many zones it
+/// should count. `None` where the rule isn't of one zone, and where no zone of the record breaks it.
+pub(crate) fn zone_of_record<'a, 'b>(
     alloc: Global,
     schema: &Schema,
-    zones: &'b [Zone<'a>],
-    earlier: Option<u64>,
+    group: &'b [Zone<'a>],
+    end: Option<&[u8]>,
     rule: u16,
-    number: u64,
-) -> Result<Option<&'b Zone<'a>>, AllocError>
-    ensures { IfOk result (λ found. MatchOption found ((z : Entry)
-        → ¬ (IsAstrayZone schema.now (entries zones.now) earlier rule number z))
-        (λ z. IsAstrayZone schema.now (entries zones.now) earlier rule number (entry z.now))) }
-{
-    let Some(place) = number.checked_sub(1) else {
-        return Ok(None);
-    };
-    let Some(group) = group_of(zones, place) else {
-        return Ok(None);
-    };
-    let end = end_at(zones, earlier.unwrap_or(place));
-    first_astray(alloc, schema, end, rule, group)
-}
-
-/// The zone with which the record with a number breaks a rule of sheets, and how many zones it should count. `None`
-/// where the rule isn't of one zone, and where no zone of the record breaks it.
-pub(crate) fn zone_of_sheet<'a, 'b>(
-    alloc: Global,
-    schema: &Schema,
-    zones: &'b [Zone<'a>],
-    earlier: Option<u64>,
-    rule: u16,
-    number: u64,
 ) -> Result<Option<(&'b Zone<'a>, Option<usize>)>, AllocError>
     ensures { IfOk result (λ found. MatchOption found ((z : Entry) (count : Option ℕ)
-        → ¬ (IsZoneOfSheet schema.now (entries zones.now) earlier rule number z count))
-        (λ f. IsZoneOfSheet schema.now (entries zones.now) earlier rule number (entry f.0.now) f.1)) }
+        → ¬ (IsZoneOfRecord schema.now (entries group.now) (option_map (λ e. e.now) end.entry) rule z count))
+        (λ f. IsZoneOfRecord schema.now (entries group.now) (option_map (λ e. e.now) end.entry) rule
+        (entry f.0.now) f.1)) }
 {
-    if let Some(found) = breaking_zone(zones, rule, number) {
+    if let Some(found) = breaking_zone(group, rule) {
         return Ok(Some(found));
     }
-    match astray_zone(alloc, schema, zones, earlier, rule, number)? {
+    match first_astray(alloc, schema, end, rule, group)? {
         Some(zone) => Ok(Some((zone, None))),
         None => Ok(None),
     }

@@ -6,10 +6,10 @@ ghost use Rattle.edi_line.specs.Entry.{Entry, entries, entry, has_code};
 ghost use Rattle.edi_record.specs.RecordRules.{IsNoPointer, is_identifier as is_identifier_text};
 ghost use Rattle.edi_record.specs.Texts.{IsPosition};
 ghost use Rattle.edi_record.specs.declared.record.Point.{Point as Points};
-ghost use Rattle.edi_explain.specs.BreakingZones.{IsBreakingZone, IsFirstPassing, IsSecond, Passes, PassesAt, count_beside as count_beside_code, counted_by as counted_by_code, is_typed, test_of as test_of_rule};
+ghost use Rattle.edi_explain.specs.BreakingZones.{IsBreakingZoneOf, IsFirstPassing, IsSecond, NamesType, Passes, PassesAt, count_beside as count_beside_code, counted_by as counted_by_code, is_typed, test_of as test_of_rule};
 ghost use Rattle.edi_explain.specs.declared.breaking.ZoneTest.TheVariants.{BadCount};
 
-use crate::site::group_of;
+use crate::unknown::is_unknown_pointer;
 use crate::wrong_texts::{is_no_position, is_other_count};
 use edi_line::Zone;
 use edi_line::codes::RID;
@@ -26,6 +26,8 @@ const DIP: [u8; 3] = *b"DIP";
 const FTC: [u8; 3] = *b"FTC";
 
 const FTP: [u8; 3] = *b"FTP";
+
+const PAR: [u8; 3] = *b"PAR";
 
 const PTC: [u8; 3] = *b"PTC";
 
@@ -48,6 +50,10 @@ pub enum ZoneTest {
     BadCount,
     /// It is a COR and no position, or a second one of a node.
     BadPosition,
+    /// It is a pointer that isn't empty, and its code isn't known in records of the type.
+    UnknownPointer,
+    /// It is an end that names a record of this type.
+    EndOf([u8; 3]),
 }
 
 /// What a rule looks for among the zones of the record that breaks it. Some rules are of no single zone.
@@ -61,8 +67,10 @@ fn test_of(rule: u16) -> Option<ZoneTest>
         205 => Some(ZoneTest::BadCount),
         206 => Some(ZoneTest::BadPosition),
         207 => Some(ZoneTest::NoPointer(FTP)),
+        208 => Some(ZoneTest::UnknownPointer),
         301 | 602 => Some(ZoneTest::OfCode(RID)),
-        302 => Some(ZoneTest::OfCode(SCP)),
+        302 | 306 => Some(ZoneTest::OfCode(SCP)),
+        307 => Some(ZoneTest::EndOf(PAR)),
         401 | 403 => Some(ZoneTest::OfCode(COR)),
         402 => Some(ZoneTest::LastOf(COR)),
         603 => Some(ZoneTest::OfCode(DIP)),
@@ -99,7 +107,7 @@ fn is_no_pointer(text: &[u8]) -> bool
 }
 
 /// Whether the first zone of a record states this type.
-fn is_of_type(group: &[Zone<'_>], rty: &[u8]) -> bool
+pub(crate) fn is_of_type(group: &[Zone<'_>], rty: &[u8]) -> bool
     ensures { result ≡ is_typed rty.now (entries group.now) }
 {
     match group {
@@ -172,6 +180,31 @@ fn is_second_position(group: &[Zone<'_>], front: &[Zone<'_>], zone: &Zone<'_>) -
     is_of_type(group, b"PNO") && is_second(COR, front, zone)
 }
 
+/// Whether two texts are the same.
+fn is_same(text: &[u8], other: &[u8]) -> bool
+    ensures { IsTrue result ↔ (text.now ≡ other.now) }
+{
+    text == other
+}
+
+/// Whether a pointer names a record of a type.
+fn names_type(rty: &[u8], text: &[u8]) -> bool
+    ensures { IsTrue result ↔ NamesType rty.now text.now }
+{
+    match Pointer::read(text) {
+        Some(pointer) => is_same(pointer.rty, rty),
+        None => false,
+    }
+}
+
+/// Whether a zone is an end that names a record of a type.
+fn ends_at(rty: [u8; 3], zone: &Zone<'_>) -> bool
+    ensures { IsTrue result ↔ ((has_code (codes "FTP") (entry zone.now) ≡ true)
+        × NamesType rty (entry zone.now).value) }
+{
+    zone.code == FTP && names_type(&rty, zone.value.as_slice())
+}
+
 /// Whether a zone of a record, with those before it and those behind it, passes a test.
 fn passes(
     group: &[Zone<'_>],
@@ -191,6 +224,8 @@ fn passes(
         ZoneTest::BadClass => points_nowhere(SCP, zone) || is_second(SCP, front, zone),
         ZoneTest::BadCount => miscounts(group, front, zone),
         ZoneTest::BadPosition => places_nothing(zone) || is_second_position(group, front, zone),
+        ZoneTest::UnknownPointer => is_unknown_pointer(group, front, zone),
+        ZoneTest::EndOf(rty) => ends_at(rty, zone),
     }
 }
 
@@ -229,20 +264,17 @@ fn count_beside(group: &[Zone<'_>], code: [u8; 3]) -> Option<usize>
     Some(count_of_code(group, counted))
 }
 
-/// The zone with which the record with a number breaks a rule, and how many zones it should count: the first that
-/// passes the test of the rule. `None` where the rule has no test, and where no zone of the record passes it.
+/// The zone with which a record breaks a rule, and how many zones it should count: the first that passes the test of
+/// the rule. `None` where the rule has no test, and where no zone of the record passes it.
 pub(crate) fn breaking_zone<'a, 'b>(
-    zones: &'b [Zone<'a>],
+    group: &'b [Zone<'a>],
     rule: u16,
-    number: u64,
 ) -> Option<(&'b Zone<'a>, Option<usize>)>
     ensures { MatchOption result ((z : Entry) (count : Option ℕ)
-        → ¬ (IsBreakingZone (entries zones.now) rule number z count))
-        (λ found. IsBreakingZone (entries zones.now) rule number (entry found.0.now) found.1) }
+        → ¬ (IsBreakingZoneOf (entries group.now) rule z count))
+        (λ found. IsBreakingZoneOf (entries group.now) rule (entry found.0.now) found.1) }
 {
     let test = test_of(rule)?;
-    let place = number.checked_sub(1)?;
-    let group = group_of(zones, place)?;
     let zone = first_passing(group, test)?;
     Some((zone, count_beside(group, zone.code)))
 }

@@ -5,6 +5,7 @@ ghost use Rattle.edi_explain.specs.ClassCounts.{DescribesClasses, DescribesSheet
 ghost use Rattle.edi_shown.specs.Shown.{shown_bytes};
 
 use crate::explained::describe_plan;
+use crate::extra_zones::push_extra_zones;
 use edi_line::push_number;
 use edi_plan::Plan;
 use edi_schema::{ClassRef, Schema};
@@ -109,12 +110,13 @@ pub fn describe_classes(alloc: Global, schema: &Schema, plan: &Plan) -> Result<V
     Ok(text)
 }
 
-/// The lines on an accepted sheet: those on its plan, and those on its classes.
+/// The lines on an accepted sheet: those on its plan, those on its classes, and the line on its extra zones.
 pub fn describe_sheet(alloc: Global, schema: &Schema, plan: &Plan) -> Result<Vec<u8>, AllocError>
     ensures { IfOk result (λ lines. DescribesSheet schema.now plan.now lines.items) }
 {
     let mut lines = describe_plan(alloc, plan)?;
     let classes = describe_classes(alloc, schema, plan)?;
     lines.extend_from_slice(&classes)?;
+    push_extra_zones(&mut lines, plan)?;
     Ok(lines)
 }

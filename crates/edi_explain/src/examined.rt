@@ -1,6 +1,6 @@
 //! A sheet that is accepted; or refused, with the earlier record that the rule speaks of.
 
-ghost use Rattle.std.specs.Prelude.{◌≡◌, ◌⊎◌, ◌-◌, ℕ, suc, List, OnOk, IfOk, IfErr};
+ghost use Rattle.std.specs.Prelude.{◌≡◌, ◌-◌, ℕ, suc, List, OnOk, IfOk, IfErr};
 ghost use Rattle.edi_line.specs.Refusal.{IsLeastBroken};
 ghost use Rattle.edi_plan.specs.Plans.{Drawing};
 ghost use Rattle.edi_rank.specs.EqualObjects.{BreaksObjectRule};
@@ -14,7 +14,7 @@ ghost use Rattle.edi_explain.specs.Found.{IsFound};
 ghost use Rattle.edi_explain.specs.Refusals.{IsEarlierIfAny};
 ghost use Rattle.edi_explain.specs.inner.Repeats.{IsOfFirstArc, IsOfFirstNode};
 
-use crate::refused::{Placed, Refused, earlier_record, object_before, placed_in_sheet};
+use crate::refused::{earlier_record, object_before};
 use crate::repeats::{arc_repeated, node_repeated};
 use edi_compare::Fault;
 use edi_plan::Plan;
@@ -30,8 +30,6 @@ pub struct Found {
     pub fault: Fault,
     /// The place of the earlier record that the rule speaks of, counted from 0.
     pub earlier: Option<u64>,
-    /// Where the refused record and the earlier one stand, if the search for the earlier one has shown it.
-    pub sites: Option<Refused>,
 }
 
 /// The earlier records that the first repeated node and the first repeated arc repeat.
@@ -48,7 +46,6 @@ fn no_memory(error: AllocError) -> Found
     Found {
         fault: Fault::Memory(error),
         earlier: None,
-        sites: None,
     }
 }
 
@@ -61,23 +58,6 @@ fn found_at(rule: u16, at: u64, earlier: Result<Option<u64>, AllocError>) -> Fou
         Ok(earlier) => Found {
             fault: Fault::Entry { rule, at },
             earlier,
-            sites: None,
-        },
-        Err(error) => no_memory(error),
-    }
-}
-
-/// A refusal by a rule of references, with the earlier record that it speaks of and where both stand.
-fn found_in_sheet(alloc: Global, schema: &Schema, bytes: &[u8], rule: u16, at: u64) -> Found
-    requires refusal { IsRefusal schema.now bytes.now (AtRecord rule at) }
-    requires rule { (rule ≡ 301) ⊎ ((rule ≡ 304) ⊎ (rule ≡ 307)) }
-    ensures { IsFound schema.now bytes.now result }
-{
-    match placed_in_sheet(alloc, schema, bytes, rule, at) {
-        Ok(Placed { earlier, sites }) => Found {
-            fault: Fault::Entry { rule, at },
-            earlier,
-            sites: Some(sites),
         },
         Err(error) => no_memory(error),
     }
@@ -93,15 +73,11 @@ fn found_anew(alloc: Global, schema: &Schema, bytes: &[u8], fault: Fault) -> Fou
         Fault::Line { rule, at } => Found {
             fault: Fault::Line { rule, at },
             earlier: None,
-            sites: None,
         },
-        Fault::Entry { rule, at } => match rule {
-            301 | 304 | 307 => found_in_sheet(alloc, schema, bytes, rule, at),
-            _ => {
-                let earlier = earlier_record(alloc, schema, bytes, rule, at);
-                found_at(rule, at, earlier)
-            }
-        },
+        Fault::Entry { rule, at } => {
+            let earlier = earlier_record(alloc, schema, bytes, rule, at);
+            found_at(rule, at, earlier)
+        }
     }
 }
 

@@ -1,13 +1,18 @@
 //! What is said of a refusal, of a plan and of a rule.
 
-ghost use Rattle.std.specs.Prelude.{◌≡◌, ◌↔◌, ◌++◌, ◌∷◌, [], ℕ, Option, IsTrue, IfOk, MatchOption, OnOk, codes, decimal, option_copied};
+ghost use Rattle.std.specs.Prelude.{◌≡◌, ◌↔◌, ◌++◌, ◌-◌, ◌∷◌, [], ℕ, List, Option, IsTrue, IfOk, MatchOption, OnOk, codes, decimal, option_copied};
+ghost use Rattle.edi_line.specs.Entry.{Entry};
 ghost use Rattle.edi_line.specs.LineRules.{BreaksLineRule};
-ghost use Rattle.edi_line.specs.Refusal.{IsLeastBroken};
+ghost use Rattle.edi_line.specs.Refusal.{IsLeastBroken, IsUnbroken};
 ghost use Rattle.edi_schema.specs.SchemaRefusal.{IsSchemaRefusal};
-ghost use Rattle.edi_explain.specs.Explained.{DescribesPlan, ExplainsLine, ExplainsPlace, ExplainsSchema, ExplainsSchemaPlace, ExplainsSchemaZone, ExplainsSheet, ExplainsZoneOf, IsRuleWord, IsTextOfWord, charset_line, count_line, count_lines, extent_lines, of_source, reason_lines, rule_page, span_line, worded_line};
+ghost use Rattle.edi_compare.specs.declared.fault.Fault.TheVariants.{Entry as AtRecord};
+ghost use Rattle.edi_explain.specs.Explained.{DescribesPlan, ExplainsLine, ExplainsSchema, ExplainsSchemaPlace, ExplainsSchemaZone, ExplainsSheet, IsRuleWord, IsTextOfWord, charset_line, count_line, count_lines, extent_lines, of_source, reason_lines, rule_page, span_line, worded_line};
 ghost use Rattle.edi_explain.specs.Found.{IsFound};
 ghost use Rattle.edi_explain.specs.KindClasses.{codes_of};
-ghost use Rattle.edi_explain.specs.Lines.{sentence_of};
+ghost use Rattle.edi_explain.specs.Lines.{lines_of_sites, sentence_of};
+ghost use Rattle.edi_explain.specs.Refusals.{AreSites, IsEarlierIfAny};
+ghost use Rattle.edi_explain.specs.inner.Seeking.{AreFound};
+ghost use Rattle.edi_explain.specs.declared.refused.Refused.{Refused as Sites};
 ghost use Rattle.edi_explain.specs.Texts.{IsRuleText};
 ghost use Rattle.edi_explain.specs.declared.text.RuleText.{RuleText as Texts};
 ghost use Rattle.edi_shown.specs.Shown.{shown_bytes};
@@ -19,9 +24,10 @@ use crate::examined::Found;
 use crate::kind_lines::explain_kinds;
 use crate::lengths::{counts_characters, push_length_hint};
 use crate::lines::{lines_of_broken, lines_of_refused};
-use crate::refused::{refused_row, refused_with};
+use crate::refused::{records_of, refused_row, sites_of_records};
+use crate::seeking::FoundRecords;
 use crate::text::{RuleText, rule_text};
-use crate::zone_lines::{explain_zone, explain_zone_in_sheet};
+use crate::zone_lines::{explain_zone, explain_zone_of_record};
 use edi_compare::Fault;
 use edi_line::push_number;
 use edi_plan::{Extent, Plan, Span, extent_of};
@@ -69,54 +75,42 @@ fn explain_line(
     Ok(lines)
 }
 
-/// Of the refusal of a sheet, whose file has this name, where the broken line or record is, with the sentence of
-/// the rule; and the earlier line or record that the rule speaks of.
+/// Where a refused record and the earlier one begin, with the sentence of the rule.
 fn explain_place(
     alloc: Global,
-    schema: &Schema,
-    bytes: &[u8],
+    records: &FoundRecords,
     name: &[u8],
-    found: &Found,
+    rule: u16,
 ) -> Result<Vec<u8>, AllocError>
-    requires { IsFound schema.now bytes.now found.now }
-    ensures { IfOk result (λ lines. ExplainsPlace schema.now bytes.now name.now found.now.fault lines.items) }
+    ensures { IfOk result (λ lines. (zones : List Entry) (number : ℕ) (earlier : Option ℕ)
+        → AreFound zones number earlier records.now → (text : Option Texts) × (sites : Sites)
+        × IsRuleText rule text × AreSites zones number earlier sites
+        × (lines.items ≡ lines_of_sites name.now sites (sentence_of text) rule)) }
 {
-    match &found.fault {
-        Fault::Memory(error) => Err(*error),
-        Fault::Line { rule, at } => explain_line(alloc, &NamedFile { name, bytes }, *rule, *at),
-        Fault::Entry { rule, at } => match &found.sites {
-            Some(sites) => lines_of_refused(
-                alloc,
-                name,
-                sites,
-                sentence_for(*rule).as_bytes(),
-                *rule,
-            ),
-            None => {
-                let sites = refused_with(alloc, schema, bytes, *rule, *at, found.earlier)?;
-                lines_of_refused(alloc, name, &sites, sentence_for(*rule).as_bytes(), *rule)
-            }
-        },
-    }
+    let sites = sites_of_records(alloc, records)?;
+    lines_of_refused(alloc, name, &sites, sentence_for(rule).as_bytes(), rule)
 }
 
-/// Of the refusal of a sheet at a record, the zone with which the record breaks the rule.
-fn explain_zone_of(
+/// The lines that explain the refusal of a sheet at a record: where the record is, with the sentence of the rule; the
+/// earlier one that the rule speaks of; and the zone with which the record breaks it.
+fn explain_record(
     alloc: Global,
     schema: &Schema,
-    bytes: &[u8],
-    name: &[u8],
-    found: &Found,
+    file: &NamedFile<'_>,
+    earlier: Option<u64>,
+    rule: u16,
+    at: u64,
 ) -> Result<Vec<u8>, AllocError>
-    requires { IsFound schema.now bytes.now found.now }
-    ensures { IfOk result (λ lines. ExplainsZoneOf schema.now bytes.now name.now found.now.fault lines.items) }
+    requires lines { IsUnbroken (BreaksLineRule file.now.bytes.now) }
+    requires earlier { IsEarlierIfAny schema.now file.now.bytes.now rule (at - 1) earlier }
+    ensures { IfOk result (λ lines.
+        ExplainsSheet schema.now file.now.bytes.now file.now.name.now (AtRecord rule at) lines.items) }
 {
-    match &found.fault {
-        Fault::Entry { rule, at } => {
-            explain_zone_in_sheet(alloc, schema, bytes, name, found.earlier, *rule, *at)
-        }
-        _ => Ok(Vec::new(alloc)),
-    }
+    let records = records_of(alloc, file.bytes, at, earlier)?;
+    let mut lines = explain_place(alloc, &records, file.name, rule)?;
+    let zone = explain_zone_of_record(alloc, schema, &records, file.name, earlier, rule)?;
+    lines.extend_from_slice(&zone)?;
+    Ok(lines)
 }
 
 /// The lines that explain the refusal of a sheet, whose file has this name: where the broken line or record is,
@@ -133,10 +127,14 @@ pub fn explain_sheet(
     requires { IsFound schema.now bytes.now found.now }
     ensures { IfOk result (λ lines. ExplainsSheet schema.now bytes.now name.now found.now.fault lines.items) }
 {
-    let mut lines = explain_place(alloc, schema, bytes, name, found)?;
-    let zone = explain_zone_of(alloc, schema, bytes, name, found)?;
-    lines.extend_from_slice(&zone)?;
-    Ok(lines)
+    let file = NamedFile { name, bytes };
+    match &found.fault {
+        Fault::Memory(error) => Err(*error),
+        Fault::Line { rule, at } => explain_line(alloc, &file, *rule, *at),
+        Fault::Entry { rule, at } => {
+            explain_record(alloc, schema, &file, found.earlier, *rule, *at)
+        }
+    }
 }
 
 /// The one of two files that a fault is of.

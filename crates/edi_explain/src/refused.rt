@@ -1,28 +1,29 @@
 //! The record that a refusal names, and the earlier one that its rule speaks of.
 
-ghost use Rattle.std.specs.Prelude.{◌≡◌, ◌≢◌, ◌⊎◌, ◌-◌, ◌<◌, [], ℕ, List, Option, IfOk, length};
-ghost use Rattle.edi_line.specs.Entry.{Entry};
+ghost use Rattle.std.specs.Prelude.{◌≡◌, ◌≢◌, ◌⊎◌, ◌-◌, ◌<◌, ℕ, List, Option, IfOk, length, option_map};
+ghost use Rattle.edi_line.specs.Entry.{Entry, entries};
 ghost use Rattle.edi_line.specs.LineRules.{BreaksLineRule, IsZonesOf};
 ghost use Rattle.edi_line.specs.Refusal.{IsUnbroken};
-ghost use Rattle.edi_record.specs.Beside.{HasTakenAll};
+ghost use Rattle.edi_line.specs.Zones.{groups_of};
 ghost use Rattle.edi_record.specs.declared.sheet.Sheet.{Sheet as Sheets};
 ghost use Rattle.edi_compare.specs.PlanOfFile.{IsPlanOfFile, IsSheetOf};
 ghost use Rattle.edi_compare.specs.Refused.{IsRefusal};
 ghost use Rattle.edi_compare.specs.Rules.{RecordsHold, ReferencesHold};
 ghost use Rattle.edi_compare.specs.declared.fault.Fault.TheVariants.{Entry as AtRecord};
 ghost use Rattle.edi_explain.specs.Partners.{HasEnd, IsEqualNode, IsEqualObject, IsLeastIfAny, SharesName, SharesPoints, SharesSide};
-ghost use Rattle.edi_explain.specs.Refusals.{AreSites, IsEarlierIfAny, IsEarlierRowIfAny, IsRefusedAt, IsRowRefusedAt};
+ghost use Rattle.edi_explain.specs.Refusals.{AreSites, IsEarlierIfAny, IsEarlierRowIfAny, IsRowRefusedAt};
+ghost use Rattle.edi_explain.specs.Sites.{IsSiteIfAny};
+ghost use Rattle.edi_explain.specs.inner.Seeking.{AreFound, group_numbered};
 
 use crate::links::same_side;
 use crate::objects::equal_object;
 use crate::partner::{equal_node, first_link, namesake, same_arc};
 use crate::rows::row_namesake;
-use crate::seeking::sites_in;
-use crate::site::RecordSite;
-use crate::sites::{SitesInOrder, sites_among};
-use edi_line::{GroupOut, LineFault, zones};
+use crate::seeking::{FoundRecords, records_in};
+use crate::site::{RecordSite, site_of};
+use edi_line::{LineFault, Zone, zones};
 use edi_plan::{Plan, RefFault};
-use edi_record::{KeepNothing, RecordFault, Sheet, SheetFault, SheetRecords, read_sheet_beside};
+use edi_record::{RecordFault, Sheet, SheetFault, SheetRecords, read_sheet};
 use edi_schema::Schema;
 use std::alloc::{AllocError, Global};
 
@@ -33,36 +34,19 @@ pub struct Refused {
     pub earlier: Option<RecordSite>,
 }
 
-/// The records of a file that breaks no rule of lines or records, and what was given the zones of each in the same
-/// pass, of which it had taken none.
-fn sheet_beside<O: GroupOut + Drop>(
-    alloc: Global,
-    schema: &Schema,
-    bytes: &[u8],
-    other: O,
-) -> Result<(Sheet, O), AllocError>
-    requires holds { RecordsHold schema.now bytes.now }
-    requires none_taken { O.Holds other [] }
-    ensures sheet { IfOk result (λ read. IsSheetOf bytes.now read.0) }
-    ensures other { IfOk result (λ read. HasTakenAll bytes.now (O.Holds read.1)) }
-{
-    let _ = schema;
-    match read_sheet_beside(alloc, bytes, other) {
-        Ok(read) => Ok(read),
-        Err(SheetFault::Line(LineFault::Memory(error))) => Err(error),
-        Err(SheetFault::Record(RecordFault::Memory(error))) => Err(error),
-        Err(SheetFault::Line(LineFault::Broken { .. })) => unreachable!(),
-        Err(SheetFault::Record(RecordFault::Broken { .. })) => unreachable!(),
-    }
-}
-
 /// The records of a file that breaks no rule of lines or records.
 fn sheet_of(alloc: Global, schema: &Schema, bytes: &[u8]) -> Result<Sheet, AllocError>
     requires { RecordsHold schema.now bytes.now }
     ensures { IfOk result (IsSheetOf bytes.now) }
 {
-    let (sheet, _) = sheet_beside(alloc, schema, bytes, KeepNothing)?;
-    Ok(sheet)
+    let _ = schema;
+    match read_sheet(alloc, bytes) {
+        Ok(sheet) => Ok(sheet),
+        Err(SheetFault::Line(LineFault::Memory(error))) => Err(error),
+        Err(SheetFault::Record(RecordFault::Memory(error))) => Err(error),
+        Err(SheetFault::Line(LineFault::Broken { .. })) => unreachable!(),
+        Err(SheetFault::Record(RecordFault::Broken { .. })) => unreachable!(),
+    }
 }
 
 /// The plan of a file that breaks no rule of lines, records or references.
@@ -191,37 +175,6 @@ fn earlier_in_sheet(
     Ok(earlier_among(schema, &sheet.list, rule, place))
 }
 
-/// The place of the earlier record that the rule of a refusal speaks of, counted from 0, and where it and the refused
-/// one stand.
-#[derive(Drop)]
-pub(crate) struct Placed {
-    pub(crate) earlier: Option<u64>,
-    pub(crate) sites: Refused,
-}
-
-/// The earlier record that a rule of references speaks of, and where it and the record with this number stand, in one
-/// reading.
-pub(crate) fn placed_in_sheet(
-    alloc: Global,
-    schema: &Schema,
-    bytes: &[u8],
-    rule: u16,
-    number: u64,
-) -> Result<Placed, AllocError>
-    requires holds { RecordsHold schema.now bytes.now }
-    requires rule { (rule ≡ 301) ⊎ ((rule ≡ 304) ⊎ (rule ≡ 307)) }
-    ensures earlier { IfOk result (λ p. IsEarlierIfAny schema.now bytes.now rule (number - 1) p.earlier) }
-    ensures sites { IfOk result (λ p. IsRefusedAt schema.now bytes.now rule number p.sites) }
-{
-    let none = SitesInOrder {
-        list: Vec::new(alloc),
-    };
-    let (sheet, sites) = sheet_beside(alloc, schema, bytes, none)?;
-    let earlier = earlier_among(schema, &sheet.list, rule, number.saturating_sub(1));
-    let sites = sites_among(&sites.list, number, earlier)?;
-    Ok(Placed { earlier, sites })
-}
-
 /// The earlier record that a rule of topology or of objects speaks of: an equal node, the same arc, or an equal object.
 fn earlier_in_plan(
     alloc: Global,
@@ -264,6 +217,51 @@ pub fn earlier_record(
     }
 }
 
+/// The zones of the record with a number and of the one at an earlier place, of each that there is, in a file that
+/// breaks no rule of lines.
+pub(crate) fn records_of(
+    alloc: Global,
+    bytes: &[u8],
+    number: u64,
+    earlier: Option<u64>,
+) -> Result<FoundRecords, AllocError>
+    requires { IsUnbroken (BreaksLineRule bytes.now) }
+    ensures { IfOk result (λ records. (zones : List Entry) × IsZonesOf bytes.now zones
+        × AreFound zones number earlier records) }
+{
+    match records_in(alloc, bytes, number, earlier) {
+        Ok(records) => Ok(records),
+        Err(LineFault::Memory(error)) => Err(error),
+        Err(LineFault::Broken { .. }) => unreachable!(),
+    }
+}
+
+/// Where a record begins whose zones may have been found.
+fn site_if_found(
+    alloc: Global,
+    found: &Option<Vec<Zone<'static>>>,
+) -> Result<Option<RecordSite>, AllocError>
+    ensures { IfOk result (λ site. (zones : List Entry) (number : ℕ)
+        → option_map (λ v. entries v.items) found.now ≡ group_numbered (groups_of zones) number
+        → IsSiteIfAny zones number site) }
+{
+    match found {
+        Some(group) => site_of(alloc, group),
+        None => Ok(None),
+    }
+}
+
+/// Where a refused record and the earlier one begin.
+pub(crate) fn sites_of_records(alloc: Global, records: &FoundRecords) -> Result<Refused, AllocError>
+    ensures { IfOk result (λ sites. (zones : List Entry) (number : ℕ) (earlier : Option ℕ)
+        → AreFound zones number earlier records.now → AreSites zones number earlier sites) }
+{
+    Ok(Refused {
+        here: site_if_found(alloc, &records.here)?,
+        earlier: site_if_found(alloc, &records.earlier)?,
+    })
+}
+
 /// The sites of the record with a number and of the one at an earlier place, if there is one, in a file that breaks no
 /// rule of lines.
 pub(crate) fn sites_of(
@@ -276,29 +274,8 @@ pub(crate) fn sites_of(
     ensures { IfOk result (λ sites. (zones : List Entry) × IsZonesOf bytes.now zones
         × AreSites zones number earlier sites) }
 {
-    match sites_in(alloc, bytes, number, earlier) {
-        Ok(sites) => Ok(sites),
-        Err(LineFault::Memory(error)) => Err(error),
-        Err(LineFault::Broken { .. }) => unreachable!(),
-    }
-}
-
-/// Where the record of a refusal stands, and the earlier one at this place, of which its rule speaks.
-pub(crate) fn refused_with(
-    alloc: Global,
-    schema: &Schema,
-    bytes: &[u8],
-    rule: u16,
-    number: u64,
-    earlier: Option<u64>,
-) -> Result<Refused, AllocError>
-    requires refusal { IsRefusal schema.now bytes.now (AtRecord rule number) }
-    requires earlier { IsEarlierIfAny schema.now bytes.now rule (number - 1) earlier }
-    ensures { IfOk result (IsRefusedAt schema.now bytes.now rule number) }
-{
-    let _ = schema;
-    let _ = rule;
-    sites_of(alloc, bytes, number, earlier)
+    let records = records_of(alloc, bytes, number, earlier)?;
+    sites_of_records(alloc, &records)
 }
 
 /// The place of the earlier record of a schema's file that rule 602 speaks of, in a file that breaks no rule of lines.

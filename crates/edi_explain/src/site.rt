@@ -33,23 +33,6 @@ impl Drop for RecordSite {
     }
 }
 
-impl RecordSite {
-    /// The site, with memory of its own.
-    pub(crate) fn copied(&self) -> Result<RecordSite, AllocError>
-        ensures { IfOk result (λ copy. copy ≡ self.now) }
-    {
-        let rid = match &self.rid {
-            Some(rid) => Some(rid.clone()?),
-            None => None,
-        };
-        Ok(RecordSite {
-            line: self.line,
-            rty: self.rty.clone()?,
-            rid,
-        })
-    }
-}
-
 /// The zones of the record at this place, counted from 0.
 pub(crate) fn group_of<'a, 'b>(zones: &'b [Zone<'a>], place: u64) -> Option<&'b [Zone<'a>]>
     ensures { option_map (λ g. entries g.now) result ≡ slice_get (groups_of (entries zones.now)) place }

@@ -1,23 +1,29 @@
 //! The line on the zone with which a record breaks a rule.
 
-ghost use Rattle.std.specs.Prelude.{◌≡◌, ◌++◌, ◌-◌, IfOk, OnOk, codes};
-ghost use Rattle.edi_line.specs.Entry.{entries, entry};
+ghost use Rattle.std.specs.Prelude.{◌≡◌, ◌++◌, ℕ, List, suc, IfOk, OnOk, codes, option_and_then, option_map, unwrap_or};
+ghost use Rattle.edi_line.specs.Entry.{Entry, entries, entry, first};
 ghost use Rattle.edi_line.specs.LineRules.{BreaksLineRule, IsZonesOf};
 ghost use Rattle.edi_line.specs.Refusal.{IsUnbroken};
-ghost use Rattle.edi_explain.specs.AstrayZones.{IsZoneOfSheet};
-ghost use Rattle.edi_explain.specs.BreakingZones.{IsBreakingZone};
+ghost use Rattle.edi_record.specs.Records.{values};
+ghost use Rattle.edi_explain.specs.AstrayZones.{IsZoneOfRecord, IsZoneOfSheet, first_end_at};
+ghost use Rattle.edi_explain.specs.BreakingZones.{IsBreakingZoneOf};
 ghost use Rattle.edi_explain.specs.Lines.{position_text, rule_mark};
-ghost use Rattle.edi_explain.specs.Refusals.{IsEarlierIfAny};
-ghost use Rattle.edi_explain.specs.ZoneLines.{ExplainsZone, ExplainsZoneOfSheet, IsZoneLine, count_text, zone_line, zone_sentence};
+ghost use Rattle.edi_explain.specs.inner.Seeking.{AreFound};
+ghost use Rattle.edi_explain.specs.ZoneLines.{ExplainsZone, IsZoneLine, count_text, zone_line, zone_sentence};
 ghost use Rattle.edi_shown.specs.Shown.{shown_bytes};
 
-use crate::astray::zone_of_sheet;
+use crate::astray::zone_of_record;
 use crate::breaking::breaking_zone;
 use crate::lines::{push_position, push_sentence};
+use crate::refused::records_of;
+use crate::seeking::FoundRecords;
 use edi_line::{LineFault, Zone, push_number, zones};
+use edi_record::first_value;
 use edi_schema::Schema;
 use edi_shown::push_shown;
 use std::alloc::{AllocError, Global};
+
+const FTP: [u8; 3] = *b"FTP";
 
 /// What is said of the zone with which a record breaks a rule.
 fn sentence_of_zone(rule: u16) -> &'static [u8]
@@ -27,12 +33,15 @@ fn sentence_of_zone(rule: u16) -> &'static [u8]
         202 | 601 => b"no identifier, or a second one",
         203 => b"no pointer, or a second class",
         204 | 207 => b"no pointer",
+        208 => b"a pointer that isn't known",
         205 => b"not the count, or a second one",
         206 => b"no position, or a second one of a node",
         301 | 602 => b"the identifier",
         302 => b"the class",
         303 => b"no class of an attribute",
         304 => b"another lot or subset",
+        306 => b"the class, which is of a kind",
+        307 => b"the arc",
         401 => b"the first point",
         402 => b"the last point",
         403 => b"the position",
@@ -89,46 +98,6 @@ fn push_line(
     push_said(text, count, rule)
 }
 
-/// The line on the zone with which the record with a number breaks a rule of schemas, if there is such a zone.
-fn line_among(
-    alloc: Global,
-    zones: &[Zone<'_>],
-    name: &[u8],
-    rule: u16,
-    number: u64,
-) -> Result<Vec<u8>, AllocError>
-    ensures { IfOk result (λ lines. IsZoneLine (IsBreakingZone (entries zones.now) rule number) name.now
-        rule lines.items) }
-{
-    let mut text = Vec::new(alloc);
-    let Some((zone, count)) = breaking_zone(zones, rule, number) else {
-        return Ok(text);
-    };
-    push_line(&mut text, name, zone, count, rule)?;
-    Ok(text)
-}
-
-/// The same of a sheet.
-fn line_in_sheet(
-    alloc: Global,
-    schema: &Schema,
-    zones: &[Zone<'_>],
-    name: &[u8],
-    earlier: Option<u64>,
-    rule: u16,
-    number: u64,
-) -> Result<Vec<u8>, AllocError>
-    ensures { IfOk result (λ lines. IsZoneLine (IsZoneOfSheet schema.now (entries zones.now) earlier rule number)
-        name.now rule lines.items) }
-{
-    let mut text = Vec::new(alloc);
-    let Some((zone, count)) = zone_of_sheet(alloc, schema, zones, earlier, rule, number)? else {
-        return Ok(text);
-    };
-    push_line(&mut text, name, zone, count, rule)?;
-    Ok(text)
-}
-
 /// The zones of a file that breaks no rule of lines.
 pub(crate) fn zones_of<'a>(alloc: Global, bytes: &'a [u8]) -> Result<Vec<Zone<'a>>, AllocError>
     requires { IsUnbroken (BreaksLineRule bytes.now) }
@@ -138,6 +107,65 @@ pub(crate) fn zones_of<'a>(alloc: Global, bytes: &'a [u8]) -> Result<Vec<Zone<'a
         Ok(zones) => Ok(zones),
         Err(LineFault::Memory(error)) => Err(error),
         Err(LineFault::Broken { .. }) => unreachable!(),
+    }
+}
+
+/// The line on the zone with which a record breaks a rule of schemas, if there is such a zone.
+fn line_of_row(
+    alloc: Global,
+    group: &[Zone<'_>],
+    name: &[u8],
+    rule: u16,
+) -> Result<Vec<u8>, AllocError>
+    ensures { IfOk result (λ lines. IsZoneLine (IsBreakingZoneOf (entries group.now) rule) name.now rule lines.items) }
+{
+    let mut text = Vec::new(alloc);
+    let Some((zone, count)) = breaking_zone(group, rule) else {
+        return Ok(text);
+    };
+    push_line(&mut text, name, zone, count, rule)?;
+    Ok(text)
+}
+
+/// The same of a sheet, with the first end of all links.
+fn line_of_record(
+    alloc: Global,
+    schema: &Schema,
+    group: &[Zone<'_>],
+    name: &[u8],
+    end: Option<&[u8]>,
+    rule: u16,
+) -> Result<Vec<u8>, AllocError>
+    ensures { IfOk result (λ lines. IsZoneLine (IsZoneOfRecord schema.now (entries group.now)
+        (option_map (λ e. e.now) end.entry) rule) name.now rule lines.items) }
+{
+    let mut text = Vec::new(alloc);
+    let Some((zone, count)) = zone_of_record(alloc, schema, group, end, rule)? else {
+        return Ok(text);
+    };
+    push_line(&mut text, name, zone, count, rule)?;
+    Ok(text)
+}
+
+/// The first end of a record whose zones may have been found, if it has one.
+fn end_of<'b>(found: &'b Option<Vec<Zone<'static>>>) -> Option<&'b [u8]>
+    ensures { option_map (λ e. e.now) result ≡ option_and_then (λ group. first (values (codes "FTP") group))
+        (option_map (λ v. entries v.items) found.now) }
+{
+    match found {
+        Some(group) => first_value(group, FTP),
+        None => None,
+    }
+}
+
+/// The first end of all links: that of the earlier record that rule 304 speaks of, or else of the refused one.
+fn first_end<'b>(records: &'b FoundRecords, earlier: Option<u64>) -> Option<&'b [u8]>
+    ensures { (zones : List Entry) (place : ℕ) → AreFound zones (suc place) earlier records.now
+        → option_map (λ e. e.now) result ≡ first_end_at zones (unwrap_or earlier place) }
+{
+    match earlier {
+        Some(_) => end_of(&records.earlier),
+        None => end_of(&records.here),
     }
 }
 
@@ -153,24 +181,28 @@ pub(crate) fn explain_zone(
     requires { IsUnbroken (BreaksLineRule bytes.now) }
     ensures { IfOk result (λ lines. ExplainsZone bytes.now name.now rule number lines.items) }
 {
-    let zones = zones_of(alloc, bytes)?;
-    line_among(alloc, &zones, name, rule, number)
+    let records = records_of(alloc, bytes, number, None)?;
+    match &records.here {
+        Some(group) => line_of_row(alloc, group, name, rule),
+        None => Ok(Vec::new(alloc)),
+    }
 }
 
-/// The same in a sheet, with the earlier record that the rule speaks of.
-pub(crate) fn explain_zone_in_sheet(
+/// The same of a record of a sheet whose zones may have been found, with the earlier one that the rule speaks of.
+pub(crate) fn explain_zone_of_record(
     alloc: Global,
     schema: &Schema,
-    bytes: &[u8],
+    records: &FoundRecords,
     name: &[u8],
     earlier: Option<u64>,
     rule: u16,
-    number: u64,
 ) -> Result<Vec<u8>, AllocError>
-    requires lines { IsUnbroken (BreaksLineRule bytes.now) }
-    requires earlier { IsEarlierIfAny schema.now bytes.now rule (number - 1) earlier }
-    ensures { IfOk result (λ lines. ExplainsZoneOfSheet schema.now bytes.now name.now rule number lines.items) }
+    ensures { IfOk result (λ lines. (zones : List Entry) (number : ℕ) → AreFound zones number earlier records.now
+        → IsZoneLine (IsZoneOfSheet schema.now zones earlier rule number) name.now rule lines.items) }
 {
-    let zones = zones_of(alloc, bytes)?;
-    line_in_sheet(alloc, schema, &zones, name, earlier, rule, number)
+    let end = first_end(records, earlier);
+    match &records.here {
+        Some(group) => line_of_record(alloc, schema, group, name, end, rule),
+        None => Ok(Vec::new(alloc)),
+    }
 }

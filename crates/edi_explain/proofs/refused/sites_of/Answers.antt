@@ -1,9 +1,7 @@
-use Rattle.std.proofs.Common.{subst}
-use Rattle.edi_line.specs.LineRules.{BreaksLineRule}
-use Rattle.edi_line.specs.Refusal.{IsLineRefusal}
+use Rattle.std.proofs.lemmas.Result.{IfOk-weaker}
 use Rattle.edi_explain.proofs.refused.sites_of.Goals as goal
 
-pub unreachable-requires : goal.unreachable-requires
-unreachable-requires c =
-    let least = subst (IsLineRefusal (BreaksLineRule c.args.bytes.now)) c.in-Err-Broken.field-0-is c.in-Err-Broken.ensures.least in
-    c.requires _ _ least.is
+pub returns : goal.returns
+returns c =
+    let found = c.in_ok-records.ensures in
+    IfOk-weaker c.sites_of_records.result _ _ (λ sites h. (found.0, found.1, h found.0 c.args.number c.args.earlier found.2)) c.sites_of_records.ensures

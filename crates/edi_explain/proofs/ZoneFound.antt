@@ -1,0 +1,66 @@
+-- The zone of a record by the record's number in its file.
+use Rattle.std.proofs.Common.{◌≡◌, ◌∙◌, ◌⊎◌, inl, inr, ℕ, suc, List, Option, Some, None, codes, option_and_then, slice_get, sym, ap, subst, unwrap_or}
+use Rattle.edi_line.specs.Entry.{Entry, first}
+use Rattle.edi_line.specs.Zones.{groups_of}
+use Rattle.edi_record.specs.Records.{values}
+use Rattle.edi_schema.specs.Classes.{Classes}
+use Rattle.edi_explain.specs.AstrayZones.{IsFirstAstray, IsZoneOfRecord, IsZoneOfSheet, first_end_at}
+use Rattle.edi_explain.specs.BreakingZones.{IsBreakingZone, IsBreakingZoneOf}
+use Rattle.edi_explain.specs.ZoneLines.{IsZoneLine}
+use Rattle.edi_explain.specs.inner.Seeking.{group_numbered, number_of}
+use Rattle.edi_explain.proofs.Sought.{none_numbered, numbered_group}
+
+abbrev ends_in : List Entry → Option (List ℕ)
+ends_in group = first (values (codes "FTP") group)
+
+module _ (zones : List Entry) (place : ℕ) (g : Option (List Entry)) (end : Option (List ℕ)) (is : end ≡ option_and_then ends_in g) where
+  pub end_of_earlier : (earlier : Option ℕ) (e : ℕ) → earlier ≡ Some e → g ≡ group_numbered (groups_of zones) (number_of earlier)
+      → end ≡ first_end_at zones (unwrap_or earlier place)
+  end_of_earlier (Some k) e there h = is ∙ ap (option_and_then ends_in) h
+  end_of_earlier None e there h = absurd cc
+
+  pub end_of_own : (earlier : Option ℕ) → earlier ≡ None → g ≡ group_numbered (groups_of zones) (suc place)
+      → end ≡ first_end_at zones (unwrap_or earlier place)
+  end_of_own (Some k) none h = absurd cc
+  end_of_own None none h = is ∙ ap (option_and_then ends_in) h
+
+-- a line on a zone of which something else holds as well
+pub line_as : (P Q : Entry → Option ℕ → Type 0) (name : List ℕ) (rule : ℕ) (lines : List ℕ)
+    → ((z : Entry) (count : Option ℕ) → P z count → Q z count) → ((z : Entry) (count : Option ℕ) → Q z count → P z count)
+    → IsZoneLine P name rule lines → IsZoneLine Q name rule lines
+line_as P Q name rule lines f g (inl h) = inl (h.0, h.1, f h.0 h.1 h.2, h.3)
+line_as P Q name rule lines f g (inr h) = inr (λ z count q. h.0 z count (g z count q), h.1)
+
+same_group : (a b : List Entry) → Some a ≡ Some b → a ≡ b
+same_group a b e = cc
+
+module _ (zones : List Entry) (rule number : ℕ) (group : List Entry) (e : Some group ≡ group_numbered (groups_of zones) number) where
+  own : (place : ℕ) (other : List Entry) → number ≡ suc place → slice_get (groups_of zones) place ≡ Some other → other ≡ group
+  own place other n there = sym (same_group group other (e ∙ (ap (group_numbered (groups_of zones)) n ∙ there)))
+
+  pub row_zone : (z : Entry) (count : Option ℕ) → IsBreakingZoneOf group rule z count → IsBreakingZone zones rule number z count
+  row_zone z count h = let at = numbered_group (groups_of zones) number group e in (at.0, group, at.1, at.2, h)
+
+  pub zone_row : (z : Entry) (count : Option ℕ) → IsBreakingZone zones rule number z count → IsBreakingZoneOf group rule z count
+  zone_row z count k = subst (λ g. IsBreakingZoneOf g rule z count) (own k.0 k.1 k.2 k.3) k.4
+
+  module _ (s : Classes) (earlier : Option ℕ) (end : Option (List ℕ)) (ends : (place : ℕ) → number ≡ suc place → end ≡ first_end_at zones (unwrap_or earlier place)) where
+    pub sheet_zone : (z : Entry) (count : Option ℕ) → IsZoneOfRecord s group end rule z count → IsZoneOfSheet s zones earlier rule number z count
+    sheet_zone z count (inl h) = inl (row_zone z count h)
+    sheet_zone z count (inr h) =
+        let at = numbered_group (groups_of zones) number group e in
+        inr ((at.0, group, at.1, at.2, subst (λ x. IsFirstAstray s x rule group z) (ends at.0 at.1) h.0), h.1)
+
+    pub zone_sheet : (z : Entry) (count : Option ℕ) → IsZoneOfSheet s zones earlier rule number z count → IsZoneOfRecord s group end rule z count
+    zone_sheet z count (inl k) = inl (zone_row z count k)
+    zone_sheet z count (inr k) =
+        let d = k.0 in
+        inr (subst (λ x. IsFirstAstray s x rule group z) (sym (ends d.0 d.2)) (subst (λ g. IsFirstAstray s (first_end_at zones (unwrap_or earlier d.0)) rule g z) (own d.0 d.1 d.2 d.3) d.4), k.1)
+
+module _ (zones : List Entry) (rule number : ℕ) (e : None ≡ group_numbered (groups_of zones) number) where
+  pub no_row_zone : (z : Entry) (count : Option ℕ) → ¬ (IsBreakingZone zones rule number z count)
+  no_row_zone z count k = none_numbered (groups_of zones) number k.0 k.1 e k.2 k.3
+
+  pub no_sheet_zone : (s : Classes) (earlier : Option ℕ) (z : Entry) (count : Option ℕ) → ¬ (IsZoneOfSheet s zones earlier rule number z count)
+  no_sheet_zone s earlier z count (inl k) = no_row_zone z count k
+  no_sheet_zone s earlier z count (inr k) = let d = k.0 in none_numbered (groups_of zones) number d.0 d.1 e d.2 d.3
