@@ -15,3 +15,4 @@ pub mod MadeManifests
 pub mod There
 pub mod InFolder
 pub mod NameTables
+pub mod Among

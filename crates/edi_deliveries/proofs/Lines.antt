@@ -36,11 +36,11 @@ map_push f [] x = refl
 map_push f (y ∷ ys) x = ap (λ l. f y ∷ l) (map_push f ys x)
 
 -- what is kept of a list with one more, from what is kept of the rest
-kept_more : (b : Bool) (y : List ℕ) (more rest last : List (List ℕ)) → more ≡ rest ++ last → (if b then y ∷ more else more) ≡ (if b then y ∷ rest else rest) ++ last
+kept_more : {X : Type 0} (b : Bool) (y : X) (more rest last : List X) → more ≡ rest ++ last → (if b then y ∷ more else more) ≡ (if b then y ∷ rest else rest) ++ last
 kept_more true y more rest last is = ap (λ l. y ∷ l) is
 kept_more false y more rest last is = is
 
-filter_push : (p : List ℕ → Bool) (xs : List (List ℕ)) (x : List ℕ) → filter p (xs ++ x ∷ []) ≡ filter p xs ++ filter p (x ∷ [])
+filter_push : {X : Type 0} (p : X → Bool) (xs : List X) (x : X) → filter p (xs ++ x ∷ []) ≡ filter p xs ++ filter p (x ∷ [])
 filter_push p [] x = refl
 filter_push p (y ∷ ys) x = kept_more (p y) y (filter p (ys ++ x ∷ [])) (filter p ys) (filter p (x ∷ [])) (filter_push p ys x)
 
@@ -64,3 +64,20 @@ module _ {X : Type 0} (text : X → List ℕ) (p : List ℕ → Bool) (f : List 
   one_named_more a b e so_far more =
       let none : filter p (text x ∷ []) ≡ [] = ap (λ (t : Bool). if t then text x ∷ [] else []) e in
       more ∙ (so_far ∙ sym (ap (flat_map f) (names_more ∙ (ap (λ l. filter p (map text (take i xs)) ++ l) none ∙ append-nil (filter p (map text (take i xs)))))))
+
+-- over the files so far, and one more
+module _ {X : Type 0} (p : X → Bool) (f : X → List ℕ) (xs : List X) (i : ℕ) (x : X) (h : i < length xs) (is : x ≡ get_or xs i x) where
+  files_more : filter p (take (i + 1) xs) ≡ filter p (take i xs) ++ filter p (x ∷ [])
+  files_more = ap (filter p) (take_at xs i x h) ∙ (filter_push p (take i xs) (get_or xs i x) ∙ ap (λ y. filter p (take i xs) ++ filter p (y ∷ [])) (sym is))
+
+  -- one that has lines
+  pub one_missing_more : (a b : List ℕ) → p x ≡ true → a ≡ flat_map f (filter p (take i xs)) → b ≡ a ++ f x → b ≡ flat_map f (filter p (take (i + 1) xs))
+  one_missing_more a b e so_far more =
+      let one : filter p (x ∷ []) ≡ x ∷ [] = ap (λ (t : Bool). if t then x ∷ [] else []) e in
+      more ∙ (ap (λ l. l ++ f x) so_far ∙ sym (ap (flat_map f) (files_more ∙ ap (λ l. filter p (take i xs) ++ l) one) ∙ flat_push f (filter p (take i xs)) x))
+
+  -- one that has none
+  pub one_there_more : (a b : List ℕ) → p x ≡ false → a ≡ flat_map f (filter p (take i xs)) → b ≡ a → b ≡ flat_map f (filter p (take (i + 1) xs))
+  one_there_more a b e so_far more =
+      let none : filter p (x ∷ []) ≡ [] = ap (λ (t : Bool). if t then x ∷ [] else []) e in
+      more ∙ (so_far ∙ sym (ap (flat_map f) (files_more ∙ (ap (λ l. filter p (take i xs) ++ l) none ∙ append-nil (filter p (take i xs))))))

@@ -1,5 +1,5 @@
 -- A table of names, as it is made.
-use Rattle.std.proofs.Common.{◌≡◌, ◌∙◌, ℕ, Bool, true, false, cond, List, [], ◌∷◌, ◌++◌, Bor, Option, Some, None, find, is_some, not, option_copied, option_map, refl, sym, ap, subst, bytes_eq, true≢false}
+use Rattle.std.proofs.Common.{◌≡◌, ◌∙◌, ℕ, Bool, true, false, cond, List, [], ◌∷◌, ◌++◌, Bor, Option, Some, None, find, is_none, is_some, not, option_copied, option_map, refl, sym, ap, subst, bytes_eq, true≢false}
 use Rattle.std.specs.Str.{str_to_ascii_lowercase}
 use Rattle.std.proofs.lemmas.Slice.Eq.{bytes_eq-Decides}
 use Rattle.indexmap.specs.IndexMap.{IndexMap, Updates, get}
@@ -80,3 +80,10 @@ none_copied (Some v) none is e = absurd (true≢false (is ∙ ap not e))
 pub some_copied : {X : Type 0} (o : Option (Bor X)) (none : Bool) → is_some o ≡ not none → none ≡ false → is_some (option_copied o) ≡ true
 some_copied None none is e = is ∙ ap not e
 some_copied (Some v) none is e = refl
+
+-- a name that was looked for
+pub none_found : (o : Option (Bor (List ℕ))) (n : Option (List ℕ)) (none : Bool) → option_map (λ (v : Bor (List ℕ)). v.now) o ≡ n → is_some o ≡ not none → is_none n ≡ none
+none_found None n true e is = ap is_none (sym e)
+none_found None n false e is = absurd (true≢false (sym is))
+none_found (Some v) n true e is = absurd (true≢false is)
+none_found (Some v) n false e is = ap is_none (sym e)

@@ -45,7 +45,7 @@ none_lots run listings thf err (inr (inl h)) = no_fault run.why err h.0 thf h.2
 none_lots run listings thf err (inr (inr (inl h))) = no_fault run.why err (Read 1) (listed_path (parent_of thf)) h.3
 none_lots run listings thf err (inr (inr (inr h))) = absurd (omega (arith, h.0))
 
-none_opened : (run : Effects) (listings : Listings) (path : List ℕ) (err : Stream) → OpensNone run listings path err 0 → ⊥
+pub none_opened : (run : Effects) (listings : Listings) (path : List ℕ) (err : Stream) → OpensNone run listings path err 0 → ⊥
 none_opened run listings path err (inl h) = said (named_line path h.1) h.4
   where
     said : (text : List ℕ) → ErrorsSay text 4 err 0 → ⊥

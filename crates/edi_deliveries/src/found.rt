@@ -52,6 +52,11 @@ impl<'a> FolderNames<'a> {
         self.all
     }
 
+    /// The hash for them, and for tables of some of them.
+    pub(crate) fn hash(&self) -> NameHash {
+        *self.first.hasher()
+    }
+
     /// The name of a file as it lies among them: of those that are the same in upper and lower case the first.
     pub(crate) fn find(&self, alloc: Global, file: &FileName) -> Result<Option<&'a str>, AllocError>
         ensures { IfOk result (λ found. option_map (λ name. name.now) found ≡ found_name self.now file.now) }

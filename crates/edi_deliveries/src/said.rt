@@ -9,14 +9,17 @@ ghost use Rattle.edi_answers.specs.Notes.{Notes};
 ghost use Rattle.edi_answers.specs.Statuses.{LacksMemory};
 ghost use Rattle.edi_delivery.specs.Lots.{files_of};
 ghost use Rattle.edi_deliveries.specs.Deliveries.{found_name, found_names, is_unnamed, missing_line, missing_lines, refusal_words, unnamed_line, unnamed_lines};
+ghost use Rattle.edi_deliveries.specs.inner.Paths.{HasNames};
 
 use crate::found::{FolderNames, has_extension};
 use edi_answers::hashes::{escaped, push_named};
 use edi_answers::{notes, report};
 use edi_delivery::{DeliveryFault, Lot};
 use edi_files::{Reason, push_reason};
+use edi_hash::NameHash;
 use edi_line::{ByteOut, LineFault};
 use edi_record::RecordFault;
+use indexmap::IndexSet;
 use std::alloc::{AllocError, Global};
 
 /// Writes lines, if there are any and there was memory for them, and gives this status, or that of want of memory.
@@ -117,21 +120,32 @@ pub(crate) fn found_names<'a>(
     Ok(found)
 }
 
-// Whether a name is among these.
-fn is_among(found: &[&str], name: &str) -> bool
-    ensures { result ≡ list_any (bytes_eq name.now) (map (λ other. other.now) found.now) }
+// The same in a table, so that each name in the folder is looked up in it.
+fn found_table<'a>(
+    alloc: Global,
+    names: &FolderNames<'a>,
+    lots: &[Lot],
+) -> Result<IndexSet<&'a str, NameHash>, AllocError>
+    ensures { IfOk result (HasNames (found_names (names.now) lots.now)) }
 {
-    for other in found {
-        if name == *other {
-            return true;
-        }
+    let found = found_names(alloc, names, lots)?;
+    let mut table = IndexSet::with_hasher(alloc, names.hash());
+    for name in &found {
+        table.insert(*name)?;
     }
-    false
+    Ok(table)
+}
+
+// Whether a name is among these.
+fn is_among(found: &IndexSet<&str, NameHash>, name: &str) -> bool
+    ensures { result ≡ list_any (bytes_eq name.now) (map (λ other. other.now) found.now.keys) }
+{
+    found.contains(name)
 }
 
 // Whether it is the name of a VEC file that isn't among those that were found.
-fn is_unnamed(found: &[&str], name: &str) -> bool
-    ensures { result ≡ is_unnamed (map (λ other. other.now) found.now) name.now }
+fn is_unnamed(found: &IndexSet<&str, NameHash>, name: &str) -> bool
+    ensures { result ≡ is_unnamed (map (λ other. other.now) found.now.keys) name.now }
 {
     has_extension("VEC", name) && !is_among(found, name)
 }
@@ -145,7 +159,7 @@ pub(crate) fn unnamed_lines(
 ) -> Result<Vec<u8>, AllocError>
     ensures { IfOk result (λ lines. lines.items ≡ unnamed_lines before.now names.now lots.now) }
 {
-    let found = found_names(alloc, names, lots)?;
+    let found = found_table(alloc, names, lots)?;
     lines_on_unnamed(alloc, before, names.all(), &found)
 }
 
@@ -154,10 +168,10 @@ fn lines_on_unnamed(
     alloc: Global,
     before: &str,
     names: &[String],
-    found: &[&str],
+    found: &IndexSet<&str, NameHash>,
 ) -> Result<Vec<u8>, AllocError>
     ensures { IfOk result (λ lines. lines.items ≡ flat_map (λ name. unnamed_line (before.now ++ name))
-        (filter (is_unnamed (map (λ other. other.now) found.now)) (map string_bytes names.now))) }
+        (filter (is_unnamed (map (λ other. other.now) found.now.keys)) (map string_bytes names.now))) }
 {
     let mut lines = Vec::new(alloc);
     for name in names {

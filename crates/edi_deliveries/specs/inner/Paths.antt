@@ -1,7 +1,9 @@
 -- The paths of a lot's files, as the program owns them, and what is found of THF files.
 use Rattle.std.specs.Prelude.{◌≡◌, ℕ, List, [], ◌∷◌, Some, find, flat_map, map, option_map, option_to_list, string_bytes}
+use Rattle.std.specs.List.{list_any}
 use Rattle.std.specs.Str.{bytes_eq, str_to_ascii_lowercase}
 use Rattle.indexmap.specs.IndexMap.{IndexMap, get}
+use Rattle.indexmap.specs.IndexSet.{IndexSet}
 use Rattle.std.proofs.Common.{Bor, Result, Ok, Err}
 use Rattle.edi_delivery.specs.NameParts.{file_name}
 use Rattle.edi_delivery.specs.declared.file_name.Extension.TheVariants.{Scd, Dic, Vec}
@@ -20,6 +22,11 @@ abbrev pub FindsFirst : {S : Type 0} → List (List ℕ) → IndexMap (List ℕ)
 FindsFirst names table = (key : List ℕ)
     → option_map (λ (name : Bor (List ℕ)). name.now) (get bytes_eq table key)
     ≡ find (λ name. bytes_eq key (str_to_ascii_lowercase name)) names
+
+-- a table has just these names
+abbrev pub HasNames : {S : Type 0} → List (List ℕ) → IndexSet (Bor (List ℕ)) S → Type 0
+HasNames names table = (name : List ℕ)
+    → list_any (bytes_eq name) (map (λ (other : Bor (List ℕ)). other.now) table.keys) ≡ list_any (bytes_eq name) names
 
 -- the paths of those of its VEC files that are there
 abbrev pub vec_paths : List ℕ → List (List ℕ) → Lot → List (List ℕ)

@@ -1,10 +1,23 @@
-use Rattle.std.proofs.Common.{List, inl, subst}
+use Rattle.std.proofs.Common.{List, inl, inr, subst, sym}
 use Rattle.edi_manifest.specs.declared.line.ManifestLine.{ManifestLine}
 use Rattle.edi_answers.specs.Effects.{inputs, written}
+use Rattle.edi_answers.specs.Statuses.{IsPairStatus}
+use Rattle.edi_answers.proofs.Answering.{appends_nothing}
+use Rattle.edi_changes.proofs.Checking.{of_greater}
 use Rattle.edi_deliveries.specs.Checks.{AreHeld}
 use Rattle.edi_deliveries.specs.inner.Opening.{opened_of}
 use Rattle.edi_deliveries.proofs.MadeManifests.{lines_of_it}
 use Rattle.edi_deliveries.proofs.checks.check_opened.Goals as goal
+
+pub returns-in_default-clause-answer : goal.returns-in_default-clause-answer
+returns-in_default-clause-answer g c =
+    inr ((appends_nothing (g.O.ByteOut.contents c.args.out.now), c.out_of_memory.ensures.text), c.out_of_memory.ensures.status)
+
+pub returns-clause-status : goal.returns-clause-status
+returns-clause-status g c =
+    let found = c.find_lines-found in
+    let held = c.hold-held in
+    subst IsPairStatus (sym c.max.ensures) (of_greater IsPairStatus found.result held.result (inr found.ensures.status) held.ensures.status)
 
 pub returns-clause-answer : goal.returns-clause-answer
 returns-clause-answer g c =

@@ -6,7 +6,7 @@ use Rattle.edi_deliveries.proofs.said.lines_on_unnamed.Goals.{then-is_unnamed+in
 
 pub loop-name-preserved : goal.loop-name-preserved
 loop-name-preserved c =
-    let found = map (λ (other : Bor (List ℕ)). other.now) c.args.found.now in
+    let found = map (λ (other : Bor (List ℕ)). other.now) c.args.found.now.keys in
     let line = λ (name : List ℕ). unnamed_line (c.args.before.now ++ name) in
     let test : c.is_unnamed.result ≡ is_unnamed found (string_bytes c.name-item.result) = c.is_unnamed.ensures ∙ ap (is_unnamed found) c.deref.ensures in
     elim c.if-is_unnamed.branch [

@@ -4,4 +4,4 @@ use Rattle.edi_deliveries.proofs.said.lines_on_unnamed.Given as goal
 
 abbrev pub invariant-loop-name : goal.invariant-loop-name
 invariant-loop-name l =
-    l.lines.items ≡ flat_map (λ name. unnamed_line (l.before ++ name)) (filter (is_unnamed (map (λ other. other.now) l.found)) (map string_bytes (take l.name-index l.names)))
+    l.lines.items ≡ flat_map (λ name. unnamed_line (l.before ++ name)) (filter (is_unnamed (map (λ other. other.now) l.found.keys)) (map string_bytes (take l.name-index l.names)))
