@@ -1,12 +1,10 @@
 -- Zones that aren't known in records of their type.
-use Rattle.std.proofs.Common.{◌≡◌, ◌∙◌, ◌↔◌, ◌<◌, ◌+◌, ◌++◌, ◌⊎◌, ℕ, Bool, true, false, not, List, [], ◌∷◌, length, take, get_or, codes, IsTrue, ap, sym, refl}
+use Rattle.std.proofs.Common.{◌≡◌, ◌∙◌, ◌↔◌, ◌<◌, ◌+◌, ◌++◌, ℕ, Bool, true, false, not, List, [], ◌∷◌, length, take, get_or, codes, IsTrue, ap, sym, refl}
 use Rattle.std.proofs.lemmas.List.{map-append, take_more}
 use Rattle.edi_line.specs.Entry.{Entry, entry, entries, has_code}
 use Rattle.edi_line.specs.declared.zone.Zone.{Zone}
 use Rattle.edi_record.specs.Records.{IsExtraAt, is_known}
-use Rattle.edi_record.specs.Shapes.{kind_code}
 use Rattle.edi_record.specs.declared.record.Kind.{Kind}
-use Rattle.edi_record.specs.declared.record.Kind.TheVariants.{Pno, Par, Pfe, Fea, Lnk}
 use Rattle.edi_record.proofs.StatesSaid.{Open}
 
 pub entries_more : (zones : List Zone) (index : ℕ) (z : Zone) → index < length zones → z ≡ get_or zones index z

@@ -1,5 +1,5 @@
 -- What was found when all groups have come.
-use Rattle.std.proofs.Common.{◌≡◌, ◌+◌, ◌-◌, ◌≤◌, ◌<◌, ◌∙◌, ℕ, suc, zero, List, [], ◌∷◌, length, replicate, Option, Some, None, MatchOption, option_map, ap, subst, sym, arith, refl, slice_get}
+use Rattle.std.proofs.Common.{◌≡◌, ◌+◌, ◌-◌, ◌≤◌, ◌∙◌, ℕ, suc, zero, List, [], ◌∷◌, length, replicate, Option, Some, None, MatchOption, option_map, ap, subst, sym, arith, refl, slice_get}
 use Rattle.std.proofs.lemmas.Option.{slice_get_past}
 use Rattle.std.specs.Global.{Vec}
 use Rattle.std.specs.Option.{SomeIff}

@@ -1,5 +1,5 @@
 -- Pointers that name what they may not.
-use Rattle.std.proofs.Common.{Bor, ◌≡◌, ◌≢◌, ◌∙◌, ◌↔◌, ◌⊎◌, inl, inr, ℕ, Bool, not, List, Option, Some, None, codes, IsTrue, MatchOption, suc, sym, ap, subst, arith, slice_get, unwrap_or}
+use Rattle.std.proofs.Common.{◌≡◌, ◌≢◌, ◌∙◌, ◌↔◌, ◌⊎◌, inl, inr, ℕ, Bool, not, List, Option, Some, None, codes, IsTrue, MatchOption, sym, ap}
 use Rattle.edi_record.specs.Texts.{IsPointer, PointerText}
 use Rattle.edi_record.proofs.TextParts.{pointer_one}
 use Rattle.edi_schema.specs.Classes.{Classes, place_of}

@@ -1,5 +1,5 @@
 -- The zone of a record by the record's number in its file.
-use Rattle.std.proofs.Common.{◌≡◌, ◌∙◌, ◌⊎◌, inl, inr, ℕ, suc, List, Option, Some, None, codes, option_and_then, slice_get, sym, ap, subst, unwrap_or}
+use Rattle.std.proofs.Common.{◌≡◌, ◌∙◌, inl, inr, ℕ, suc, List, Option, Some, None, codes, option_and_then, slice_get, sym, ap, subst, unwrap_or}
 use Rattle.edi_line.specs.Entry.{Entry, first}
 use Rattle.edi_line.specs.Zones.{groups_of}
 use Rattle.edi_record.specs.Records.{values}

@@ -1,4 +1,4 @@
-use Rattle.std.proofs.Common.{◌≡◌, ◌<◌, ◌≤◌, ◌-◌, length}
+use Rattle.std.proofs.Common.{◌<◌, ◌≤◌, ◌-◌, length}
 use Rattle.edi_explain.proofs.class_counts.place_of.Given as goal
 
 abbrev pub invariant-loop-low : goal.invariant-loop-low

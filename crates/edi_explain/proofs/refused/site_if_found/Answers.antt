@@ -1,7 +1,7 @@
-use Rattle.std.proofs.Common.{◌≡◌, ℕ, List, Option, option_map, subst}
+use Rattle.std.proofs.Common.{◌≡◌, List, Option, option_map, subst}
 use Rattle.std.proofs.lemmas.Result.{IfOk-weaker}
 use Rattle.std.specs.Global.{Vec}
-use Rattle.edi_line.specs.Entry.{Entry, entries}
+use Rattle.edi_line.specs.Entry.{entries}
 use Rattle.edi_line.specs.Zones.{groups_of}
 use Rattle.edi_line.specs.declared.zone.Zone.{Zone}
 use Rattle.edi_explain.specs.inner.Seeking.{group_numbered}

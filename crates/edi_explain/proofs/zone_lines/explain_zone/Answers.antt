@@ -1,4 +1,4 @@
-use Rattle.std.proofs.Common.{◌≡◌, List, Option, None, option_map, subst, inr, refl}
+use Rattle.std.proofs.Common.{◌≡◌, List, Option, option_map, subst, inr}
 use Rattle.std.proofs.lemmas.Result.{IfOk-weaker}
 use Rattle.std.specs.Global.{Vec}
 use Rattle.edi_line.specs.Entry.{entries}

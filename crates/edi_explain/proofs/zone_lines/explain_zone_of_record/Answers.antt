@@ -1,4 +1,4 @@
-use Rattle.std.proofs.Common.{◌≡◌, ℕ, suc, List, Option, option_map, subst, inr, refl, sym}
+use Rattle.std.proofs.Common.{◌≡◌, ℕ, suc, List, Option, option_map, subst, inr}
 use Rattle.std.proofs.lemmas.Result.{IfOk-weaker}
 use Rattle.std.specs.Global.{Vec}
 use Rattle.edi_line.specs.Entry.{entries}
