@@ -33,6 +33,7 @@ from paired import paired
 from pictured import pictures
 from preloaded import made_files, refused_growths
 from presentations import presentations
+from progress import progress
 from room import Report, Room
 
 HERE = os.path.dirname(os.path.abspath(__file__))
@@ -67,6 +68,7 @@ PARTS = {
     "explains zones": 31,
     "manual": 26,
     "terminal": 3,
+    "progress": 12,
     "hostile folders": 11,
     "mount": 5,
     "preload": 134,
@@ -110,6 +112,7 @@ def works():
         "explains zones": explains_zones,
         "manual": manual,
         "terminal": terminal,
+        "progress": progress,
         "hostile folders": lambda room: hostile_folders(room, sheet),
         "mount": lambda room: full_disk(room, sheet),
         "preload": lambda room: made_files(room, sheet),

@@ -21,7 +21,7 @@ use edi_changes::told::status_of_changes;
 use edi_changes::verdict::verdict_word;
 use edi_changes::{Change, Entry, Fate, changes_of};
 use edi_compare::RunFault;
-use edi_files::{Folder, Listing};
+use edi_files::{Folder, Listing, Progress};
 use edi_line::{ByteOut, Text};
 use edi_manifest::reading::cut_at;
 use edi_manifest::{ManifestLine, read_manifest};
@@ -32,7 +32,7 @@ use std::alloc::{AllocError, Global};
 /// Writes for each name of a manifest, and of the delivery that a path leads to, whether its digest is the one that is
 /// found. Gives 0 where each is, and else the greatest of 1 and of what `err` says: of the delivery as for
 /// `put_manifest`, and 2 where the input is no manifest. The manifest is read first.
-pub fn check_manifest<F: Folder + Listing, O: ByteOut, E: ByteOut>(
+pub fn check_manifest<F: Folder + Listing, O: ByteOut, E: ByteOut + Progress>(
     alloc: Global,
     folder: &F,
     kinds: &GivenKinds<'_>,
@@ -70,7 +70,7 @@ fn manifest_at<F: Folder>(alloc: Global, folder: &F, path: &str) -> Result<Vec<M
 }
 
 // Holds the delivery that a path leads to against these lines.
-fn check_against<F: Folder + Listing, O: ByteOut, E: ByteOut>(
+fn check_against<F: Folder + Listing, O: ByteOut, E: ByteOut + Progress>(
     alloc: Global,
     folder: &F,
     kinds: &GivenKinds<'_>,
@@ -92,7 +92,7 @@ fn check_against<F: Folder + Listing, O: ByteOut, E: ByteOut>(
 }
 
 // Holds a delivery that was opened against these lines.
-fn check_opened<F: Folder, O: ByteOut, E: ByteOut>(
+fn check_opened<F: Folder, O: ByteOut, E: ByteOut + Progress>(
     alloc: Global,
     folder: &F,
     kinds: &GivenKinds<'_>,

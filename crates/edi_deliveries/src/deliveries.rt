@@ -9,14 +9,14 @@ use crate::found::FolderNames;
 use crate::lots::answer_lots;
 use crate::opening::{OpenDelivery, open_delivery};
 use edi_answers::report;
-use edi_files::{Folder, Listing};
+use edi_files::{Folder, Listing, Progress};
 use edi_line::ByteOut;
 use edi_words::GivenKinds;
 use std::alloc::Global;
 
 /// Answers each path in its order, and gives the greatest status: where it is a folder, the lots of the only THF file
 /// in it, and else those of the THF file that it is.
-pub fn answer_paths<F: Folder + Listing, O: ByteOut, E: ByteOut>(
+pub fn answer_paths<F: Folder + Listing, O: ByteOut, E: ByteOut + Progress>(
     alloc: Global,
     folder: &F,
     kinds: &GivenKinds<'_>,
@@ -33,15 +33,18 @@ pub fn answer_paths<F: Folder + Listing, O: ByteOut, E: ByteOut>(
     ensures err_stays { IsTrue (E.has_failed err.old) → IsTrue (E.has_failed err.new) }
 {
     let mut worst = 0;
+    err.begin(paths.len());
     for path in paths {
         let status = answer_path(alloc, folder, kinds, path, out, err);
         worst = worst.max(status);
+        err.count(status != 0);
     }
+    err.end();
     worst
 }
 
 // Answers a path.
-fn answer_path<F: Folder + Listing, O: ByteOut, E: ByteOut>(
+fn answer_path<F: Folder + Listing, O: ByteOut, E: ByteOut + Progress>(
     alloc: Global,
     folder: &F,
     kinds: &GivenKinds<'_>,
@@ -64,7 +67,7 @@ fn answer_path<F: Folder + Listing, O: ByteOut, E: ByteOut>(
 }
 
 // Answers the lots of a delivery that was opened, or says that there is no memory for the table of their names.
-fn answer_opened<F: Folder, O: ByteOut, E: ByteOut>(
+fn answer_opened<F: Folder, O: ByteOut, E: ByteOut + Progress>(
     alloc: Global,
     folder: &F,
     kinds: &GivenKinds<'_>,

@@ -14,7 +14,7 @@ use crate::said::{missing_lines, say_lines, unnamed_lines};
 use edi_answers::hashes::hash;
 use edi_answers::report;
 use edi_delivery::Lot;
-use edi_files::Folder;
+use edi_files::{Folder, Progress};
 use edi_line::ByteOut;
 use edi_words::{GivenKinds, ManyFiles};
 use std::alloc::{AllocError, Global};
@@ -138,7 +138,7 @@ fn answer_lot<F: Folder, O: ByteOut, E: ByteOut>(
 }
 
 // Answers lots in their order, and gives the greatest status.
-fn answer_each<F: Folder, O: ByteOut, E: ByteOut>(
+fn answer_each<F: Folder, O: ByteOut, E: ByteOut + Progress>(
     alloc: Global,
     folder: &F,
     kinds: &GivenKinds<'_>,
@@ -157,15 +157,18 @@ fn answer_each<F: Folder, O: ByteOut, E: ByteOut>(
     ensures err_stays { IsTrue (E.has_failed err.old) → IsTrue (E.has_failed err.new) }
 {
     let mut worst = 0;
+    err.begin(lots.len());
     for lot in lots {
         let status = answer_lot(alloc, folder, kinds, before, names, lot, out, err);
         worst = worst.max(status);
+        err.count(status != 0);
     }
+    err.end();
     worst
 }
 
 /// Answers the lots of a delivery in their order, and says which VEC files none of them names.
-pub(crate) fn answer_lots<F: Folder, O: ByteOut, E: ByteOut>(
+pub(crate) fn answer_lots<F: Folder, O: ByteOut, E: ByteOut + Progress>(
     alloc: Global,
     folder: &F,
     kinds: &GivenKinds<'_>,

@@ -19,7 +19,7 @@ use crate::said::found_names;
 use edi_answers::report;
 use edi_answers::sheets::meets;
 use edi_compare::RunFault;
-use edi_files::{Folder, Listing, output};
+use edi_files::{Folder, Listing, Progress, output};
 use edi_line::ByteOut;
 use edi_manifest::{ManifestLine, manifest};
 use edi_words::{GivenKinds, is_standard};
@@ -29,7 +29,7 @@ use std::alloc::{AllocError, Global};
 /// Puts the manifest of the delivery that a path leads to at FILE, or sends it to `out` where that is `-`, and gives 0.
 /// FILE is replaced whole or not at all, and only where each part of the delivery has a digest and FILE is none of its
 /// files. Else `err` says what is wrong, of parts as for `answer_paths`, and the status is the greatest of these.
-pub fn put_manifest<F: Folder + Listing, O: ByteOut, E: ByteOut>(
+pub fn put_manifest<F: Folder + Listing, O: ByteOut, E: ByteOut + Progress>(
     alloc: Global,
     folder: &mut F,
     kinds: &GivenKinds<'_>,
@@ -54,7 +54,7 @@ pub fn put_manifest<F: Folder + Listing, O: ByteOut, E: ByteOut>(
 }
 
 // Puts the manifest of a delivery that was opened, or sends it.
-fn manifest_of<F: Folder + Listing, O: ByteOut, E: ByteOut>(
+fn manifest_of<F: Folder + Listing, O: ByteOut, E: ByteOut + Progress>(
     alloc: Global,
     folder: &mut F,
     kinds: &GivenKinds<'_>,
@@ -83,7 +83,7 @@ fn manifest_of<F: Folder + Listing, O: ByteOut, E: ByteOut>(
 }
 
 // Sends the manifest of a delivery to the output.
-fn send<F: Folder, O: ByteOut, E: ByteOut>(
+fn send<F: Folder, O: ByteOut, E: ByteOut + Progress>(
     alloc: Global,
     folder: &F,
     kinds: &GivenKinds<'_>,
@@ -129,7 +129,7 @@ fn print<O: ByteOut, E: ByteOut>(
 }
 
 // Puts the manifest of a delivery at FILE, which is none of its files.
-fn put<F: Folder + Listing, E: ByteOut>(
+fn put<F: Folder + Listing, E: ByteOut + Progress>(
     alloc: Global,
     folder: &mut F,
     kinds: &GivenKinds<'_>,
@@ -209,7 +209,7 @@ fn meets_any<F: Folder>(folder: &F, paths: &[String], file: &str) -> bool
 }
 
 // Puts the manifest of a delivery at FILE, if each part of it is found.
-fn put_found<F: Folder + Listing, E: ByteOut>(
+fn put_found<F: Folder + Listing, E: ByteOut + Progress>(
     alloc: Global,
     folder: &mut F,
     kinds: &GivenKinds<'_>,

@@ -17,7 +17,7 @@ use edi_answers::whole::read_whole;
 use edi_answers::{notes, report};
 use edi_compare::RunFault;
 use edi_delivery::{Extension, FileName, Lot, NamePart};
-use edi_files::Folder;
+use edi_files::{Folder, Progress};
 use edi_line::ByteOut;
 use edi_manifest::{Digested, ManifestLine};
 use edi_schema::Schema;
@@ -355,7 +355,7 @@ fn find_lot<F: Folder, E: ByteOut>(
 }
 
 // Finds the parts of lots, in their order, and gives the greatest status.
-fn find_each_lot<'x, F: Folder, E: ByteOut>(
+fn find_each_lot<'x, F: Folder, E: ByteOut + Progress>(
     alloc: Global,
     folder: &F,
     kinds: &GivenKinds<'_>,
@@ -372,17 +372,20 @@ fn find_each_lot<'x, F: Folder, E: ByteOut>(
     ensures stays { IsTrue (E.has_failed err.old) → IsTrue (E.has_failed err.new) }
 {
     let mut worst = 0;
+    err.begin(lots.len());
     for lot in lots {
         let placed = LotInFolder { before, names, lot };
         let status = find_lot(alloc, folder, kinds, &placed, lines, err);
         worst = worst.max(status);
+        err.count(status != 0);
     }
+    err.end();
     worst
 }
 
 /// Finds the lines of a delivery, which are added to others, and gives the status: 0 where each part has one, and else
 /// the greatest of what the errors say of the rest.
-pub(crate) fn find_lines<F: Folder, E: ByteOut>(
+pub(crate) fn find_lines<F: Folder, E: ByteOut + Progress>(
     alloc: Global,
     folder: &F,
     kinds: &GivenKinds<'_>,

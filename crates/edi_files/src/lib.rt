@@ -6,6 +6,7 @@ pub mod folder;
 pub mod listing;
 pub mod output;
 pub mod product;
+pub mod progress;
 pub mod reason;
 pub mod system;
 
@@ -13,5 +14,6 @@ pub use disk::Disk;
 pub use folder::{Destination, FileDraft, Folder, OutFault};
 pub use listing::Listing;
 pub use product::Product;
+pub use progress::Progress;
 pub use reason::{Reason, push_reason, reason_text};
 pub use system::{CommandLine, Errors, Words};

@@ -3,8 +3,10 @@
 //! Which words it gives can't be known, so nothing of them is claimed.
 ghost use Rattle.std.specs.Prelude.{◌≡◌, ℕ, List, None, IfOk, map, string_bytes, ⊤, false};
 
+use crate::progress::{Progress, ProgressLine};
 use edi_line::ByteOut;
 use std::rt::Env;
+use std::time::Clock;
 use std::{env, io};
 
 /// Where the words of a command line come from, of which the first is the program's name.
@@ -36,14 +38,19 @@ impl<R: Env + AllocGlobal> Words for CommandLine<'_, R> {
 pub struct Errors<'a, R> {
     rt: &'a R,
     failed: bool,
+    progress: ProgressLine<'a, R>,
 }
 
 impl<'a, R: Eprint> Errors<'a, R> {
-    /// The stream of errors, which has not failed.
-    pub fn new(rt: &'a R) -> Errors<'a, R>
+    /// The stream of errors, which has not failed. Where it is a terminal, it shows how far a run has come.
+    pub fn new(rt: &'a R, is_terminal: bool) -> Errors<'a, R>
         ensures { ⟦<Errors<'a, R> as ByteOut>⟧.has_failed result ≡ false }
     {
-        Errors { rt, failed: false }
+        Errors {
+            rt,
+            failed: false,
+            progress: ProgressLine::new(rt, is_terminal),
+        }
     }
 }
 
@@ -58,11 +65,26 @@ impl<R: Eprint> ByteOut for Errors<'_, R> {
         if self.failed {
             return None;
         }
+        self.progress.wipe();
         let printed = match std::str::from_utf8(bytes) {
             Ok(text) => self.rt.eprint(text).is_ok(),
             Err(_) => false,
         };
         self.failed = !printed;
         if printed { Some(bytes.len()) } else { None }
+    }
+}
+
+impl<R: Eprint + Clock> Progress for Errors<'_, R> {
+    fn begin(&self, all: usize) {
+        self.progress.begin(all);
+    }
+
+    fn count(&self, is_wrong: bool) {
+        self.progress.count(is_wrong);
+    }
+
+    fn end(&self) {
+        self.progress.end();
     }
 }

@@ -22,7 +22,7 @@ use edi_deliveries::deliveries::answer_paths;
 use edi_deliveries::manifests::put_manifest;
 use edi_diff::{Difference, TextForm};
 use edi_files::Product::{self, Canonical, Picture};
-use edi_files::{CommandLine, Disk, Errors, Folder, Listing, Words};
+use edi_files::{CommandLine, Disk, Errors, Folder, Listing, Progress, Words};
 use edi_line::{ByteOut, ToWrite};
 use edi_outcome::Outcome;
 use edi_words::{GivenKinds, PairFiles, PairRequest, Request, SheetFiles, asked, is_standard};
@@ -34,25 +34,26 @@ use std::rt::{Files, Runtime};
 
 const DIFFERENT_STATUS: u8 = 1;
 
-/// Does what the words of the command line ask for, and gives the exit status.
-pub fn run<R: Runtime + Files<File = File> + AllocGlobal>(rt: &R) -> u8
+/// Does what the words of the command line ask for, and gives the exit status. Where standard error is a terminal, it
+/// shows how far a run over many deliveries or lots has come.
+pub fn run<R: Runtime + Files<File = File> + AllocGlobal>(rt: &R, is_terminal: bool) -> u8
     ensures { IsStatus result }
 {
     let line = CommandLine { rt };
     let mut folder = Disk::new(rt);
     let mut out = ToWrite::new(io::writer(rt));
-    let mut err = Errors::new(rt);
+    let mut err = Errors::new(rt, is_terminal);
     run_line(rt, &line, &mut folder, &mut out, &mut err)
 }
 
 /// Does what the words of a line ask for, over a folder and two streams, and gives the exit status.
-pub fn run_line<R: Eprint + AllocGlobal, W: Words, F: Folder + Listing, O: ByteOut, E: ByteOut>(
-    rt: &R,
-    line: &W,
-    folder: &mut F,
-    out: &mut O,
-    err: &mut E,
-) -> u8
+pub fn run_line<
+    R: Eprint + AllocGlobal,
+    W: Words,
+    F: Folder + Listing,
+    O: ByteOut,
+    E: ByteOut + Progress,
+>(rt: &R, line: &W, folder: &mut F, out: &mut O, err: &mut E) -> u8
     ensures { ((words : List (List ℕ)) × W.gives line.now words × HasStatus words result
         × AnswersWords (effects F.Folder F.Reader.ByteIn F.Sink.ByteOut F.NewFile.ByteOut folder.old folder.new)
         (listings F.Listing folder.old)
@@ -73,13 +74,13 @@ pub fn run_words<R: Runtime + Files<File = File> + AllocGlobal>(rt: &R, words: &
 {
     let mut folder = Disk::new(rt);
     let mut out = ToWrite::new(io::writer(rt));
-    let mut err = Errors::new(rt);
+    let mut err = Errors::new(rt, false);
     run_over(rt, &mut folder, &mut out, &mut err, words)
 }
 
 /// Does what the words ask for, over a folder and two streams, and gives the exit status. What `clap` says of the
 /// words is said through `rt`.
-pub fn run_over<R: Eprint + AllocGlobal, F: Folder + Listing, O: ByteOut, E: ByteOut>(
+pub fn run_over<R: Eprint + AllocGlobal, F: Folder + Listing, O: ByteOut, E: ByteOut + Progress>(
     rt: &R,
     folder: &mut F,
     out: &mut O,
@@ -98,7 +99,7 @@ pub fn run_over<R: Eprint + AllocGlobal, F: Folder + Listing, O: ByteOut, E: Byt
 
 /// Does what is asked for, and gives the exit status. Behind the answer to a request over one or two sheets, the errors
 /// get a note on the kinds of links that no class has.
-pub fn answered<F: Folder + Listing, O: ByteOut, E: ByteOut>(
+pub fn answered<F: Folder + Listing, O: ByteOut, E: ByteOut + Progress>(
     alloc: Global,
     folder: &mut F,
     out: &mut O,
@@ -118,7 +119,7 @@ pub fn answered<F: Folder + Listing, O: ByteOut, E: ByteOut>(
 }
 
 // Does what is asked for but for the note, which it hands on, and gives the exit status.
-fn replied<F: Folder + Listing, O: ByteOut, E: ByteOut>(
+fn replied<F: Folder + Listing, O: ByteOut, E: ByteOut + Progress>(
     alloc: Global,
     folder: &mut F,
     out: &mut O,
