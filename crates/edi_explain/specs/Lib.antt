@@ -14,6 +14,7 @@ pub mod Explained
 pub mod Barring
 pub mod Hints
 pub mod Lengths
+pub mod RefusalHints
 pub mod Skipped
 pub mod Known
 pub mod KindClasses
