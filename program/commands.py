@@ -285,6 +285,38 @@ def hashes(room, sheet, canonical):
         room.expect("a refused schema beside a full output", ["hash", "bad", "d", "v"], (2, None, b"bad: refused scd 106 line 1\n"), stdout=full)
     room.expect("a closed output", ["hash", "s", "d", "v"], (4, b"", b"cannot write standard output\n"), preexec_fn=lambda: os.close(1))
     schema_digests(room, one)
+    hashed_hints(room, one)
+
+
+def hashed_hints(room, one):
+    """The hints on the files of refused sheets, which are those of `explain`; none of what isn't read twice."""
+    turned = b" seems to have been turned into UTF-8: its lengths count characters, so take the file as it was delivered\n"
+    cut = b" seems to be cut: its last line has no end\n"
+    room.write("turned", "BOMT 01:X\nRTYSA03:PNO\nRIDSA07:Ch\u00e2teau\nEOMT 00:\n".encode("utf-8"))
+    room.write("cut", "BOMT 01:X\nRTYSA03:PN")
+    of_turned, of_cut = b"turned: refused 103 line 3\nhint: turned" + turned, b"cut: refused 102 line 2\nhint: cut" + cut
+    room.expect("a sheet whose lengths count characters", ["hash", "s", "d", "turned", "v"], (2, one + b"  v\n", of_turned))
+    room.expect("a sheet that was cut", ["hash", "s", "d", "v", "cut"], (2, one + b"  v\n", of_cut))
+    room.expect("each hint behind its sheet", ["hash", "s", "d", "cut", "x", "turned", "bad"],
+                (4, b"", of_cut + b"x: cannot read\nedicad: x: no such file\n" + of_turned + b"bad: refused 106 line 1\n"))
+    room.write("marked", b"\xef\xbb\xbf" + room.read("v") + b"\x1a")
+    room.write("thf", "BOMT 01:X\nRTYSA03:GTS\nRIDSA01:a\nEOMT 00:\n")
+    room.write("twice", room.read("v").replace(b"EOMT", b"RTYSA03:PNO\nEOMT"))
+    for name in ("turned", "cut", "marked", "thf", "twice"):
+        explained = room.run(["explain", "s", "d", name])[1].splitlines(keepends=True)
+        wanted = name.encode() + b": " + b"".join([explained[0], *(it for it in explained if it.startswith(b"hint: "))])
+        room.expect(f"the hints of explain: {name}", ["hash", "s", "d", name], (2, b"", wanted))
+    room.write("a\nb", room.read("cut"))
+    room.expect("a name with escapes in a hint", ["hash", "s", "d", "a\nb"], (2, b"", b"\\a\\nb: refused 102 line 2\nhint: a\\x0ab" + cut))
+    os.remove(room.path("a\nb"))
+    room.expect("no hint on standard input", ["hash", "s", "d", "-"], (2, b"", b"-: refused 102 line 2\n"), room.read("cut"))
+    os.mkfifo(room.path("pipe"))
+    writer = subprocess.Popen(["sh", "-c", "cat cut > pipe"], cwd=room.folder)
+    room.expect("no hint on a pipe", ["hash", "s", "d", "pipe"], (2, b"", b"pipe: refused 102 line 2\n"))
+    writer.wait(timeout=20)
+    os.remove(room.path("pipe"))
+    room.write("list", one + b"  cut\n")
+    room.expect("no hint where a list is held", ["hash", "--check", "list", "s", "d"], (2, b"cut: FAILED\n", b"cut: refused 102 line 2\n"))
 
 
 # The text of the schema of most cases, as FORMAT.md has it.

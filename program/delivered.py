@@ -1,4 +1,5 @@
 """What `delivery` replies: to folders and THF files, to names in upper and lower case, to files that are missing and files that lie there unnamed."""
+import bz2
 import os
 import shutil
 
@@ -120,6 +121,10 @@ def refused(room, line):
     at = laid(room, "D")
     room.write("D/EDAB01T1.VEC", b"")
     room.expect("a refused sheet", ["delivery", "D"], (2, b"", b"D/EDAB01T1.VEC: refused 106 line 1\n"))
+    with open(os.path.join(DELIVERY, "EDAB01T1.VEC"), "rb") as file:
+        room.write("D/EDAB01T1.VEC", bz2.compress(file.read()) + b"\n")
+    packed = b"D/EDAB01T1.VEC: refused 101 line 1\nhint: D/EDAB01T1.VEC is packed with bzip2: unpack it first\n"
+    room.expect("a sheet that is still packed", ["delivery", "D"], (2, b"", packed))
 
 
 def chosen(room, line):

@@ -46,7 +46,7 @@ appends_more (Some p) None c x y h k = absurd h
 appends_more (Some p) (Some q) None x y h k = absurd k
 appends_more (Some p) (Some q) (Some r) x y h k = k ∙ (ap (λ l. l ++ y) h ∙ append_assoc p x y)
 
-goes_more : (a b c : Option (List ℕ)) (f g : Bool) (x y : List ℕ) → GoesOut a b f x → GoesOut b c g y → (IsTrue f → IsTrue g) → GoesOut a c g (x ++ y)
+pub goes_more : (a b c : Option (List ℕ)) (f g : Bool) (x y : List ℕ) → GoesOut a b f x → GoesOut b c g y → (IsTrue f → IsTrue g) → GoesOut a c g (x ++ y)
 goes_more a b c f g x y (inl h) (inl k) stays = inl (appends_more a b c x y h k)
 goes_more a b c f g x y (inr h) (inl k) stays = inr (stays h)
 goes_more a b c f g x y h (inr k) stays = inr k

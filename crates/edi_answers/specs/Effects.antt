@@ -1,7 +1,8 @@
 -- What a command does to the folder and to its streams.
-use Rattle.std.specs.Prelude.{◌≡◌, ℕ, Bool, List, Option, IsTrue}
+use Rattle.std.specs.Prelude.{◌≡◌, ◌⊎◌, ℕ, Bool, List, Option, IsTrue}
 use Rattle.edi_line.specs.declared.device.ByteIn as byte_in
 use Rattle.edi_line.specs.declared.device.ByteOut as byte_out
+use Rattle.edi_files.specs.declared.folder.Destination.TheVariants as destination
 use Rattle.edi_files.specs.declared.folder.Folder as folder
 use Rattle.edi_files.specs.Folders.{Goes, IsSpare}
 use Rattle.edi_files.specs.Outputs.{IsUnmade, IsWholeOrNew, Reaches, Stops}
@@ -21,6 +22,10 @@ pub record Inputs : Type 1 where
   pub is_input : ℕ → Type 0
   -- the device of this number has failed
   pub failed : ℕ → Type 0
+  -- the path leads to a file, or to nothing yet
+  pub is_file : List ℕ → Type 0
+  -- the path leads to a device or a pipe, or can't be written to
+  pub no_file : List ℕ → Type 0
 
 -- the inputs of a folder
 abbrev pub inputs : {F R S N M : Type 0} → folder.Ghosts F R S N M → byte_in.Ghosts R → F → Inputs
@@ -31,6 +36,8 @@ inputs {R = R} g r folder = record {
   opens = g.opens folder;
   is_input = g.is_input folder;
   failed = λ device. (input : R) × (r.device input ≡ device) × IsTrue (r.has_failed input);
+  is_file = λ path. g.leads folder path destination.File;
+  no_file = λ path. g.unwritable folder path ⊎ g.leads folder path destination.Stream;
 }
 
 -- What a command finds in the folder, and what it leaves there.

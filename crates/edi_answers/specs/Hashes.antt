@@ -27,6 +27,7 @@ use Rattle.edi_outcome.specs.Status.{status_of_fault}
 use Rattle.edi_outcome.specs.Words.{sheet_fault_text}
 use Rattle.edi_answers.specs.Reasons.{IsReasonOf}
 use Rattle.edi_answers.specs.Effects.{Effects, Inputs, Stream}
+use Rattle.edi_answers.specs.Hinted.{AreFaultHints}
 use Rattle.edi_answers.specs.Notes.{InTurn, IsNote, NamesSomeKinds, Notes}
 use Rattle.edi_answers.specs.SheetRuns.{Gives, HasFailedAt, HoldsTooMuch, IsMissing, IsThere}
 use Rattle.edi_answers.specs.Statuses.{IsUnsaid, LacksMemory, OnlyLacksMemory, Prints, PrintsFirst, Warns}
@@ -108,20 +109,27 @@ pub record Step : Type 0 where
   pub err : List ℕ
   pub status : ℕ
 
--- What a sheet adds: its digest's line, or its fault's line on errors, and then that of the fault's reason; without
--- memory for the lines, words that say so.
+-- What a sheet adds: its digest's line, or its fault's line on errors, then that of the fault's reason, and of a refused
+-- sheet the hints on its file; without memory for these, or for the lines, words that say so in their place.
 abbrev pub IsStep : Inputs → Why → Classes → List ℕ → Step → Type 0
 IsStep inputs why s path step =
     ((digest : List ℕ) × IsAnswerOf inputs s path (Ok digest)
     × (step ≡ record { out = digest_line digest path; err = []; status = 0 }))
+    ⊎ (((e : RunFault) × (reason : Option Reason) × (hints : List ℕ) × IsAnswerOf inputs s path (Err e)
+    × IsReasonOf why e path reason × AreFaultHints inputs e path hints
+    × (step ≡ record {
+      out = [];
+      err = fault_line e path ++ reason_line (escaped_name path) reason ++ hints;
+      status = status_of_fault e;
+    }))
     ⊎ (((e : RunFault) × (reason : Option Reason) × IsAnswerOf inputs s path (Err e) × IsReasonOf why e path reason
     × (step ≡ record {
       out = [];
-      err = fault_line e path ++ reason_line (escaped_name path) reason;
-      status = status_of_fault e;
+      err = fault_line e path ++ reason_line (escaped_name path) reason ++ ended (codes "out of memory");
+      status = 5;
     }))
     ⊎ ((answer : Result (List ℕ) RunFault) × IsAnswerOf inputs s path answer
-    × (step ≡ record { out = []; err = ended (codes "out of memory"); status = 5 })))
+    × (step ≡ record { out = []; err = ended (codes "out of memory"); status = 5 }))))
 
 -- the greatest status
 abbrev pub worst_of : List Step → ℕ

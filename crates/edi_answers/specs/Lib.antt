@@ -1,6 +1,7 @@
 pub mod Effects
 pub mod Explains
 pub mod Hashes
+pub mod Hinted
 pub mod Misuses
 pub mod Notes
 pub mod PairInputs

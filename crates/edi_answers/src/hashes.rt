@@ -6,12 +6,13 @@ ghost use Rattle.edi_answers.specs.Hashes.{AnswersAll, AnswersHeaded, AnswersUnd
 ghost use Rattle.edi_schema.specs.SchemaRefusal.{IsGoodSchema};
 ghost use Rattle.edi_compare.specs.Runs.{MatchFault, RefusesSchema};
 ghost use Rattle.edi_answers.specs.Notes.{IsNote, IsNoteOn};
-ghost use Rattle.edi_answers.specs.inner.Hashes.{StepsOn, StopsAt};
+ghost use Rattle.edi_answers.specs.inner.Hashes.{StepsOn, StopsAt, TellsSheetFault};
 ghost use Rattle.edi_files.specs.Reasons.{reason_line};
 ghost use Rattle.edi_files.specs.declared.reason.Reason.{Reason};
 ghost use Rattle.edi_answers.specs.Reasons.{IsReasonOf};
 ghost use Rattle.edi_answers.specs.Statuses.{IsSheetStatus};
 
+use crate::hinted::hints_at;
 use crate::notes::note_of;
 use crate::reason::add_reason;
 use crate::sheets::opened;
@@ -222,8 +223,31 @@ fn answer<F: Folder, O: ByteOut, E: ByteOut>(
             },
             Err(_) => Ok(report::out_of_memory(err)),
         },
-        Err(fault) => Ok(tell_fault(alloc, folder, &fault, path, err)),
+        Err(fault) => Ok(tell_sheet(alloc, folder, &fault, path, err)),
     }
+}
+
+// Says what is wrong with the sheet of a path, and then, where it is refused, what its file hints at. Gives the status.
+fn tell_sheet<F: Folder, E: ByteOut>(
+    alloc: Global,
+    folder: &F,
+    fault: &RunFault,
+    path: &str,
+    err: &mut E,
+) -> u8
+    ensures contents { TellsSheetFault (inputs F.Folder F.Reader.ByteIn folder.now) (F.why folder.now)
+        (written E.ByteOut err.old err.new) fault.now path.now result }
+    ensures stays { IsTrue (E.has_failed err.old) → IsTrue (E.has_failed err.new) }
+{
+    let Ok(lines) = lines_of_fault(alloc, folder, fault, path) else {
+        return report::out_of_memory(err);
+    };
+    report::warn(err, &lines);
+    let Ok(hints) = hints_at(alloc, folder, fault, path) else {
+        return report::out_of_memory(err);
+    };
+    report::warn(err, &hints);
+    status_of_fault(fault)
 }
 
 /// Says what is wrong with the file of a path, and gives the status.

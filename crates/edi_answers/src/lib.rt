@@ -5,6 +5,7 @@ pub mod classes;
 pub mod commands;
 pub mod explains;
 pub mod hashes;
+mod hinted;
 pub mod known;
 pub mod notes;
 pub mod pair_inputs;

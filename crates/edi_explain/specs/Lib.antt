@@ -15,6 +15,7 @@ pub mod ExtraZones
 pub mod Barring
 pub mod Hints
 pub mod Lengths
+pub mod RefusalHints
 pub mod Skipped
 pub mod Known
 pub mod KindClasses
