@@ -246,39 +246,43 @@ fn push_arc(text: &mut Vec<u8>, points: &[Point]) -> Result<(), AllocError>
 
 /// Appends how many points of an arc differ, of how many, and by how much at most.
 fn push_moves(text: &mut Vec<u8>, points: &[Point], others: &[Point]) -> Result<(), AllocError>
-    ensures { OnOk result (text.new.items
-        ≡ text.old.items ++ (decimal (unlike_count (side_by_side points.now others.now))
+    ensures { OnOk result (text.new.items ≡ text.old.items
+        ++ (codes " points (" ++ decimal (unlike_count (side_by_side points.now others.now))
         ++ codes " of " ++ decimal (length points.now) ++ codes ", by at most "
-        ++ size_text (farthest (side_by_side points.now others.now)))) }
+        ++ size_text (farthest (side_by_side points.now others.now)) ++ codes ")")) }
 {
     let moves = moves_between(points, others);
+    text.extend_from_slice(b" points (")?;
     push_number(text, moves.count as u64)?;
     text.extend_from_slice(b" of ")?;
     push_number(text, points.len() as u64)?;
     text.extend_from_slice(b", by at most ")?;
-    push_millionths(text, moves.farthest)
+    push_millionths(text, moves.farthest)?;
+    text.extend_from_slice(b")")?;
+    Ok(())
 }
 
 /// Appends how many points an arc had, and how many it has.
 fn push_lengths(text: &mut Vec<u8>, had: usize, has: usize) -> Result<(), AllocError>
-    ensures { OnOk result (text.new.items ≡ text.old.items ++ (decimal had ++ codes ", then " ++ decimal has)) }
+    ensures { OnOk result (text.new.items
+        ≡ text.old.items ++ (codes " points (" ++ decimal had ++ codes ", then " ++ decimal has ++ codes ")")) }
 {
+    text.extend_from_slice(b" points (")?;
     push_number(text, had as u64)?;
     text.extend_from_slice(b", then ")?;
-    push_number(text, has as u64)
+    push_number(text, has as u64)?;
+    text.extend_from_slice(b")")
 }
 
 /// Appends how the points of an arc became those of another.
 fn push_arc_change(text: &mut Vec<u8>, points: &[Point], others: &[Point]) -> Result<(), AllocError>
     ensures { OnOk result (text.new.items ≡ text.old.items ++ arc_change points.now others.now) }
 {
-    text.extend_from_slice(b" points (")?;
     if points.len() == others.len() {
-        push_moves(text, points, others)?;
+        push_moves(text, points, others)
     } else {
-        push_lengths(text, points.len(), others.len())?;
+        push_lengths(text, points.len(), others.len())
     }
-    text.extend_from_slice(b")")
 }
 
 /// Appends where a node went, and how far.
