@@ -162,11 +162,17 @@ def sheet_case(room, case, sheet):
         room.expect(name + ": the canonical file again", ["canon", *kinds, "s", "d", "w", "-"], (0, canonical, wanted[2]))
     else:
         file = b"d" if answer.startswith(b"refused dic") else b"s" if answer.startswith((b"refused scd", b"refused kinds")) else b"v"
-        hashed = (2, b"", (wanted[2] if loaded else b"") + file + b": " + answer)
+        hashed = (2, b"", (wanted[2] if loaded else b"") + file + b": " + answer + (hints_of_v(room, kinds) if loaded else b""))
     room.expect(name + ": hash", ["hash", *kinds, "s", "d", "v"], hashed)
     if not kinds and b"EOM" in room.read("s") and b"EOM" in room.read("d"):
         bundle = room.read("s") + room.read("d") + room.read("v")
         room.expect(name + ": in a bundle", [], (wanted[0], answer if canonical is None else canonical, b""), bundle)
+
+
+def hints_of_v(room, kinds):
+    """The hints that explain gives of the sheet."""
+    said = room.run(["explain", *kinds, "s", "d", "v"])[1]
+    return b"".join(it for it in said.splitlines(keepends=True) if it.startswith(b"hint: v "))
 
 
 def canon_case(room, name, kinds, wanted, canonical):
