@@ -3,9 +3,11 @@
 
     cd crates/edicad && rt run -- --version                 builds out/edicad
     python3 bench/shapes.py SCD DIC [SHAPE ..]              from the top; all shapes where none is named
+    python3 bench/shapes.py --commands SCD DIC [SHAPE ..]   each sheet through every other command that reads one
 
 SCD and DIC are those of a bundle with the classes that are named below. Each sheet goes through `canon` with a stack
-of 512 KiB; a pair of sheets that differ through `diff`, and a file of classes that is refused through `explain`.
+of 512 KiB; a pair of sheets that differ through `diff`, and a file of classes or a sheet that is refused through `explain`.
+With `--commands` each sheet and its canonical file go through `hash`, `explain`, `draw`, `diff`, `compare --pairing` and `verify`.
 Printed for each shape: the size of its sheet, seconds of user and system time, the peak memory as a multiple of the size,
 how many times as long as a tenth of it takes, and the program's answer. Ten times the sheet should take little more than ten times.
 """
@@ -146,6 +148,12 @@ def faced(count, word):
         yield piece(b"l%d" % k, b"PAR;a%d" % k, b"PFE;f", b"REL;GCH_id")
 
 
+def sets(count):
+    """A node with so many attributes whose character sets are pointers by their format, refused by its last zone."""
+    one = zone(b"ATPCP", b"EDAB01;SeSD;ATT;NOM_id") + zone(b"TEXSP", b"8859-1") + zone(b"ATVSA", b"a")
+    yield node(b"n", 1) + one * count + zone(b"XYZSP", b"a")
+
+
 def renamed(count):
     """A file of so many classes, the last with the name of another behind ten times as many other zones."""
     for k in range(count):
@@ -171,6 +179,10 @@ PAIRS = {
 }
 CLASSES = {
     "renamed": (renamed, 20_000),
+}
+COMMANDS = ("hash", "explain", "draw", "diff", "compare --pairing", "verify")
+REFUSED = {
+    "sets": (sets, 400_000),
 }
 
 
@@ -204,6 +216,10 @@ def tried(name, scale, scd, dic, folder):
         shape, count = CLASSES[name]
         size = put(one, shape(count // scale))
         words = ["explain", one, dic, os.devnull]
+    elif name in REFUSED:
+        shape, count = REFUSED[name]
+        size = put(one, shape(count // scale))
+        words = ["explain", scd, dic, one]
     else:
         shape, count = SHAPES[name]
         size = put(one, shape(count // scale))
@@ -211,12 +227,49 @@ def tried(name, scale, scd, dic, folder):
     return *timed(words), size
 
 
+def words_of(command, scd, dic, folder):
+    """The words by which a command reads the sheet `one`, and its canonical file where it reads two; how many files of a sheet it reads."""
+    one, other, pairing, out = (os.path.join(folder, it) for it in ("one", "other", "pairing", "out"))
+    return {
+        "hash": (["hash", scd, dic, one], 1),
+        "explain": (["explain", scd, dic, one], 1),
+        "draw": (["draw", scd, dic, one, out], 1),
+        "diff": (["diff", scd, dic, one, other], 2),
+        "compare --pairing": (["compare", "--pairing", pairing, scd, dic, one, other], 2),
+        "verify": (["verify", scd, dic, one, other, pairing], 2),
+    }[command]
+
+
+def through_commands(name, scd, dic, folder):
+    """Lines on a shape that goes through each command at a tenth and at full size."""
+    shape, count = SHAPES[name]
+    found = {}
+    for scale in (10, 1):
+        size = put(os.path.join(folder, "one"), shape(count // scale))
+        timed(["canon", scd, dic, os.path.join(folder, "one"), os.path.join(folder, "other")])
+        for command in COMMANDS:
+            words, files = words_of(command, scd, dic, folder)
+            found.setdefault(command, []).append((*timed(words), size * files))
+    for command, ((_, least, _, _), (answer, seconds, peak, size)) in found.items():
+        print(f"| {name} | {command} | {seconds:.1f} s | {peak / size:.1f} | {seconds / max(least, 0.01):.1f} | {answer[:40]} |", flush=True)
+
+
+def all_commands(scd, dic, names):
+    print("| shape | command | time | memory / size | against a tenth | answer |")
+    print("|---|---|---|---|---|---|")
+    with tempfile.TemporaryDirectory() as folder:
+        for name in names or SHAPES:
+            through_commands(name, scd, dic, folder)
+
+
 def main():
+    if sys.argv[1] == "--commands":
+        return all_commands(*sys.argv[2:4], sys.argv[4:])
     scd, dic, *names = sys.argv[1:]
     print("| shape | size | time | memory / size | against a tenth | answer |")
     print("|---|---|---|---|---|---|")
     with tempfile.TemporaryDirectory() as folder:
-        for name in names or [*SHAPES, *PAIRS, *CLASSES]:
+        for name in names or [*SHAPES, *PAIRS, *CLASSES, *REFUSED]:
             _, least, _, _ = tried(name, 10, scd, dic, folder)
             answer, seconds, peak, size = tried(name, 1, scd, dic, folder)
             print(f"| {name} | {size / 1e6:.0f} MB | {seconds:.1f} s | {peak / size:.1f} | {seconds / least:.1f} | {answer} |", flush=True)

@@ -22,7 +22,7 @@ ROOT = os.path.dirname(os.path.dirname(os.path.abspath(__file__)))
 KNOWN_DELIVERIES = "crates/edi_delivery/src/known.rt"
 
 # crates that say what others found
-SAYERS = ("crates/edi_explain/", "crates/edi_outcome/")
+SAYERS = ("crates/edi_explain/", "crates/edi_outcome/", "crates/edi_answers/", "crates/edi_json_answers/")
 
 
 def read(path):

@@ -24,7 +24,9 @@ def in_tables():
 def in_code():
     found = {}
     for path in sorted(glob.glob(os.path.join(ROOT, "crates/edi_explain/src/texts/*.rt"))):
-        rows = re.findall(r'rule: (\d+),\s+sentence:\s+"((?:[^"\\]|\\.)*)"', read(path))
+        # (a backslash at the end of a line joins it with the next)
+        text = re.sub(r"\\\n\s*", "", read(path))
+        rows = re.findall(r'rule: (\d+),\s+sentence:\s+"((?:[^"\\]|\\.)*)"', text)
         found.update({int(rule): re.sub(r"\\(.)", r"\1", sentence) for rule, sentence in rows})
     return found
 

@@ -108,6 +108,18 @@ EDITS = {
 }
 
 
+# the texts of edits that can't be planted, and how the reason begins
+UNFITTING = {
+    "no_pair": ("file: src/lib.rt\n", "it has no"),
+    "no_old_text": ("file: src/lib.rt\nnew: one\n", "a 'new:' line"),
+    "text_that_stands_nowhere": ("file: src/lib.rt\nold: nowhere\nnew: one\n", "an 'old:' text"),
+    "text_that_stands_twice": ("file: src/lib.rt\nold: next(\nnew: one(\n", "an 'old:' text"),
+    "a_second_line": ("file: src/lib.rt\nold:     next(one)\nnew:     next(one);\n    next(one)\n", "a line begins"),
+    "nothing_changed": ("file: src/lib.rt\nold:     next(one)\nnew:     next(one)\n", "it changes nothing"),
+    "a_definition": ("file: specs/Lib.antt\nold: one\nnew: two\n", "it changes specs"),
+}
+
+
 class Report:
     """Counts what is as it should be."""
 
@@ -138,6 +150,17 @@ def make(top):
         write(f"{top}/crates/trial/proofs/{name}/Answers.antt", text)
     for name, (pairs, _) in EDITS.items():
         write(f"{top}/edits/trial/{name}.edit", "file: src/lib.rt\n" + "".join(f"old: {old}\nnew: {new}\n" for old, new in pairs))
+
+
+def unfitting(report, top, crate):
+    """An edit that can't be planted is told with the reason."""
+    for name, (text, _) in UNFITTING.items():
+        write(f"{top}/unfitting/{name}.edit", text)
+    good, bad = edit.edits_in(f"{top}/unfitting", crate.folder)
+    report.check("edits that can't be planted", sorted(it for it, _ in bad), sorted(UNFITTING))
+    report.check("none of them can be tried", good, [])
+    for name, why in bad:
+        report.check(f"why {name} can't be planted", why.startswith(UNFITTING[name][1]), True)
 
 
 def groups(report, good):
@@ -235,7 +258,8 @@ def main():
         make(top)
         crate = kit.crates_of(top)["trial"]
         good, bad = edit.edits_in(f"{top}/edits/trial", crate.folder)
-        report.check("edits that can't be planted", bad, [])
+        report.check("edits that can be planted", bad, [])
+        unfitting(report, top, crate)
         groups(report, good)
         found = verdicts(report, crate, good)
         limits(report, crate, good)

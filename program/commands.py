@@ -22,7 +22,7 @@ def words(room):
     """Commands with good and bad words."""
     report = room.report
     for bad in (["paint"], ["check"], ["check", "s"], ["check", "s", "d"], ["canon", "s", "d", "v"], ["compare", "s", "d", "v"],
-                ["hash", "s"], ["delivery"], ["changed"], ["changed", "a"], ["changed", "a", "b", "c"], ["changed", "--kinds", "A,B,C,D", "a", "b"], ["explain"], ["explain", "s", "d", "v", "v"], ["verify", "s", "d", "v", "v"], ["verify", "s", "d", "v", "v", "p", "p"], ["compare", "--pairing", "s", "d", "v", "v"],
+                ["hash", "s"], ["delivery"], ["changed"], ["changed", "a"], ["changed", "a", "b", "c"], ["changed", "--kinds", "A,B,C,D", "a", "b"], ["explain", "--paint"], ["verify", "s", "d", "v", "v"], ["verify", "s", "d", "v", "v", "p", "p"], ["compare", "--pairing", "s", "d", "v", "v"],
                 ["verify", "--pairing", "p", "s", "d", "v", "v", "p"], ["diff", "s", "d", "v"], ["diff", "--brief=yes", "s", "d", "v", "v"], ["diff", "--brief", "--brief", "s", "d", "v", "v"], ["compare", "--brief", "s", "d", "v", "v"], ["check", "s", "d", "v", "v"], ["draw", "s", "d", "v"], ["draw", "s", "d", "v", "o", "o"], ["draw", "--picture", "o", "s", "d", "v"],
                 ["diff", "--picture", "s", "d", "v", "v"], ["diff", "--picture", "p", "--picture", "q", "s", "d", "v", "v"], ["compare", "--picture", "p", "s", "d", "v", "v"], ["--paint"], ["check", "--paint", "s", "d", "v"], ["check", "--kinds"], ["help", "paint"]):
         status, out, err = room.run(bad)
@@ -645,6 +645,11 @@ STATUSES = {
 }
 
 
+def commands_of(said):
+    """The commands of which the text of an option speaks: `Of a, b and c: ..`."""
+    return {it for names in re.findall(r"\bOf ([a-z, ]+):", said) for it in re.split(r", | and ", names)}
+
+
 def manual(room):
     """The manual page has the usage lines, the commands, the options and the exit statuses that the program prints."""
     check = room.report.check
@@ -658,7 +663,7 @@ def manual(room):
     check("the usage lines", [it for text in texts.values() for it in re.findall(r"^Usage: (.*)", text, re.M)], synopsis)
     options = items(page, "OPTIONS")
     for name, text in texts.items():
-        own = [it for it, said in options.items() if said.startswith(f"Of {name}:")]
+        own = [it for it, said in options.items() if name in commands_of(said)]
         shared = {"edicad": ["-h, --help", "-V, --version"], "changed": ["-h, --help"]}.get(name, ["--kinds I,F,L,R", "-h, --help"])
         check(f"{name}: its options", sorted(it.replace("<", "").replace(">", "") for it in helped(text, "Options")), sorted(own + shared))
     known = {it for text in texts.values() for it in helped(text, "Options")}

@@ -33,6 +33,7 @@ def deliveries(room):
     lost(room, line)
     left_over(room, line)
     refused(room, line)
+    elsewhere(room)
     chosen(room, line)
     at = laid(room, "D")
     with open("/dev/full", "wb") as full:
@@ -125,6 +126,42 @@ def refused(room, line):
         room.write("D/EDAB01T1.VEC", bz2.compress(file.read()) + b"\n")
     packed = b"D/EDAB01T1.VEC: refused 101 line 1\nhint: D/EDAB01T1.VEC is packed with bzip2: unpack it first\n"
     room.expect("a sheet that is still packed", ["delivery", "D"], (2, b"", packed))
+
+
+def elsewhere(room):
+    """VEC files of a lot that point into each other, which are refused: where the records are at which their links point."""
+    at = laid(room, "D")
+    with open(at("EDAB01SE.THF"), "rb") as file:
+        room.write("D/EDAB01SE.THF", file.read().replace(b"GDCSN01:1", b"GDCSN01:2").replace(b"GDNSA02:T1", b"GDNSA02:T1\nGDNSA02:T2"))
+    with open(at("EDAB01T1.VEC"), "rb") as file:
+        first = file.read()
+    second = first.replace(b"SeT1", b"SeT2")
+    out, inner = b"FTPCP22:EDAB01;SeT1;PFE;Face_1", b"FTPCP21:EDAB01;SeT1;PAR;Arc_1"
+
+    def points(name, sheet, other, wanted):
+        room.write("D/EDAB01T1.VEC", sheet)
+        room.write("D/EDAB01T2.VEC", other)
+        digests = room.run(["hash", "D/EDAB01SE.SCD", "D/EDAB01SE.DIC", "D/EDAB01T2.VEC"])[1]
+        room.expect(f"records of another VEC file: {name}", ["delivery", "D"], (2, digests, wanted))
+
+    said = b"D/EDAB01T1.VEC: refused 304 record %d\n"
+    hint = b"hint: D/EDAB01T1.VEC points at %s, which is in D/EDAB01T2.VEC\n"
+    crossed = first.replace(out, out.replace(b"T1", b"T2"), 1)
+    points("an end of the fifth link", crossed, second, said % 11 + hint % b"PFE Face_1")
+    foreign = first.replace(inner, inner.replace(b"T1", b"T2"), 1)
+    points("the first end of all", foreign, second, said % 7 + hint % b"PAR Arc_1")
+    points("a record that the other doesn't have", crossed, second.replace(b"Face_1", b"Face_2"), said % 11)
+    to_node = first.replace(b"SeT1;PNO;Noeud_1", b"SeT2;PNO;Noeud_1", 1)
+    points("an end of the first link", to_node, second, said % 7 + hint % b"PNO Noeud_1")
+    points("another that has no links", to_node, second[: second.index(b"RTYSA03:PAR")] + b"EOMT 00:\n", said % 7)
+    points("another of a third subset", crossed, second.replace(b"SeT2", b"SeT3"), said % 11)
+    points("another that breaks a rule of lines", crossed, b"", said % 11 + b"D/EDAB01T2.VEC: refused 106 line 1\n")
+    points("another lot", crossed.replace(b"EDAB01;SeT2", b"EDAB02;SeT2"), second, said % 11)
+    both = second.replace(out.replace(b"T1", b"T2"), out, 1)
+    back = b"D/EDAB01T2.VEC: refused 304 record 11\nhint: D/EDAB01T2.VEC points at PFE Face_1, which is in D/EDAB01T1.VEC\n"
+    points("each points into the other", crossed, both, said % 11 + hint % b"PFE Face_1" + back)
+    room.expect("a list says nothing of other sheets", ["hash", "D/EDAB01SE.SCD", "D/EDAB01SE.DIC", "D/EDAB01T1.VEC", "D/EDAB01T2.VEC"],
+                (2, b"", said % 11 + b"D/EDAB01T2.VEC: refused 304 record 11\n"))
 
 
 def chosen(room, line):

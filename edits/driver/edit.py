@@ -65,6 +65,8 @@ def pairs_in(text):
                 raise Misfit("a 'new:' line stands before any 'file:' or 'old:' line")
             found.append((file, old, line[len("new:") :].removeprefix(" ")))
             old = None
+        elif line:
+            raise Misfit("a line begins with none of the words 'file:', 'old:' and 'new:'")
     if not found:
         raise Misfit("it has no 'old:' and 'new:' pair")
     return found
@@ -161,6 +163,8 @@ def read_edit(path, folder):
                 is_lone = True
             else:
                 functions |= {(file, it.path) for it in touched}
+    if not changes:
+        raise Misfit("it changes nothing")
     return Edit(name_of(path), pairs, changes, functions, is_lone)
 
 

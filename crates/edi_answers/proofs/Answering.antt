@@ -40,7 +40,7 @@ pub appends_nothing : (a : Option (List ℕ)) → Appends a a []
 appends_nothing None = tt
 appends_nothing (Some xs) = sym (append-nil xs)
 
-appends_more : (a b c : Option (List ℕ)) (x y : List ℕ) → Appends a b x → Appends b c y → Appends a c (x ++ y)
+pub appends_more : (a b c : Option (List ℕ)) (x y : List ℕ) → Appends a b x → Appends b c y → Appends a c (x ++ y)
 appends_more None b c x y h k = tt
 appends_more (Some p) None c x y h k = absurd h
 appends_more (Some p) (Some q) None x y h k = absurd k
@@ -74,27 +74,27 @@ max_status a b (inr (inr (inr e))) (inr (inr (inr f))) = inr (inr (inr (omega (a
 abbrev pub over : Option (List ℕ) → Option (List ℕ) → Bool → Stream
 over before after failed = record { before = before; after = after; failed = failed }
 
-pub none_answered : (inputs : Inputs) (why : Why) (s : Classes) (o : Option (List ℕ)) (of : Bool) (a : Option (List ℕ)) (af : Bool) → AreAnswered inputs why s (over o o of) (over a a af) [] 0
-none_answered inputs why s o of a af = ([], tt, appends_nothing o, inl (appends_nothing a), refl)
+pub none_answered : (inputs : Inputs) (why : Why) (s : Classes) (siblings : List (List ℕ)) (o : Option (List ℕ)) (of : Bool) (a : Option (List ℕ)) (af : Bool) → AreAnswered inputs why s siblings (over o o of) (over a a af) [] 0
+none_answered inputs why s siblings o of a af = ([], tt, appends_nothing o, inl (appends_nothing a), refl)
 
 -- over what the streams tell before the first sheet, before this one and after it
-module _ (inputs : Inputs) (why : Why) (s : Classes) (o p q : Option (List ℕ)) (pf qf : Bool) (a b c : Option (List ℕ)) (bf cf : Bool) where
-  pub answered_more : (paths : List (List ℕ)) (path : List ℕ) (worst status : ℕ) → AreAnswered inputs why s (over o p pf) (over a b bf) paths worst
-      → StepsOn inputs why s path (over p q qf) (over b c cf) status → (IsTrue bf → IsTrue cf)
-      → AreAnswered inputs why s (over o q qf) (over a c cf) (paths ++ path ∷ []) (max worst status)
+module _ (inputs : Inputs) (why : Why) (s : Classes) (siblings : List (List ℕ)) (o p q : Option (List ℕ)) (pf qf : Bool) (a b c : Option (List ℕ)) (bf cf : Bool) where
+  pub answered_more : (paths : List (List ℕ)) (path : List ℕ) (worst status : ℕ) → AreAnswered inputs why s siblings (over o p pf) (over a b bf) paths worst
+      → StepsOn inputs why s siblings path (over p q qf) (over b c cf) status → (IsTrue bf → IsTrue cf)
+      → AreAnswered inputs why s siblings (over o q qf) (over a c cf) (paths ++ path ∷ []) (max worst status)
   answered_more paths path worst status h k stays =
       let steps = h.0 in
       let step = k.0 in (
         steps ++ step ∷ [],
-        zip_push (IsStep inputs why s) paths steps path step h.1 k.1,
+        zip_push (IsStep inputs why s siblings) paths steps path step h.1 k.1,
         subst (Appends o q) (sym (said_push (λ (t : Step). t.out) steps step)) (appends_more o p q _ _ h.2 k.3),
         subst (GoesOut a c cf) (sym (said_push (λ (t : Step). t.err) steps step)) (goes_more a b c bf cf _ _ h.3 k.4 stays),
         ap (λ w. max w status) h.4 ∙ (ap (max (worst_of steps)) (sym k.2) ∙ sym (fold-append (λ w (t : Step). max w t.status) 0 steps (step ∷ []))),
       )
 
-  pub cut_off : (paths done more : List (List ℕ)) (path : List ℕ) (worst status : ℕ) → paths ≡ done ++ path ∷ more → AreAnswered inputs why s (over o p pf) (over a b bf) done worst
+  pub cut_off : (paths done more : List (List ℕ)) (path : List ℕ) (worst status : ℕ) → paths ≡ done ++ path ∷ more → AreAnswered inputs why s siblings (over o p pf) (over a b bf) done worst
       → StopsAt inputs s path (over p q qf) → GoesOut b c cf (ended (codes "cannot write standard output")) → (IsTrue bf → IsTrue cf) → status ≡ 4
-      → IsCutOff inputs why s (over o q qf) (over a c cf) paths status
+      → IsCutOff inputs why s siblings (over o q qf) (over a c cf) paths status
   cut_off paths done more path worst status is h k said stays four = (
     done,
     path,

@@ -9,6 +9,7 @@ use Rattle.edi_compare.specs.declared.fault.RunFault.TheVariants.{Memory, Read, 
 use Rattle.edi_words.specs.Requests.{usual_kinds}
 use Rattle.edi_files.specs.Reasons.{ended}
 use Rattle.edi_files.specs.declared.folder.Folder as folder
+use Rattle.edi_answers.specs.declared.form.AnswerForm.TheVariants as answer_form
 use Rattle.edi_answers.specs.Effects.{Effects, Inputs, Stream, inputs, written}
 use Rattle.edi_outcome.specs.Status.{status_of_fault}
 use Rattle.edi_outcome.specs.Words.{words_of_fault}
@@ -68,7 +69,7 @@ module _ (inputs : Inputs) {O : Type 0} (g : byte_out.Ghosts O) (before between 
 
 module _ (run : Effects) {O : Type 0} (g : byte_out.Ghosts O) (before between after : O) (err : Stream) (s : ℕ) (e : RunFault) (contents : Option (List ℕ)) where
   pub unbundled_status : run.inputs.standard contents → StandardFault run.inputs contents (First run.inputs g before between after contents between) e
-      → BeforeWriting e (between ≡ before) → IsSaid run.why (written g between after) err (outcome.Fault e) both_dashes s → (3 ≤ status_of_fault e → after ≡ between)
+      → BeforeWriting e (between ≡ before) → IsSaid run.why (written g between after) err answer_form.Words (outcome.Fault e) both_dashes s → (3 ≤ status_of_fault e → after ≡ between)
       → IsBundleStatus run (written g before after) err s
   unbundled_status standard h unmoved said kept = (
     contents,
@@ -82,7 +83,7 @@ module _ (run : Effects) {O : Type 0} (g : byte_out.Ghosts O) (before between af
           (said.fault big four).0,
         ))
         (λ is two. input_refused (Answers (written g before after) err) usual_kinds (names_of_paths both_dashes) refl run.inputs contents (First run.inputs g before between after contents between) e h is
-        (subst (λ o. Answers (written g o after) err (ended (words_of_fault e (names_of_paths both_dashes)))) (unwritten e _ unmoved is) (said.answer (omega (arith, two)))))
+        (subst (λ o. Answers (written g o after) err (ended (words_of_fault e (names_of_paths both_dashes)))) (unwritten e _ unmoved is) (said.answer (omega (arith, two))).0))
         said.unsaid said.status
         (λ five. let m = said.memory five in (m.1, lacking run.inputs g before between after contents e h unmoved m.0 kept)),
   )

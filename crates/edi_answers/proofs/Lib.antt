@@ -12,3 +12,4 @@ pub mod PairRuns
 pub mod Pairings
 pub mod Refusals
 pub mod Replies
+pub mod Shares

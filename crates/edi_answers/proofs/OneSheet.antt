@@ -1,5 +1,5 @@
 -- The status of a run over one sheet.
-use Rattle.std.proofs.Common.{◌≡◌, ◌≢◌, ◌⊎◌, ◌<◌, ℕ, Bool, true, false, List, [], codes, refl, sym, subst, inl, inr, arith}
+use Rattle.std.proofs.Common.{◌≡◌, ◌≢◌, ◌⊎◌, ◌<◌, ℕ, Bool, true, false, List, [], codes, sym, subst, inl, inr, arith}
 use Rattle.std.specs.Bool.{MatchBool}
 use Rattle.edi_line.specs.declared.device.ByteOut as byte_out
 use Rattle.edi_schema.specs.Roles.{KindCodes}
@@ -7,32 +7,33 @@ use Rattle.edi_compare.specs.Runs.{BeforeWriting, IsSheetUnder}
 use Rattle.edi_compare.specs.declared.fault.RunFault.{RunFault}
 use Rattle.edi_compare.specs.declared.fault.RunFault.TheVariants.{Memory, Read, TooLong, Schema, First, Second, Write}
 use Rattle.edi_words.specs.declared.words.SheetFiles.{SheetFiles}
+use Rattle.edi_answers.specs.declared.form.AnswerForm.{AnswerForm}
+use Rattle.edi_answers.specs.declared.form.AnswerForm.TheVariants as answer_form
 use Rattle.edi_answers.specs.Effects.{Effects, Stream, written}
 use Rattle.edi_answers.specs.Explains.{IsExplainStatus, TellsAccepted, TellsRefusal}
 use Rattle.edi_outcome.specs.Status.{status_of_fault}
-use Rattle.edi_answers.specs.Paths.{names_of_paths}
 use Rattle.edi_answers.specs.SheetRuns.{FileFault, OfFiles}
-use Rattle.edi_answers.specs.Statuses.{Answers, IsFileStatus, IsSaid, IsUnsaid, Prints, paths_of}
+use Rattle.edi_answers.specs.Statuses.{Answers, AnswersIn, IsFileStatus, IsSaid, IsUnsaid, Prints, paths_of}
 use Rattle.edi_outcome.specs.declared.outcome.Outcome.TheVariants as outcome
 use Rattle.edi_answers.proofs.Answering.{appends_nothing}
 use Rattle.edi_answers.proofs.Made.{files_map, were_there}
-use Rattle.edi_answers.proofs.Refusals.{file_refused, file_tried, means_answer, means_fault}
+use Rattle.edi_answers.proofs.Refusals.{file_faulted, file_tried, means_answer, means_fault}
 
-module _ (run : Effects) (out err : Stream) (kinds : KindCodes) (files : SheetFiles) (s : ℕ) where
+module _ (run : Effects) (out err : Stream) (kinds : KindCodes) (files : SheetFiles) (form : AnswerForm) (s : ℕ) where
   -- a sheet is accepted, or not
-  pub accepted_status : OfFiles run.inputs files (IsSheetUnder kinds) → IsSaid run.why out err outcome.Accepted (paths_of files (codes "-")) s
-      → IsFileStatus run out err kinds files s
+  pub accepted_status : OfFiles run.inputs files (IsSheetUnder kinds) → IsSaid run.why out err form outcome.Accepted (paths_of files (codes "-")) s
+      → IsFileStatus run out err kinds files form s
   accepted_status h said = record {
     tried = inl (were_there run.inputs files _ h);
     means = means_answer _ _ _ run.why (paths_of files (codes "-")) out err s outcome.Accepted (omega arith) (λ zero. (h, said.answer (omega (arith, zero)))) said;
   }
 
-  pub file_status : (e : RunFault) → FileFault run.inputs kinds files (λ _. ⊥) e → IsSaid run.why out err (outcome.Fault e) (paths_of files (codes "-")) s
-      → IsFileStatus run out err kinds files s
+  pub file_status : (e : RunFault) → FileFault run.inputs kinds files (λ _. ⊥) e → IsSaid run.why out err form (outcome.Fault e) (paths_of files (codes "-")) s
+      → IsFileStatus run out err kinds files form s
   file_status e h said = record {
     tried = file_tried run.inputs kinds files _ e h;
     means = means_fault _ _ _ run.why (paths_of files (codes "-")) out err s e (λ silent. (h, silent))
-        (λ is line. file_refused (Answers out err) kinds (names_of_paths (paths_of files (codes "-"))) refl run.inputs files _ e h is line) said;
+        (λ is line. file_faulted (λ f. AnswersIn out err form (paths_of files (codes "-")) (outcome.Fault f)) kinds run.inputs files _ e h is line) said;
   }
 
 pub unmoved : {S : Type 0} → (g : byte_out.Ghosts S) (before after : S) → after ≡ before → Prints (written g before after) []
@@ -91,7 +92,7 @@ module _ (run : Effects) (out err : Stream) (kinds : KindCodes) (files : SheetFi
   }
 
   pub unexplained_status : (e : RunFault) → FileFault run.inputs kinds files (λ _. ⊥) e → 2 < status_of_fault e
-      → IsSaid run.why out err (outcome.Fault e) (paths_of files (codes "-")) s → IsExplainStatus run out err kinds files s
+      → IsSaid run.why out err answer_form.Words (outcome.Fault e) (paths_of files (codes "-")) s → IsExplainStatus run out err kinds files s
   unexplained_status e h big said = record {
     tried = file_tried run.inputs kinds files _ e h;
     means = means_fault _ _ _ run.why (paths_of files (codes "-")) out err s e (λ silent. (h, silent)) (λ is line. absurd (omega (arith, is, big))) said;

@@ -18,13 +18,15 @@ use Rattle.edi_outcome.specs.Status.{status_of_fault}
 use Rattle.edi_outcome.specs.Words.{FaultHasNames, HasNames, words_of_fault}
 use Rattle.edi_answers.specs.Paths.{names_of_paths}
 use Rattle.edi_answers.specs.inner.Outcome.{paired_outcome, verified_outcome}
+use Rattle.edi_answers.specs.declared.form.AnswerForm.{AnswerForm}
 use Rattle.edi_answers.specs.Effects.{Effects, Inputs, Stream}
 use Rattle.edi_answers.specs.SheetRuns.{AreFiveThere, FirstOfFiveMissing, Gives, HasFailedAt, HoldsTooMuch, IsNoPairInput, IsPairInput, IsPairPut, IsPairReplaced, OfFive, OfPair, PairFileFault, PutPairFault, VerifyFileFault, verify_path_at}
-use Rattle.edi_answers.specs.Statuses.{Answers, AreFourTried, IsAnsweredAs, IsPairingStatus, IsSaid, IsVerifyStatus, SaysPairRefusal, SaysVerifyRefusal, pair_paths_of, verify_paths_of}
+use Rattle.edi_answers.specs.Statuses.{AnswersIn, AreFourTried, IsAnsweredAs, IsPairingStatus, IsSaid, IsVerifyStatus, SaysPairFault, SaysPairRefusal, SaysVerifyRefusal, pair_paths_of, verify_paths_of}
 use Rattle.edi_answers.proofs.Made.{were_four}
 use Rattle.edi_answers.proofs.Faults.{if_err_map, both_of_four, three_of_four}
+use Rattle.edi_outcome.specs.declared.outcome.Outcome.{Outcome}
 use Rattle.edi_outcome.specs.declared.outcome.Outcome.TheVariants as outcome
-use Rattle.edi_answers.proofs.Refusals.{fault_status, known_fault, match_refused, means_answer, means_fault, not_one, not_one_of_zero, not_zero_of_one, pair_refused, pair_tried, unwritten}
+use Rattle.edi_answers.proofs.Refusals.{fault_status, known_fault, match_faulted, means_answer, means_fault, not_one, not_one_of_zero, not_zero_of_one, pair_faulted, pair_refused, pair_tried, unwritten}
 
 -- ---- a pairing, put at a path
 
@@ -57,13 +59,19 @@ put_pair_refused run IsMade kinds files path Says e (inl input) two line = absur
 put_pair_refused run IsMade kinds files path Says e (inr h) two line =
     (pair_refused Says kinds (names_of_paths (pair_paths_of files path)) refl run.inputs files _ e h.1 two line, unwritten e _ h.2 two)
 
+put_pair_faulted : (run : Effects) (IsMade : List ℕ → List ℕ → List ℕ → List ℕ → List ℕ → Type 0) (kinds : KindCodes) (files : PairFiles) (path : List ℕ)
+    (Says : RunFault → Type 0) (e : RunFault) → PutPairFault run IsMade kinds files path e → status_of_fault e ≡ 2 → Says e
+    → OfPair run.inputs files (SaysPairFault Says kinds) × run.untouched
+put_pair_faulted run IsMade kinds files path Says e (inl input) two said = absurd (omega (arith, ap status_of_fault input.1, two))
+put_pair_faulted run IsMade kinds files path Says e (inr h) two said = (pair_faulted Says kinds run.inputs files _ e h.1 two said, unwritten e _ h.2 two)
+
 -- the status of a comparison to a pairing's file
-module _ (run : Effects) (out err : Stream) (kinds : KindCodes) (files : PairFiles) (path : List ℕ) (s : ℕ) where
+module _ (run : Effects) (out err : Stream) (kinds : KindCodes) (files : PairFiles) (form : AnswerForm) (path : List ℕ) (s : ℕ) where
   pub pairing_status : (r : Result (Option ℕ) RunFault)
       → IfOk r (λ line. MatchOption line (IsPairPut run (IsPairingFileOf kinds) files path)
       (λ at. OfPair run.inputs files (λ scd dic a b. IsVerdictOf kinds scd dic a b (Different at)) × IsNoPairInput run.is_one files path × run.untouched))
       → IfErr r (PutPairFault run (IsPairingFileOf kinds) kinds files path) → IsPairReplaced run (IsPairingFileOf kinds) files path
-      → IsSaid run.why out err (paired_outcome r) (pair_paths_of files path) s → IsPairingStatus run out err kinds files path s
+      → IsSaid run.why out err form (paired_outcome r) (pair_paths_of files path) s → IsPairingStatus run out err kinds files form path s
   pairing_status (Ok None) h fault replaced said = record {
     tried = inr (inl (were_four run.inputs files _ h.1));
     different = λ one. absurd (not_one_of_zero s one said.status);
@@ -82,7 +90,7 @@ module _ (run : Effects) (out err : Stream) (kinds : KindCodes) (files : PairFil
     tried = put_pair_tried run _ kinds files path e h;
     different = λ one. absurd (not_one s (known_fault (status_of_fault e) s (fault_status e) said.status) one);
     means = means_fault _ _ _ run.why (pair_paths_of files path) out err s e (λ silent. (h, silent))
-        (λ is line. put_pair_refused run _ kinds files path (Answers out err) e h is line) said;
+        (λ is line. put_pair_faulted run _ kinds files path (λ f. AnswersIn out err form (pair_paths_of files path) (outcome.Fault f)) e h is line) said;
     leaves = inr (inr (e, h));
     replaced = replaced;
   }
@@ -184,14 +192,13 @@ verify_tried : (inputs : Inputs) (kinds : KindCodes) (files : PairFiles) (pairin
 verify_tried inputs kinds files pairing e (inl missing) = inr (missing.0, missing.1)
 verify_tried inputs kinds files pairing e (inr h) = inl h.0
 
-verify_refused : (inputs : Inputs) (kinds : KindCodes) (files : PairFiles) (pairing : List ℕ) (out err : Stream) (e : RunFault) → VerifyFileFault inputs kinds files pairing e
-    → status_of_fault e ≡ 2 → Answers out err (ended (words_of_fault e (names_of_paths (verify_paths_of files pairing)))) → SaysVerifyRefusal inputs out err kinds files pairing
-verify_refused inputs kinds files pairing out err e (inl missing) two line = absurd (omega (arith, ap status_of_fault missing.2, two))
-verify_refused inputs kinds files pairing out err e (inr h) two line =
-    inl (match_refused (Answers out err) kinds (names_of_paths (verify_paths_of files pairing)) refl inputs files _ _ (λ _. ⊥) e h.1 two line)
+verify_refused : (inputs : Inputs) (kinds : KindCodes) (files : PairFiles) (pairing : List ℕ) (Says : Outcome → Type 0) (e : RunFault) → VerifyFileFault inputs kinds files pairing e
+    → status_of_fault e ≡ 2 → Says (outcome.Fault e) → SaysVerifyRefusal inputs Says kinds files pairing
+verify_refused inputs kinds files pairing Says e (inl missing) two said = absurd (omega (arith, ap status_of_fault missing.2, two))
+verify_refused inputs kinds files pairing Says e (inr h) two said = inl (match_faulted (λ f. Says (outcome.Fault f)) kinds inputs files _ _ (λ _. ⊥) e h.1 two said)
 
 -- the status of a pairing's check
-module _ (run : Effects) (out err : Stream) (kinds : KindCodes) (files : PairFiles) (pairing : List ℕ) (s : ℕ) where
+module _ (run : Effects) (out err : Stream) (kinds : KindCodes) (files : PairFiles) (form : AnswerForm) (pairing : List ℕ) (s : ℕ) where
   were_five : (P : List ℕ → List ℕ → List ℕ → List ℕ → List ℕ → Type 0) → OfFive run.inputs files pairing P → AreFiveThere run.inputs files pairing
   were_five P h = (((h.0, h.5), (h.1, h.6), (h.2, h.7), (h.3, h.8)), (h.4, h.9))
 
@@ -202,7 +209,7 @@ module _ (run : Effects) (out err : Stream) (kinds : KindCodes) (files : PairFil
 
   pub verify_status : (r : Result Verified VerifyRunFault) → IfOk r (λ answer. OfFive run.inputs files pairing (λ scd dic a b f. IsVerifiedUnder kinds scd dic a b f answer))
       → IfErr r (λ e. MatchRun e (VerifyFileFault run.inputs kinds files pairing) (λ at why. OfFive run.inputs files pairing (λ s d a b f. RefusesFile kinds s d a b f at why)))
-      → IsSaid run.why out err (verified_outcome r) (verify_paths_of files pairing) s → IsVerifyStatus run out err kinds files pairing s
+      → IsSaid run.why out err form (verified_outcome r) (verify_paths_of files pairing) s → IsVerifyStatus run out err kinds files form pairing s
   verify_status (Ok Carries) h fault said = record {
     tried = inl (were_five _ h);
     unpaired = λ one. absurd (not_one_of_zero s one said.status);
@@ -217,7 +224,7 @@ module _ (run : Effects) (out err : Stream) (kinds : KindCodes) (files : PairFil
     tried = verify_tried run.inputs kinds files pairing e h;
     unpaired = λ one. absurd (not_one s (known_fault (status_of_fault e) s (fault_status e) said.status) one);
     means = means_fault _ _ _ run.why (verify_paths_of files pairing) out err s e (λ silent. (h, silent))
-        (λ is line. verify_refused run.inputs kinds files pairing out err e h is line) said;
+        (λ is line. verify_refused run.inputs kinds files pairing (AnswersIn out err form (verify_paths_of files pairing)) e h is line) said;
   }
   verify_status (Err (OfPairingFile at why)) ok h said = record {
     tried = inl (were_five _ h);

@@ -21,11 +21,12 @@ use Rattle.edi_outcome.specs.Words.{FaultHasNames, HasNames, first_text, sheet_t
 use Rattle.edi_answers.specs.Paths.{names_of_paths}
 use Rattle.edi_answers.specs.inner.Outcome.{outcome_for}
 use Rattle.edi_outcome.specs.declared.outcome.Outcome.TheVariants as outcome
+use Rattle.edi_answers.specs.declared.form.AnswerForm.{AnswerForm}
 use Rattle.edi_answers.specs.Effects.{Effects, Inputs, Stream}
 use Rattle.edi_answers.specs.Reasons.{length_line_for, lines_for}
 use Rattle.edi_outcome.specs.declared.outcome.Outcome.{Outcome}
 use Rattle.edi_answers.specs.SheetRuns.{FileFault, MatchPairFault, OfFiles, OfPair, PairFileFault, StandardFault}
-use Rattle.edi_answers.specs.Statuses.{Answers, AreFourTried, AreTried, IsAnsweredAs, IsCompareStatus, IsSaid, IsUnsaid, IsWarned, LacksMemory, MeansStatus, OnlyLacksMemory, Prints, SaysPairRefusal, SaysRefusal, Warns, WarnsWhy, pair_paths_of}
+use Rattle.edi_answers.specs.Statuses.{AnswersIn, AreFourTried, AreTried, IsAnsweredAs, IsCompareStatus, IsSaid, IsUnsaid, IsWarned, LacksMemory, MeansStatus, OnlyLacksMemory, Prints, SaysFault, SaysPairFault, SaysPairRefusal, SaysRefusal, Warns, WarnsWhy, pair_paths_of}
 use Rattle.edi_answers.proofs.Answering.{appends_nothing}
 use Rattle.edi_answers.proofs.Made.{files_map, pair_map, parts_map, were_four}
 
@@ -45,21 +46,48 @@ answered_two status s (inl e) two = sym e ∙ two
 answered_two status s (inr (inl e)) two = absurd (omega (arith, e, two))
 answered_two status s (inr (inr e)) two = absurd (omega (arith, e.1, two))
 
+-- a refusal is said as a fault
+module _ (Says : RunFault → Type 0) (kinds : KindCodes) where
+  pub file_faulted : (inputs : Inputs) (files : SheetFiles) (W : ℕ → Type 0) (e : RunFault) → FileFault inputs kinds files W e → status_of_fault e ≡ 2
+      → Says e → OfFiles inputs files (SaysFault Says kinds)
+  file_faulted inputs files W e (inl missing) two said = absurd (omega (arith, ap status_of_fault missing.2, two))
+  file_faulted inputs files W (Memory e) (inr h) two said = absurd (omega (arith, two))
+  file_faulted inputs files W (Read n) (inr h) two said = absurd (omega (arith, two))
+  file_faulted inputs files W (TooLong n) (inr h) two said = absurd (omega (arith, two))
+  file_faulted inputs files W (Schema f) (inr h) two said = files_map inputs files _ _ (λ s d v r. inl (f, r, said)) h.1
+  file_faulted inputs files W (First f) (inr h) two said = files_map inputs files _ _ (λ s d v r. inr (f, r, said)) h.1
+  file_faulted inputs files W (Second f) (inr h) two said = absurd h.1
+  file_faulted inputs files W (Write w) (inr h) two said = absurd (omega (arith, two))
+
+  -- of one of two sheets
+  pub match_faulted : (inputs : Inputs) (files : PairFiles) (R T W : ℕ → Type 0) (e : RunFault) → MatchPairFault inputs kinds files R T W e → status_of_fault e ≡ 2
+      → Says e → OfPair inputs files (SaysPairFault Says kinds)
+  match_faulted inputs files R T W (Memory e) h two said = absurd (omega (arith, two))
+  match_faulted inputs files R T W (Read n) h two said = absurd (omega (arith, two))
+  match_faulted inputs files R T W (TooLong n) h two said = absurd (omega (arith, two))
+  match_faulted inputs files R T W (Schema f) h two said = pair_map inputs files _ _ (λ s d a b r. inl (f, r, said)) h
+  match_faulted inputs files R T W (First f) h two said = pair_map inputs files _ _ (λ s d a b r. inr (inl (f, r, said))) h
+  match_faulted inputs files R T W (Second f) h two said = pair_map inputs files _ _ (λ s d a b r. inr (inr (f, r, said))) h
+  match_faulted inputs files R T W (Write w) h two said = absurd (omega (arith, two))
+
+  pub pair_faulted : (inputs : Inputs) (files : PairFiles) (W : ℕ → Type 0) (e : RunFault) → PairFileFault inputs kinds files W e → status_of_fault e ≡ 2
+      → Says e → OfPair inputs files (SaysPairFault Says kinds)
+  pair_faulted inputs files W e (inl missing) two said = absurd (omega (arith, ap status_of_fault missing.2, two))
+  pair_faulted inputs files W e (inr h) two said = match_faulted inputs files _ _ W e h.1 two said
+
 -- a refusal is said as its line
 module _ (Says : List ℕ → Type 0) (kinds : KindCodes) (names : List (List ℕ)) (alone : first_text (length names) ≡ []) where
   says_sheet : (f : Fault) → Says (ended (sheet_text (first_text (length names)) f)) → Says (ended (sheet_text [] f))
   says_sheet f line = subst (λ which. Says (ended (sheet_text which f))) alone line
 
+  said_as_line : (s d v : List ℕ) → SaysFault (λ f. Says (ended (words_of_fault f names))) kinds s d v → SaysRefusal Says kinds s d v
+  said_as_line s d v (inl h) = inl h
+  said_as_line s d v (inr h) = inr (h.0, h.1, says_sheet h.0 h.2)
+
   pub file_refused : (inputs : Inputs) (files : SheetFiles) (W : ℕ → Type 0) (e : RunFault) → FileFault inputs kinds files W e → status_of_fault e ≡ 2
       → Says (ended (words_of_fault e names)) → OfFiles inputs files (SaysRefusal Says kinds)
-  file_refused inputs files W e (inl missing) two line = absurd (omega (arith, ap status_of_fault missing.2, two))
-  file_refused inputs files W (Memory e) (inr h) two line = absurd (omega (arith, two))
-  file_refused inputs files W (Read n) (inr h) two line = absurd (omega (arith, two))
-  file_refused inputs files W (TooLong n) (inr h) two line = absurd (omega (arith, two))
-  file_refused inputs files W (Schema f) (inr h) two line = files_map inputs files _ _ (λ s d v r. inl (f, r, line)) h.1
-  file_refused inputs files W (First f) (inr h) two line = files_map inputs files _ _ (λ s d v r. inr (f, r, says_sheet f line)) h.1
-  file_refused inputs files W (Second f) (inr h) two line = absurd h.1
-  file_refused inputs files W (Write w) (inr h) two line = absurd (omega (arith, two))
+  file_refused inputs files W e h two line =
+      files_map inputs files _ _ said_as_line (file_faulted (λ f. Says (ended (words_of_fault f names))) kinds inputs files W e h two line)
 
   pub input_refused : (inputs : Inputs) (contents : Option (List ℕ)) (W : ℕ → Type 0) (e : RunFault) → StandardFault inputs contents W e → status_of_fault e ≡ 2
       → Says (ended (words_of_fault e names)) → IfSome contents (λ b. OfParts b (SaysRefusal Says usual_kinds))
@@ -82,16 +110,15 @@ pair_tried inputs kinds files W e (inr h) = inl h.0
 
 -- a refusal of one of two sheets is said as its line
 module _ (Says : List ℕ → Type 0) (kinds : KindCodes) (names : List (List ℕ)) (two_sheets : first_text (length names) ≡ codes "first ") where
+  pair_said_as_line : (s d a b : List ℕ) → SaysPairFault (λ f. Says (ended (words_of_fault f names))) kinds s d a b → SaysPairRefusal Says kinds s d a b
+  pair_said_as_line s d a b (inl h) = inl h
+  pair_said_as_line s d a b (inr (inl h)) = inr (inl (h.0, h.1, subst (λ which. Says (ended (sheet_text which h.0))) two_sheets h.2))
+  pair_said_as_line s d a b (inr (inr h)) = inr (inr h)
+
   pub match_refused : (inputs : Inputs) (files : PairFiles) (R T W : ℕ → Type 0) (e : RunFault) → MatchPairFault inputs kinds files R T W e → status_of_fault e ≡ 2
       → Says (ended (words_of_fault e names)) → OfPair inputs files (SaysPairRefusal Says kinds)
-  match_refused inputs files R T W (Memory e) h two line = absurd (omega (arith, two))
-  match_refused inputs files R T W (Read n) h two line = absurd (omega (arith, two))
-  match_refused inputs files R T W (TooLong n) h two line = absurd (omega (arith, two))
-  match_refused inputs files R T W (Schema f) h two line = pair_map inputs files _ _ (λ s d a b r. inl (f, r, line)) h
-  match_refused inputs files R T W (First f) h two line =
-      pair_map inputs files _ _ (λ s d a b r. inr (inl (f, r, subst (λ which. Says (ended (sheet_text which f))) two_sheets line))) h
-  match_refused inputs files R T W (Second f) h two line = pair_map inputs files _ _ (λ s d a b r. inr (inr (f, r, line))) h
-  match_refused inputs files R T W (Write w) h two line = absurd (omega (arith, two))
+  match_refused inputs files R T W e h two line =
+      pair_map inputs files _ _ pair_said_as_line (match_faulted (λ f. Says (ended (words_of_fault f names))) kinds inputs files R T W e h two line)
 
   pub pair_refused : (inputs : Inputs) (files : PairFiles) (W : ℕ → Type 0) (e : RunFault) → PairFileFault inputs kinds files W e → status_of_fault e ≡ 2
       → Says (ended (words_of_fault e names)) → OfPair inputs files (SaysPairRefusal Says kinds)
@@ -197,13 +224,13 @@ module _ (Done Refused : Type 0) (IsFault : RunFault → Type 0) (why : Why) (pa
     memory = memory;
   }
 
-  pub means_fault : (e : RunFault) → (Prints out [] → IsFault e) → (status_of_fault e ≡ 2 → Answers out err (ended (words_of_fault e (names_of_paths paths))) → Refused)
-      → IsSaid why out err (outcome.Fault e) paths s → MeansStatus Done Refused IsFault why paths out err s
+  pub means_fault : {form : AnswerForm} (e : RunFault) → (Prints out [] → IsFault e) → (status_of_fault e ≡ 2 → AnswersIn out err form paths (outcome.Fault e) → Refused)
+      → IsSaid why out err form (outcome.Fault e) paths s → MeansStatus Done Refused IsFault why paths out err s
   means_fault e h refuses said = means_told e (λ big four. (h (said.fault big four).1, (said.fault big four).0)) (λ is two. refuses is (said.answer (omega (arith, two))))
       said.unsaid said.status (λ five. let m = said.memory five in (m.1, inl m.0))
 
   -- and of one that has an answer, which is said
-  pub means_answer : (o : Outcome) → status_for o < 2 → (s ≡ 0 → Done) → IsSaid why out err o paths s → MeansStatus Done Refused IsFault why paths out err s
+  pub means_answer : {form : AnswerForm} (o : Outcome) → status_for o < 2 → (s ≡ 0 → Done) → IsSaid why out err form o paths s → MeansStatus Done Refused IsFault why paths out err s
   means_answer o small done said = record {
     done = done;
     refused = λ two. absurd (omega (arith, small, answered_two (status_for o) s said.status two));
@@ -249,10 +276,10 @@ not_one_of_zero s one (inr (inl e)) = absurd (omega (arith, e, one))
 not_one_of_zero s one (inr (inr e)) = absurd (omega (arith, e.1, one))
 
 -- the status of a comparison
-module _ (run : Effects) (out err : Stream) (kinds : KindCodes) (files : PairFiles) (s : ℕ) where
+module _ (run : Effects) (out err : Stream) (kinds : KindCodes) (files : PairFiles) (form : AnswerForm) (s : ℕ) where
   pub compare_status : (r : Result Verdict RunFault) → IfOk r (λ v. OfPair run.inputs files (λ scd dic a b. IsVerdictOf kinds scd dic a b v))
-      → IfErr r (PairFileFault run.inputs kinds files (λ _. ⊥)) → IsSaid run.why out err (outcome_for r) (pair_paths_of files (codes "-")) s
-      → IsCompareStatus run out err kinds files s
+      → IfErr r (PairFileFault run.inputs kinds files (λ _. ⊥)) → IsSaid run.why out err form (outcome_for r) (pair_paths_of files (codes "-")) s
+      → IsCompareStatus run out err kinds files form s
   compare_status (Ok (verdict.Same pairing)) h fault said = record {
     tried = inl (were_four run.inputs files _ h);
     different = λ one. absurd (not_one_of_zero s one said.status);
@@ -268,7 +295,7 @@ module _ (run : Effects) (out err : Stream) (kinds : KindCodes) (files : PairFil
     tried = pair_tried run.inputs kinds files (λ _. ⊥) e h;
     different = λ one. absurd (not_one s (known_fault (status_of_fault e) s (fault_status e) said.status) one);
     means = means_fault _ _ _ run.why (pair_paths_of files (codes "-")) out err s e (λ silent. (h, silent))
-        (λ is line. pair_refused (Answers out err) kinds (names_of_paths (pair_paths_of files (codes "-"))) refl run.inputs files (λ _. ⊥) e h is line) said;
+        (λ is line. pair_faulted (λ f. AnswersIn out err form (pair_paths_of files (codes "-")) (outcome.Fault f)) kinds run.inputs files (λ _. ⊥) e h is line) said;
   }
 
 -- the names that the line of a comparison needs
@@ -278,16 +305,16 @@ compare_names (Ok (verdict.Different line)) h = tt
 compare_names (Err e) h = h
 
 -- what was said of a fault that standard error was told, where the output is as it was
-pub said_of_warned : (why : Why) (stream : Option (List ℕ)) (failed : Bool) (err : Stream) (e : RunFault) (paths : List (List ℕ)) (s : ℕ) → 3 ≤ status_of_fault e
-    → IsWarned why err e paths s → IsSaid why (record { before = stream; after = stream; failed = failed }) err (outcome.Fault e) paths s
-said_of_warned why stream failed err e paths s big (inl told) = record {
+pub said_of_warned : (why : Why) (stream : Option (List ℕ)) (failed : Bool) (err : Stream) (form : AnswerForm) (e : RunFault) (paths : List (List ℕ)) (s : ℕ) → 3 ≤ status_of_fault e
+    → IsWarned why err e paths s → IsSaid why (record { before = stream; after = stream; failed = failed }) err form (outcome.Fault e) paths s
+said_of_warned why stream failed err form e paths s big (inl told) = record {
   status = inl told.0;
   answer = λ few. absurd (omega (arith, told.0, big, few));
   unsaid = λ small four. absurd (omega (arith, big, small));
   fault = λ large four. (told.1, appends_nothing stream);
   memory = λ five. (appends_nothing stream, memory_words why err e paths (sym told.0 ∙ five) told.1);
 }
-said_of_warned why stream failed err e paths s big (inr told) = record {
+said_of_warned why stream failed err form e paths s big (inr told) = record {
   status = inr (inl told.0);
   answer = λ few. absurd (omega (arith, told.0, few));
   unsaid = λ small four. absurd (omega (arith, big, small));
@@ -296,9 +323,9 @@ said_of_warned why stream failed err e paths s big (inr told) = record {
 }
 
 -- what was said of an answer or a refusal
-pub said_of_line : (why : Why) (out err : Stream) (o : Outcome) (paths : List (List ℕ)) (s : ℕ) → status_for o < 3 → IsAnsweredAs (status_for o) s
-    → (s < 3 → Answers out err (ended (words_for o (names_of_paths paths)))) → (s ≡ 4 → IsUnsaid out err) → (s ≡ 5 → OnlyLacksMemory out err) → IsSaid why out err o paths s
-said_of_line why out err o paths s small status answer unsaid memory = record {
+pub said_of_line : (why : Why) (out err : Stream) (form : AnswerForm) (o : Outcome) (paths : List (List ℕ)) (s : ℕ) → status_for o < 3 → IsAnsweredAs (status_for o) s
+    → (s < 3 → AnswersIn out err form paths o) → (s ≡ 4 → IsUnsaid out err) → (s ≡ 5 → OnlyLacksMemory out err) → IsSaid why out err form o paths s
+said_of_line why out err form o paths s small status answer unsaid memory = record {
   status = status;
   answer = answer;
   unsaid = λ _ four. unsaid four;

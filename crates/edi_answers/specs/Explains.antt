@@ -1,4 +1,4 @@
--- What is said of a sheet and of a rule.
+-- What is said of a sheet, of a rule and of all rules.
 use Rattle.std.specs.Prelude.{◌≡◌, ◌⊎◌, ◌++◌, ℕ, List, [], codes}
 use Rattle.edi_schema.specs.Classes.{Classes}
 use Rattle.edi_schema.specs.Roles.{KindCodes}
@@ -11,7 +11,7 @@ use Rattle.edi_compare.specs.Rules.{IsAccepted}
 use Rattle.edi_compare.specs.Runs.{RefusesSchema}
 use Rattle.edi_compare.specs.declared.fault.Fault.{Fault}
 use Rattle.edi_explain.specs.ClassCounts.{DescribesSheet}
-use Rattle.edi_explain.specs.Explained.{ExplainsSchema, ExplainsSheet, IsRuleWord, IsTextOfWord, rule_page}
+use Rattle.edi_explain.specs.Explained.{ExplainsSchema, ExplainsSheet, IsRuleWord, IsTextOfWord, rule_lines, rule_page}
 use Rattle.edi_explain.specs.Hints.{AreHintsOfSheet}
 use Rattle.edi_explain.specs.KindLines.{DescribesKinds}
 use Rattle.edi_explain.specs.Skipped.{DescribesSkipped}
@@ -79,6 +79,12 @@ pub record IsExplainStatus (run : Effects) (out err : Stream) (kinds : KindCodes
       (OfFiles run.inputs files (λ scd dic b. (text : List ℕ) × TellsRefusal kinds files scd dic b text
       × Answers out err text))
       (λ e. FileFault run.inputs kinds files (λ _. ⊥) e × Prints out []) run.why (paths_of files (codes "-")) out err s
+
+-- The status of a run that lists the rules: 0 only where the lines on all went out.
+pub record IsRuleListStatus (out err : Stream) (s : ℕ) : Type 0 where
+  pub done : s ≡ 0 → Answers out err rule_lines
+  pub failed : s ≡ 4 → IsUnsaid out err
+  pub memory : s ≡ 5 → OnlyLacksMemory out err
 
 -- The status of a run that explains a rule: 0 only where its page went out, 3 only where the word is no rule's number.
 pub record IsRuleStatus (out err : Stream) (word : List ℕ) (s : ℕ) : Type 0 where

@@ -110,13 +110,13 @@ pub record Step : Type 0 where
   pub status : ℕ
 
 -- What a sheet adds: its digest's line, or its fault's line on errors, then that of the fault's reason, and of a refused
--- sheet the hints on its file; without memory for these, or for the lines, words that say so in their place.
-abbrev pub IsStep : Inputs → Why → Classes → List ℕ → Step → Type 0
-IsStep inputs why s path step =
+-- sheet the hints on its file and on records of its siblings; without memory for these, or for the lines, words that say so in their place.
+abbrev pub IsStep : Inputs → Why → Classes → List (List ℕ) → List ℕ → Step → Type 0
+IsStep inputs why s siblings path step =
     ((digest : List ℕ) × IsAnswerOf inputs s path (Ok digest)
     × (step ≡ record { out = digest_line digest path; err = []; status = 0 }))
     ⊎ (((e : RunFault) × (reason : Option Reason) × (hints : List ℕ) × IsAnswerOf inputs s path (Err e)
-    × IsReasonOf why e path reason × AreFaultHints inputs e path hints
+    × IsReasonOf why e path reason × AreFaultHints inputs siblings e path hints
     × (step ≡ record {
       out = [];
       err = fault_line e path ++ reason_line (escaped_name path) reason ++ hints;
@@ -143,46 +143,46 @@ abbrev pub said_err : List Step → List ℕ
 said_err steps = flat_map (λ (step : Step). step.err) steps
 
 -- Each sheet was answered, in order: the streams got what the sheets add, and the status is the greatest of theirs.
-abbrev pub AreAnswered : Inputs → Why → Classes → Stream → Stream → List (List ℕ) → ℕ → Type 0
-AreAnswered inputs why s out err paths status =
-    (steps : List Step) × AllZip (IsStep inputs why s) paths steps × Prints out (said_out steps)
+abbrev pub AreAnswered : Inputs → Why → Classes → List (List ℕ) → Stream → Stream → List (List ℕ) → ℕ → Type 0
+AreAnswered inputs why s siblings out err paths status =
+    (steps : List Step) × AllZip (IsStep inputs why s siblings) paths steps × Prints out (said_out steps)
     × Warns err (said_err steps) × (status ≡ worst_of steps)
 
 -- Each sheet before that of a path was answered, and the output failed in the line of that one.
-abbrev pub IsCutOff : Inputs → Why → Classes → Stream → Stream → List (List ℕ) → ℕ → Type 0
-IsCutOff inputs why s out err paths status =
+abbrev pub IsCutOff : Inputs → Why → Classes → List (List ℕ) → Stream → Stream → List (List ℕ) → ℕ → Type 0
+IsCutOff inputs why s siblings out err paths status =
     (done : List (List ℕ)) × (path : List ℕ) × (more : List (List ℕ)) × (steps : List Step) × (digest : List ℕ)
     × (count : ℕ)
-    × (paths ≡ done ++ path ∷ more) × AllZip (IsStep inputs why s) done steps × IsAnswerOf inputs s path (Ok digest)
+    × (paths ≡ done ++ path ∷ more) × AllZip (IsStep inputs why s siblings) done steps × IsAnswerOf inputs s path (Ok digest)
     × Prints out (said_out steps ++ take count (digest_line digest path)) × IsTrue out.failed
     × Warns err (said_err steps ++ ended (codes "cannot write standard output")) × (status ≡ 4)
 
-abbrev pub AnswersAll : Inputs → Why → Classes → Stream → Stream → List (List ℕ) → ℕ → Type 0
-AnswersAll inputs why s out err paths status =
-    AreAnswered inputs why s out err paths status ⊎ IsCutOff inputs why s out err paths status
+abbrev pub AnswersAll : Inputs → Why → Classes → List (List ℕ) → Stream → Stream → List (List ℕ) → ℕ → Type 0
+AnswersAll inputs why s siblings out err paths status =
+    AreAnswered inputs why s siblings out err paths status ⊎ IsCutOff inputs why s siblings out err paths status
 
 -- the line of a schema: `schema `, and then as that of a sheet its digest, and the name of its file of classes
 abbrev pub schema_line : Classes → List ℕ → List ℕ
 schema_line s name = codes "schema " ++ digest_line (sha256 (text_of_schema s)) name
 
 -- each sheet of the files was answered
-abbrev pub AnswersSheets : Inputs → Why → Classes → Stream → Stream → ManyFiles → ℕ → Type 0
-AnswersSheets inputs why s out err files status =
-    AnswersAll inputs why s out err (map (λ p. p.now) files.sheets.items) status
+abbrev pub AnswersSheets : Inputs → Why → Classes → List (List ℕ) → Stream → Stream → ManyFiles → ℕ → Type 0
+AnswersSheets inputs why s siblings out err files status =
+    AnswersAll inputs why s siblings out err (map (λ p. p.now) files.sheets.items) status
 
 -- The output got the line of the schema, and then each sheet was answered; or the output failed in that line, or there
 -- was no memory for it.
-abbrev pub AnswersHeaded : Inputs → Why → Classes → Stream → Stream → ManyFiles → ℕ → Type 0
-AnswersHeaded inputs why s out err files status =
-    InTurn out (λ o. Prints o (schema_line s files.scd.now)) (λ o. AnswersSheets inputs why s o err files status)
+abbrev pub AnswersHeaded : Inputs → Why → Classes → List (List ℕ) → Stream → Stream → ManyFiles → ℕ → Type 0
+AnswersHeaded inputs why s siblings out err files status =
+    InTurn out (λ o. Prints o (schema_line s files.scd.now)) (λ o. AnswersSheets inputs why s siblings o err files status)
     ⊎ (((count : ℕ) × PrintsFirst out count (schema_line s files.scd.now) × IsUnsaid out err × (status ≡ 4))
     ⊎ (OnlyLacksMemory out err × (status ≡ 5)))
 
 -- each sheet was answered, behind the line of the schema where it is asked for
-abbrev pub AnswersUnder : Inputs → Why → Classes → Stream → Stream → ManyFiles → Bool → ℕ → Type 0
-AnswersUnder inputs why s out err files with_schema status =
-    MatchBool with_schema (AnswersHeaded inputs why s out err files status)
-    (AnswersSheets inputs why s out err files status)
+abbrev pub AnswersUnder : Inputs → Why → Classes → List (List ℕ) → Stream → Stream → ManyFiles → Bool → ℕ → Type 0
+AnswersUnder inputs why s siblings out err files with_schema status =
+    MatchBool with_schema (AnswersHeaded inputs why s siblings out err files status)
+    (AnswersSheets inputs why s siblings out err files status)
 
 -- The schema of the two files, where their contents are known; and the note on its kinds: that on the file of classes,
 -- where its contents are known, and where they are not, one that names some of the four kinds, or none.
@@ -241,12 +241,12 @@ TellsFault why err e path s =
     × Warns err (fault_line e path ++ reason_line (escaped_name path) reason)))
     ⊎ ((s ≡ 5) × LacksMemory err)
 
--- The status of a run over many sheets. The schema is loaded, the errors got the note on its kinds first, and each
--- sheet was answered under it, behind its line where that is asked for, or the output failed; or there is none, which
--- is said of its file, and the output got nothing.
-abbrev pub IsHashStatus : Effects → Stream → Stream → KindCodes → ManyFiles → Bool → ℕ → Type 0
-IsHashStatus run out err kinds files with_schema status =
+-- The status of a run over many sheets, with the siblings in which records are looked for. The schema is loaded, the
+-- errors got the note on its kinds first, and each sheet was answered under it, behind its line where that is asked
+-- for, or the output failed; or there is none, which is said of its file, and the output got nothing.
+abbrev pub IsHashStatus : Effects → Stream → Stream → KindCodes → ManyFiles → Bool → List (List ℕ) → ℕ → Type 0
+IsHashStatus run out err kinds files with_schema siblings status =
     ((s : Classes) × (note : List ℕ) × GivesSchema run.inputs kinds files s note
-    × InTurn err (λ e. Notes e note) (λ e. AnswersUnder run.inputs run.why s out e files with_schema status))
+    × InTurn err (λ e. Notes e note) (λ e. AnswersUnder run.inputs run.why s siblings out e files with_schema status))
     ⊎ ((e : RunFault) × LoadFault run.inputs kinds files e × TellsFault run.why err e (schema_fault_path files e) status
     × Prints out [])

@@ -1,3 +1,5 @@
+pub mod AnswerForms
+pub mod Census
 pub mod Effects
 pub mod Explains
 pub mod Hashes

@@ -7,7 +7,7 @@ use Rattle.edi_words.specs.declared.words.BadKinds.{BadKinds as BadCodes}
 use Rattle.edi_words.specs.declared.words.KindsFault.{KindsFault}
 use Rattle.edi_words.specs.declared.words.KindsFault.TheVariants.{Count, Empty, Twice}
 use Rattle.edi_words.specs.declared.words.Misuse.{Misuse}
-use Rattle.edi_words.specs.declared.words.Misuse.TheVariants.{BadKinds, TwoStandard, NoSheet, NothingHashed, ListAndMore, StandardPairing, StandardPicture, NotOneManifest}
+use Rattle.edi_words.specs.declared.words.Misuse.TheVariants.{BadKinds, TwoStandard, NoSheet, SeveralSheets, NothingHashed, ListAndMore, StandardPairing, StandardPicture, NotOneManifest}
 
 -- what is wrong with codes, in words
 abbrev pub kinds_fault_words : KindsFault → List ℕ
@@ -26,6 +26,7 @@ abbrev pub misuse_lines : Misuse → List ℕ
 misuse_lines (BadKinds bad) = bad_kinds_lines bad
 misuse_lines TwoStandard = ended (misuse_text TwoStandard)
 misuse_lines NoSheet = ended (misuse_text NoSheet)
+misuse_lines SeveralSheets = ended (misuse_text SeveralSheets)
 misuse_lines NothingHashed = ended (misuse_text NothingHashed)
 misuse_lines ListAndMore = ended (misuse_text ListAndMore)
 misuse_lines StandardPairing = ended (misuse_text StandardPairing)
@@ -37,6 +38,7 @@ abbrev pub shows_words : Misuse → Bool
 shows_words (BadKinds bad) = true
 shows_words TwoStandard = false
 shows_words NoSheet = false
+shows_words SeveralSheets = false
 shows_words NothingHashed = false
 shows_words ListAndMore = false
 shows_words StandardPairing = false

@@ -8,7 +8,7 @@ use Rattle.edi_explain.specs.KindLines.{NameLacking, lacking_words}
 use Rattle.edi_files.specs.Reasons.{ended}
 use Rattle.edi_shown.specs.Shown.{shown_bytes}
 use Rattle.edi_words.specs.declared.words.Request.{Request}
-use Rattle.edi_words.specs.declared.words.Request.TheVariants.{Bundle, Check, Canon, Pair, Hash, CheckList, Delivery, Manifest, CheckManifest, Explain, Rule, Draw, Changed, Misused, Answered}
+use Rattle.edi_words.specs.declared.words.Request.TheVariants.{Bundle, Check, Canon, Pair, Hash, CheckList, Delivery, Manifest, CheckManifest, Explain, ExplainAll, Rule, Rules, Draw, Changed, Misused, Answered}
 use Rattle.edi_answers.specs.Effects.{Inputs, Stream}
 use Rattle.edi_answers.specs.Paths.{input_name}
 use Rattle.edi_answers.specs.SheetRuns.{Gives}
@@ -53,10 +53,10 @@ abbrev pub IsNotedAs : Inputs → KindCodes → List ℕ → ℕ → List ℕ �
 IsNotedAs inputs kinds path status note = GivesNote inputs kinds path note ⊎ ((2 < status) × (note ≡ []))
 
 -- The note behind the answer to a request that ends with this status: on the file of classes of one or two sheets.
--- `hash` and `delivery` say theirs first, and `explain` says the class of each kind.
+-- `hash`, `delivery` and `explain --all` say theirs first, and `explain` says the class of each kind.
 abbrev pub IsNoteOf : Inputs → Request → ℕ → List ℕ → Type 0
 IsNoteOf inputs Bundle status note = note ≡ []
-IsNoteOf inputs (Check kinds files) status note = IsNotedAs inputs kinds files.scd.now status note
+IsNoteOf inputs (Check kinds files json) status note = IsNotedAs inputs kinds files.scd.now status note
 IsNoteOf inputs (Canon kinds files out) status note = IsNotedAs inputs kinds files.scd.now status note
 IsNoteOf inputs (Pair kinds files what) status note = IsNotedAs inputs kinds files.scd.now status note
 IsNoteOf inputs (Hash kinds files with_schema) status note = note ≡ []
@@ -65,7 +65,9 @@ IsNoteOf inputs (Delivery kinds paths) status note = note ≡ []
 IsNoteOf inputs (Manifest kinds path file) status note = note ≡ []
 IsNoteOf inputs (CheckManifest kinds path manifest) status note = note ≡ []
 IsNoteOf inputs (Explain kinds files) status note = note ≡ []
+IsNoteOf inputs (ExplainAll kinds files) status note = note ≡ []
 IsNoteOf inputs (Rule word) status note = note ≡ []
+IsNoteOf inputs Rules status note = note ≡ []
 IsNoteOf inputs (Draw kinds files out) status note = IsNotedAs inputs kinds files.scd.now status note
 IsNoteOf inputs (Changed before after) status note = note ≡ []
 IsNoteOf inputs (Misused misuse) status note = note ≡ []

@@ -1,11 +1,11 @@
 -- The exit statuses.
-use Rattle.std.specs.Prelude.{◌≡◌, ◌⊎◌, ◌<◌, ◌≤◌, ◌++◌, ℕ, Bool, List, [], ◌∷◌, Option, IfSome, IsTrue, codes, length, take}
-use Rattle.std.specs.Fmt.{decimal}
+use Rattle.std.specs.Prelude.{◌≡◌, ◌⊎◌, ◌<◌, ◌≤◌, ℕ, Bool, List, [], ◌∷◌, Option, IfSome, IsTrue, codes, length, take}
 use Rattle.std.specs.Io.KnownBytes.{Appends}
 use Rattle.edi_schema.specs.Roles.{KindCodes}
 use Rattle.edi_schema.specs.declared.fault.SchemaFault.{SchemaFault}
 use Rattle.edi_compare.specs.declared.fault.Fault.{Fault}
 use Rattle.edi_compare.specs.declared.fault.RunFault.{RunFault}
+use Rattle.edi_compare.specs.declared.fault.RunFault.TheVariants.{Schema, First, Second}
 use Rattle.edi_compare.specs.declared.pairing.Pairing.{Pairing}
 use Rattle.edi_compare.specs.declared.pairing.Verdict.TheVariants.{Same, Different}
 use Rattle.edi_compare.specs.Bundle.{OfParts}
@@ -13,18 +13,19 @@ use Rattle.edi_compare.specs.Runs.{BeforeWriting, IsSheetUnder, IsVerdictOf, Ref
 use Rattle.edi_files.specs.Reasons.{Why, ended}
 use Rattle.edi_files.specs.declared.reason.Reason.{Reason}
 use Rattle.edi_outcome.specs.Status.{status_for, status_of_fault}
-use Rattle.edi_outcome.specs.Words.{schema_text, sheet_text, unpaired_words, words_for}
-use Rattle.edi_answers.specs.Paths.{input_name, names_of_paths}
+use Rattle.edi_outcome.specs.Words.{schema_text, sheet_text}
+use Rattle.edi_answers.specs.AnswerForms.{IsReadIn, text_in_form}
+use Rattle.edi_answers.specs.Paths.{names_of_paths}
 use Rattle.edi_answers.specs.Reasons.{IsReason, lines_for}
 use Rattle.edi_outcome.specs.declared.outcome.Outcome.{Outcome}
 use Rattle.edi_outcome.specs.declared.outcome.Outcome.TheVariants as outcome
 use Rattle.edi_words.specs.Requests.{usual_kinds}
 use Rattle.edi_pairing.specs.CompareRuns.{IsPairingFileOf}
 use Rattle.edi_pairing.specs.VerifyRuns.{IsVerifiedUnder, RefusesFile}
-use Rattle.edi_pairing.specs.WrongLines.{reason_words}
 use Rattle.edi_pairing.specs.declared.fault.WrongLine.{WrongLine}
 use Rattle.edi_pairing.specs.declared.verified.Unpaired.{Unpaired}
 use Rattle.edi_pairing.specs.declared.verified.Verified.TheVariants.{Carries, Fails}
+use Rattle.edi_answers.specs.declared.form.AnswerForm.{AnswerForm}
 use Rattle.edi_answers.specs.Effects.{Effects, Inputs, Stream}
 use Rattle.edi_answers.specs.SheetRuns.{AreFiveThere, AreFourThere, AreThere, FileFault, FirstMissing, FirstOfFiveMissing, FirstOfFourMissing, IsPairInput, IsPairPut, IsPairReplaced, OfFiles, OfFive, OfPair, PairFileFault, PutPairFault, StandardFault, VerifyFileFault}
 use Rattle.edi_words.specs.declared.words.PairFiles.{PairFiles}
@@ -41,6 +42,10 @@ IsPairStatus s = (s ≡ 1) ⊎ IsSheetStatus s
 -- of a rule: its page, no such rule, not written, out of memory
 abbrev pub IsPageStatus : ℕ → Type 0
 IsPageStatus s = (s ≡ 0) ⊎ ((s ≡ 3) ⊎ ((s ≡ 4) ⊎ (s ≡ 5)))
+
+-- of the list of rules: written, not written, out of memory
+abbrev pub IsListStatus : ℕ → Type 0
+IsListStatus s = (s ≡ 0) ⊎ ((s ≡ 4) ⊎ (s ≡ 5))
 
 -- a stream over a run got this text and nothing else
 abbrev pub Prints : Stream → List ℕ → Type 0
@@ -66,6 +71,13 @@ WarnsWhy why stream outcome paths =
 -- standard output got the text, and standard error nothing
 abbrev pub Answers : Stream → Stream → List ℕ → Type 0
 Answers out err text = Prints out text × Prints err []
+
+-- standard output got the text of an outcome in a form, by the names of these paths, and standard error nothing; and
+-- as JSON a reader finds the value of the outcome in it
+abbrev pub AnswersIn : Stream → Stream → AnswerForm → List (List ℕ) → Outcome → Type 0
+AnswersIn out err form paths outcome =
+    Answers out err (text_in_form form outcome (names_of_paths paths))
+    × IsReadIn form outcome (names_of_paths paths) (text_in_form form outcome (names_of_paths paths))
 
 -- standard output got nothing, and standard error the line, unless that has failed
 abbrev pub Complains : Stream → Stream → List ℕ → Type 0
@@ -111,18 +123,26 @@ SaysRefusal Says kinds scd dic b =
     ((f : SchemaFault) × RefusesSchema kinds scd dic f × Says (ended (schema_text f)))
     ⊎ ((f : Fault) × RefusesSheet kinds scd dic b f × Says (ended (sheet_text [] f)))
 
+-- the schema or the sheet is refused, and this fault was said
+abbrev pub SaysFault : (RunFault → Type 0) → KindCodes → List ℕ → List ℕ → List ℕ → Type 0
+SaysFault Says kinds scd dic b =
+    ((f : SchemaFault) × RefusesSchema kinds scd dic f × Says (Schema f))
+    ⊎ ((f : Fault) × RefusesSheet kinds scd dic b f × Says (First f))
+
 -- each file was opened, or one is missing
 abbrev pub AreTried : Inputs → SheetFiles → Type 0
 AreTried inputs files = AreThere inputs files ⊎ ((n : ℕ) × FirstMissing inputs files n)
 
 -- The status of a run over files, with what the streams have before and after: 0 only of an accepted sheet, 2 only of a
--- refused one, and each is said. No status comes before the files were opened.
-pub record IsFileStatus (run : Effects) (out err : Stream) (kinds : KindCodes) (files : SheetFiles)
+-- refused one, and each is said in a form. No status comes before the files were opened.
+pub record IsFileStatus (run : Effects) (out err : Stream) (kinds : KindCodes) (files : SheetFiles) (form : AnswerForm)
     (s : ℕ) : Type 0 where
   pub tried : AreTried run.inputs files
-  pub means : MeansStatus (OfFiles run.inputs files (IsSheetUnder kinds) × Answers out err (ended (codes "accepted")))
-      (OfFiles run.inputs files (SaysRefusal (Answers out err) kinds)) (λ e. FileFault run.inputs kinds files (λ _. ⊥) e
-      × Prints out [])
+  pub means : MeansStatus (OfFiles run.inputs files (IsSheetUnder kinds)
+      × AnswersIn out err form (paths_of files (codes "-")) outcome.Accepted)
+      (OfFiles run.inputs files
+      (SaysFault (λ e. AnswersIn out err form (paths_of files (codes "-")) (outcome.Fault e)) kinds))
+      (λ e. FileFault run.inputs kinds files (λ _. ⊥) e × Prints out [])
       run.why (paths_of files (codes "-")) out err s
 
 -- The status of a run over a bundle: 0 only where its canonical file went out, 2 only of a refused sheet.
@@ -143,81 +163,95 @@ SaysPairRefusal Says kinds scd dic a b =
     ⊎ (((f : Fault) × RefusesSheet kinds scd dic a f × Says (ended (sheet_text (codes "first ") f)))
     ⊎ ((f : Fault) × RefusesSecond kinds scd dic a b f × Says (ended (sheet_text (codes "second ") f))))
 
+-- the schema, the first sheet, or the second where the first is accepted, is refused, and this fault was said
+abbrev pub SaysPairFault : (RunFault → Type 0) → KindCodes → List ℕ → List ℕ → List ℕ → List ℕ → Type 0
+SaysPairFault Says kinds scd dic a b =
+    ((f : SchemaFault) × RefusesSchema kinds scd dic f × Says (Schema f))
+    ⊎ (((f : Fault) × RefusesSheet kinds scd dic a f × Says (First f))
+    ⊎ ((f : Fault) × RefusesSecond kinds scd dic a b f × Says (Second f)))
+
 -- each of four files was opened, or one is missing
 abbrev pub AreFourTried : Inputs → PairFiles → Type 0
 AreFourTried inputs files = AreFourThere inputs files ⊎ ((n : ℕ) × FirstOfFourMissing inputs files n)
 
 -- the plans are not the same, and the line at which the canonical files first differ was said
-abbrev pub SaysDifferent : Inputs → Stream → Stream → KindCodes → PairFiles → Type 0
-SaysDifferent inputs out err kinds files =
+abbrev pub SaysDifferent : Inputs → (Outcome → Type 0) → KindCodes → PairFiles → Type 0
+SaysDifferent inputs Says kinds files =
     (line : ℕ) × OfPair inputs files (λ scd dic a b. IsVerdictOf kinds scd dic a b (Different line))
-    × Answers out err (ended (codes "different at line " ++ decimal line))
+    × Says (outcome.Different line)
 
 -- The status of a run over two sheets: 0 only where a pairing carries the one plan onto the other, 1 only where the
--- plans are not the same, 2 only where a sheet is refused, and each is said.
+-- plans are not the same, 2 only where a sheet is refused, and each is said in a form.
 pub record IsCompareStatus (run : Effects) (out err : Stream) (kinds : KindCodes) (files : PairFiles)
-    (s : ℕ) : Type 0 where
+    (form : AnswerForm) (s : ℕ) : Type 0 where
   pub tried : AreFourTried run.inputs files
-  pub different : s ≡ 1 → SaysDifferent run.inputs out err kinds files
+  pub different : s ≡ 1
+      → SaysDifferent run.inputs (AnswersIn out err form (pair_paths_of files (codes "-"))) kinds files
   pub means : MeansStatus
       (((pairing : Pairing) × OfPair run.inputs files (λ scd dic a b. IsVerdictOf kinds scd dic a b (Same pairing)))
-      × Answers out err (ended (codes "same")))
-      (OfPair run.inputs files (SaysPairRefusal (Answers out err) kinds))
+      × AnswersIn out err form (pair_paths_of files (codes "-")) outcome.Same)
+      (OfPair run.inputs files
+      (SaysPairFault (λ e. AnswersIn out err form (pair_paths_of files (codes "-")) (outcome.Fault e)) kinds))
       (λ e. PairFileFault run.inputs kinds files (λ _. ⊥) e × Prints out [])
       run.why (pair_paths_of files (codes "-")) out err s
 
 -- The same of a run that puts a pairing at a path where the plans are the same. Where they are not, nothing in the
 -- folder has changed; and whatever the status is, this is so, or the pairing is there, or such a fault says what became
 -- of the path.
-pub record IsPairingStatus (run : Effects) (out err : Stream) (kinds : KindCodes) (files : PairFiles) (path : List ℕ)
-    (s : ℕ) : Type 0 where
+pub record IsPairingStatus (run : Effects) (out err : Stream) (kinds : KindCodes) (files : PairFiles)
+    (form : AnswerForm) (path : List ℕ) (s : ℕ) : Type 0 where
   pub tried : IsPairInput run.is_one files path ⊎ AreFourTried run.inputs files
-  pub different : s ≡ 1 → SaysDifferent run.inputs out err kinds files × run.untouched
-  pub means : MeansStatus (IsPairPut run (IsPairingFileOf kinds) files path × Answers out err (ended (codes "same")))
-      (OfPair run.inputs files (SaysPairRefusal (Answers out err) kinds) × run.untouched)
+  pub different : s ≡ 1
+      → SaysDifferent run.inputs (AnswersIn out err form (pair_paths_of files path)) kinds files × run.untouched
+  pub means : MeansStatus (IsPairPut run (IsPairingFileOf kinds) files path
+      × AnswersIn out err form (pair_paths_of files path) outcome.Same)
+      (OfPair run.inputs files
+      (SaysPairFault (λ e. AnswersIn out err form (pair_paths_of files path) (outcome.Fault e)) kinds) × run.untouched)
       (λ e. PutPairFault run (IsPairingFileOf kinds) kinds files path e
       × Prints out []) run.why (pair_paths_of files path) out err s
   pub leaves : run.untouched ⊎ (IsPairPut run (IsPairingFileOf kinds) files path
       ⊎ ((e : RunFault) × PutPairFault run (IsPairingFileOf kinds) kinds files path e))
   pub replaced : IsPairReplaced run (IsPairingFileOf kinds) files path
 
--- the schema or a sheet is refused, or the pairing's file where both sheets are accepted, and the line of the refusal
--- went out
-abbrev pub SaysVerifyRefusal : Inputs → Stream → Stream → KindCodes → PairFiles → List ℕ → Type 0
-SaysVerifyRefusal inputs out err kinds files pairing =
-    OfPair inputs files (SaysPairRefusal (Answers out err) kinds)
+-- the schema or a sheet is refused, or the pairing's file where both sheets are accepted, and the refusal was said
+abbrev pub SaysVerifyRefusal : Inputs → (Outcome → Type 0) → KindCodes → PairFiles → List ℕ → Type 0
+SaysVerifyRefusal inputs Says kinds files pairing =
+    OfPair inputs files (SaysPairFault (λ e. Says (outcome.Fault e)) kinds)
     ⊎ ((at : ℕ) × (why : WrongLine)
     × OfFive inputs files pairing (λ scd dic a b f. RefusesFile kinds scd dic a b f at why)
-    × Answers out err (ended (codes "refused pairing line " ++ decimal at ++ codes ": " ++ reason_words why)))
+    × Says (outcome.WrongPairing at why))
 
--- the file states a pairing that doesn't carry, and that went out, with the reason
-abbrev pub SaysUnpaired : Inputs → Stream → Stream → KindCodes → PairFiles → List ℕ → Type 0
-SaysUnpaired inputs out err kinds files pairing =
+-- the file states a pairing that doesn't carry, and that was said, with the reason
+abbrev pub SaysUnpaired : Inputs → (Outcome → Type 0) → KindCodes → PairFiles → List ℕ → Type 0
+SaysUnpaired inputs Says kinds files pairing =
     (why : Unpaired) × OfFive inputs files pairing (λ scd dic a b f. IsVerifiedUnder kinds scd dic a b f (Fails why))
-    × Answers out err (ended (unpaired_words (input_name pairing) why))
+    × Says (outcome.Unpaired why)
 
 -- The status of a run that checks a pairing's file: 0 only where it states a pairing that carries the one plan onto the
--- other, 1 only where it states one that doesn't, 2 only where a sheet or the file is refused, and each is said.
-pub record IsVerifyStatus (run : Effects) (out err : Stream) (kinds : KindCodes) (files : PairFiles) (pairing : List ℕ)
-    (s : ℕ) : Type 0 where
+-- other, 1 only where it states one that doesn't, 2 only where a sheet or the file is refused, and each is said in a
+-- form.
+pub record IsVerifyStatus (run : Effects) (out err : Stream) (kinds : KindCodes) (files : PairFiles) (form : AnswerForm)
+    (pairing : List ℕ) (s : ℕ) : Type 0 where
   pub tried : AreFiveThere run.inputs files pairing ⊎ ((n : ℕ) × FirstOfFiveMissing run.inputs files pairing n)
-  pub unpaired : s ≡ 1 → SaysUnpaired run.inputs out err kinds files pairing
+  pub unpaired : s ≡ 1
+      → SaysUnpaired run.inputs (AnswersIn out err form (verify_paths_of files pairing)) kinds files pairing
   pub means : MeansStatus
       (OfFive run.inputs files pairing (λ scd dic a b f. IsVerifiedUnder kinds scd dic a b f Carries)
-      × Answers out err (ended (codes "pairs")))
-      (SaysVerifyRefusal run.inputs out err kinds files pairing) (λ e. VerifyFileFault run.inputs kinds files pairing e
-      × Prints out [])
+      × AnswersIn out err form (verify_paths_of files pairing) outcome.Pairs)
+      (SaysVerifyRefusal run.inputs (AnswersIn out err form (verify_paths_of files pairing)) kinds files pairing)
+      (λ e. VerifyFileFault run.inputs kinds files pairing e × Prints out [])
       run.why (verify_paths_of files pairing) out err s
 
 -- the status once the line was printed: that of the outcome, 5 without memory for the line, 4 where it can't be printed
 abbrev pub IsAnsweredAs : ℕ → ℕ → Type 0
 IsAnsweredAs status s = (s ≡ status) ⊎ ((s ≡ 5) ⊎ ((status < 3) × (s ≡ 4)))
 
--- What was said of an outcome, and the status: an answer or a refusal went to standard output, anything else to
--- standard error.
-pub record IsSaid (why : Why) (out err : Stream) (outcome : Outcome) (paths : List (List ℕ)) (s : ℕ) : Type 0 where
+-- What was said of an outcome, and the status: an answer or a refusal went to standard output in a form, anything else
+-- to standard error as words.
+pub record IsSaid (why : Why) (out err : Stream) (form : AnswerForm) (outcome : Outcome) (paths : List (List ℕ))
+    (s : ℕ) : Type 0 where
   pub status : IsAnsweredAs (status_for outcome) s
-  pub answer : s < 3 → Answers out err (ended (words_for outcome (names_of_paths paths)))
+  pub answer : s < 3 → AnswersIn out err form paths outcome
   pub unsaid : status_for outcome < 3 → s ≡ 4 → IsUnsaid out err
   pub fault : 3 ≤ status_for outcome → s ≡ 4 → WarnsWhy why err outcome paths × Prints out []
   pub memory : s ≡ 5 → OnlyLacksMemory out err

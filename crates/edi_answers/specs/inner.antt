@@ -1,4 +1,5 @@
 -- What the public contracts do not reach: what private contracts and proofs need.
+pub mod Census
 pub mod Hashes
 pub mod Hinted
 pub mod Outcome

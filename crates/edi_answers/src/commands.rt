@@ -5,6 +5,7 @@ ghost use Rattle.edi_answers.specs.Notes.{HasNoteOf};
 ghost use Rattle.edi_answers.specs.inner.Outcome.{outcome_for, paired_outcome, verified_outcome};
 ghost use Rattle.edi_answers.specs.Statuses.{IsBundleStatus, IsCompareStatus, IsFileStatus, IsPairStatus, IsPairingStatus, IsSheetStatus, IsVerifyStatus};
 
+use crate::form::AnswerForm;
 use crate::{report, sheets};
 use edi_compare::{RunFault, Verdict};
 use edi_files::Folder;
@@ -28,16 +29,25 @@ pub fn bundle<F: Folder, O: ByteOut, E: ByteOut>(
 {
     match sheets::bundle(alloc, folder, out) {
         Ok(()) => 0,
-        Err(fault) => report::answer(alloc, folder, out, err, &Outcome::Fault(fault), &["-", "-"]),
+        Err(fault) => report::answer(
+            alloc,
+            folder,
+            out,
+            err,
+            AnswerForm::Words,
+            &Outcome::Fault(fault),
+            &["-", "-"],
+        ),
     }
 }
 
-/// Whether a sheet is accepted.
+/// Says in a form whether a sheet is accepted.
 pub fn check<F: Folder, O: ByteOut, E: ByteOut>(
     alloc: Global,
     folder: &F,
     kinds: &GivenKinds<'_>,
     files: &SheetFiles<'_>,
+    form: AnswerForm,
     out: &mut O,
     err: &mut E,
     note: &mut Vec<u8>,
@@ -45,23 +55,32 @@ pub fn check<F: Folder, O: ByteOut, E: ByteOut>(
     ensures status { IsSheetStatus result }
     ensures answer { IsFileStatus
         (effects F.Folder F.Reader.ByteIn F.Sink.ByteOut F.NewFile.ByteOut folder.now folder.now)
-        (written O.ByteOut out.old out.new) (written E.ByteOut err.old err.new) kinds.now files.now result }
+        (written O.ByteOut out.old out.new) (written E.ByteOut err.old err.new) kinds.now files.now form result }
     ensures note { HasNoteOf
         (inputs F.Folder F.Reader.ByteIn folder.now) kinds.now files.now.scd.now result note.old.items note.new.items }
 {
     let paths = [files.scd, files.dic, files.vec, "-"];
     match sheets::check(alloc, folder, kinds, files, note) {
-        Ok(()) => report::answer(alloc, folder, out, err, &Outcome::Accepted, &paths),
-        Err(fault) => report::answer(alloc, folder, out, err, &Outcome::Fault(fault), &paths),
+        Ok(()) => report::answer(alloc, folder, out, err, form, &Outcome::Accepted, &paths),
+        Err(fault) => report::answer(
+            alloc,
+            folder,
+            out,
+            err,
+            form,
+            &Outcome::Fault(fault),
+            &paths,
+        ),
     }
 }
 
-/// Whether two sheets state the same plan, and a pairing of them to a path, where one is named.
+/// Says in a form whether two sheets state the same plan, and puts a pairing of them at a path, where one is named.
 pub fn compare_or_pair<F: Folder, O: ByteOut, E: ByteOut>(
     alloc: Global,
     folder: &mut F,
     kinds: &GivenKinds<'_>,
     files: &PairFiles<'_>,
+    form: AnswerForm,
     pairing: Option<&str>,
     out: &mut O,
     err: &mut E,
@@ -70,16 +89,17 @@ pub fn compare_or_pair<F: Folder, O: ByteOut, E: ByteOut>(
     ensures status { IsPairStatus result }
     ensures answer { MatchOption pairing.entry ((folder.new ≡ folder.old)
         × IsCompareStatus (effects F.Folder F.Reader.ByteIn F.Sink.ByteOut F.NewFile.ByteOut folder.old folder.new)
-        (written O.ByteOut out.old out.new) (written E.ByteOut err.old err.new) kinds.now files.now result)
+        (written O.ByteOut out.old out.new) (written E.ByteOut err.old err.new) kinds.now files.now form result)
         (λ path. IsPairingStatus
         (effects F.Folder F.Reader.ByteIn F.Sink.ByteOut F.NewFile.ByteOut folder.old folder.new)
-        (written O.ByteOut out.old out.new) (written E.ByteOut err.old err.new) kinds.now files.now path.now result) }
+        (written O.ByteOut out.old out.new) (written E.ByteOut err.old err.new) kinds.now files.now form path.now
+        result) }
     ensures note { HasNoteOf
         (inputs F.Folder F.Reader.ByteIn folder.old) kinds.now files.now.scd.now result note.old.items note.new.items }
 {
     match pairing {
-        Some(path) => pair(alloc, folder, kinds, files, path, out, err, note),
-        None => compare(alloc, folder, kinds, files, out, err, note),
+        Some(path) => pair(alloc, folder, kinds, files, form, path, out, err, note),
+        None => compare(alloc, folder, kinds, files, form, out, err, note),
     }
 }
 
@@ -89,6 +109,7 @@ fn compare<F: Folder, O: ByteOut, E: ByteOut>(
     folder: &F,
     kinds: &GivenKinds<'_>,
     files: &PairFiles<'_>,
+    form: AnswerForm,
     out: &mut O,
     err: &mut E,
     note: &mut Vec<u8>,
@@ -96,13 +117,13 @@ fn compare<F: Folder, O: ByteOut, E: ByteOut>(
     ensures status { IsPairStatus result }
     ensures answer { IsCompareStatus
         (effects F.Folder F.Reader.ByteIn F.Sink.ByteOut F.NewFile.ByteOut folder.now folder.now)
-        (written O.ByteOut out.old out.new) (written E.ByteOut err.old err.new) kinds.now files.now result }
+        (written O.ByteOut out.old out.new) (written E.ByteOut err.old err.new) kinds.now files.now form result }
     ensures note { HasNoteOf
         (inputs F.Folder F.Reader.ByteIn folder.now) kinds.now files.now.scd.now result note.old.items note.new.items }
 {
     let paths = [files.scd, files.dic, files.first, files.second, "-"];
     let outcome = outcome_of(sheets::compare(alloc, folder, kinds, files, note));
-    report::answer(alloc, folder, out, err, &outcome, &paths)
+    report::answer(alloc, folder, out, err, form, &outcome, &paths)
 }
 
 // Whether two sheets state the same plan, and a pairing of them to a path.
@@ -111,6 +132,7 @@ fn pair<F: Folder, O: ByteOut, E: ByteOut>(
     folder: &mut F,
     kinds: &GivenKinds<'_>,
     files: &PairFiles<'_>,
+    form: AnswerForm,
     path: &str,
     out: &mut O,
     err: &mut E,
@@ -119,21 +141,23 @@ fn pair<F: Folder, O: ByteOut, E: ByteOut>(
     ensures status { IsPairStatus result }
     ensures answer { IsPairingStatus
         (effects F.Folder F.Reader.ByteIn F.Sink.ByteOut F.NewFile.ByteOut folder.old folder.new)
-        (written O.ByteOut out.old out.new) (written E.ByteOut err.old err.new) kinds.now files.now path.now result }
+        (written O.ByteOut out.old out.new) (written E.ByteOut err.old err.new) kinds.now files.now form path.now
+        result }
     ensures note { HasNoteOf
         (inputs F.Folder F.Reader.ByteIn folder.old) kinds.now files.now.scd.now result note.old.items note.new.items }
 {
     let paths = [files.scd, files.dic, files.first, files.second, path];
     let outcome = outcome_of_paired(sheets::pair(alloc, folder, kinds, files, path, note));
-    report::answer(alloc, folder, out, err, &outcome, &paths)
+    report::answer(alloc, folder, out, err, form, &outcome, &paths)
 }
 
-/// Whether a file states a pairing that carries the one plan onto the other, and why it doesn't.
+/// Says in a form whether a file states a pairing that carries the one plan onto the other, and why it doesn't.
 pub fn verify<F: Folder, O: ByteOut, E: ByteOut>(
     alloc: Global,
     folder: &F,
     kinds: &GivenKinds<'_>,
     files: &PairFiles<'_>,
+    form: AnswerForm,
     pairing: &str,
     out: &mut O,
     err: &mut E,
@@ -142,7 +166,8 @@ pub fn verify<F: Folder, O: ByteOut, E: ByteOut>(
     ensures status { IsPairStatus result }
     ensures answer { IsVerifyStatus
         (effects F.Folder F.Reader.ByteIn F.Sink.ByteOut F.NewFile.ByteOut folder.now folder.now)
-        (written O.ByteOut out.old out.new) (written E.ByteOut err.old err.new) kinds.now files.now pairing.now result }
+        (written O.ByteOut out.old out.new) (written E.ByteOut err.old err.new) kinds.now files.now form pairing.now
+        result }
     ensures note { HasNoteOf
         (inputs F.Folder F.Reader.ByteIn folder.now) kinds.now files.now.scd.now result note.old.items note.new.items }
 {
@@ -155,7 +180,7 @@ pub fn verify<F: Folder, O: ByteOut, E: ByteOut>(
         "-",
     ];
     let outcome = outcome_of_verified(sheets::verify(alloc, folder, kinds, files, pairing, note));
-    report::answer(alloc, folder, out, err, &outcome, &paths)
+    report::answer(alloc, folder, out, err, form, &outcome, &paths)
 }
 
 // What a comparison to a pairing's file came to.

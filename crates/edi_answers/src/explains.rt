@@ -1,4 +1,4 @@
-//! What is said of a sheet and of a rule.
+//! What is said of a sheet, of a rule and of all rules.
 ghost use Rattle.std.specs.Prelude.{◌≡◌, ◌⊎◌, ◌++◌, ◌<◌, ℕ, List, [], false, true, IfErr, IfOk, IsTrue, codes};
 ghost use Rattle.std.specs.Bool.{MatchBool};
 ghost use Rattle.std.specs.Io.KnownBytes.{Appends};
@@ -11,21 +11,22 @@ ghost use Rattle.edi_explain.specs.ClassCounts.{DescribesSheet};
 ghost use Rattle.edi_explain.specs.Explained.{ExplainsSchema, ExplainsSheet};
 ghost use Rattle.edi_explain.specs.Found.{IsFound};
 ghost use Rattle.edi_explain.specs.KindClasses.{codes_of};
-ghost use Rattle.edi_answers.specs.Explains.{DescribesRest, GiveHints, IsExplainStatus, IsRuleStatus, TellsAccepted, TellsCause, TellsPlan, TellsRefusal};
+ghost use Rattle.edi_answers.specs.Explains.{DescribesRest, GiveHints, IsExplainStatus, IsRuleListStatus, IsRuleStatus, TellsAccepted, TellsCause, TellsPlan, TellsRefusal};
 ghost use Rattle.edi_files.specs.Reasons.{ended};
 ghost use Rattle.edi_outcome.specs.Status.{status_of_fault};
 ghost use Rattle.edi_outcome.specs.Words.{FaultHasNames, schema_text, sheet_text};
 ghost use Rattle.edi_answers.specs.Effects.{effects, inputs, written};
 ghost use Rattle.edi_answers.specs.SheetRuns.{FileFault, OfFiles};
-ghost use Rattle.edi_answers.specs.Statuses.{IsPageStatus, IsSheetStatus, IsUnsaid};
+ghost use Rattle.edi_answers.specs.Statuses.{Answers, IsListStatus, IsPageStatus, IsSheetStatus, IsUnsaid};
 
+use crate::form::AnswerForm;
 use crate::paths::input_name;
 use crate::report;
 use crate::sheets::opened;
 use edi_compare::{RunFault, read_input};
 use edi_explain::{
     Found, NamedFile, describe_kinds, describe_sheet, describe_skipped, examine, explain_schema,
-    explain_sheet, hints_of, page_of, rule_of_word,
+    explain_sheet, hints_of, list_rules, page_of, rule_of_word,
 };
 use edi_files::Folder;
 use edi_line::ByteOut;
@@ -88,7 +89,15 @@ pub fn explain<F: Folder, O: ByteOut, E: ByteOut>(
     let paths = [files.scd, files.dic, files.vec, "-"];
     match said(alloc, folder, kinds, files) {
         Ok(said) => put_said(&said, out, err),
-        Err(fault) => report::answer(alloc, folder, out, err, &Outcome::Fault(fault), &paths),
+        Err(fault) => report::answer(
+            alloc,
+            folder,
+            out,
+            err,
+            AnswerForm::Words,
+            &Outcome::Fault(fault),
+            &paths,
+        ),
     }
 }
 
@@ -298,6 +307,31 @@ fn said_of_schema(
     })
 }
 
+/// Says which rules there are, each with its number and where it is broken.
+pub fn explain_rules<O: ByteOut, E: ByteOut>(alloc: Global, out: &mut O, err: &mut E) -> u8
+    ensures status { IsListStatus result }
+    ensures answer { IsRuleListStatus (written O.ByteOut out.old out.new)
+        (written E.ByteOut err.old err.new) result }
+{
+    match list_rules(alloc) {
+        Ok(lines) => put_page(&lines, out, err),
+        Err(_) => report::out_of_memory(err),
+    }
+}
+
+// Writes lines on rules, and gives the status.
+fn put_page<O: ByteOut, E: ByteOut>(page: &[u8], out: &mut O, err: &mut E) -> u8
+    ensures status { (result ≡ 0) ⊎ (result ≡ 4) }
+    ensures done { result ≡ 0
+        → Answers (written O.ByteOut out.old out.new) (written E.ByteOut err.old err.new) page.now }
+    ensures failed { result ≡ 4 → IsUnsaid (written O.ByteOut out.old out.new) (written E.ByteOut err.old err.new) }
+{
+    match put_all(out, page) {
+        Ok(()) => 0,
+        Err(_) => report::unwritten(err),
+    }
+}
+
 /// Says what the rule of a number means, or that there is no such rule.
 pub fn explain_rule<O: ByteOut, E: ByteOut>(
     alloc: Global,
@@ -312,11 +346,8 @@ pub fn explain_rule<O: ByteOut, E: ByteOut>(
     let Some(text) = rule_of_word(word) else {
         return report::unknown_rule(err);
     };
-    let Ok(page) = page_of(alloc, &text) else {
-        return report::out_of_memory(err);
-    };
-    match put_all(out, &page) {
-        Ok(()) => 0,
-        Err(_) => report::unwritten(err),
+    match page_of(alloc, &text) {
+        Ok(page) => put_page(&page, out, err),
+        Err(_) => report::out_of_memory(err),
     }
 }

@@ -31,27 +31,41 @@ use std::alloc::{AllocError, Global};
 /// Writes a line for each sheet, in order: the digest of its canonical file and its name to `out`, or its name and why
 /// it has none to `err`; and above these that of the schema, where it is asked for. Gives the greatest of their
 /// statuses, or 4 as soon as `out` fails. The schema is loaded once, before any sheet is opened; where there is none,
-/// `err` says why by the name of its file, and where a kind of link has no class, `err` says so first.
+/// `err` says why by the name of its file, and where a kind of link has no class, `err` says so first. Behind the line
+/// of a sheet that is refused by 304, `err` says which of the siblings, VEC files of the same lot, has the record that a
+/// link points at.
 pub fn hash<F: Folder, O: ByteOut, E: ByteOut>(
     alloc: Global,
     folder: &F,
     kinds: &GivenKinds<'_>,
     files: &ManyFiles<'_>,
     with_schema: bool,
+    siblings: &[&str],
     out: &mut O,
     err: &mut E,
 ) -> u8
     ensures status { IsSheetStatus result }
     ensures answer { IsHashStatus
         (effects F.Folder F.Reader.ByteIn F.Sink.ByteOut F.NewFile.ByteOut folder.now folder.now)
-        (written O.ByteOut out.old out.new) (written E.ByteOut err.old err.new) kinds.now files.now with_schema result }
+        (written O.ByteOut out.old out.new) (written E.ByteOut err.old err.new) kinds.now files.now with_schema
+        (map (λ p. p.now) siblings.now) result }
     ensures out_stays { IsTrue (O.has_failed out.old) → IsTrue (O.has_failed out.new) }
     ensures stays { IsTrue (E.has_failed err.old) → IsTrue (E.has_failed err.new) }
 {
     match loaded(alloc, folder, kinds, files) {
         Ok(loaded) => {
             notes::say(err, &loaded.note);
-            answer_under(alloc, folder, &loaded.schema, files, with_schema, out, err)
+            let schema = &loaded.schema;
+            answer_under(
+                alloc,
+                folder,
+                schema,
+                siblings,
+                files,
+                with_schema,
+                out,
+                err,
+            )
         }
         Err(fault) => tell_fault(alloc, folder, &fault, path_of_schema(files, &fault), err),
     }
@@ -130,6 +144,7 @@ fn answer_under<F: Folder, O: ByteOut, E: ByteOut>(
     alloc: Global,
     folder: &F,
     schema: &Schema,
+    siblings: &[&str],
     files: &ManyFiles<'_>,
     with_schema: bool,
     out: &mut O,
@@ -137,14 +152,15 @@ fn answer_under<F: Folder, O: ByteOut, E: ByteOut>(
 ) -> u8
     ensures status { IsSheetStatus result }
     ensures answer { AnswersUnder (inputs F.Folder F.Reader.ByteIn folder.now) (F.why folder.now) schema.now
-        (written O.ByteOut out.old out.new) (written E.ByteOut err.old err.new) files.now with_schema result }
+        (map (λ p. p.now) siblings.now) (written O.ByteOut out.old out.new) (written E.ByteOut err.old err.new)
+        files.now with_schema result }
     ensures out_stays { IsTrue (O.has_failed out.old) → IsTrue (O.has_failed out.new) }
     ensures stays { IsTrue (E.has_failed err.old) → IsTrue (E.has_failed err.new) }
 {
     if with_schema {
-        answer_headed(alloc, folder, schema, files, out, err)
+        answer_headed(alloc, folder, schema, siblings, files, out, err)
     } else {
-        answer_all(alloc, folder, schema, &files.sheets, out, err)
+        answer_all(alloc, folder, schema, siblings, &files.sheets, out, err)
     }
 }
 
@@ -153,13 +169,15 @@ fn answer_headed<F: Folder, O: ByteOut, E: ByteOut>(
     alloc: Global,
     folder: &F,
     schema: &Schema,
+    siblings: &[&str],
     files: &ManyFiles<'_>,
     out: &mut O,
     err: &mut E,
 ) -> u8
     ensures status { IsSheetStatus result }
     ensures answer { AnswersHeaded (inputs F.Folder F.Reader.ByteIn folder.now) (F.why folder.now) schema.now
-        (written O.ByteOut out.old out.new) (written E.ByteOut err.old err.new) files.now result }
+        (map (λ p. p.now) siblings.now) (written O.ByteOut out.old out.new) (written E.ByteOut err.old err.new)
+        files.now result }
     ensures out_stays { IsTrue (O.has_failed out.old) → IsTrue (O.has_failed out.new) }
     ensures stays { IsTrue (E.has_failed err.old) → IsTrue (E.has_failed err.new) }
 {
@@ -167,7 +185,7 @@ fn answer_headed<F: Folder, O: ByteOut, E: ByteOut>(
         return report::out_of_memory(err);
     };
     match put_all(out, &line) {
-        Ok(()) => answer_all(alloc, folder, schema, &files.sheets, out, err),
+        Ok(()) => answer_all(alloc, folder, schema, siblings, &files.sheets, out, err),
         Err(_) => report::unwritten(err),
     }
 }
@@ -177,19 +195,21 @@ fn answer_all<F: Folder, O: ByteOut, E: ByteOut>(
     alloc: Global,
     folder: &F,
     schema: &Schema,
+    siblings: &[&str],
     sheets: &[&str],
     out: &mut O,
     err: &mut E,
 ) -> u8
     ensures status { IsSheetStatus result }
     ensures answer { AnswersAll (inputs F.Folder F.Reader.ByteIn folder.now) (F.why folder.now) schema.now
-        (written O.ByteOut out.old out.new) (written E.ByteOut err.old err.new) (map (λ p. p.now) sheets.now) result }
+        (map (λ p. p.now) siblings.now) (written O.ByteOut out.old out.new) (written E.ByteOut err.old err.new)
+        (map (λ p. p.now) sheets.now) result }
     ensures out_stays { IsTrue (O.has_failed out.old) → IsTrue (O.has_failed out.new) }
     ensures stays { IsTrue (E.has_failed err.old) → IsTrue (E.has_failed err.new) }
 {
     let mut worst = 0;
     for path in sheets {
-        match answer(alloc, folder, schema, path, out, err) {
+        match answer(alloc, folder, schema, siblings, path, out, err) {
             Ok(status) => worst = worst.max(status),
             Err(_) => return report::unwritten(err),
         }
@@ -202,14 +222,16 @@ fn answer<F: Folder, O: ByteOut, E: ByteOut>(
     alloc: Global,
     folder: &F,
     schema: &Schema,
+    siblings: &[&str],
     path: &str,
     out: &mut O,
     err: &mut E,
 ) -> Result<u8, Written>
     ensures status { IfOk result IsSheetStatus }
     ensures ok { IfOk result
-        (StepsOn (inputs F.Folder F.Reader.ByteIn folder.now) (F.why folder.now) schema.now path.now
-        (written O.ByteOut out.old out.new) (written E.ByteOut err.old err.new)) }
+        (StepsOn (inputs F.Folder F.Reader.ByteIn folder.now) (F.why folder.now) schema.now
+        (map (λ p. p.now) siblings.now) path.now (written O.ByteOut out.old out.new)
+        (written E.ByteOut err.old err.new)) }
     ensures err { IfErr result (λ w. StopsAt (inputs F.Folder F.Reader.ByteIn folder.now) schema.now path.now
         (written O.ByteOut out.old out.new) × (err.new ≡ err.old)) }
     ensures out_stays { IsTrue (O.has_failed out.old) → IsTrue (O.has_failed out.new) }
@@ -223,7 +245,7 @@ fn answer<F: Folder, O: ByteOut, E: ByteOut>(
             },
             Err(_) => Ok(report::out_of_memory(err)),
         },
-        Err(fault) => Ok(tell_sheet(alloc, folder, &fault, path, err)),
+        Err(fault) => Ok(tell_sheet(alloc, folder, siblings, &fault, path, err)),
     }
 }
 
@@ -231,19 +253,20 @@ fn answer<F: Folder, O: ByteOut, E: ByteOut>(
 fn tell_sheet<F: Folder, E: ByteOut>(
     alloc: Global,
     folder: &F,
+    siblings: &[&str],
     fault: &RunFault,
     path: &str,
     err: &mut E,
 ) -> u8
     ensures contents { TellsSheetFault (inputs F.Folder F.Reader.ByteIn folder.now) (F.why folder.now)
-        (written E.ByteOut err.old err.new) fault.now path.now result }
+        (map (λ p. p.now) siblings.now) (written E.ByteOut err.old err.new) fault.now path.now result }
     ensures stays { IsTrue (E.has_failed err.old) → IsTrue (E.has_failed err.new) }
 {
     let Ok(lines) = lines_of_fault(alloc, folder, fault, path) else {
         return report::out_of_memory(err);
     };
     report::warn(err, &lines);
-    let Ok(hints) = hints_at(alloc, folder, fault, path) else {
+    let Ok(hints) = hints_at(alloc, folder, siblings, fault, path) else {
         return report::out_of_memory(err);
     };
     report::warn(err, &hints);

@@ -1,29 +1,38 @@
 //! The hints on the file of a refused sheet.
-ghost use Rattle.std.specs.Prelude.{◌≡◌, [], IfOk};
+ghost use Rattle.std.specs.Prelude.{◌≡◌, IfOk, MatchOption, None, OnOk, Some, map};
+ghost use Rattle.std.specs.Bool.{MatchBool};
+ghost use Rattle.edi_record.specs.Texts.{IsPointer, PointerText, shown};
 ghost use Rattle.edi_answers.specs.Effects.{inputs};
-ghost use Rattle.edi_answers.specs.Hinted.{AreHintsAtPath, AreReadHints, AreFaultHints};
+ghost use Rattle.edi_answers.specs.Hinted.{AreElsewhereLines, AreFaultHints, AreHintsAtPath, AreHintsElsewhere, AreSheetHints, HasRecord, IsElsewhereLine, IsReadAgain, IsUnreadable, LacksRecord};
+ghost use Rattle.edi_answers.specs.WholeInputs.{OfWholeInput};
 ghost use Rattle.edi_answers.specs.inner.Hinted.{IsOther};
 
 use crate::whole::read_whole;
-use edi_compare::RunFault;
+use edi_compare::{Fault, RunFault};
 use edi_explain::explained::NamedFile;
-use edi_explain::hints_on_refused;
+use edi_explain::{elsewhere_hint, has_named, hints_on_refused, stray_ends};
 use edi_files::{Destination, Folder};
+use edi_record::Pointer;
 use edi_words::is_standard;
 use std::alloc::{AllocError, Global};
 
-/// The hints behind a fault of the sheet of a path: of a refused sheet those on its file.
+/// The rule that all ends of links are of one lot and subset.
+const ONE_SUBSET: u16 = 304;
+
+/// The hints behind a fault of the sheet of a path: of a refused sheet those on its file, and where its links point at
+/// records of its siblings, in which of them these are. Siblings are the VEC files of its lot, where that is known.
 pub fn hints_at<F: Folder>(
     alloc: Global,
     folder: &F,
+    siblings: &[&str],
     fault: &RunFault,
     path: &str,
 ) -> Result<Vec<u8>, AllocError>
-    ensures { IfOk result (λ lines.
-        AreFaultHints (inputs F.Folder F.Reader.ByteIn folder.now) fault.now path.now lines.items) }
+    ensures { IfOk result (λ lines. AreFaultHints (inputs F.Folder F.Reader.ByteIn folder.now)
+        (map (λ p. p.now) siblings.now) fault.now path.now lines.items) }
 {
     match fault {
-        RunFault::First(_) => hints_at_path(alloc, folder, path),
+        RunFault::First(fault) => hints_at_path(alloc, folder, siblings, fault, path),
         RunFault::Memory(_)
         | RunFault::Read { .. }
         | RunFault::TooLong { .. }
@@ -33,41 +42,181 @@ pub fn hints_at<F: Folder>(
     }
 }
 
-// The hints on the file of a path, which is read once more; none of standard input, nor of a device or a pipe, whose
-// bytes are gone.
-fn hints_at_path<F: Folder>(alloc: Global, folder: &F, path: &str) -> Result<Vec<u8>, AllocError>
-    ensures { IfOk result (λ lines.
-        AreHintsAtPath (inputs F.Folder F.Reader.ByteIn folder.now) path.now lines.items) }
+// The hints on what is read once more of a path.
+fn hints_at_path<F: Folder>(
+    alloc: Global,
+    folder: &F,
+    siblings: &[&str],
+    fault: &Fault,
+    path: &str,
+) -> Result<Vec<u8>, AllocError>
+    ensures { IfOk result (λ lines. AreHintsAtPath (inputs F.Folder F.Reader.ByteIn folder.now)
+        (map (λ p. p.now) siblings.now) fault.now path.now lines.items) }
+{
+    match read_again(alloc, folder, path)? {
+        Some(bytes) => sheet_hints(alloc, folder, siblings, fault, path, &bytes),
+        None => Ok(Vec::new(alloc)),
+    }
+}
+
+// The hints on the file of a refused sheet, and on records of its siblings.
+fn sheet_hints<F: Folder>(
+    alloc: Global,
+    folder: &F,
+    siblings: &[&str],
+    fault: &Fault,
+    path: &str,
+    bytes: &[u8],
+) -> Result<Vec<u8>, AllocError>
+    ensures { IfOk result (λ lines. AreSheetHints (inputs F.Folder F.Reader.ByteIn folder.now)
+        (map (λ p. p.now) siblings.now) fault.now path.now bytes.now lines.items) }
+{
+    let name = path.as_bytes();
+    let mut lines = hints_on_refused(alloc, &NamedFile { name, bytes })?;
+    let elsewhere = hints_elsewhere(alloc, folder, siblings, fault, path, bytes)?;
+    lines.extend_from_slice(&elsewhere)?;
+    Ok(lines)
+}
+
+// Where a sheet is refused by 304, the lines on records of its siblings.
+fn hints_elsewhere<F: Folder>(
+    alloc: Global,
+    folder: &F,
+    siblings: &[&str],
+    fault: &Fault,
+    path: &str,
+    bytes: &[u8],
+) -> Result<Vec<u8>, AllocError>
+    ensures { IfOk result (λ lines. AreHintsElsewhere (inputs F.Folder F.Reader.ByteIn folder.now)
+        (map (λ p. p.now) siblings.now) fault.now path.now bytes.now lines.items) }
+{
+    match fault {
+        Fault::Entry { rule, .. } if *rule == ONE_SUBSET => {
+            elsewhere_lines(alloc, folder, siblings, path, bytes)
+        }
+        Fault::Entry { .. } | Fault::Line { .. } | Fault::Memory(_) => Ok(Vec::new(alloc)),
+    }
+}
+
+// Where a sheet has ends of two lots or subsets, the lines on the records that the first ends of the two name.
+fn elsewhere_lines<F: Folder>(
+    alloc: Global,
+    folder: &F,
+    siblings: &[&str],
+    path: &str,
+    bytes: &[u8],
+) -> Result<Vec<u8>, AllocError>
+    ensures { IfOk result (λ lines. AreElsewhereLines (inputs F.Folder F.Reader.ByteIn folder.now)
+        (map (λ p. p.now) siblings.now) path.now bytes.now lines.items) }
+{
+    let Some(ends) = stray_ends(alloc, bytes)? else {
+        return Ok(Vec::new(alloc));
+    };
+    let mut lines = line_of_end(alloc, folder, siblings, path, &ends.stray)?;
+    let of_home = line_of_end(alloc, folder, siblings, path, &ends.home)?;
+    lines.extend_from_slice(&of_home)?;
+    Ok(lines)
+}
+
+// The line on the record that an end names.
+fn line_of_end<F: Folder>(
+    alloc: Global,
+    folder: &F,
+    siblings: &[&str],
+    path: &str,
+    end: &[u8],
+) -> Result<Vec<u8>, AllocError>
+    ensures { IfOk result (λ line. (p : PointerText) → IsPointer end.now p → IsElsewhereLine
+        (inputs F.Folder F.Reader.ByteIn folder.now) path.now p (map (λ p. p.now) siblings.now) line.items) }
+{
+    match Pointer::read(end) {
+        Some(pointer) => elsewhere_line(alloc, folder, siblings, path, pointer),
+        None => Ok(Vec::new(alloc)),
+    }
+}
+
+// The line on the first of these sheets that has the record that a pointer names, if one does.
+fn elsewhere_line<F: Folder>(
+    alloc: Global,
+    folder: &F,
+    siblings: &[&str],
+    path: &str,
+    pointer: Pointer<'_>,
+) -> Result<Vec<u8>, AllocError>
+    ensures { IfOk result (λ line. IsElsewhereLine (inputs F.Folder F.Reader.ByteIn folder.now)
+        path.now (shown pointer.entry) (map (λ p. p.now) siblings.now) line.items) }
+{
+    for other in siblings {
+        if has_record(alloc, folder, path, pointer, other)? {
+            return elsewhere_hint(alloc, path.as_bytes(), pointer, other.as_bytes());
+        }
+    }
+    Ok(Vec::new(alloc))
+}
+
+// Whether the sheet of another path has the record that a pointer names.
+fn has_record<F: Folder>(
+    alloc: Global,
+    folder: &F,
+    path: &str,
+    pointer: Pointer<'_>,
+    other: &str,
+) -> Result<bool, AllocError>
+    ensures { IfOk result (λ t. MatchBool t
+        (HasRecord (inputs F.Folder F.Reader.ByteIn folder.now) path.now (shown pointer.entry) other.now)
+        (LacksRecord (inputs F.Folder F.Reader.ByteIn folder.now) path.now (shown pointer.entry) other.now)) }
+{
+    if other == path {
+        return Ok(false);
+    }
+    match read_again(alloc, folder, other)? {
+        Some(bytes) => has_named(alloc, &bytes, pointer),
+        None => Ok(false),
+    }
+}
+
+// What is read once more of a path: nothing of standard input, nor of a device or a pipe, whose bytes are gone; and
+// nothing where the file can't be read.
+fn read_again<F: Folder>(
+    alloc: Global,
+    folder: &F,
+    path: &str,
+) -> Result<Option<Vec<u8>>, AllocError>
+    ensures { IfOk result (λ found. MatchOption found
+        (IsReadAgain (inputs F.Folder F.Reader.ByteIn folder.now) path.now None)
+        (λ bytes. IsReadAgain (inputs F.Folder F.Reader.ByteIn folder.now) path.now (Some bytes.items))) }
 {
     if is_standard(path) {
-        return Ok(Vec::new(alloc));
+        return Ok(None);
     }
     match folder.target(path) {
-        Some(Destination::File) => hints_read(alloc, folder, path),
-        Some(Destination::Stream) | None => Ok(Vec::new(alloc)),
+        Some(Destination::File) => read_file(alloc, folder, path),
+        Some(Destination::Stream) | None => Ok(None),
     }
 }
 
-// The hints on the file of a path; none where it can't be read.
-fn hints_read<F: Folder>(alloc: Global, folder: &F, path: &str) -> Result<Vec<u8>, AllocError>
-    ensures { IfOk result (λ lines.
-        AreReadHints (inputs F.Folder F.Reader.ByteIn folder.now) path.now lines.items) }
+// The bytes of the file of a path, or nothing where it can't be read.
+fn read_file<F: Folder>(
+    alloc: Global,
+    folder: &F,
+    path: &str,
+) -> Result<Option<Vec<u8>>, AllocError>
+    ensures { IfOk result (λ found. MatchOption found
+        (IsUnreadable (inputs F.Folder F.Reader.ByteIn folder.now) path.now)
+        (λ bytes. OfWholeInput (inputs F.Folder F.Reader.ByteIn folder.now) path.now (λ contents. bytes.items ≡ contents))) }
 {
     match read_whole(alloc, folder, path) {
-        Ok(bytes) => hints_on_refused(
-            alloc,
-            &NamedFile {
-                name: path.as_bytes(),
-                bytes: &bytes,
-            },
-        ),
-        Err(fault) => no_hints(alloc, &fault),
+        Ok(bytes) => Ok(Some(bytes)),
+        Err(fault) => {
+            but_memory(&fault)?;
+            Ok(None)
+        }
     }
 }
 
-// No hints for a fault, unless it is want of memory.
-fn no_hints(alloc: Global, fault: &RunFault) -> Result<Vec<u8>, AllocError>
-    ensures { IfOk result (λ lines. IsOther fault.now × (lines.items ≡ [])) }
+// Whether a fault is want of memory, as an error.
+fn but_memory(fault: &RunFault) -> Result<(), AllocError>
+    ensures { OnOk result (IsOther fault.now) }
 {
     match fault {
         RunFault::Memory(error) => Err(*error),
@@ -76,6 +225,6 @@ fn no_hints(alloc: Global, fault: &RunFault) -> Result<Vec<u8>, AllocError>
         | RunFault::Schema(_)
         | RunFault::First(_)
         | RunFault::Second(_)
-        | RunFault::Write(_) => Ok(Vec::new(alloc)),
+        | RunFault::Write(_) => Ok(()),
     }
 }

@@ -1,9 +1,11 @@
 //! What the commands answer over a folder and two streams, but for canonical files, differences and pictures.
 #![tactic(auto)]
 
+pub mod census;
 pub mod classes;
 pub mod commands;
 pub mod explains;
+pub mod form;
 pub mod hashes;
 mod hinted;
 pub mod known;

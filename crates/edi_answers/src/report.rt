@@ -6,18 +6,20 @@ ghost use Rattle.edi_files.specs.declared.reason.Reason.{Reason};
 ghost use Rattle.edi_answers.specs.Effects.{written};
 ghost use Rattle.edi_answers.specs.Misuses.{bad_kinds_lines, kinds_fault_words, misuse_lines, not_text_lines, shows_words};
 ghost use Rattle.edi_outcome.specs.Status.{status_for};
-ghost use Rattle.edi_outcome.specs.Words.{FaultHasNames, HasNames, texts, words_for, words_of_fault};
+ghost use Rattle.edi_outcome.specs.Words.{FaultHasNames, HasNames, texts, words_of_fault};
+ghost use Rattle.edi_answers.specs.AnswerForms.{IsReadIn, text_in_form};
 ghost use Rattle.edi_answers.specs.Paths.{names_of_paths};
 ghost use Rattle.edi_answers.specs.Reasons.{IsReason, lines_for};
 ghost use Rattle.edi_answers.specs.Statuses.{IsAnsweredAs, IsSaid, IsUnsaid, IsWarned, LacksMemory, OnlyLacksMemory, Warns};
 ghost use Rattle.edi_outcome.specs.declared.outcome.Outcome.{Outcome};
 
+use crate::form::{AnswerForm, text_in_form};
 use crate::paths::{names_of_paths, path_of_fault};
 use crate::reason::{add_length, add_reason};
 use edi_compare::RunFault;
 use edi_files::Folder;
 use edi_line::ByteOut;
-use edi_outcome::{Outcome, line_of, line_of_run, status_of, status_of_fault};
+use edi_outcome::{Outcome, line_of_run, status_of, status_of_fault};
 use edi_shown::push_shown;
 use edi_words::{BadKinds, KindsFault, Misuse};
 use edi_write::put_all;
@@ -31,35 +33,37 @@ const USAGE_STATUS: u8 = 3;
 
 const REFUSED_STATUS: u8 = 2;
 
-/// Writes the outcome's line where it belongs: answers and refusals to `out`, all else to `err`, with a line that says
-/// why a path can't be read or written where the folder gives a reason. Gives the exit status: that of the outcome, 4
-/// if `out` fails, which `err` says, and 5 if there is no memory for the lines.
+/// Writes the outcome's line where it belongs: answers and refusals to `out`, in a form; all else to `err`, as words,
+/// with a line that says why a path can't be read or written where the folder gives a reason. Gives the exit status:
+/// that of the outcome, 4 if `out` fails, which `err` says, and 5 if there is no memory for the lines.
 pub fn answer<F: Folder, O: ByteOut, E: ByteOut>(
     alloc: Global,
     folder: &F,
     out: &mut O,
     err: &mut E,
+    form: AnswerForm,
     outcome: &Outcome,
     paths: &[&str],
 ) -> u8
     requires { HasNames outcome.now (length paths.now) }
     ensures said { IsSaid (F.why folder.now) (written O.ByteOut out.old out.new) (written E.ByteOut err.old err.new)
-        outcome.now (texts paths.now) result }
+        form outcome.now (texts paths.now) result }
     ensures kept { 3 ≤ status_for outcome.now → out.new ≡ out.old }
 {
     match outcome {
         Outcome::Fault(fault) if status_of_fault(fault) > REFUSED_STATUS => {
             warned(alloc, folder, err, fault, paths)
         }
-        _ => said(alloc, out, err, outcome, paths),
+        _ => said(alloc, out, err, form, outcome, paths),
     }
 }
 
-// Writes the line of an answer or a refusal.
+// Writes the line of an answer or a refusal in a form.
 fn said<O: ByteOut, E: ByteOut>(
     alloc: Global,
     out: &mut O,
     err: &mut E,
+    form: AnswerForm,
     outcome: &Outcome,
     paths: &[&str],
 ) -> u8
@@ -68,28 +72,37 @@ fn said<O: ByteOut, E: ByteOut>(
     ensures status { IsAnsweredAs (status_for outcome.now) result }
     ensures answer { result < 3
         → Appends (O.contents out.old) (O.contents out.new)
-        (ended (words_for outcome.now (names_of_paths (texts paths.now))))
+        (text_in_form form outcome.now (names_of_paths (texts paths.now)))
         × (err.new ≡ err.old) }
+    ensures read { result < 3 → IsReadIn form outcome.now (names_of_paths (texts paths.now))
+        (text_in_form form outcome.now (names_of_paths (texts paths.now))) }
     ensures unsaid { result ≡ 4 → IsUnsaid (written O.ByteOut out.old out.new) (written E.ByteOut err.old err.new) }
     ensures memory { result ≡ 5
         → OnlyLacksMemory (written O.ByteOut out.old out.new) (written E.ByteOut err.old err.new) }
 {
-    let Ok(line) = line_by_paths(alloc, outcome, paths) else {
+    let Ok(text) = text_by_paths(alloc, form, outcome, paths) else {
         return out_of_memory(err);
     };
-    match put_all(out, &line) {
+    match put_all(out, &text) {
         Ok(()) => status_of(outcome),
         Err(_) => unwritten(err),
     }
 }
 
-// The line of an outcome, by the names of the paths.
-fn line_by_paths(alloc: Global, outcome: &Outcome, paths: &[&str]) -> Result<Vec<u8>, AllocError>
+// The text of an outcome in a form, by the names of the paths.
+fn text_by_paths(
+    alloc: Global,
+    form: AnswerForm,
+    outcome: &Outcome,
+    paths: &[&str],
+) -> Result<Vec<u8>, AllocError>
     requires { HasNames outcome.now (length paths.now) }
-    ensures { IfOk result (λ line. line.items ≡ ended (words_for outcome.now (names_of_paths (texts paths.now)))) }
+    ensures text { IfOk result (λ text. text.items
+        ≡ text_in_form form outcome.now (names_of_paths (texts paths.now))) }
+    ensures read { IfOk result (λ text. IsReadIn form outcome.now (names_of_paths (texts paths.now)) text.items) }
 {
     let names = names_of_paths(alloc, paths)?;
-    line_of(alloc, outcome, &names)
+    text_in_form(alloc, form, outcome, &names)
 }
 
 /// Says on `err` what a fault is, and why a path can't be read or written where the folder gives a reason. Gives the
@@ -179,6 +192,9 @@ pub fn misused<E: ByteOut>(alloc: Global, err: &mut E, misuse: Misuse<'_>) -> u8
         Misuse::BadKinds(bad) => bad_kinds(alloc, err, bad),
         Misuse::TwoStandard => wrong_words(err, b"only one input can be -\n"),
         Misuse::NoSheet => wrong_words(err, b"explain takes RULE, or SCD, DIC and VEC\n"),
+        Misuse::SeveralSheets => {
+            wrong_words(err, b"explain takes one VEC, or several with --all\n")
+        }
         Misuse::NothingHashed => {
             wrong_words(err, b"hash takes SCD, DIC and a VEC, or --schema\n")
         }

@@ -50,14 +50,14 @@ here_below : (content : List ℕ) (before : List Reading) (line : Reading) (rule
 here_below content before line rule is (inl h) = reading_rule_below content rule (is ∙ h)
 here_below content before line rule is (inr h) = placed_below before line rule h
 
-line_rule_below : (b : List ℕ) (rule place : ℕ) → BreaksLineRule b rule place → rule < 200
+pub line_rule_below : (b : List ℕ) (rule place : ℕ) → BreaksLineRule b rule place → rule < 200
 line_rule_below b rule place broken = go (rule_read b rule place broken)
   where
     go : BreaksIn (readings_of b) rule place → rule < 200
     go (inl h) = let c = mapped reading_of (contents_of b) h.before h.line h.after h.cut in here_below c.0 h.before h.line rule c.1 h.breaks
     go (inr h) = omega (arith, h.rule_is)
 
-group_above : (group : List Entry) (rule : ℕ) → BreaksGroupRule group rule → 200 ≤ rule
+pub group_above : (group : List Entry) (rule : ℕ) → BreaksGroupRule group rule → 200 ≤ rule
 group_above group rule (lacks_kind e h) = omega (arith, e)
 group_above group rule (lacks_identifier e h) = omega (arith, e)
 group_above group rule (lacks_record_class e h) = omega (arith, e)
@@ -67,7 +67,7 @@ group_above group rule (bad_point e h) = omega (arith, e)
 group_above group rule (bad_end e k h) = omega (arith, e)
 group_above group rule (unknown_pointer e h) = omega (arith, e)
 
-reference_above : (s : Classes) (list : List Record) (rule place : ℕ) → BreaksReferenceRule s list rule place → 200 ≤ rule
+pub reference_above : (s : Classes) (list : List Record) (rule place : ℕ) → BreaksReferenceRule s list rule place → 200 ≤ rule
 reference_above s list rule place (repeats_name e h) = omega (arith, e)
 reference_above s list rule place (lacks_class e h) = omega (arith, e)
 reference_above s list rule place (lacks_attribute_class e h) = omega (arith, e)
@@ -76,10 +76,10 @@ reference_above s list rule place (names_nothing e h) = omega (arith, e)
 reference_above s list rule place (joins_wrong e h) = omega (arith, e)
 reference_above s list rule place (repeats_side e h) = omega (arith, e)
 
-object_above : (p : Drawing) (rule place : ℕ) → BreaksObjectRule p rule place → 200 ≤ rule
+pub object_above : (p : Drawing) (rule place : ℕ) → BreaksObjectRule p rule place → 200 ≤ rule
 object_above p rule place (repeats_object e at less h) = omega (arith, e)
 
-topology_above : (p : Drawing) (rule place : ℕ) → BreaksTopologyRule p rule place → 200 ≤ rule
+pub topology_above : (p : Drawing) (rule place : ℕ) → BreaksTopologyRule p rule place → 200 ≤ rule
 topology_above p rule place (starts_elsewhere e h) = omega (arith, e)
 topology_above p rule place (ends_elsewhere e h) = omega (arith, e)
 topology_above p rule place (repeats_node e h) = omega (arith, e)

@@ -1,5 +1,5 @@
 -- What is answered of deliveries: of the lots that THF files state, and of the files that lie beside them.
-use Rattle.std.specs.Prelude.{◌≡◌, ◌⊎◌, ◌≤◌, ◌++◌, ◌&&◌, ℕ, Bool, false, true, not, List, [], ◌∷◌, Option, Some, None, codes, filter, find, flat_map, is_none, length, map, option_map, option_to_list, unwrap_or}
+use Rattle.std.specs.Prelude.{◌≡◌, ◌⊎◌, ◌≤◌, ◌++◌, ◌&&◌, ℕ, Bool, false, true, not, List, [], ◌∷◌, Option, Some, None, codes, filter, find, flat_map, is_none, length, map, option_map, option_to_list, take, unwrap_or}
 use Rattle.std.proofs.Common.{Bor}
 use Rattle.std.specs.Fmt.{decimal}
 use Rattle.std.specs.List.{list_any}
@@ -190,11 +190,21 @@ OpensNone run listings path err s =
 
 -- ---- what is replied
 
+-- in how many VEC files of a lot a record is looked for at which a link of another points: few, so that the time of a lot
+-- grows as its files do
+abbrev pub most_siblings : ℕ
+most_siblings = 64
+
+abbrev pub siblings_of : ManyFiles → List (List ℕ)
+siblings_of files = map (λ p. p.now) (take most_siblings files.sheets.items)
+
 module _ (run : Effects) (kinds : KindCodes) where
-  -- to the VEC files of a lot that are there, as by `hash`; where its classes or its dictionary are missing, nothing
+  -- to the VEC files of a lot that are there, as by `hash`, with the first of them as siblings; where its classes or its
+  -- dictionary are missing, nothing
   abbrev pub IsLotHashed : List ℕ → List (List ℕ) → Lot → Reply
   IsLotHashed before names lot out err s =
-      ((files : ManyFiles) × AreLotFiles before names lot files × IsHashStatus run out err kinds files false s)
+      ((files : ManyFiles) × AreLotFiles before names lot files
+      × IsHashStatus run out err kinds files false (siblings_of files) s)
       ⊎ ((LacksSchema names lot × AddsNothing out err s) ⊎ (OnlyLacksMemory out err × (s ≡ 5)))
 
   -- to a lot: the errors name the files that are missing, and the rest is answered

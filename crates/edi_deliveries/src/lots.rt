@@ -1,11 +1,11 @@
 //! What is replied to the lots of a delivery.
-ghost use Rattle.std.specs.Prelude.{◌≡◌, ◌⊎◌, IfOk, IsTrue, false, map, string_bytes};
+ghost use Rattle.std.specs.Prelude.{◌≡◌, ◌⊎◌, IfOk, IsTrue, false, map, string_bytes, take};
 ghost use Rattle.edi_answers.specs.Effects.{effects, written};
 ghost use Rattle.edi_answers.specs.Hashes.{IsHashStatus};
 ghost use Rattle.edi_answers.specs.Notes.{Notes};
 ghost use Rattle.edi_answers.specs.Statuses.{IsSheetStatus, LacksMemory, OnlyLacksMemory};
 ghost use Rattle.edi_words.specs.declared.words.ManyFiles.{ManyFiles};
-ghost use Rattle.edi_deliveries.specs.Deliveries.{AreLotsAnswered, EachInTurn, IsLotAnswered, IsLotHashed, missing_lines, status_of_missing};
+ghost use Rattle.edi_deliveries.specs.Deliveries.{AreLotsAnswered, EachInTurn, IsLotAnswered, IsLotHashed, missing_lines, siblings_of, status_of_missing};
 ghost use Rattle.edi_deliveries.specs.inner.Paths.{HavePaths};
 
 use crate::found::FolderNames;
@@ -21,6 +21,9 @@ use std::alloc::{AllocError, Global};
 
 const MISSING_STATUS: u8 = 4;
 
+/// In how many VEC files of a lot a record is looked for at which a link of another points.
+const MOST_SIBLINGS: usize = 64;
+
 // The texts behind these.
 fn texts_of<'a>(alloc: Global, paths: &'a [String]) -> Result<Vec<&'a str>, AllocError>
     ensures { IfOk result (λ texts. map (λ text. text.now) texts.items ≡ map string_bytes paths.now) }
@@ -32,7 +35,14 @@ fn texts_of<'a>(alloc: Global, paths: &'a [String]) -> Result<Vec<&'a str>, Allo
     Ok(texts)
 }
 
-// Answers the sheets of these paths, as `hash` does.
+// The first of these texts, so many at the most.
+fn first_of<'a, 'b>(texts: &'b [&'a str], most: usize) -> &'b [&'a str]
+    ensures { result.now ≡ take most texts.now }
+{
+    &texts[..texts.len().min(most)]
+}
+
+// Answers the sheets of these paths, as `hash` does, with the first of them as siblings.
 fn hash_paths<F: Folder, O: ByteOut, E: ByteOut>(
     alloc: Global,
     folder: &F,
@@ -44,7 +54,8 @@ fn hash_paths<F: Folder, O: ByteOut, E: ByteOut>(
     ensures status { IsSheetStatus result }
     ensures answer { ((files : ManyFiles) × HavePaths paths.now files
         × IsHashStatus (effects F.Folder F.Reader.ByteIn F.Sink.ByteOut F.NewFile.ByteOut folder.now folder.now)
-        (written O.ByteOut out.old out.new) (written E.ByteOut err.old err.new) kinds.now files false result)
+        (written O.ByteOut out.old out.new) (written E.ByteOut err.old err.new) kinds.now files false
+        (siblings_of files) result)
         ⊎ (OnlyLacksMemory (written O.ByteOut out.old out.new) (written E.ByteOut err.old err.new) × (result ≡ 5)) }
     ensures out_stays { IsTrue (O.has_failed out.old) → IsTrue (O.has_failed out.new) }
     ensures err_stays { IsTrue (E.has_failed err.old) → IsTrue (E.has_failed err.new) }
@@ -57,7 +68,8 @@ fn hash_paths<F: Folder, O: ByteOut, E: ByteOut>(
         dic: paths.dic.as_str(),
         sheets,
     };
-    hash(alloc, folder, kinds, &files, false, out, err)
+    let siblings = first_of(&files.sheets, MOST_SIBLINGS);
+    hash(alloc, folder, kinds, &files, false, siblings, out, err)
 }
 
 // Answers the VEC files of a lot that are there.

@@ -24,7 +24,6 @@ use Rattle.edi_report.specs.Reports.{parts_at}
 use Rattle.edi_report.specs.declared.parts.Parts.{Parts}
 use Rattle.edi_report.specs.declared.sheet.LocatedSheet.{LocatedSheet}
 use Rattle.edi_objects.specs.Differing.{differs_by, is_differing}
-use Rattle.edi_objects.specs.Names.{usual_naming}
 use Rattle.edi_objects.specs.Telling.{AreSoundParts, IsSoundReport}
 use Rattle.edi_objects.proofs.NothingHidden.{hides_nothing}
 use Rattle.edi_diff.specs.Changes.{AreChangedParts, AreChanges, ArePartsOfEach, HasEndsOf}
@@ -77,7 +76,7 @@ difference_sound s a b form found accepted accepted' d =
     d.is_text.changes d.is_text.are_parts
 
 pub hidden_by_none : TextHidesNothing
-hidden_by_none s a b form found accepted accepted' d = hides_nothing (usual_naming s) (report_in s a b form found d) (difference_sound s a b form found accepted accepted' d)
+hidden_by_none n s a b form found accepted accepted' d = hides_nothing n (report_in s a b form found d) (difference_sound s a b form found accepted accepted' d)
 
 -- ---- records that don't differ
 

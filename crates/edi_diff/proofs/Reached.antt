@@ -11,7 +11,6 @@ use Rattle.edi_report.specs.Lines.{is_reached, went_to}
 use Rattle.edi_report.specs.Reports.{Report}
 use Rattle.edi_objects.specs.Differing.{arrives, became_of, bounds_anew, bounds_type, is_differing, moved_to, outline_differs}
 use Rattle.edi_objects.specs.LinksOf.{links_of}
-use Rattle.edi_objects.specs.Names.{usual_naming}
 use Rattle.edi_objects.specs.Objects.{has_other_outline, outline_there}
 use Rattle.edi_objects.specs.Telling.{IsLinkOf, IsSoundReport, IsUntouched}
 use Rattle.edi_objects.proofs.AttributeLists.{one_of_all}
@@ -81,7 +80,7 @@ module _ (r : Report) (k : ℕ) (other : (record_at r.first.accepted k).kind ≢
   outline_beyond j went = sym (ap (outline_there r) went) ∙ both.1
 
 pub silent_carried : SilentObjectsAreCarried
-silent_carried s a b form found accepted accepted' d i place is none = record { itself = itself; links = links; joined = joined; new_links = new_links }
+silent_carried n s a b form found accepted accepted' d i place is none = record { itself = itself; links = links; joined = joined; new_links = new_links }
   where
     r : Report
     r = report_in s a b form found d
@@ -90,7 +89,7 @@ silent_carried s a b form found accepted accepted' d i place is none = record { 
     sound = difference_sound s a b form found accepted accepted' d
 
     rests : (j : ℕ) × (became_of r i ≡ Some j) × IsUntouched r i j
-    rests = silent (usual_naming s) r sound i place is none
+    rests = silent n r sound i place is none
 
     carried : (k : ℕ) → IsPlace d.first.accepted k → is_differing r k ≡ false → GoesUnchanged s d.first.accepted d.second.accepted d.is_text.became k
     carried k there e = rest_carried s a b form found d k there e

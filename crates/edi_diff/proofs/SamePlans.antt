@@ -23,7 +23,7 @@ use Rattle.edi_objects.specs.Counts.{class_totals}
 use Rattle.edi_objects.specs.Differing.{arrives, became_of, bounds_anew, bounds_type, differs_by, is_differing, moved_by, moved_to, outline_differs, same_of}
 use Rattle.edi_objects.specs.Elements.{element_text, elements_of, first_element, line_of_element, lone_element, second_element}
 use Rattle.edi_objects.specs.LinksOf.{links_of}
-use Rattle.edi_objects.specs.Names.{Naming, usual_naming}
+use Rattle.edi_objects.specs.Names.{Naming}
 use Rattle.edi_objects.specs.Objects.{first_object, has_other_outline, outline_there, second_object}
 use Rattle.edi_objects.specs.Telling.{IsSoundReport}
 use Rattle.edi_objects.proofs.LinkEntries.{all_by_places}
@@ -117,13 +117,10 @@ moves_not : (same : Option ℕ) (j : ℕ) (went : Option ℕ) (parts : Parts) �
 moves_not None j went parts e = absurd cc
 moves_not (Some k) j went parts e = refl
 
-pub silent_if_same : (s : Classes) (a b : List ℕ) (form : TextForm) (found : Difference) → IsAccepted s a → IsAccepted s b → (d : IsDifference s a b form found) → Same s d.first.accepted d.second.accepted
-    → TellsOfNone (usual_naming s) (report_in s a b form found d)
-silent_if_same s a b form found accepted accepted' d same = tells_of_none n r sound rests stays went reached (same_charset_line p.cse q.cse total.1)
+pub silent_if_same : (n : Naming) (s : Classes) (a b : List ℕ) (form : TextForm) (found : Difference) → IsAccepted s a → IsAccepted s b → (d : IsDifference s a b form found) → Same s d.first.accepted d.second.accepted
+    → TellsOfNone n (report_in s a b form found d)
+silent_if_same n s a b form found accepted accepted' d same = tells_of_none n r sound rests stays went reached (same_charset_line p.cse q.cse total.1)
   where
-    n : Naming
-    n = usual_naming s
-
     r : Report
     r = report_in s a b form found d
 

@@ -24,7 +24,7 @@ use Rattle.edi_objects.specs.Accounts.{bare_links, first_bare_link, objects_of, 
 use Rattle.edi_objects.specs.Counts.{class_totals}
 use Rattle.edi_objects.specs.Differing.{is_differing}
 use Rattle.edi_objects.specs.Elements.{elements_of, first_element, second_element}
-use Rattle.edi_objects.specs.Names.{Naming, usual_naming}
+use Rattle.edi_objects.specs.Names.{Naming}
 use Rattle.edi_objects.specs.Objects.{first_object, second_object}
 use Rattle.edi_objects.specs.Telling.{FirstIsTold, IsSoundReport, SecondIsTold, by_joined, by_lines, by_object, first_account_by, new_by_joined, new_by_lines, new_by_object, second_account_by}
 use Rattle.edi_objects.proofs.AttributeLists.{one_of_all}
@@ -121,15 +121,12 @@ module _ (n : Naming) (r : Report) (sound : IsSoundReport r) (silent : TellsOfNo
       go true e = refl
       go false e = absurd (not_new j there (new_told n r sound j there e (record_at r.second.accepted j).kind refl))
 
-pub same_if_silent : (s : Classes) (a b : List ℕ) (form : TextForm) (found : Difference) → IsAccepted s a → IsAccepted s b → (d : IsDifference s a b form found) → TellsOfNone (usual_naming s) (report_in s a b form found d)
+pub same_if_silent : (n : Naming) (s : Classes) (a b : List ℕ) (form : TextForm) (found : Difference) → IsAccepted s a → IsAccepted s b → (d : IsDifference s a b form found) → TellsOfNone n (report_in s a b form found d)
     → Same s d.first.accepted d.second.accepted
-same_if_silent s a b form found accepted accepted' d silent =
+same_if_silent n s a b form found accepted accepted' d silent =
     let carries = total_carries s p q became holds total (same_charset n r sound silent) in
     (slice_index (targets_of became.to), turned_at became.turned, carries.carries)
   where
-    n : Naming
-    n = usual_naming s
-
     r : Report
     r = report_in s a b form found d
 

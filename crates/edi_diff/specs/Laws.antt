@@ -14,7 +14,7 @@ use Rattle.edi_report.specs.Reports.{Report}
 use Rattle.edi_objects.specs.Accounts.{account_text}
 use Rattle.edi_objects.specs.Counts.{class_totals}
 use Rattle.edi_objects.specs.Differing.{bounds_type, is_differing}
-use Rattle.edi_objects.specs.Names.{Naming, usual_naming}
+use Rattle.edi_objects.specs.Names.{Naming}
 use Rattle.edi_objects.specs.Objects.{first_object}
 use Rattle.edi_objects.specs.Telling.{HidesNothing, IsLinkOf}
 use Rattle.edi_diff.specs.Differences.{IsDifference, report_by}
@@ -26,11 +26,10 @@ abbrev pub report_in : (s : Classes) (a b : List ℕ) (form : TextForm) (found :
     → IsDifference s a b form found → Report
 report_in s a b form found d = report_by d.first d.second d.unchanged d.is_text.became d.is_text.parts
 
--- the text of objects hides nothing of what differs between two accepted sheets
+-- the text of objects hides nothing of what differs between two accepted sheets, whichever attributes name objects
 abbrev pub TextHidesNothing : Type 0
-TextHidesNothing = (s : Classes) (a b : List ℕ) (form : TextForm) (found : Difference) → IsAccepted s a
-    → IsAccepted s b → (d : IsDifference s a b form found)
-    → HidesNothing (usual_naming s) (report_in s a b form found d)
+TextHidesNothing = (n : Naming) (s : Classes) (a b : List ℕ) (form : TextForm) (found : Difference) → IsAccepted s a
+    → IsAccepted s b → (d : IsDifference s a b form found) → HidesNothing n (report_in s a b form found d)
 
 -- the record at the place i goes to one of q, and with its ends, where they went, it is that one
 pub record GoesUnchanged (s : Classes) (p q : Drawing) (became : Matching) (i : ℕ) : Type 0 where
@@ -66,19 +65,20 @@ pub record IsCarriedWithLinks (s : Classes) (p q : Drawing) (became : Matching) 
       → IsCarriedWithBounds s p q became other
   pub new_links : (link : ℕ) → IsLinkOf q itself.target link → IsReached became.to link
 
--- an object of the first sheet of which the text of objects has no line is carried with all that its links reach
+-- an object of the first sheet of which the text of objects has no line, whichever attributes name objects, is carried
+-- with all that its links reach
 abbrev pub SilentObjectsAreCarried : Type 0
-SilentObjectsAreCarried = (s : Classes) (a b : List ℕ) (form : TextForm) (found : Difference) → IsAccepted s a
-    → IsAccepted s b → (d : IsDifference s a b form found) (i : ℕ) → IsPlace d.first.accepted i
-    → (record_at d.first.accepted i).kind ≡ Fea → first_object (usual_naming s) (report_in s a b form found d) i ≡ []
+SilentObjectsAreCarried = (n : Naming) (s : Classes) (a b : List ℕ) (form : TextForm) (found : Difference)
+    → IsAccepted s a → IsAccepted s b → (d : IsDifference s a b form found) (i : ℕ) → IsPlace d.first.accepted i
+    → (record_at d.first.accepted i).kind ≡ Fea → first_object n (report_in s a b form found d) i ≡ []
     → IsCarriedWithLinks s d.first.accepted d.second.accepted d.is_text.became i
 
 -- the text of objects is the counts alone: neither a record nor the character sets differ by it
 abbrev pub TellsOfNone : Naming → Report → Type 0
 TellsOfNone n r = account_text n r ≡ class_totals n r ++ codes "records: " ++ totals_line r
 
--- it is that exactly if the plans are the same
+-- it is that exactly if the plans are the same, whichever attributes name objects
 abbrev pub SilentExactlyIfSame : Type 0
-SilentExactlyIfSame = (s : Classes) (a b : List ℕ) (form : TextForm) (found : Difference) → IsAccepted s a
-    → IsAccepted s b → (d : IsDifference s a b form found)
-    → TellsOfNone (usual_naming s) (report_in s a b form found d) ↔ Same s d.first.accepted d.second.accepted
+SilentExactlyIfSame = (n : Naming) (s : Classes) (a b : List ℕ) (form : TextForm) (found : Difference)
+    → IsAccepted s a → IsAccepted s b → (d : IsDifference s a b form found)
+    → TellsOfNone n (report_in s a b form found d) ↔ Same s d.first.accepted d.second.accepted

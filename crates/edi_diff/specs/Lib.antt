@@ -4,4 +4,5 @@ pub mod Differences
 pub mod Directions
 pub mod Runs
 pub mod Laws
+pub mod Known
 pub mod inner

@@ -67,7 +67,7 @@ fn changes_with_text(
     first: &LocatedSheet,
     second: &LocatedSheet,
     matching: &Matching,
-    form: TextForm,
+    form: TextForm<'_>,
 ) -> Result<ChangesWithText, AllocError>
     requires classes { HasClasses schema.now first.now.accepted }
     requires first_agrees { Agrees schema.now first.now.accepted }
@@ -76,7 +76,7 @@ fn changes_with_text(
     requires second_sites { HasSites second.now }
     requires holds { MatchingHolds schema.now first.now.accepted second.now.accepted matching.now }
     ensures { IfOk result (λ reporter.
-        (text : IsDifferenceText schema.now first.now second.now matching.now form reporter.text.items)
+        (text : IsDifferenceText schema.now first.now second.now matching.now form.entry reporter.text.items)
         × (text.became ≡ reporter.became)) }
 {
     let plan = first.accepted.sound().plan();
@@ -111,11 +111,11 @@ pub fn diff(
     schema: &Schema,
     a: &[u8],
     b: &[u8],
-    form: TextForm,
+    form: TextForm<'_>,
 ) -> Result<Difference, CompareFault>
     ensures first { OnOk result (IsAccepted schema.now a.now) }
     ensures second { OnOk result (IsAccepted schema.now b.now) }
-    ensures difference { IfOk result (IsDifference schema.now a.now b.now form) }
+    ensures difference { IfOk result (IsDifference schema.now a.now b.now form.entry) }
     ensures refusal { IfErr result (IsPairRefusal schema.now a.now b.now) }
 {
     diff_from(
@@ -133,11 +133,11 @@ pub(crate) fn diff_from(
     schema: &Schema,
     a: FileBytes<'_>,
     b: FileBytes<'_>,
-    form: TextForm,
+    form: TextForm<'_>,
 ) -> Result<Difference, CompareFault>
     ensures first { OnOk result (IsAccepted schema.now (file_bytes a.entry)) }
     ensures second { OnOk result (IsAccepted schema.now (file_bytes b.entry)) }
-    ensures difference { IfOk result (IsDifference schema.now (file_bytes a.entry) (file_bytes b.entry) form) }
+    ensures difference { IfOk result (IsDifference schema.now (file_bytes a.entry) (file_bytes b.entry) form.entry) }
     ensures refusal { IfErr result (IsPairRefusal schema.now (file_bytes a.entry) (file_bytes b.entry)) }
 {
     let found = find_differences(alloc, schema, a, b, form)?;
@@ -151,11 +151,11 @@ pub fn find_differences(
     schema: &Schema,
     a: FileBytes<'_>,
     b: FileBytes<'_>,
-    form: TextForm,
+    form: TextForm<'_>,
 ) -> Result<Findings, CompareFault>
     ensures first { OnOk result (IsAccepted schema.now (file_bytes a.entry)) }
     ensures second { OnOk result (IsAccepted schema.now (file_bytes b.entry)) }
-    ensures findings { IfOk result (AreFindings schema.now (file_bytes a.entry) (file_bytes b.entry) form) }
+    ensures findings { IfOk result (AreFindings schema.now (file_bytes a.entry) (file_bytes b.entry) form.entry) }
     ensures first_classes { IfOk result (λ found. HasClasses schema.now found.first.accepted) }
     ensures second_classes { IfOk result (λ found. HasClasses schema.now found.second.accepted) }
     ensures refusal { IfErr result (IsPairRefusal schema.now (file_bytes a.entry) (file_bytes b.entry)) }
@@ -181,14 +181,14 @@ fn compare_sheets(
     schema: &Schema,
     first: &LocatedSheet,
     second: &LocatedSheet,
-    form: TextForm,
+    form: TextForm<'_>,
 ) -> Result<ComparedSheets, AllocError>
     requires first { IsAcceptedPlan schema.now first.now.accepted }
     requires second { IsAcceptedPlan schema.now second.now.accepted }
     requires classes { HasClasses schema.now first.now.accepted }
     requires first_sites { HasSites first.now }
     requires second_sites { HasSites second.now }
-    ensures { IfOk result (AreCompared schema.now first.now second.now form) }
+    ensures { IfOk result (AreCompared schema.now first.now second.now form.entry) }
 {
     schema.keeps();
     let unchanged = differences(alloc, schema, &first.accepted, &second.accepted)?;

@@ -5,6 +5,7 @@ mod changes;
 pub mod differing;
 mod directions;
 pub mod form;
+pub mod known;
 pub mod laws;
 mod parting;
 mod proposing;

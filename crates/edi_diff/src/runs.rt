@@ -22,11 +22,11 @@ pub fn run_diff<S: ByteIn, D: ByteIn, A: ByteIn, B: ByteIn>(
     dic: &mut D,
     first: &mut A,
     second: &mut B,
-    form: TextForm,
+    form: TextForm<'_>,
 ) -> Result<Difference, RunFault>
     ensures ok { IfOk result (λ difference.
         IfFourKnown (S.contents scd.old) (D.contents dic.old) (A.contents first.old) (B.contents second.old)
-        (λ s d a b. IsDifferenceUnder kinds.now s d a b form difference)) }
+        (λ s d a b. IsDifferenceUnder kinds.now s d a b form.entry difference)) }
     ensures read { OnOk result (AreFourRead (seen S.ByteIn scd.old scd.new) (seen D.ByteIn dic.old dic.new)
         (seen A.ByteIn first.old first.new) (seen B.ByteIn second.old second.new)) }
     ensures err { IfErr result (ComparingFault kinds.now (seen S.ByteIn scd.old scd.new) (seen D.ByteIn dic.old dic.new)
@@ -58,10 +58,10 @@ fn diff_or_fault(
     dic: &[u8],
     first: FileBytes<'_>,
     second: FileBytes<'_>,
-    form: TextForm,
+    form: TextForm<'_>,
 ) -> Result<Difference, RunFault>
     ensures ok { IfOk result
-        (IsDifferenceUnder kinds.now scd.now dic.now (file_bytes first.entry) (file_bytes second.entry) form) }
+        (IsDifferenceUnder kinds.now scd.now dic.now (file_bytes first.entry) (file_bytes second.entry) form.entry) }
     ensures err { IfErr result
         (PairFault kinds.now scd.now dic.now (file_bytes first.entry) (file_bytes second.entry)) }
 {

@@ -44,12 +44,12 @@ pub(crate) fn draw_difference_from(
     names: &FileNames<'_>,
     a: FileBytes<'_>,
     b: FileBytes<'_>,
-    form: TextForm,
+    form: TextForm<'_>,
 ) -> Result<DrawnDifference, CompareFault>
     ensures first { OnOk result (IsAccepted schema.now (file_bytes a.entry)) }
     ensures second { OnOk result (IsAccepted schema.now (file_bytes b.entry)) }
     ensures drawn { IfOk result
-        (IsDrawnDifference schema.now names.now (file_bytes a.entry) (file_bytes b.entry) form) }
+        (IsDrawnDifference schema.now names.now (file_bytes a.entry) (file_bytes b.entry) form.entry) }
     ensures refusal { IfErr result (IsPairRefusal schema.now (file_bytes a.entry) (file_bytes b.entry)) }
 {
     schema.keeps();

@@ -50,11 +50,11 @@ pub fn run_draw_difference<S: ByteIn, D: ByteIn, A: ByteIn, B: ByteIn>(
     dic: &mut D,
     first: &mut A,
     second: &mut B,
-    form: TextForm,
+    form: TextForm<'_>,
 ) -> Result<DrawnDifference, RunFault>
     ensures ok { IfOk result (λ drawn. IfFourKnown (S.contents scd.old) (D.contents dic.old)
         (A.contents first.old) (B.contents second.old)
-        (λ s d a b. IsDrawnDifferenceUnder kinds.now names.now s d a b form drawn)) }
+        (λ s d a b. IsDrawnDifferenceUnder kinds.now names.now s d a b form.entry drawn)) }
     ensures read { OnOk result (AreFourRead (seen S.ByteIn scd.old scd.new) (seen D.ByteIn dic.old dic.new)
         (seen A.ByteIn first.old first.new) (seen B.ByteIn second.old second.new)) }
     ensures err { IfErr result (ComparingFault kinds.now (seen S.ByteIn scd.old scd.new) (seen D.ByteIn dic.old dic.new)
@@ -109,10 +109,10 @@ fn draw_difference_or_fault(
     dic: &[u8],
     first: FileBytes<'_>,
     second: FileBytes<'_>,
-    form: TextForm,
+    form: TextForm<'_>,
 ) -> Result<DrawnDifference, RunFault>
     ensures ok { IfOk result (IsDrawnDifferenceUnder kinds.now names.now scd.now dic.now
-        (file_bytes first.entry) (file_bytes second.entry) form) }
+        (file_bytes first.entry) (file_bytes second.entry) form.entry) }
     ensures err { IfErr result (PairFault kinds.now scd.now dic.now
         (file_bytes first.entry) (file_bytes second.entry)) }
 {

@@ -25,3 +25,5 @@ pub mod Feeds
 pub mod Straying
 pub mod Sources
 pub mod ClassCounted
+pub mod LinkEnds
+pub mod LostEnds

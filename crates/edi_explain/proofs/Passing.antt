@@ -26,6 +26,11 @@ pub no_position_is : (text : List ℕ) (t : Bool) → MatchBool t ((p : Point) �
 no_position_is text true h = (λ i. absurd cc, λ n. absurd (n h.0 h.1))
 no_position_is text false h = (λ i. h, λ n. refl)
 
+pub position_is : (text : List ℕ) (t : Bool) → MatchBool t ((p : Point) × IsPosition text p) ((p : Point) → ¬ (IsPosition text p))
+    → IsTrue t ↔ ((p : Point) × IsPosition text p)
+position_is text true h = (λ i. h, λ p. refl)
+position_is text false h = (λ i. absurd cc, λ p. absurd (h p.0 p.1))
+
 pub other_count_is : (text : List ℕ) (n : ℕ) (t : Bool) → IsTrue t ↔ IsCount text n → IsTrue (not t) ↔ ¬ (IsCount text n)
 other_count_is text n true h = (λ i. absurd cc, λ no. absurd (no (h.0 refl)))
 other_count_is text n false h = (λ i k. let f : false ≡ true = h.1 k in cc, λ no. refl)

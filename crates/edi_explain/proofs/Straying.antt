@@ -1,5 +1,5 @@
 -- Pointers that name what they may not.
-use Rattle.std.proofs.Common.{◌≡◌, ◌≢◌, ◌∙◌, ◌↔◌, ◌⊎◌, inl, inr, ℕ, Bool, not, List, Option, Some, None, codes, IsTrue, MatchOption, sym, ap}
+use Rattle.std.proofs.Common.{◌≡◌, ◌≢◌, ◌∙◌, ◌↔◌, ◌⊎◌, inl, inr, ℕ, Bool, not, List, Option, Some, None, codes, IsTrue, MatchOption, sym, ap, subst}
 use Rattle.edi_record.specs.Texts.{IsPointer, PointerText}
 use Rattle.edi_record.proofs.TextParts.{pointer_one}
 use Rattle.edi_schema.specs.Classes.{Classes, place_of}
@@ -35,6 +35,10 @@ type_named text rty p h t e = (λ i. (p, h, e.0 i), λ n. e.1 (ap (λ (x : Point
 pub in_neither : {X Y C : Type 0} → ¬ X → ¬ Y → X ⊎ (Y × C) → ⊥
 in_neither left right (inl x) = left x
 in_neither left right (inr y) = right y.0
+
+pub some_of : {X : Type 0} (A : Type 0) (B : X → Type 0) (o : Option X) (x : X) → o ≡ Some x → MatchOption o A B → B x
+some_of A B None x e h = absurd cc
+some_of A B (Some y) x e h = let same : y ≡ x = cc in subst B same h
 
 pub none_of : {X A : Type 0} (B : X → Type 0) (o : Option X) → o ≡ None → MatchOption o A B → A
 none_of B None e h = h

@@ -1,12 +1,13 @@
 -- The zone of a record by the record's number in its file.
-use Rattle.std.proofs.Common.{◌≡◌, ◌∙◌, inl, inr, ℕ, suc, List, Option, Some, None, codes, option_and_then, slice_get, sym, ap, subst, unwrap_or}
+use Rattle.std.proofs.Common.{◌≡◌, ◌≢◌, ◌∙◌, inl, inr, ℕ, suc, List, Option, Some, None, arith, codes, option_and_then, refl, slice_get, sym, ap, subst, unwrap_or}
 use Rattle.edi_line.specs.Entry.{Entry, first}
 use Rattle.edi_line.specs.Zones.{groups_of}
 use Rattle.edi_record.specs.Records.{values}
 use Rattle.edi_schema.specs.Classes.{Classes}
-use Rattle.edi_explain.specs.AstrayZones.{IsFirstAstray, IsZoneOfRecord, IsZoneOfSheet, first_end_at}
+use Rattle.edi_explain.specs.AstrayZones.{IsAstray, IsFirstAstray, IsFirstLostEnd, IsZoneOfRecord, IsZoneOfSheet, first_end_at}
 use Rattle.edi_explain.specs.BreakingZones.{IsBreakingZone, IsBreakingZoneOf}
 use Rattle.edi_explain.specs.ZoneLines.{IsZoneLine}
+use Rattle.edi_explain.specs.inner.LostEnds.{IsLostEndOf}
 use Rattle.edi_explain.specs.inner.Seeking.{group_numbered, number_of}
 use Rattle.edi_explain.proofs.Sought.{none_numbered, numbered_group}
 
@@ -28,7 +29,7 @@ module _ (zones : List Entry) (place : ℕ) (g : Option (List Entry)) (end : Opt
 pub line_as : (P Q : Entry → Option ℕ → Type 0) (name : List ℕ) (rule : ℕ) (lines : List ℕ)
     → ((z : Entry) (count : Option ℕ) → P z count → Q z count) → ((z : Entry) (count : Option ℕ) → Q z count → P z count)
     → IsZoneLine P name rule lines → IsZoneLine Q name rule lines
-line_as P Q name rule lines f g (inl h) = inl (h.0, h.1, f h.0 h.1 h.2, h.3)
+line_as P Q name rule lines f g (inl h) = inl (h.0, h.1, h.2, f h.0 h.1 h.3, h.4, h.5)
 line_as P Q name rule lines f g (inr h) = inr (λ z count q. h.0 z count (g z count q), h.1)
 
 same_group : (a b : List Entry) → Some a ≡ Some b → a ≡ b
@@ -44,18 +45,35 @@ module _ (zones : List Entry) (rule number : ℕ) (group : List Entry) (e : Some
   pub zone_row : (z : Entry) (count : Option ℕ) → IsBreakingZone zones rule number z count → IsBreakingZoneOf group rule z count
   zone_row z count k = subst (λ g. IsBreakingZoneOf g rule z count) (own k.0 k.1 k.2 k.3) k.4
 
-  module _ (s : Classes) (earlier : Option ℕ) (end : Option (List ℕ)) (ends : (place : ℕ) → number ≡ suc place → end ≡ first_end_at zones (unwrap_or earlier place)) where
+  module _ (not : rule ≢ 305) (s : Classes) (earlier : Option ℕ) (end : Option (List ℕ)) (ends : (place : ℕ) → number ≡ suc place → end ≡ first_end_at zones (unwrap_or earlier place)) where
     pub sheet_zone : (z : Entry) (count : Option ℕ) → IsZoneOfRecord s group end rule z count → IsZoneOfSheet s zones earlier rule number z count
     sheet_zone z count (inl h) = inl (row_zone z count h)
     sheet_zone z count (inr h) =
         let at = numbered_group (groups_of zones) number group e in
-        inr ((at.0, group, at.1, at.2, subst (λ x. IsFirstAstray s x rule group z) (ends at.0 at.1) h.0), h.1)
+        inr (inl ((at.0, group, at.1, at.2, subst (λ x. IsFirstAstray s x rule group z) (ends at.0 at.1) h.0), h.1))
 
     pub zone_sheet : (z : Entry) (count : Option ℕ) → IsZoneOfSheet s zones earlier rule number z count → IsZoneOfRecord s group end rule z count
     zone_sheet z count (inl k) = inl (zone_row z count k)
-    zone_sheet z count (inr k) =
+    zone_sheet z count (inr (inr k)) = absurd (not k.0.0)
+    zone_sheet z count (inr (inl k)) =
         let d = k.0 in
         inr (subst (λ x. IsFirstAstray s x rule group z) (sym (ends d.0 d.2)) (subst (λ g. IsFirstAstray s (first_end_at zones (unwrap_or earlier d.0)) rule g z) (own d.0 d.1 d.2 d.3) d.4), k.1)
+
+-- the end with which a record breaks 305, of which it alone has a zone
+module _ (zones : List Entry) (number : ℕ) (group : List Entry) (e : Some group ≡ group_numbered (groups_of zones) number) (s : Classes) (earlier : Option ℕ) where
+  pub lost_zone : (z : Entry) (count : Option ℕ) → IsLostEndOf (groups_of zones) group z count → IsZoneOfSheet s zones earlier 305 number z count
+  lost_zone z count h = let at = numbered_group (groups_of zones) number group e in inr (inr ((refl, at.0, group, at.1, at.2, h.0), h.1))
+
+  pub zone_lost : (z : Entry) (count : Option ℕ) → IsZoneOfSheet s zones earlier 305 number z count → IsLostEndOf (groups_of zones) group z count
+  zone_lost z count (inl k) = let f : None ≡ Some k.4.0 = k.4.1 in absurd cc
+  zone_lost z count (inr (inl k)) = not_astray k.0.4.1.is.0 k.0.4.1.is.2
+    where
+      not_astray : (x : Entry) → IsAstray s (first_end_at zones (unwrap_or earlier k.0.0)) 305 x → IsLostEndOf (groups_of zones) group z count
+      not_astray x (inl h) = let f = h.0 in absurd (omega (arith, f))
+      not_astray x (inr h) = let f = h.0 in absurd (omega (arith, f))
+  zone_lost z count (inr (inr k)) =
+      let d = k.0 in
+      (subst (λ g. IsFirstLostEnd (groups_of zones) g z) (own zones 305 number group e d.1 d.2 d.3 d.4) d.5, k.1)
 
 module _ (zones : List Entry) (rule number : ℕ) (e : None ≡ group_numbered (groups_of zones) number) where
   pub no_row_zone : (z : Entry) (count : Option ℕ) → ¬ (IsBreakingZone zones rule number z count)
@@ -63,4 +81,5 @@ module _ (zones : List Entry) (rule number : ℕ) (e : None ≡ group_numbered (
 
   pub no_sheet_zone : (s : Classes) (earlier : Option ℕ) (z : Entry) (count : Option ℕ) → ¬ (IsZoneOfSheet s zones earlier rule number z count)
   no_sheet_zone s earlier z count (inl k) = no_row_zone z count k
-  no_sheet_zone s earlier z count (inr k) = let d = k.0 in none_numbered (groups_of zones) number d.0 d.1 e d.2 d.3
+  no_sheet_zone s earlier z count (inr (inr k)) = let d = k.0 in none_numbered (groups_of zones) number d.1 d.2 e d.3 d.4
+  no_sheet_zone s earlier z count (inr (inl k)) = let d = k.0 in none_numbered (groups_of zones) number d.0 d.1 e d.2 d.3

@@ -1,11 +1,11 @@
--- The zone with which a record breaks rule 303 or 304: a pointer that names what it may not.
-use Rattle.std.specs.Prelude.{◌≡◌, ◌≢◌, ◌⊎◌, ℕ, suc, true, List, Option, Some, None, codes, option_and_then, slice_get, unwrap_or}
+-- The zone with which a record breaks rule 303, 304 or 305: a pointer that names what it may not.
+use Rattle.std.specs.Prelude.{◌≡◌, ◌≢◌, ◌⊎◌, ℕ, suc, true, List, Option, Some, None, Any, codes, option_and_then, slice_get, unwrap_or}
 use Rattle.edi_line.specs.Entry.{Entry, has_code}
 use Rattle.edi_line.specs.Zones.{groups_of}
 use Rattle.edi_record.specs.Records.{first, values}
 use Rattle.edi_record.specs.Texts.{IsPointer, PointerText}
 use Rattle.edi_schema.specs.Classes.{Classes, place_of}
-use Rattle.edi_explain.specs.BreakingZones.{IsBreakingZone, IsBreakingZoneOf}
+use Rattle.edi_explain.specs.BreakingZones.{IsBreakingZone, IsBreakingZoneOf, is_typed}
 use Rattle.edi_explain.specs.Partners.{IsLeast}
 
 -- a pointer names no class of an attribute: its type isn't ATT, or its name is none of the schema's
@@ -45,8 +45,31 @@ IsAstrayZone s zones earlier rule number z = (place : ℕ) × (group : List Entr
     × (slice_get (groups_of zones) place ≡ Some group)
     × IsFirstAstray s (first_end_at zones (unwrap_or earlier place)) rule group z
 
--- the zone with which a record of a sheet breaks a rule, with this first end of all links, and how many zones it
--- should count
+-- a record is the one that a pointer names, by its type and its identifier
+abbrev pub IsNamedBy : PointerText → List Entry → Type 0
+IsNamedBy p group = (is_typed p.rty group ≡ true) × (first (values (codes "RID") group) ≡ Some p.rid)
+
+-- a pointer names no node, arc, face or object of these records: it is of the type of links, or names none of them
+abbrev pub NamesNoElement : List (List Entry) → List ℕ → Type 0
+NamesNoElement groups text =
+    (p : PointerText) × IsPointer text p × ((p.rty ≡ codes "LNK") ⊎ ¬ (Any (IsNamedBy p) groups))
+
+-- the zone at a place of a record is such an end; places are from 0
+abbrev pub IsLostEndAt : List (List Entry) → List Entry → ℕ → Type 0
+IsLostEndAt groups group place = (z : Entry) × (slice_get group place ≡ Some z) × (has_code (codes "FTP") z ≡ true)
+    × NamesNoElement groups z.value
+
+-- the first such end of a record
+abbrev pub IsFirstLostEnd : List (List Entry) → List Entry → Entry → Type 0
+IsFirstLostEnd groups group z = (place : ℕ) × IsLeast (IsLostEndAt groups group) place × (slice_get group place ≡ Some z)
+
+-- the zone with which the record with this number, from 1, breaks 305
+abbrev pub IsLostEnd : List Entry → ℕ → ℕ → Entry → Type 0
+IsLostEnd zones rule number z = (rule ≡ 305) × (place : ℕ) × (group : List Entry) × (number ≡ suc place)
+    × (slice_get (groups_of zones) place ≡ Some group) × IsFirstLostEnd (groups_of zones) group z
+
+-- the zone with which a record of a sheet breaks a rule but 305, with this first end of all links, and how many zones
+-- it should count
 abbrev pub IsZoneOfRecord : Classes → List Entry → Option (List ℕ) → ℕ → Entry → Option ℕ → Type 0
 IsZoneOfRecord s group end rule z count =
     IsBreakingZoneOf group rule z count ⊎ (IsFirstAstray s end rule group z × (count ≡ None))
@@ -54,4 +77,5 @@ IsZoneOfRecord s group end rule z count =
 -- the zone with which a record of a sheet breaks a rule, and how many zones it should count
 abbrev pub IsZoneOfSheet : Classes → List Entry → Option ℕ → ℕ → ℕ → Entry → Option ℕ → Type 0
 IsZoneOfSheet s zones earlier rule number z count =
-    IsBreakingZone zones rule number z count ⊎ (IsAstrayZone s zones earlier rule number z × (count ≡ None))
+    IsBreakingZone zones rule number z count ⊎ ((IsAstrayZone s zones earlier rule number z × (count ≡ None))
+    ⊎ (IsLostEnd zones rule number z × (count ≡ None)))

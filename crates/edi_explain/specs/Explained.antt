@@ -1,5 +1,5 @@
 -- What is said of a refusal, of a plan and of a rule.
-use Rattle.std.specs.Prelude.{◌≡◌, ◌↔◌, ◌++◌, ℕ, Bool, IsTrue, List, [], ◌∷◌, Option, Some, None, codes, decimal, count_by, true}
+use Rattle.std.specs.Prelude.{◌≡◌, ◌↔◌, ◌++◌, ℕ, Bool, IsTrue, List, [], ◌∷◌, Option, Some, None, codes, decimal, count_by, flat_map, true}
 use Rattle.edi_line.specs.Bytes.{line_feed}
 use Rattle.edi_line.specs.Number.{plain_text}
 use Rattle.edi_record.specs.declared.record.Kind.{Kind}
@@ -15,6 +15,7 @@ use Rattle.edi_compare.specs.declared.fault.Fault.{Fault}
 use Rattle.edi_compare.specs.declared.fault.Fault.TheVariants.{Memory, Line, Entry}
 use Rattle.edi_plan.specs.Extents.{IsExtentIfAny, points_of}
 use Rattle.edi_explain.specs.Cuts.{ShowsCut, cut_hint}
+use Rattle.edi_explain.specs.EndNodes.{ExplainsEndNode}
 use Rattle.edi_explain.specs.Lengths.{CountsCharacters, length_hint}
 use Rattle.edi_explain.specs.KindLines.{ExplainsKinds}
 use Rattle.edi_explain.specs.Lines.{lines_of_line, lines_of_sites, sentence_of}
@@ -22,7 +23,7 @@ use Rattle.edi_explain.specs.Barring.{IsBarredBy}
 use Rattle.edi_explain.specs.Partners.{IsLeastIfAny}
 use Rattle.edi_explain.specs.Refusals.{IsRefusedAt, IsRowRefusedAt}
 use Rattle.edi_explain.specs.Rules.{is_among, rules}
-use Rattle.edi_explain.specs.Texts.{IsRuleText, SaysRule}
+use Rattle.edi_explain.specs.Texts.{IsRuleText, RuleWords, SaysRule, rule_texts}
 use Rattle.edi_explain.specs.ZoneLines.{ExplainsZone, ExplainsZoneOfSheet}
 use Rattle.edi_plan.specs.declared.extent.Extent.{Extent}
 use Rattle.edi_plan.specs.declared.extent.Span.{Span}
@@ -56,10 +57,16 @@ ExplainsZoneOf s b name (Memory e) lines = lines ≡ []
 ExplainsZoneOf s b name (Line rule at) lines = lines ≡ []
 ExplainsZoneOf s b name (Entry rule at) lines = ExplainsZoneOfSheet s b name rule at lines
 
--- The lines that explain the refusal of the sheet b, whose file has this name: the place, and then the zone.
+-- and, of an arc, the node that the rule speaks of
+abbrev pub ExplainsEndNodeOf : Classes → List ℕ → List ℕ → Fault → List ℕ → Type 0
+ExplainsEndNodeOf s b name (Memory e) lines = lines ≡ []
+ExplainsEndNodeOf s b name (Line rule at) lines = lines ≡ []
+ExplainsEndNodeOf s b name (Entry rule at) lines = ExplainsEndNode s b name rule at lines
+
+-- The lines that explain the refusal of the sheet b, whose file has this name: the place, then the zone, then the node.
 abbrev pub ExplainsSheet : Classes → List ℕ → List ℕ → Fault → List ℕ → Type 0
-ExplainsSheet s b name f lines = (place zone : List ℕ) × ExplainsPlace s b name f place
-    × ExplainsZoneOf s b name f zone × (lines ≡ place ++ zone)
+ExplainsSheet s b name f lines = (place zone node : List ℕ) × ExplainsPlace s b name f place
+    × ExplainsZoneOf s b name f zone × ExplainsEndNodeOf s b name f node × (lines ≡ (place ++ zone) ++ node)
 
 -- the one of two that belongs to a file of a schema
 abbrev pub of_source : Source → List ℕ → List ℕ → List ℕ
@@ -132,6 +139,14 @@ reason_lines text =
 -- the page on a rule: its number and its sentence, and those lines
 abbrev pub rule_page : RuleText → List ℕ
 rule_page text = decimal text.rule ++ worded_line (codes ": ") text.sentence.now ++ reason_lines text
+
+-- a rule in the list of all: its number and its sentence, as a line
+abbrev pub rule_line : RuleWords → List ℕ
+rule_line w = decimal w.rule ++ worded_line (codes ": ") w.sentence
+
+-- all rules, in the order of their numbers
+abbrev pub rule_lines : List ℕ
+rule_lines = flat_map rule_line rule_texts
 
 -- a word is the number of a rule, as it is usually written
 abbrev pub IsRuleWord : List ℕ → ℕ → Type 0

@@ -9,9 +9,11 @@ pub mod Lines
 pub mod BreakingZones
 pub mod AstrayZones
 pub mod ZoneLines
+pub mod EndNodes
 pub mod Cuts
 pub mod Explained
 pub mod ExtraZones
+pub mod Elsewhere
 pub mod Barring
 pub mod Hints
 pub mod Lengths

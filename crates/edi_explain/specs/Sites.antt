@@ -1,5 +1,6 @@
 -- Where the records of a file stand.
 use Rattle.std.specs.Prelude.{◌≡◌, ℕ, suc, List, ◌∷◌, Option, Some, MatchOption, codes, slice_get}
+use Rattle.std.specs.List.{AllZip}
 use Rattle.edi_line.specs.Entry.{Entry, first}
 use Rattle.edi_line.specs.Zones.{groups_of}
 use Rattle.edi_record.specs.Records.{values}
@@ -13,6 +14,10 @@ pub record IsSiteOfGroup (group : List Entry) (site : RecordSite) : Type 0 where
   pub line : site.line ≡ head.line
   pub rty : site.rty ≡ head.value
   pub rid : site.rid ≡ first (values (codes "RID") group)
+
+-- the sites of the records of these zones, in their order
+abbrev pub AreAllSites : List (List Entry) → List RecordSite → Type 0
+AreAllSites groups sites = AllZip IsSiteOfGroup groups sites
 
 -- the record with this number, from 1, has the site
 pub record IsSiteOf (zones : List Entry) (number : ℕ) (site : RecordSite) : Type 0 where

@@ -44,7 +44,8 @@ line_texts =
       rule = 102;
       sentence = codes "fewer bytes follow the head than its length says";
       reason = codes "The head says how many bytes the value has; where fewer are there, part of the value is lost.";
-      cause = codes "The line was cut, a value was changed by hand and its length wasn't, or the text was converted, so that letters take other numbers of bytes.";
+      cause = codes "The line was cut, a value was changed by hand and its length wasn't, or the text was "
+          ++ codes "converted, so that letters take other numbers of bytes.";
       remedy = codes "Take the file as it was delivered, or fetch it again; if it says the same, tell the producer "
           ++ codes "the line.";
     } ∷
@@ -326,7 +327,8 @@ schema_texts =
     } ∷
     record {
       rule = 604;
-      sentence = codes "two classes of one kind, a class of a kind without one of its partner's kind, or a class whose type holds `;` while its partner's holds none";
+      sentence = codes "two classes of one kind, a class of a kind without one of its partner's kind, or a class "
+          ++ codes "whose type holds `;` while its partner's holds none";
       reason = codes "A link of one of the four kinds is written with one class, and an arc that is turned needs the class of the other side.";
       cause = codes "The codes of --kinds are those of another producer, or the SCD file defines a class twice or lacks one of the four.";
       remedy = codes "Check the four codes against the KND values of the SCD file, and name them with --kinds; if "

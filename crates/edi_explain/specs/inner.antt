@@ -1,9 +1,12 @@
 -- What the public contracts do not reach: how the code goes about it, and what private contracts and proofs need.
 pub mod Arcs
 pub mod Barring
+pub mod Elsewhere
 pub mod KindClasses
 pub mod Lengths
+pub mod LostEnds
 pub mod Objects
+pub mod OpenAttributes
 pub mod Repeats
 pub mod RowPartners
 pub mod Seeking

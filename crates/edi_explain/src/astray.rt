@@ -47,7 +47,7 @@ fn names_no_attribute(alloc: Global, schema: &Schema, text: &[u8]) -> Result<boo
 }
 
 /// Whether two pointers are of different lots or subsets.
-fn are_apart(text: &[u8], other: &[u8]) -> bool
+pub(crate) fn are_apart(text: &[u8], other: &[u8]) -> bool
     ensures { IsTrue result ↔ AreApart text.now other.now }
 {
     let Some(pointer) = Pointer::read(text) else {

@@ -1,6 +1,6 @@
 //! The zone with which a record breaks a rule.
 
-ghost use Rattle.std.specs.Prelude.{◌≡◌, ◌↔◌, ◌<◌, ℕ, false, true, IsTrue, List, MatchOption, Option, codes, count_by, length};
+ghost use Rattle.std.specs.Prelude.{◌≡◌, ◌↔◌, ◌<◌, ℕ, false, true, IsTrue, List, MatchOption, Option, codes, count_by, length, take};
 ghost use Rattle.std.specs.List.{list_any};
 ghost use Rattle.edi_line.specs.Entry.{Entry, entries, entry, has_code};
 ghost use Rattle.edi_record.specs.RecordRules.{IsNoPointer, is_identifier as is_identifier_text};
@@ -8,8 +8,9 @@ ghost use Rattle.edi_record.specs.Texts.{IsPosition};
 ghost use Rattle.edi_record.specs.declared.record.Point.{Point as Points};
 ghost use Rattle.edi_explain.specs.BreakingZones.{IsBreakingZoneOf, IsFirstPassing, IsSecond, NamesType, Passes, PassesAt, count_beside as count_beside_code, counted_by as counted_by_code, is_typed, test_of as test_of_rule};
 ghost use Rattle.edi_explain.specs.declared.breaking.ZoneTest.TheVariants.{BadCount};
+ghost use Rattle.edi_explain.specs.inner.OpenAttributes.{LeavesOpen};
 
-use crate::unknown::is_unknown_pointer;
+use crate::unknown::{is_open_behind, is_unknown_pointer};
 use crate::wrong_texts::{is_no_position, is_other_count};
 use edi_line::Zone;
 use edi_line::codes::RID;
@@ -56,6 +57,14 @@ pub enum ZoneTest {
     EndOf([u8; 3]),
 }
 
+/// The zones of a record in front of one, and whether they leave an attribute open. That goes along from zone to zone:
+/// looked for anew at each zone, it would take the square of their number.
+#[derive(Clone, Copy)]
+pub(crate) struct Front<'a, 'b> {
+    pub(crate) zones: &'b [Zone<'a>],
+    pub(crate) is_open: bool,
+}
+
 /// What a rule looks for among the zones of the record that breaks it. Some rules are of no single zone.
 fn test_of(rule: u16) -> Option<ZoneTest>
     ensures { result ≡ test_of_rule rule }
@@ -93,7 +102,7 @@ fn count_of_code(zones: &[Zone<'_>], code: [u8; 3]) -> usize
 }
 
 /// Whether a text may name a record.
-fn is_identifier(text: &[u8]) -> bool
+pub(crate) fn is_identifier(text: &[u8]) -> bool
     ensures { result ≡ is_identifier_text text.now }
 {
     !text.is_empty() && text.len() <= 255 && !text.contains(&b';')
@@ -181,7 +190,7 @@ fn is_second_position(group: &[Zone<'_>], front: &[Zone<'_>], zone: &Zone<'_>) -
 }
 
 /// Whether two texts are the same.
-fn is_same(text: &[u8], other: &[u8]) -> bool
+pub(crate) fn is_same(text: &[u8], other: &[u8]) -> bool
     ensures { IsTrue result ↔ (text.now ≡ other.now) }
 {
     text == other
@@ -205,42 +214,44 @@ fn ends_at(rty: [u8; 3], zone: &Zone<'_>) -> bool
     zone.code == FTP && names_type(&rty, zone.value.as_slice())
 }
 
-/// Whether a zone of a record, with those before it and those behind it, passes a test.
+/// Whether a zone of a record, with those in front of it and those behind it, passes a test.
 fn passes(
     group: &[Zone<'_>],
-    front: &[Zone<'_>],
+    front: Front<'_, '_>,
     zone: &Zone<'_>,
     behind: &[Zone<'_>],
     test: ZoneTest,
 ) -> bool
-    ensures { IsTrue result ↔ Passes (entries group.now) (entries front.now) (entry zone.now)
+    requires { LeavesOpen front.is_open (entries front.zones.now) }
+    ensures { IsTrue result ↔ Passes (entries group.now) (entries front.entry.zones.now) (entry zone.now)
         (entries behind.now) test }
 {
     match test {
         ZoneTest::OfCode(code) => zone.code == code,
         ZoneTest::LastOf(code) => zone.code == code && !has(behind, code),
-        ZoneTest::BadIdentifier => names_nothing(zone) || is_second(RID, front, zone),
+        ZoneTest::BadIdentifier => names_nothing(zone) || is_second(RID, front.zones, zone),
         ZoneTest::NoPointer(code) => points_nowhere(code, zone),
-        ZoneTest::BadClass => points_nowhere(SCP, zone) || is_second(SCP, front, zone),
-        ZoneTest::BadCount => miscounts(group, front, zone),
-        ZoneTest::BadPosition => places_nothing(zone) || is_second_position(group, front, zone),
+        ZoneTest::BadClass => points_nowhere(SCP, zone) || is_second(SCP, front.zones, zone),
+        ZoneTest::BadCount => miscounts(group, front.zones, zone),
+        ZoneTest::BadPosition => places_nothing(zone)
+            || is_second_position(group, front.zones, zone),
         ZoneTest::UnknownPointer => is_unknown_pointer(group, front, zone),
         ZoneTest::EndOf(rty) => ends_at(rty, zone),
     }
 }
 
-/// Whether the zone at a place of a record passes a test. Places are counted from 0.
-fn passes_at(group: &[Zone<'_>], test: ZoneTest, place: usize) -> bool
-    requires { place < length group.now }
+/// Whether the zone at a place of a record passes a test, where the zones in front leave an attribute open or not.
+/// Places are counted from 0.
+fn passes_at(group: &[Zone<'_>], is_open: bool, test: ZoneTest, place: usize) -> bool
+    requires within { place < length group.now }
+    requires open { LeavesOpen is_open (entries (take place group.now)) }
     ensures { IsTrue result ↔ PassesAt test (entries group.now) place }
 {
-    passes(
-        group,
-        &group[..place],
-        &group[place],
-        &group[place + 1..],
-        test,
-    )
+    let front = Front {
+        zones: &group[..place],
+        is_open,
+    };
+    passes(group, front, &group[place], &group[place + 1..], test)
 }
 
 /// The first zone of a record that passes a test.
@@ -248,10 +259,12 @@ fn first_passing<'a, 'b>(group: &'b [Zone<'a>], test: ZoneTest) -> Option<&'b Zo
     ensures { MatchOption result ((z : Entry) → ¬ (IsFirstPassing test (entries group.now) z))
         (λ z. IsFirstPassing test (entries group.now) (entry z.now)) }
 {
+    let mut is_open = false;
     for place in 0..group.len() {
-        if passes_at(group, test, place) {
+        if passes_at(group, is_open, test, place) {
             return Some(&group[place]);
         }
+        is_open = is_open_behind(is_open, &group[place]);
     }
     None
 }

@@ -3,8 +3,9 @@
 ghost use Rattle.std.specs.Prelude.{◌≡◌, ◌↔◌, ◌++◌, ◌-◌, ◌∷◌, [], ℕ, List, Option, IsTrue, IfOk, MatchOption, OnOk, codes, decimal, option_copied};
 ghost use Rattle.edi_line.specs.Entry.{Entry};
 ghost use Rattle.edi_line.specs.LineRules.{BreaksLineRule};
-ghost use Rattle.edi_line.specs.Refusal.{IsLeastBroken, IsUnbroken};
+ghost use Rattle.edi_line.specs.Refusal.{IsLeastBroken};
 ghost use Rattle.edi_schema.specs.SchemaRefusal.{IsSchemaRefusal};
+ghost use Rattle.edi_compare.specs.Refused.{IsRefusal};
 ghost use Rattle.edi_compare.specs.declared.fault.Fault.TheVariants.{Entry as AtRecord};
 ghost use Rattle.edi_explain.specs.Explained.{DescribesPlan, ExplainsLine, ExplainsSchema, ExplainsSchemaPlace, ExplainsSchemaZone, ExplainsSheet, IsRuleWord, IsTextOfWord, charset_line, count_line, count_lines, extent_lines, of_source, reason_lines, rule_page, span_line, worded_line};
 ghost use Rattle.edi_explain.specs.Found.{IsFound};
@@ -20,6 +21,7 @@ ghost use Rattle.edi_shown.specs.Shown.{shown_bytes};
 use crate::barring::barring_line;
 use crate::counts::count_of;
 use crate::cuts::{push_cut_hint, shows_cut};
+use crate::end_nodes::explain_end_node;
 use crate::examined::Found;
 use crate::kind_lines::explain_kinds;
 use crate::lengths::{counts_characters, push_length_hint};
@@ -27,7 +29,7 @@ use crate::lines::{lines_of_broken, lines_of_refused};
 use crate::refused::{records_of, refused_row, sites_of_records};
 use crate::seeking::FoundRecords;
 use crate::text::{RuleText, rule_text};
-use crate::zone_lines::{explain_zone, explain_zone_of_record};
+use crate::zone_lines::{explain_zone, explain_zone_of_sheet};
 use edi_compare::Fault;
 use edi_line::push_number;
 use edi_plan::{Extent, Plan, Span, extent_of};
@@ -45,7 +47,7 @@ pub struct NamedFile<'a> {
 }
 
 /// The sentence of a rule.
-fn sentence_for(rule: u16) -> &'static str
+pub(crate) fn sentence_for(rule: u16) -> &'static str
     ensures { (text : Option Texts) × IsRuleText rule text × (result.now ≡ sentence_of text) }
 {
     match rule_text(rule) {
@@ -92,7 +94,7 @@ fn explain_place(
 }
 
 /// The lines that explain the refusal of a sheet at a record: where the record is, with the sentence of the rule; the
-/// earlier one that the rule speaks of; and the zone with which the record breaks it.
+/// earlier one that the rule speaks of; the zone with which the record breaks it; and the node that the rule speaks of.
 fn explain_record(
     alloc: Global,
     schema: &Schema,
@@ -101,21 +103,25 @@ fn explain_record(
     rule: u16,
     at: u64,
 ) -> Result<Vec<u8>, AllocError>
-    requires lines { IsUnbroken (BreaksLineRule file.now.bytes.now) }
+    requires refusal { IsRefusal schema.now file.now.bytes.now (AtRecord rule at) }
     requires earlier { IsEarlierIfAny schema.now file.now.bytes.now rule (at - 1) earlier }
     ensures { IfOk result (λ lines.
         ExplainsSheet schema.now file.now.bytes.now file.now.name.now (AtRecord rule at) lines.items) }
 {
     let records = records_of(alloc, file.bytes, at, earlier)?;
     let mut lines = explain_place(alloc, &records, file.name, rule)?;
-    let zone = explain_zone_of_record(alloc, schema, &records, file.name, earlier, rule)?;
+    let zone = explain_zone_of_sheet(
+        alloc, schema, file.bytes, &records, file.name, earlier, rule,
+    )?;
+    let node = explain_end_node(alloc, schema, file.bytes, file.name, rule, at)?;
     lines.extend_from_slice(&zone)?;
+    lines.extend_from_slice(&node)?;
     Ok(lines)
 }
 
 /// The lines that explain the refusal of a sheet, whose file has this name: where the broken line or record is,
-/// with the sentence of the rule; the earlier line or record that the rule speaks of; and the zone with which the
-/// record breaks it. Where a line's length counts characters, and not bytes, or the file was cut in it, a hint says
+/// with the sentence of the rule; the earlier line or record that the rule speaks of; the zone with which the record
+/// breaks it; and the node that the rule speaks of. Where a line's length counts characters, and not bytes, or the file was cut in it, a hint says
 /// so.
 pub fn explain_sheet(
     alloc: Global,

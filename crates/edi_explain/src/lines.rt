@@ -35,7 +35,7 @@ pub(crate) fn push_sentence(
 }
 
 /// Appends the line of a file with a sentence.
-fn push_broken(
+pub(crate) fn push_broken(
     text: &mut Vec<u8>,
     name: &[u8],
     line: u64,
@@ -81,7 +81,7 @@ pub(crate) fn lines_of_broken(
 }
 
 /// Appends the line of a record.
-fn push_record(
+pub(crate) fn push_record(
     text: &mut Vec<u8>,
     name: &[u8],
     site: &RecordSite,
@@ -142,6 +142,21 @@ fn push_site(
         Some(site) => push_record(text, name, site, sentence, rule),
         None => Ok(()),
     }
+}
+
+/// The line of a record, where there is one.
+pub(crate) fn line_of_place(
+    alloc: Global,
+    name: &[u8],
+    site: &Option<RecordSite>,
+    sentence: &[u8],
+    rule: u16,
+) -> Result<Vec<u8>, AllocError>
+    ensures { IfOk result (λ text. text.items ≡ line_of_site name.now site.now sentence.now rule) }
+{
+    let mut text = Vec::new(alloc);
+    push_site(&mut text, name, site, sentence, rule)?;
+    Ok(text)
 }
 
 /// What is said of the earlier record that a rule speaks of.

@@ -50,7 +50,7 @@ fn sheet_of(alloc: Global, schema: &Schema, bytes: &[u8]) -> Result<Sheet, Alloc
 }
 
 /// The plan of a file that breaks no rule of lines, records or references.
-fn plan_of(alloc: Global, schema: &Schema, bytes: &[u8]) -> Result<Plan, AllocError>
+pub(crate) fn plan_of(alloc: Global, schema: &Schema, bytes: &[u8]) -> Result<Plan, AllocError>
     requires { ReferencesHold schema.now bytes.now }
     ensures { IfOk result (IsPlanOfFile schema.now bytes.now) }
 {

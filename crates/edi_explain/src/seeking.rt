@@ -29,7 +29,7 @@ fn owned(alloc: Global, zone: &Zone<'_>) -> Result<Zone<'static>, AllocError>
 fn all_owned(alloc: Global, group: &[Zone<'_>]) -> Result<Vec<Zone<'static>>, AllocError>
     ensures { IfOk result (λ copies. entries copies.items ≡ entries group.now) }
 {
-    let mut copies = Vec::new(alloc);
+    let mut copies = Vec::with_capacity(alloc, group.len())?;
     for zone in group {
         copies.push(owned(alloc, zone)?)?;
     }

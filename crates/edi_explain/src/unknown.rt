@@ -9,8 +9,9 @@ ghost use Rattle.edi_record.specs.Shapes.{kind_code};
 ghost use Rattle.edi_record.specs.declared.record.Kind.{Kind as Kinds};
 ghost use Rattle.edi_record.specs.inner.Records.{is_open_after};
 ghost use Rattle.edi_explain.specs.BreakingZones.{IsUnknownPointer, is_typed};
+ghost use Rattle.edi_explain.specs.inner.OpenAttributes.{LeavesOpen};
 
-use crate::breaking::is_of_type;
+use crate::breaking::{Front, is_of_type};
 use edi_line::Zone;
 use edi_line::codes::{RID, RTY};
 use edi_record::Kind;
@@ -49,50 +50,43 @@ fn is_known(kind: Kind, code: [u8; 3]) -> bool
 }
 
 /// Whether an attribute is open behind a zone.
-fn is_open_behind(is_open: bool, zone: &Zone<'_>) -> bool
+pub(crate) fn is_open_behind(is_open: bool, zone: &Zone<'_>) -> bool
     ensures { result ≡ is_open_after is_open (entry zone.now) }
 {
     zone.code == *b"ATP" || (zone.code != *b"ATV" && is_open)
 }
 
-/// Whether an attribute is open behind these zones.
-fn leaves_open(front: &[Zone<'_>]) -> bool
-    ensures { (result ≡ true) ↔ ((since : List Entry) × IsOpen (entries front.now) since) }
-{
-    let mut is_open = false;
-    for zone in front {
-        is_open = is_open_behind(is_open, zone);
-    }
-    is_open
-}
-
 /// Whether a zone behind others is the character set of an attribute.
-fn is_set(front: &[Zone<'_>], zone: &Zone<'_>) -> bool
+fn is_set(front: Front<'_, '_>, zone: &Zone<'_>) -> bool
+    requires { LeavesOpen front.is_open (entries front.zones.now) }
     ensures { (result ≡ true) ↔ ((has_code (codes "TEX") (entry zone.now) ≡ true)
-        × ((since : List Entry) × IsOpen (entries front.now) since)) }
+        × ((since : List Entry) × IsOpen (entries front.entry.zones.now) since)) }
 {
-    zone.code == *b"TEX" && leaves_open(front)
+    zone.code == *b"TEX" && front.is_open
 }
 
 /// Whether a zone behind others isn't known in a record of this type.
-fn is_extra(kind: Kind, front: &[Zone<'_>], zone: &Zone<'_>) -> bool
-    ensures { IsTrue result ↔ IsExtraAt kind (entries front.now) (entry zone.now) }
+fn is_extra(kind: Kind, front: Front<'_, '_>, zone: &Zone<'_>) -> bool
+    requires { LeavesOpen front.is_open (entries front.zones.now) }
+    ensures { IsTrue result ↔ IsExtraAt kind (entries front.entry.zones.now) (entry zone.now) }
 {
     !is_known(kind, zone.code) && !is_set(front, zone)
 }
 
 /// Whether a record is of this type, and a zone behind others of it isn't known there.
-fn is_extra_of(kind: Kind, group: &[Zone<'_>], front: &[Zone<'_>], zone: &Zone<'_>) -> bool
+fn is_extra_of(kind: Kind, group: &[Zone<'_>], front: Front<'_, '_>, zone: &Zone<'_>) -> bool
+    requires { LeavesOpen front.is_open (entries front.zones.now) }
     ensures { IsTrue result ↔ ((is_typed (kind_code kind) (entries group.now) ≡ true)
-        × IsExtraAt kind (entries front.now) (entry zone.now)) }
+        × IsExtraAt kind (entries front.entry.zones.now) (entry zone.now)) }
 {
     is_of_type(group, kind.code()) && is_extra(kind, front, zone)
 }
 
 /// Whether a zone of a record, behind others, isn't known in records of its type.
-fn is_unknown(group: &[Zone<'_>], front: &[Zone<'_>], zone: &Zone<'_>) -> bool
+fn is_unknown(group: &[Zone<'_>], front: Front<'_, '_>, zone: &Zone<'_>) -> bool
+    requires { LeavesOpen front.is_open (entries front.zones.now) }
     ensures { IsTrue result ↔ ((kind : Kinds) × (is_typed (kind_code kind) (entries group.now) ≡ true)
-        × IsExtraAt kind (entries front.now) (entry zone.now)) }
+        × IsExtraAt kind (entries front.entry.zones.now) (entry zone.now)) }
 {
     is_extra_of(Kind::Pno, group, front, zone)
         || is_extra_of(Kind::Par, group, front, zone)
@@ -109,8 +103,9 @@ fn is_full_pointer(zone: &Zone<'_>) -> bool
 }
 
 /// Whether a zone of a record, behind others, is a pointer that isn't empty and isn't known in records of its type.
-pub(crate) fn is_unknown_pointer(group: &[Zone<'_>], front: &[Zone<'_>], zone: &Zone<'_>) -> bool
-    ensures { IsTrue result ↔ IsUnknownPointer (entries group.now) (entries front.now) (entry zone.now) }
+pub(crate) fn is_unknown_pointer(group: &[Zone<'_>], front: Front<'_, '_>, zone: &Zone<'_>) -> bool
+    requires { LeavesOpen front.is_open (entries front.zones.now) }
+    ensures { IsTrue result ↔ IsUnknownPointer (entries group.now) (entries front.entry.zones.now) (entry zone.now) }
 {
     is_full_pointer(zone) && is_unknown(group, front, zone)
 }

@@ -1,21 +1,26 @@
 //! The line on the zone with which a record breaks a rule.
 
-ghost use Rattle.std.specs.Prelude.{◌≡◌, ◌++◌, ℕ, List, suc, IfOk, OnOk, codes, option_and_then, option_map, unwrap_or};
+ghost use Rattle.std.specs.Prelude.{◌≡◌, ◌≢◌, ◌++◌, ℕ, List, Option, suc, IfOk, OnOk, codes, option_and_then, option_map, unwrap_or};
 ghost use Rattle.edi_line.specs.Entry.{Entry, entries, entry, first};
 ghost use Rattle.edi_line.specs.LineRules.{BreaksLineRule, IsZonesOf};
 ghost use Rattle.edi_line.specs.Refusal.{IsUnbroken};
+ghost use Rattle.edi_line.specs.Zones.{groups_of};
 ghost use Rattle.edi_record.specs.Records.{values};
+ghost use Rattle.edi_schema.specs.Classes.{Classes};
 ghost use Rattle.edi_explain.specs.AstrayZones.{IsZoneOfRecord, IsZoneOfSheet, first_end_at};
 ghost use Rattle.edi_explain.specs.BreakingZones.{IsBreakingZoneOf};
 ghost use Rattle.edi_explain.specs.Lines.{position_text, rule_mark};
+ghost use Rattle.edi_explain.specs.inner.LostEnds.{IsLostEndOf};
 ghost use Rattle.edi_explain.specs.inner.Seeking.{AreFound};
-ghost use Rattle.edi_explain.specs.ZoneLines.{ExplainsZone, IsZoneLine, count_text, zone_line, zone_sentence};
+ghost use Rattle.edi_explain.specs.ZoneLines.{ExplainsZone, IsSaidOfZone, IsZoneLine, count_text, second_sentence, zone_line, zone_sentence};
 ghost use Rattle.edi_shown.specs.Shown.{shown_bytes};
 
 use crate::astray::zone_of_record;
 use crate::breaking::breaking_zone;
 use crate::lines::{push_position, push_sentence};
+use crate::lost_ends::{first_lost_end, names_of_records};
 use crate::refused::records_of;
+use crate::right_texts::is_right_text;
 use crate::seeking::FoundRecords;
 use edi_line::{LineFault, Zone, push_number, zones};
 use edi_record::first_value;
@@ -25,21 +30,33 @@ use std::alloc::{AllocError, Global};
 
 const FTP: [u8; 3] = *b"FTP";
 
-/// What is said of the zone with which a record breaks a rule.
+/// What is said of a zone whose text is right, but which is a second one.
+fn sentence_of_second(rule: u16) -> &'static [u8]
+    ensures { result.now ≡ second_sentence rule }
+{
+    match rule {
+        203 => b"a second class",
+        205 => b"a second count",
+        206 => b"a second position of the node",
+        _ => b"a second identifier",
+    }
+}
+
+/// What is said of any other zone with which a record breaks a rule.
 fn sentence_of_zone(rule: u16) -> &'static [u8]
     ensures { result.now ≡ zone_sentence rule }
 {
     match rule {
-        202 | 601 => b"no identifier, or a second one",
-        203 => b"no pointer, or a second class",
-        204 | 207 => b"no pointer",
+        202 | 601 => b"no identifier",
+        203 | 204 | 207 => b"no pointer",
+        205 => b"not the count",
+        206 => b"no position",
         208 => b"a pointer that isn't known",
-        205 => b"not the count, or a second one",
-        206 => b"no position, or a second one of a node",
         301 | 602 => b"the identifier",
         302 => b"the class",
         303 => b"no class of an attribute",
         304 => b"another lot or subset",
+        305 => b"no node, arc, face or object",
         306 => b"the class, which is of a kind",
         307 => b"the arc",
         401 => b"the first point",
@@ -73,15 +90,21 @@ fn push_zone(text: &mut Vec<u8>, name: &[u8], zone: &Zone<'_>) -> Result<(), All
     push_shown(text, zone.value.as_slice())
 }
 
-/// Appends what is said of a zone, and the number of the rule.
-fn push_said(text: &mut Vec<u8>, count: Option<usize>, rule: u16) -> Result<(), AllocError>
-    ensures { OnOk result (text.new.items ≡ text.old.items ++ (codes ": " ++ zone_sentence rule
-        ++ count_text count ++ rule_mark rule)) }
+/// Appends what is said of the zone with which a record breaks a rule, which should count so many.
+fn push_said(
+    text: &mut Vec<u8>,
+    zone: &Zone<'_>,
+    count: Option<usize>,
+    rule: u16,
+) -> Result<(), AllocError>
+    ensures { OnOk result ((said : List ℕ) × IsSaidOfZone rule (entry zone.now) count said
+        × (text.new.items ≡ text.old.items ++ said)) }
 {
-    text.extend_from_slice(b": ")?;
+    if is_right_text(rule, count, zone.value.as_slice()) {
+        return text.extend_from_slice(sentence_of_second(rule));
+    }
     text.extend_from_slice(sentence_of_zone(rule))?;
-    push_count(text, count)?;
-    push_sentence(text, b"", rule)
+    push_count(text, count)
 }
 
 /// Appends the line on a zone.
@@ -92,10 +115,13 @@ fn push_line(
     count: Option<usize>,
     rule: u16,
 ) -> Result<(), AllocError>
-    ensures { OnOk result (text.new.items ≡ text.old.items ++ zone_line name.now (entry zone.now) count rule) }
+    ensures { OnOk result ((said : List ℕ) × IsSaidOfZone rule (entry zone.now) count said
+        × (text.new.items ≡ text.old.items ++ zone_line name.now (entry zone.now) said rule)) }
 {
     push_zone(text, name, zone)?;
-    push_said(text, count, rule)
+    text.extend_from_slice(b": ")?;
+    push_said(text, zone, count, rule)?;
+    push_sentence(text, b"", rule)
 }
 
 /// The zones of a file that breaks no rule of lines.
@@ -188,8 +214,70 @@ pub(crate) fn explain_zone(
     }
 }
 
-/// The same of a record of a sheet whose zones may have been found, with the earlier one that the rule speaks of.
-pub(crate) fn explain_zone_of_record(
+/// The line on the end with which a record breaks rule 305, if there is such an end, in a file that breaks no rule of
+/// lines.
+fn line_of_lost_end(
+    alloc: Global,
+    bytes: &[u8],
+    group: &[Zone<'_>],
+    name: &[u8],
+) -> Result<Vec<u8>, AllocError>
+    requires { IsUnbroken (BreaksLineRule bytes.now) }
+    ensures { IfOk result (λ lines. (zones : List Entry) → IsZonesOf bytes.now zones
+        → IsZoneLine (IsLostEndOf (groups_of zones) (entries group.now)) name.now 305 lines.items) }
+{
+    let mut text = Vec::new(alloc);
+    let names = names_of_records(alloc, bytes)?;
+    let Some(zone) = first_lost_end(alloc, &names, group)? else {
+        return Ok(text);
+    };
+    push_line(&mut text, name, zone, None, 305)?;
+    Ok(text)
+}
+
+/// The same of a record of a sheet whose zones may have been found.
+fn explain_lost_end(
+    alloc: Global,
+    bytes: &[u8],
+    records: &FoundRecords,
+    name: &[u8],
+) -> Result<Vec<u8>, AllocError>
+    requires { IsUnbroken (BreaksLineRule bytes.now) }
+    ensures { IfOk result (λ lines. (s : Classes) (zones : List Entry) (number : ℕ) (earlier : Option ℕ)
+        → IsZonesOf bytes.now zones → AreFound zones number earlier records.now
+        → IsZoneLine (IsZoneOfSheet s zones earlier 305 number) name.now 305 lines.items) }
+{
+    match &records.here {
+        Some(group) => line_of_lost_end(alloc, bytes, group, name),
+        None => Ok(Vec::new(alloc)),
+    }
+}
+
+/// The line on the zone with which a record of a sheet breaks a rule, if there is such a zone, in a file that breaks no
+/// rule of lines. The zones of the record may have been found, with those of the earlier one that the rule speaks of.
+pub(crate) fn explain_zone_of_sheet(
+    alloc: Global,
+    schema: &Schema,
+    bytes: &[u8],
+    records: &FoundRecords,
+    name: &[u8],
+    earlier: Option<u64>,
+    rule: u16,
+) -> Result<Vec<u8>, AllocError>
+    requires { IsUnbroken (BreaksLineRule bytes.now) }
+    ensures { IfOk result (λ lines. (zones : List Entry) (number : ℕ) → IsZonesOf bytes.now zones
+        → AreFound zones number earlier records.now
+        → IsZoneLine (IsZoneOfSheet schema.now zones earlier rule number) name.now rule lines.items) }
+{
+    if rule == 305 {
+        explain_lost_end(alloc, bytes, records, name)
+    } else {
+        explain_zone_of_record(alloc, schema, records, name, earlier, rule)
+    }
+}
+
+/// The same of another rule than 305.
+fn explain_zone_of_record(
     alloc: Global,
     schema: &Schema,
     records: &FoundRecords,
@@ -197,6 +285,7 @@ pub(crate) fn explain_zone_of_record(
     earlier: Option<u64>,
     rule: u16,
 ) -> Result<Vec<u8>, AllocError>
+    requires { rule ≢ 305 }
     ensures { IfOk result (λ lines. (zones : List Entry) (number : ℕ) → AreFound zones number earlier records.now
         → IsZoneLine (IsZoneOfSheet schema.now zones earlier rule number) name.now rule lines.items) }
 {

@@ -4,7 +4,7 @@
 pub mod counts;
 pub mod differences;
 pub mod known;
-mod lines;
-mod members;
+pub mod lines;
+pub mod members;
 
 pub use differences::differences_json;

@@ -19,15 +19,16 @@ use std::alloc::{AllocError, Global};
 use std::mem::replace;
 
 /// Begins a line behind a text, which the writer has until `end_line` gives it back.
-fn begin_line(alloc: Global, text: &mut Vec<u8>) -> Writer
+pub fn begin_line(alloc: Global, text: &mut Vec<u8>) -> Writer
     ensures before { result.before ≡ text.old.items }
     ensures tokens { result.tokens ≡ [] }
+    ensures empty { text.new.items ≡ [] }
 {
     Writer::new(replace(text, Vec::new(alloc)))
 }
 
 /// Gives the text back, with the line that was written.
-fn end_line(text: &mut Vec<u8>, writer: Writer) -> Result<(), AllocError>
+pub fn end_line(text: &mut Vec<u8>, writer: Writer) -> Result<(), AllocError>
     ensures text { OnOk result (text.new.items ≡ writer.before ++ print writer.tokens ++ line_feed ∷ []) }
     ensures read { tokens (print writer.tokens) ≡ writer.tokens }
 {

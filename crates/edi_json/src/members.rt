@@ -5,7 +5,8 @@ ghost use Rattle.json.specs.Json.{array, null, string};
 ghost use Rattle.json.specs.Token.{end_object};
 ghost use Rattle.edi_record.specs.Shapes.{kind_code};
 ghost use Rattle.edi_json.specs.Values.{characters, number_value, part_names, site_value, text_or_null, text_value};
-ghost use Rattle.edi_json.specs.inner.Tokens.{member_tokens, name_tokens, opening_tokens, record_tokens};
+ghost use Rattle.edi_json.specs.Members.{member_tokens, opening_tokens};
+ghost use Rattle.edi_json.specs.inner.Tokens.{name_tokens, record_tokens};
 
 use edi_record::Kind;
 use edi_report::{Parts, Site};
@@ -27,7 +28,7 @@ fn characters(alloc: Global, bytes: &[u8]) -> Result<String, AllocError>
 }
 
 /// Appends a name and its value, a number.
-pub(crate) fn put_number(writer: &mut Writer, name: &str, value: u64) -> Result<(), AllocError>
+pub fn put_number(writer: &mut Writer, name: &str, value: u64) -> Result<(), AllocError>
     ensures before { writer.new.before ≡ writer.old.before }
     ensures tokens { OnOk result (writer.new.tokens
         ≡ writer.old.tokens ++ member_tokens name.now (number_value value)) }
@@ -37,7 +38,7 @@ pub(crate) fn put_number(writer: &mut Writer, name: &str, value: u64) -> Result<
 }
 
 /// Appends a name and its value, a text.
-fn put_text(writer: &mut Writer, name: &str, text: &str) -> Result<(), AllocError>
+pub fn put_text(writer: &mut Writer, name: &str, text: &str) -> Result<(), AllocError>
     ensures before { writer.new.before ≡ writer.old.before }
     ensures tokens { OnOk result (writer.new.tokens ≡ writer.old.tokens ++ member_tokens name.now (string text.now)) }
 {
@@ -45,8 +46,13 @@ fn put_text(writer: &mut Writer, name: &str, text: &str) -> Result<(), AllocErro
     writer.string(text)
 }
 
-/// Appends a name, and bytes as text.
-fn put_bytes(alloc: Global, writer: &mut Writer, name: &str, bytes: &[u8]) -> Result<(), AllocError>
+/// Appends a name, and bytes as text: each byte is the character of the same number (docs/JSON.md, "Bytes").
+pub fn put_bytes(
+    alloc: Global,
+    writer: &mut Writer,
+    name: &str,
+    bytes: &[u8],
+) -> Result<(), AllocError>
     ensures before { writer.new.before ≡ writer.old.before }
     ensures tokens { OnOk result (writer.new.tokens
         ≡ writer.old.tokens ++ member_tokens name.now (text_value bytes.now)) }
@@ -56,7 +62,7 @@ fn put_bytes(alloc: Global, writer: &mut Writer, name: &str, bytes: &[u8]) -> Re
 }
 
 /// Appends a name without a value.
-pub(crate) fn put_null(writer: &mut Writer, name: &str) -> Result<(), AllocError>
+pub fn put_null(writer: &mut Writer, name: &str) -> Result<(), AllocError>
     ensures before { writer.new.before ≡ writer.old.before }
     ensures tokens { OnOk result (writer.new.tokens ≡ writer.old.tokens ++ member_tokens name.now null) }
 {
@@ -152,8 +158,8 @@ pub(crate) fn end_record(writer: &mut Writer, parts: &Parts) -> Result<(), Alloc
     writer.end_object()
 }
 
-/// Begins a line that tells this.
-pub(crate) fn begin(writer: &mut Writer, what: &str) -> Result<(), AllocError>
+/// Begins a line that tells this: the version of the form, and what the line tells.
+pub fn begin(writer: &mut Writer, what: &str) -> Result<(), AllocError>
     ensures before { writer.new.before ≡ writer.old.before }
     ensures tokens { OnOk result (writer.new.tokens ≡ writer.old.tokens ++ opening_tokens what.now) }
 {

@@ -29,3 +29,5 @@ pub mod SameFront
 pub mod HeldZones
 pub mod BorrowedZones
 pub mod ZoneLists
+pub mod AllBroken
+pub mod LinesBroken

@@ -12,3 +12,4 @@ pub mod FilePieces
 pub mod Texts
 pub mod Borrowed
 pub mod Refusal
+pub mod AllBroken

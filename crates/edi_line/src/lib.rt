@@ -2,6 +2,7 @@
 #![tactic(auto)]
 
 pub mod borrowed;
+pub mod broken;
 pub mod codes;
 pub mod device;
 pub mod fault;
@@ -22,6 +23,7 @@ pub mod zone;
 mod zone_list;
 
 pub use borrowed::{BorrowedList, ListOfBorrowed};
+pub use broken::{BrokenRule, broken_lines, push_if_broken};
 pub use device::{ByteIn, ByteOut, FromRead, ToWrite};
 pub use fault::LineFault;
 pub use feed::{Feed, zones_of_pieces};

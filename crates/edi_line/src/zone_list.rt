@@ -31,6 +31,7 @@ impl<'a> ZoneList<'a> {
     }
 
     /// Puts a zone behind the others, and opens it.
+    #[inline(always)]
     pub(crate) fn open(&mut self, zone: Zone<'a>) -> Result<(), AllocError>
         requires { open_in self.old ≡ None }
         ensures done { OnOk result (done_in self.new ≡ done_in self.old) }
@@ -41,7 +42,8 @@ impl<'a> ZoneList<'a> {
         Ok(())
     }
 
-    /// Lengthens the open zone, if there is one.
+    /// Lengthens the open zone, if there is one. Few lines do, so it stands apart from what is inlined for each line.
+    #[inline(never)]
     pub(crate) fn lengthen(&mut self, alloc: Global, more: &[u8]) -> Result<(), AllocError>
         ensures leaves { OnOk result (IsLengthened self.old self.new) }
         ensures open_zone { OnOk result (option_map entry (open_in self.new)

@@ -1,53 +1,43 @@
 -- The records of a sheet, one on.
-use Rattle.std.proofs.Common.{◌≡◌, ◌≢◌, ℕ, zero, suc, ◌+◌, ◌-◌, ◌<◌, ◌≤◌, ◌⊎◌, inl, inr, Bool, true, false, cond, not, ◌&&◌, is_some, is_none, List, [], ◌∷◌, length, flat_map, Option, Some, None, MatchOption, option_map, nat_eq, slice_get, refl, sym, ap, ◌∙◌, subst, arith, Any, true≢false, eqb-true, eq-eqb}
+use Rattle.std.proofs.Common.{◌≡◌, ◌≢◌, ℕ, zero, suc, ◌+◌, ◌-◌, ◌<◌, ◌≤◌, ◌⊎◌, inl, inr, Bool, true, false, cond, not, ◌&&◌, is_some, is_none, List, [], ◌∷◌, Option, Some, None, nat_eq, slice_get, refl, sym, ap, ◌∙◌, subst, arith, Any, true≢false, eqb-true, eq-eqb}
 use Rattle.std.specs.List.{AllZip}
 use Rattle.std.proofs.lemmas.Bool.{cases_lt}
 use Rattle.edi_line.specs.Refusal.{BreaksTest, IsLeastBroken}
 use Rattle.edi_line.specs.inner.Refusal.{first_broken}
 use Rattle.edi_line.proofs.FirstBroken.{none_broken, first_is_least}
 use Rattle.edi_record.specs.declared.record.End.{End}
-use Rattle.edi_record.specs.declared.record.Kind.{Kind}
-use Rattle.edi_record.specs.declared.record.Kind.TheVariants.{Pno, Par, Pfe, Lnk}
+use Rattle.edi_record.specs.declared.record.Kind.TheVariants.{Par}
 use Rattle.edi_record.specs.declared.record.Record.{Record}
-use Rattle.edi_schema.specs.Classes.{Classes, place_of}
+use Rattle.edi_schema.specs.Classes.{Classes}
 use Rattle.edi_schema.specs.Roles.{is_plain, same_role, role_rank}
 use Rattle.edi_schema.specs.declared.role.Role.{Role}
 use Rattle.edi_schema.specs.declared.role.Role.TheVariants.{Initial, Final, Left, Right, Plain}
 use Rattle.edi_plan.specs.inner.Done.{JoinsIn, IsLinkAt, JoinsBefore, IsJoinIfAny, IsDone}
 use Rattle.edi_plan.specs.Joined.{beside}
 use Rattle.edi_plan.specs.inner.Names.{RepeatsAt}
-use Rattle.edi_plan.specs.Plans.{first_of}
-use Rattle.edi_plan.specs.ReferenceRules.{IsRecordAt, Names, IsLinkOfRole, JoinsArcTo, JoinsWrong, RepeatsSide, LeavesSubset, BreaksReferenceRule}
+use Rattle.edi_plan.specs.ReferenceRules.{IsRecordAt, Names, IsLinkOfRole, RepeatsSide, BreaksReferenceRule}
 use Rattle.edi_plan.specs.ReferenceRules.BreaksReferenceRule.{repeats_name, lacks_class, lacks_attribute_class, leaves_subset, names_nothing, joins_wrong, repeats_side}
-use Rattle.edi_plan.specs.inner.Resolving.{LacksClass, is_elsewhere, leaves, first_subset, role_of_link, reference_tests}
-use Rattle.edi_plan.specs.inner.Resolving as resolving
+use Rattle.edi_plan.specs.inner.Resolving.{first_subset, role_of_link, reference_tests}
 use Rattle.edi_plan.specs.inner.SideTable.{side_at, side_after, link_join, is_taken, IsNoted}
 use Rattle.edi_plan.specs.inner.Targets.{IsTargetIfAny}
 use Rattle.edi_schema.specs.declared.by_role.ByRole.{ByRole}
 use Rattle.edi_plan.specs.declared.sides.Join.{Join}
 use Rattle.edi_plan.specs.declared.targets.Target.{Target}
-use Rattle.edi_plan.proofs.RuleLemmas.{none_is, any_here, any_later, any_true, true_any, zip_any, any_zip, lacks_true, true_lacks, elsewhere_true, true_elsewhere, nowhere, nowhere_true, names_join, join_names, link_has_role, role_is, any_two}
+use Rattle.edi_plan.proofs.OwnRules.{and_both, to_302, from_302, to_303, from_303, to_304, from_304, to_305, from_305, to_306, from_306}
+use Rattle.edi_plan.proofs.RuleLemmas.{any_here, any_later, names_join, join_names, link_has_role, role_is, any_two}
 
 same_some : {X : Type 0} {a b : X} → Some a ≡ Some b → a ≡ b
 same_some h = cc
 
-plain_is : (role : Role) → is_plain role ≡ false → role ≢ Plain
+pub plain_is : (role : Role) → is_plain role ≡ false → role ≢ Plain
 plain_is role h e = true≢false (sym (ap is_plain e) ∙ h)
 
-is_plain_not : (role : Role) → role ≢ Plain → is_plain role ≡ false
+pub is_plain_not : (role : Role) → role ≢ Plain → is_plain role ≡ false
 is_plain_not Initial h = refl
 is_plain_not Final h = refl
 is_plain_not Left h = refl
 is_plain_not Right h = refl
 is_plain_not Plain h = absurd (h refl)
-
-not_true : (b : Bool) → not b ≡ true → b ≡ false
-not_true false h = refl
-not_true true h = sym h
-
-and_both : (a b : Bool) → a && b ≡ true → (a ≡ true) × (b ≡ true)
-and_both true b h = (refl, h)
-and_both false b h = absurd (true≢false (sym h))
 
 abbrev of_rank : ℕ → Role
 of_rank zero = Initial
@@ -63,7 +53,7 @@ rank_back Left = refl
 rank_back Right = refl
 rank_back Plain = refl
 
-one_role : (a b : Role) → role_rank a ≡ role_rank b → a ≡ b
+pub one_role : (a b : Role) → role_rank a ≡ role_rank b → a ≡ b
 one_role a b h = rank_back a ∙ (ap of_rank h ∙ sym (rank_back b))
 
 module _ (s : Classes) (list : List Record) (place : ℕ) (r : Record) (here : slice_get list place ≡ Some r) (own : List (Option Target)) (aimed : AllZip (IsTargetIfAny list) r.ends own)
@@ -75,10 +65,10 @@ module _ (s : Classes) (list : List Record) (place : ℕ) (r : Record) (here : s
   at_here k = omega arith
 
   is_at : IsRecordAt s list (suc place) r
-  is_at = (omega arith, subst (λ k. slice_get list k ≡ Some r) (sym (at_here place)) here)
+  is_at = Rattle.edi_plan.proofs.OwnRules.is_at s list place r here
 
   one_record : (q : Record) → IsRecordAt s list (suc place) q → q ≡ r
-  one_record q at = same_some (sym (subst (λ k. slice_get list k ≡ Some q) (at_here place) at.1) ∙ here)
+  one_record = Rattle.edi_plan.proofs.OwnRules.one_record s list place r here
 
   link_at : (k : ℕ) (q : Record) (o : Role) → IsLinkAt s list k q o → IsRecordAt s list (suc k) q
   link_at k q o d = (omega arith, subst (λ j. slice_get list j ≡ Some q) (sym (at_here k)) d.here)
@@ -119,64 +109,6 @@ module _ (s : Classes) (list : List Record) (place : ℕ) (r : Record) (here : s
       go (inr e) = subst (λ (es : List End). Any (λ e. Names s list e a Par) es) (sym e) (any_later (λ e. Names s list e a Par) d.to_other (d.to_arc ∷ []) (any_here (λ e. Names s list e a Par) d.to_arc [] d.arc))
 
   -- ---- each test is its rule
-
-  to_304 : leaves (first_subset list) r.ends ≡ true → LeavesSubset s list (suc place)
-  to_304 h = go (flat_map (λ q. q.ends) list) refl h
-    where
-      go : (es : List End) → flat_map (λ q. q.ends) list ≡ es → leaves (option_map (λ e. record { lot = e.lot; subset = e.subset }) (first_of es)) r.ends ≡ true → LeavesSubset s list (suc place)
-      go [] e h = cc
-      go (e ∷ es) is h = (r, e, es, is_at, is, true_any (λ d. (d.lot ≢ e.lot) ⊎ (d.subset ≢ e.subset)) (is_elsewhere (record { lot = e.lot; subset = e.subset })) (true_elsewhere e) r.ends h)
-
-  from_304 : LeavesSubset s list (suc place) → leaves (first_subset list) r.ends ≡ true
-  from_304 d =
-      ap (λ es. leaves (option_map (λ e. record { lot = e.lot; subset = e.subset }) (first_of es)) r.ends) d.4
-      ∙ any_true (λ x. (x.lot ≢ d.1.lot) ⊎ (x.subset ≢ d.1.subset)) (is_elsewhere (record { lot = d.1.lot; subset = d.1.subset })) (elsewhere_true d.1) r.ends
-      (subst (λ (q : Record). Any (λ x. (x.lot ≢ d.1.lot) ⊎ (x.subset ≢ d.1.subset)) q.ends) (one_record d.0 d.3) d.5)
-
-  joins_arc : (o : Role) → JoinsArcTo s list (beside o) r → (a : ℕ) × (x : ℕ) × JoinsIn s list r o a x
-  joins_arc o d = (d.2, d.3, record { to_arc = d.0; to_other = d.1; ends = d.4; arc = d.5; other = d.6 })
-
-  arc_joins : (o : Role) (a x : ℕ) → JoinsIn s list r o a x → JoinsArcTo s list (beside o) r
-  arc_joins o a x d = (d.to_arc, d.to_other, a, x, d.ends, d.arc, d.other)
-
-  no_join : (o : Role) → is_plain o ≡ false → link_join o own ≡ None → ¬ (JoinsArcTo s list (beside o) r)
-  no_join o h none d =
-      let j = joins_arc o d in
-      let join : Join = record { arc = j.0; other = j.1 } in
-      let some : link_join o own ≡ Some join = names_join s list r o own j.0 j.1 aimed h j.2 in
-      true≢false (ap is_some (sym some) ∙ ap is_some none)
-
-  to_306 : not (is_plain role) && is_none (link_join role own) ≡ true → JoinsWrong s list (suc place)
-  to_306 h =
-      let both = and_both (not (is_plain role)) (is_none (link_join role own)) h in
-      let kind = not_true (is_plain role) both.0 in
-      go role kind (link_has_role s list r kind) (none_is (link_join role own) both.1)
-    where
-      go : (o : Role) → is_plain o ≡ false → IsLinkOfRole s list r o → link_join o own ≡ None → JoinsWrong s list (suc place)
-      go Initial h has none = (r, is_at, inl (inl has, no_join Initial h none))
-      go Final h has none = (r, is_at, inl (inr has, no_join Final h none))
-      go Left h has none = (r, is_at, inr (inl has, no_join Left h none))
-      go Right h has none = (r, is_at, inr (inr has, no_join Right h none))
-      go Plain h has none = cc
-
-  wrong : (o : Role) → is_plain o ≡ false → IsLinkOfRole s list r o → ¬ (JoinsArcTo s list (beside o) r) → not (is_plain role) && is_none (link_join role own) ≡ true
-  wrong o h has other =
-      let same = role_is s list r o has in
-      ap (λ p. not (is_plain p) && is_none (link_join p own)) same ∙ (ap (λ b. not b && is_none (link_join o own)) h ∙ go (link_join o own) refl)
-    where
-      go : (j : Option Join) → link_join o own ≡ j → is_none j ≡ true
-      go None e = refl
-      go (Some j) e = absurd (other (arc_joins o j.arc j.other (join_names s list r o own j aimed h e)))
-
-  from_306 : JoinsWrong s list (suc place) → not (is_plain role) && is_none (link_join role own) ≡ true
-  from_306 d = go d.0 (one_record d.0 d.1) d.2
-    where
-      go : (q : Record) → q ≡ r → (((IsLinkOfRole s list q Initial ⊎ IsLinkOfRole s list q Final) × ¬ (JoinsArcTo s list Pno q)) ⊎ ((IsLinkOfRole s list q Left ⊎ IsLinkOfRole s list q Right) × ¬ (JoinsArcTo s list Pfe q)))
-          → not (is_plain role) && is_none (link_join role own) ≡ true
-      go q e (inl (inl has, other)) = wrong Initial refl (subst (λ t. IsLinkOfRole s list t Initial) e has) (subst (λ t. ¬ (JoinsArcTo s list Pno t)) e other)
-      go q e (inl (inr has, other)) = wrong Final refl (subst (λ t. IsLinkOfRole s list t Final) e has) (subst (λ t. ¬ (JoinsArcTo s list Pno t)) e other)
-      go q e (inr (inl has, other)) = wrong Left refl (subst (λ t. IsLinkOfRole s list t Left) e has) (subst (λ t. ¬ (JoinsArcTo s list Pfe t)) e other)
-      go q e (inr (inr has, other)) = wrong Right refl (subst (λ t. IsLinkOfRole s list t Right) e has) (subst (λ t. ¬ (JoinsArcTo s list Pfe t)) e other)
 
   join_kind : (j : Join) → link_join role own ≡ Some j → is_plain role ≡ false
   join_kind j e = go role e
@@ -235,11 +167,11 @@ module _ (s : Classes) (list : List Record) (place : ℕ) (r : Record) (here : s
       some_side None h x there = absurd (h x there)
 
   pub test_breaks : (rule : ℕ) → BreaksTest (reference_tests s (first_subset list) own table r) rule → BreaksReferenceRule s list rule (suc place)
-  test_breaks rule (inl (e, h)) = lacks_class (sym e) (r, is_at, none_is (place_of s r.scp) h)
-  test_breaks rule (inr (inl (e, h))) = lacks_attribute_class (sym e) (r, is_at, true_any (LacksClass s) (resolving.lacks_class s) (true_lacks s) r.attributes h)
-  test_breaks rule (inr (inr (inl (e, h)))) = leaves_subset (sym e) (to_304 h)
-  test_breaks rule (inr (inr (inr (inl (e, h))))) = names_nothing (sym e) (r, is_at, zip_any (IsTargetIfAny list) (λ e. (place : ℕ) (kind : Kind) → Names s list e place kind → kind ≡ Lnk) is_none (nowhere s list) r.ends own aimed h)
-  test_breaks rule (inr (inr (inr (inr (inl (e, h)))))) = joins_wrong (sym e) (to_306 h)
+  test_breaks rule (inl (e, h)) = lacks_class (sym e) (to_302 s list place r here h)
+  test_breaks rule (inr (inl (e, h))) = lacks_attribute_class (sym e) (to_303 s list place r here h)
+  test_breaks rule (inr (inr (inl (e, h)))) = leaves_subset (sym e) (to_304 s list place r here h)
+  test_breaks rule (inr (inr (inr (inl (e, h))))) = names_nothing (sym e) (to_305 s list place r here own aimed h)
+  test_breaks rule (inr (inr (inr (inr (inl (e, h)))))) = joins_wrong (sym e) (to_306 s list place r here own aimed h)
   test_breaks rule (inr (inr (inr (inr (inr (inl (e, h))))))) = repeats_side (sym e) (to_307 h)
   test_breaks rule (inr (inr (inr (inr (inr (inr h)))))) = absurd h
 
@@ -247,14 +179,11 @@ module _ (s : Classes) (list : List Record) (place : ℕ) (r : Record) (here : s
   pub breaks_test : (rule : ℕ) → BreaksReferenceRule s list rule (suc place) → ¬ (RepeatsAt list place) → BreaksTest (reference_tests s (first_subset list) own table r) rule ⊎ ((rule ≡ 307) × BreaksTest (reference_tests s (first_subset list) own table r) 306)
   breaks_test rule (repeats_name e d) fresh =
       absurd (fresh (d.0 - 1, d.1, r, omega (arith, d.3, d.4.0), d.4.1, here, d.6 ∙ ap Rattle.edi_plan.specs.PlanOf.own_name (one_record d.2 d.5)))
-  breaks_test rule (lacks_class e d) fresh = inl (inl (sym e, ap is_none (ap (λ (q : Record). place_of s q.scp) (sym (one_record d.0 d.1)) ∙ d.2)))
-  breaks_test rule (lacks_attribute_class e d) fresh =
-      inl (inr (inl (sym e, any_true (LacksClass s) (resolving.lacks_class s) (lacks_true s) r.attributes (subst (λ (q : Record). Any (LacksClass s) q.attributes) (one_record d.0 d.1) d.2))))
-  breaks_test rule (leaves_subset e d) fresh = inl (inr (inr (inl (sym e, from_304 d))))
-  breaks_test rule (names_nothing e d) fresh =
-      let P : End → Type 0 = λ e. (place : ℕ) (kind : Kind) → Names s list e place kind → kind ≡ Lnk in
-      inl (inr (inr (inr (inl (sym e, any_zip (IsTargetIfAny list) P is_none (nowhere_true s list) r.ends own aimed (subst (λ (q : Record). Any P q.ends) (one_record d.0 d.1) d.2))))))
-  breaks_test rule (joins_wrong e d) fresh = inl (inr (inr (inr (inr (inl (sym e, from_306 d))))))
+  breaks_test rule (lacks_class e d) fresh = inl (inl (sym e, from_302 s list place r here d))
+  breaks_test rule (lacks_attribute_class e d) fresh = inl (inr (inl (sym e, from_303 s list place r here d)))
+  breaks_test rule (leaves_subset e d) fresh = inl (inr (inr (inl (sym e, from_304 s list place r here d))))
+  breaks_test rule (names_nothing e d) fresh = inl (inr (inr (inr (inl (sym e, from_305 s list place r here own aimed d)))))
+  breaks_test rule (joins_wrong e d) fresh = inl (inr (inr (inr (inr (inl (sym e, from_306 s list place r here own aimed d))))))
   breaks_test rule (repeats_side e d) fresh = go (link_join role own) refl
     where
       go : (o : Option Join) → link_join role own ≡ o → BreaksTest (reference_tests s (first_subset list) own table r) rule ⊎ ((rule ≡ 307) × BreaksTest (reference_tests s (first_subset list) own table r) 306)

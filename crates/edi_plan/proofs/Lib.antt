@@ -10,7 +10,10 @@ pub mod TargetLemmas
 pub mod HintLemmas
 pub mod Resolved
 pub mod RuleLemmas
+pub mod NewTable
+pub mod OwnRules
 pub mod DoneLemmas
+pub mod FindingLemmas
 pub mod StepLemmas
 pub mod RecordLemmas
 pub mod PlanLemmas

@@ -1,5 +1,5 @@
 -- Names that records lend, and the first record of a name.
-use Rattle.std.proofs.Common.{◌≡◌, ◌≢◌, ℕ, zero, suc, ◌+◌, ◌<◌, ◌≤◌, ◌⊎◌, inl, inr, Bool, true, false, cond, not, ◌&&◌, nat_lt, List, [], ◌∷◌, length, Option, Some, None, is_some, unwrap_or, if◌then◌else◌, MatchOption, slice_get, refl, sym, ap, ◌∙◌, subst, arith, codes}
+use Rattle.std.proofs.Common.{◌≡◌, ◌≢◌, ℕ, zero, suc, ◌+◌, ◌<◌, ◌≤◌, ◌⊎◌, inl, inr, Bool, true, false, cond, not, ◌&&◌, nat_lt, nat_eq, true≢false, eqb-true, eq-eqb, List, [], ◌∷◌, length, Option, Some, None, is_some, unwrap_or, if◌then◌else◌, MatchOption, slice_get, refl, sym, ap, ◌∙◌, subst, arith, codes}
 use Rattle.std.specs.List.{position_or_len}
 use Rattle.std.specs.Option.{option_or}
 use Rattle.std.specs.Map.{lookup}
@@ -197,6 +197,15 @@ module _ (list : List Record) (n : ℕ) (r : Record) (here : slice_get list n �
 
   fresh : FirstTo list n (own_name r) None → ¬ (RepeatsAt list n)
   fresh none d = none d.0 d.1 d.3 d.4 (d.6 ∙ ap own_name (one_there d.2 d.5))
+
+  -- a place other than this one is that of an earlier record of the name
+  pub repeats_here : (found : Option ℕ) → FirstTo list n (own_name r) found → (first : ℕ) → first ≡ unwrap_or found n → (not (nat_eq first n) ≡ true → RepeatsAt list n) × (RepeatsAt list n → not (nat_eq first n) ≡ true)
+  repeats_here None none first is = let e = eq-eqb first n is in (λ h. absurd (true≢false (sym h ∙ ap not e)), λ d. absurd (fresh none d))
+  repeats_here (Some k) there first is = (λ h. repeated k there, λ d. go (nat_eq first n) refl)
+    where
+      go : (b : Bool) → nat_eq first n ≡ b → not b ≡ true
+      go true t = let e = eqb-true first n t in absurd (omega (arith, there.0, is, e))
+      go false t = refl
 
   none_more : ((j : ℕ) → j < n → ¬ (RepeatsAt list j)) → ¬ (RepeatsAt list n) → (j : ℕ) → j < n + 1 → ¬ (RepeatsAt list j)
   none_more none other j less d = go (cases_lt j n)

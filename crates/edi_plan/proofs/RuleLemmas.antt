@@ -224,7 +224,7 @@ module _ (s : Classes) (list : List Record) where
           let second = names_target d.to_arc two.1 a Par two.4 d.arc refl in
           ap (join_in (beside role)) two.2 ∙ ((λ i. join_in (beside role) (first i ∷ second i ∷ [])) ∙ joins_second role a x h)
 
-  kind_same : (a b : Kind) → same_kind a b ≡ true → a ≡ b
+  pub kind_same : (a b : Kind) → same_kind a b ≡ true → a ≡ b
   kind_same a b h = one_kind a b (Rattle.std.proofs.Common.eqb-true (kind_rank a) (kind_rank b) h)
 
   pub join_names : (r : Record) (role : Role) (ts : List (Option Target)) (j : Join) → AllZip (IsTargetIfAny list) r.ends ts → is_plain role ≡ false → link_join role ts ≡ Some j

@@ -5,6 +5,7 @@ pub mod Agreeing
 pub mod Sides
 pub mod Joined
 pub mod ReferenceRules
+pub mod RecordsUnderSchema
 pub mod Laws
 pub mod Orders
 pub mod Places

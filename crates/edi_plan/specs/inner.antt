@@ -6,6 +6,7 @@ pub mod Names
 pub mod Hints
 pub mod Finders
 pub mod Found
+pub mod Findings
 pub mod Resolving
 pub mod SideTable
 pub mod Targets

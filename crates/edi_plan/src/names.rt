@@ -157,7 +157,7 @@ pub(crate) fn is_tabled(links_rise: bool, kind: Kind) -> bool
 
 /// The hash for the names of these records that go into the table, under a key made of their identifiers. Their types
 /// are left out: one identifier makes five names at most, too few to choose among.
-fn hash_of(links_rise: bool, records: &SheetRecords) -> NameHash
+pub(crate) fn hash_of(links_rise: bool, records: &SheetRecords) -> NameHash
     ensures { result ≡ keyed_by (map (λ r. r.rid) (tabled links_rise records.now)) }
 {
     let mut names = KeyNames::new();
@@ -184,7 +184,7 @@ pub(crate) fn count_tabled(links_rise: bool, records: &SheetRecords) -> usize
 }
 
 /// The place of a name, which is this one if it had none.
-fn place_or<'a>(
+pub(crate) fn place_or<'a>(
     places: &mut IndexMap<RecordNameRef<'a>, u32, NameHash>,
     name: RecordNameRef<'a>,
     place: u32,

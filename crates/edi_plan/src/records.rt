@@ -43,7 +43,7 @@ fn value_of(may_be_number: bool, text: &Text) -> Result<Value, AllocError>
     }
 }
 
-fn is_attribute_type(rty: &Text) -> bool
+pub(crate) fn is_attribute_type(rty: &Text) -> bool
     ensures { IsTrue result ↔ (rty.now ≡ codes "ATT") }
 {
     rty.as_slice() == b"ATT".as_slice()
@@ -184,7 +184,7 @@ fn has_other(subset: &Subset, ends: &[End]) -> bool
 }
 
 /// Whether an end has another lot or subset than the first end of all links.
-fn leaves_subset(subset: &Option<Subset>, ends: &[End]) -> bool
+pub(crate) fn leaves_subset(subset: &Option<Subset>, ends: &[End]) -> bool
     ensures { result ≡ leaves subset.now ends.now }
 {
     match subset {

@@ -53,7 +53,7 @@ fn first_end(records: &SheetRecords) -> Option<&End>
     None
 }
 
-fn subset_of(alloc: Global, records: &SheetRecords) -> Result<Option<Subset>, AllocError>
+pub(crate) fn subset_of(alloc: Global, records: &SheetRecords) -> Result<Option<Subset>, AllocError>
     ensures { IfOk result (λ subset. subset ≡ first_subset records.now) }
 {
     match first_end(records) {

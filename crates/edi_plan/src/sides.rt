@@ -32,7 +32,7 @@ pub(crate) fn without_links(
 }
 
 /// What a link of one of the four kinds joins with an arc.
-fn beside(role: Role) -> Option<Kind>
+pub(crate) fn beside(role: Role) -> Option<Kind>
     ensures { result ≡ (if is_plain role then None else Some (beside_of role)) }
 {
     match role {
@@ -61,7 +61,7 @@ fn join_both(kind: Kind, first: Target, second: Target) -> Option<Join>
 }
 
 /// The arc and the record of a kind that exactly two ends name, in either order.
-fn join_of(kind: Kind, targets: &[Option<Target>]) -> Option<Join>
+pub(crate) fn join_of(kind: Kind, targets: &[Option<Target>]) -> Option<Join>
     ensures { result ≡ join_in kind targets.now }
 {
     match targets {

@@ -1,5 +1,5 @@
 -- The least object that ties is the least that equals an earlier one.
-use Rattle.std.proofs.Common.{◌≡◌, ℕ, suc, ◌<◌, ◌≤◌, ◌⊎◌, inl, inr, length, get_or, refl, sym, ap, ◌∙◌, subst, arith, Equal}
+use Rattle.std.proofs.Common.{◌≡◌, ℕ, suc, ◌+◌, add-one, Bool, List, ◌<◌, ◌≤◌, ◌⊎◌, inl, inr, length, get_or, refl, sym, ap, ◌∙◌, subst, arith, Equal}
 use Rattle.std.proofs.lemmas.Bool.{cases_order}
 use Rattle.std.proofs.lemmas.Cmp.{tied_itself}
 use Rattle.std.proofs.lemmas.Map.Lookups.{CmpEqualImpliesEq, exact_unsigned}
@@ -12,7 +12,9 @@ use Rattle.edi_plan.specs.Plans.{Drawing}
 use Rattle.edi_plan.specs.Whole.{IsWholePlan}
 use Rattle.edi_plan.proofs.Orders.{first_tied, then_tied, exact_lists, attribute_exact, extra_exact}
 use Rattle.edi_plan.proofs.PlaceLemmas.{place_there, place_of_kind, places_rise, has_place}
+use Rattle.edi_topo.specs.Marks.{AreMarksOf, IsPlaceOfMark}
 use Rattle.edi_topo.specs.Ranking.{Ties}
+use Rattle.edi_topo.proofs.MarksPlaced.{marks_at_places}
 use Rattle.edi_rank.specs.EqualObjects.{AreEqualObjects, BreaksObjectRule}
 use Rattle.edi_rank.specs.EqualObjects.BreaksObjectRule.{repeats_object}
 use Rattle.edi_rank.specs.Keys.{link_key_cmp, object_key, object_key_cmp}
@@ -62,9 +64,23 @@ module _ (p : Drawing) (whole : IsWholePlan p) (number : ℕ → ℕ) (apart : T
   pub none_equal : ((m : ℕ) → ¬ (Tied m)) → IsUnbroken (BreaksObjectRule p)
   none_equal none rule at (repeats_object {m} {n} e f less d) = let t = tying_member m n less d in none t.0 t.1
 
+  tie_breaks : (m : ℕ) → Tied m → BreaksObjectRule p 501 (suc (object_place m))
+  tie_breaks m tie = repeats_object {m = object_place tie.1.0} {n = object_place m} refl refl (places_rise Fea p tie.1.0 m tie.1.1 tie.0) (equal_there tie.1.0 m (omega (arith, tie.0, tie.1.1)) tie.0 tie.1.2)
+
+  -- the places of the members that tie are those of the objects that are equal to an earlier one
+  pub marks_break : (marks read by_place : List Bool) (places : List ℕ) (count : ℕ) → read ≡ marks → places ≡ places_of Fea p → count ≡ length p.list
+      → AreMarksOf (length (places_of Fea p)) Tied marks → AreMarksOf count (IsPlaceOfMark places read) by_place → AreMarksOf (length p.list) (λ k. BreaksObjectRule p 501 (k + 1)) by_place
+  marks_break marks read by_place places count e f g tied placed = marks_at_places Fea p Tied (λ k. BreaksObjectRule p 501 (k + 1)) (λ m t. t.0) (λ m t. subst (BreaksObjectRule p 501) (sym (add-one (object_place m))) (tie_breaks m t))
+      (λ k b. member k (k + 1) refl b) marks read by_place places (length (places_of Fea p)) count e f g tied placed
+    where
+      member : (k at : ℕ) → at ≡ k + 1 → BreaksObjectRule p 501 at → (i : ℕ) × Tied i × (object_place i ≡ k)
+      member k at is (repeats_object {m} {n} e f less d) =
+          let t = tying_member m n less d in
+          (t.0, t.1, t.2 ∙ omega (arith, is, f))
+
   pub least_equal_object : (m : ℕ) → Tied m → ((n : ℕ) → Tied n → m ≤ n) → IsLeastBroken (BreaksObjectRule p) 501 (suc (object_place m))
   least_equal_object m tie least = record {
-    is = repeats_object {m = object_place tie.1.0} {n = object_place m} refl refl (places_rise Fea p tie.1.0 m tie.1.1 tie.0) (equal_there tie.1.0 m (omega (arith, tie.0, tie.1.1)) tie.0 tie.1.2);
+    is = tie_breaks m tie;
     least = later;
   }
     where

@@ -192,14 +192,25 @@ pub fn tell_objects_apart(alloc: Global, sound: &Sound) -> Result<(), RankFault>
     ensures distinct { OnOk result (IsUnbroken (BreaksObjectRule sound.now)) }
     ensures least { IfErr result (IsRecordRefusal (BreaksObjectRule sound.now)) }
 {
+    let layer = numbered_objects(alloc, sound)?;
+    object_ranks(alloc, sound, &layer)?;
+    Ok(())
+}
+
+/// The objects of a sound plan, with the numbers of its nodes, arcs and faces.
+pub(crate) fn numbered_objects<'a>(
+    alloc: Global,
+    sound: &'a Sound,
+) -> Result<ObjectLayer<'a>, AllocError>
+    ensures plan { IfOk result (λ layer. layer.plan ≡ sound.now) }
+    ensures apart { IfOk result (λ layer. TellsApart sound.now (slice_index layer.numbers)) }
+{
     let plan = sound.plan();
     let turned = turned_arcs(alloc, plan)?;
     let lower = lower_ranks(alloc, sound, &turned)?;
     let unnamed = lower_numbers(alloc, plan, lower.nodes, lower.arcs, &lower.faces)?;
     let orders = lower_orders(alloc, plan, &unnamed)?;
-    let layer = ObjectLayer::numbered(alloc, plan, unnamed, orders)?;
-    object_ranks(alloc, sound, &layer)?;
-    Ok(())
+    ObjectLayer::numbered(alloc, plan, unnamed, orders)
 }
 
 /// The numbers of the faces, in file order.

@@ -14,6 +14,7 @@ mod link_layer;
 mod numbering;
 pub mod object_layer;
 mod placed_link;
+pub mod repeated;
 
 pub use edi_topo::{ArcLayer, Layer, NodeLayer, Ranks, TieFault, is_forward, ranks};
 pub use end_orders::lower_orders;
@@ -24,3 +25,4 @@ pub use keys::{FaceKey, LinkKey, NumberedEnd, ObjectKey};
 pub use labels::{Labels, tell_objects_apart};
 pub use link_key::{class_turned, plain_ends};
 pub use object_layer::ObjectLayer;
+pub use repeated::repeated_objects;

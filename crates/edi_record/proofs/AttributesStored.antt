@@ -11,8 +11,7 @@ use Rattle.edi_record.specs.Texts.{shown}
 use Rattle.edi_record.specs.Records.{opens, closes}
 use Rattle.edi_record.specs.inner.Records.{set_after, value_after, attributes, placed}
 use Rattle.edi_record.specs.inner.RecordRules.{count_until, has_bad_attribute}
-use Rattle.edi_record.specs.inner.Stored.{is_stray, set_with, set_come, attribute_of, attributes_with, closed_with, repeats_with, StoresAttributes}
-use Rattle.edi_record.specs.declared.attributes.Attributes.{Attributes}
+use Rattle.edi_record.specs.inner.Stored.{is_stray, set_with, set_come, attribute_of, attributes_with, closed_with, repeats_with, StoresAttributes, KeptAttributes}
 use Rattle.edi_record.specs.declared.attributes.OpenAttribute.{OpenAttribute}
 use Rattle.edi_record.specs.declared.pointer.Pointer.{Pointer}
 use Rattle.edi_record.specs.declared.record.Attribute.{Attribute}
@@ -76,15 +75,15 @@ skips_repeat z zs e = rw e refl
 
 -- ---- the class of the next attribute
 
-pub class_taken : (old new : Attributes) (class : Pointer) (z : Entry) (left group : List Entry) (text : List ℕ) → opens z ≡ true → z.value ≡ text → Some (shown class) ≡ pointer text
-    → new.is_broken ≡ old.is_broken → new.opened ≡ Some (record { class = class; set = None }) → new.done.items ≡ old.done.items ++ closed_with [] old.opened
+pub class_taken : (old new : KeptAttributes) (class : Pointer) (z : Entry) (left group : List Entry) (text : List ℕ) → opens z ≡ true → z.value ≡ text → Some (shown class) ≡ pointer text
+    → new.is_broken ≡ old.is_broken → new.opened ≡ Some (record { class = class; set = None }) → new.done ≡ old.done ++ closed_with [] old.opened
     → StoresAttributes old (z ∷ left) group → StoresAttributes new left group
 class_taken old new class z left group text e same read same_broken opened done h = record {
   broken = λ b. h.broken (sym same_broken ∙ b);
   made = λ b.
-      closed_in (z ∷ left) group [] old.opened old.done.items new.done.items (set_stops z left (or_left _ _ e)) (value_stops z left e) (h.made (sym same_broken ∙ b)) done
-      ∙ ap (λ t. map Some new.done.items ++ t) (class_read z left text (shown class) e (sym same) read)
-      ∙ ap (λ o. map Some new.done.items ++ attributes_with o left) (sym opened);
+      closed_in (z ∷ left) group [] old.opened old.done new.done (set_stops z left (or_left _ _ e)) (value_stops z left e) (h.made (sym same_broken ∙ b)) done
+      ∙ ap (λ t. map Some new.done ++ t) (class_read z left text (shown class) e (sym same) read)
+      ∙ ap (λ o. map Some new.done ++ attributes_with o left) (sym opened);
   stray = λ b. h.stray (sym same_broken ∙ b) ∙ stray_opens (is_some old.opened) z left e ∙ ap (λ o. list_any is_stray (placed (is_some o) left)) (sym opened);
   repeated = λ b.
       h.repeated (sym same_broken ∙ b) ∙ repeats_over (z ∷ left) old.opened (no_sets z left (or_left _ _ e)) ∙ here ∙ ap (λ o. repeats_with o left) (sym opened);
@@ -94,7 +93,7 @@ class_taken old new class z left group text e same read same_broken opened done 
     here = rw e refl
 
 -- whatever was kept, the rule is broken
-pub stays_broken : (old new : Attributes) (zs left group : List Entry) → new.is_broken ≡ true → (old.is_broken ≡ false → has_bad_attribute group ≡ true) → StoresAttributes old zs group → StoresAttributes new left group
+pub stays_broken : (old new : KeptAttributes) (zs left group : List Entry) → new.is_broken ≡ true → (old.is_broken ≡ false → has_bad_attribute group ≡ true) → StoresAttributes old zs group → StoresAttributes new left group
 stays_broken old new zs left group broken found h = record {
   broken = λ b. by_old old.is_broken refl;
   made = λ b. let wrong : true ≡ false = sym broken ∙ b in absurd (cc);
@@ -106,19 +105,19 @@ stays_broken old new zs left group broken found h = record {
     by_old true e = h.broken e
     by_old false e = found e
 
-pub no_class_taken : (old new : Attributes) (done : List Attribute) (z : Entry) (left group : List Entry) (text : List ℕ) → opens z ≡ true → z.value ≡ text → None ≡ pointer text
-    → new.is_broken ≡ true → done ≡ old.done.items ++ closed_with [] old.opened → StoresAttributes old (z ∷ left) group → StoresAttributes new left group
+pub no_class_taken : (old new : KeptAttributes) (done : List Attribute) (z : Entry) (left group : List Entry) (text : List ℕ) → opens z ≡ true → z.value ≡ text → None ≡ pointer text
+    → new.is_broken ≡ true → done ≡ old.done ++ closed_with [] old.opened → StoresAttributes old (z ∷ left) group → StoresAttributes new left group
 no_class_taken old new done z left group text e same read broken pushed h = stays_broken old new (z ∷ left) left group broken (λ b. bad_class group (one_missing (attributes group) (attributes (z ∷ left)) (attributes left) done
-    (closed_in (z ∷ left) group [] old.opened old.done.items done (set_stops z left (or_left _ _ e)) (value_stops z left e) (h.made b) pushed)
+    (closed_in (z ∷ left) group [] old.opened old.done done (set_stops z left (or_left _ _ e)) (value_stops z left e) (h.made b) pushed)
     (no_class z left text e (sym same) read))) h
 
 -- ---- a character set
 
 -- of a zone that no attribute takes
-pub attributes_pass : (a : Attributes) (z : Entry) (left group : List Entry) → opens z ≡ false → closes z ≡ false → (is_some a.opened && has_code (codes "TEX") z) ≡ false → StoresAttributes a (z ∷ left) group → StoresAttributes a left group
+pub attributes_pass : (a : KeptAttributes) (z : Entry) (left group : List Entry) → opens z ≡ false → closes z ≡ false → (is_some a.opened && has_code (codes "TEX") z) ≡ false → StoresAttributes a (z ∷ left) group → StoresAttributes a left group
 attributes_pass a z left group not_class not_value no_set h = record {
   broken = h.broken;
-  made = λ b. h.made b ∙ ap (λ t. map Some a.done.items ++ t) (past a.opened no_set);
+  made = λ b. h.made b ∙ ap (λ t. map Some a.done ++ t) (past a.opened no_set);
   stray = λ b. h.stray b ∙ stray_skips (is_some a.opened) z left not_class not_value;
   repeated = λ b. h.repeated b ∙ past_repeat a.opened no_set;
 }
@@ -148,14 +147,14 @@ one_more n = grind (arith, nat_tests)
 sets_more : (z : Entry) (left : List Entry) → has_code (codes "TEX") z ≡ true → sets_left (z ∷ left) ≡ 1 + sets_left left
 sets_more z left e = rw ((set_only z e).0, (set_only z e).1, e) refl
 
-pub set_taken : (old new : Attributes) (o n : OpenAttribute) (z : Entry) (left group : List Entry) → has_code (codes "TEX") z ≡ true → old.opened ≡ Some o → is_some o.set ≡ false
-    → new.is_broken ≡ old.is_broken → new.done.items ≡ old.done.items → new.opened ≡ Some n → n.class ≡ o.class → set_come n ≡ Some z.value → is_some n.set ≡ true
+pub set_taken : (old new : KeptAttributes) (o n : OpenAttribute) (z : Entry) (left group : List Entry) → has_code (codes "TEX") z ≡ true → old.opened ≡ Some o → is_some o.set ≡ false
+    → new.is_broken ≡ old.is_broken → new.done ≡ old.done → new.opened ≡ Some n → n.class ≡ o.class → set_come n ≡ Some z.value → is_some n.set ≡ true
     → StoresAttributes old (z ∷ left) group → StoresAttributes new left group
 set_taken old new o n z left group e was no_set same_broken same_done is class set some h = record {
   broken = λ b. h.broken (sym same_broken ∙ b);
   made = λ b.
-      h.made (sym same_broken ∙ b) ∙ ap (λ t. map Some old.done.items ++ attributes_with t (z ∷ left)) was ∙ ap (λ t. map Some old.done.items ++ t) (here ∙ sym there)
-      ∙ ap (λ t. map Some t ++ attributes_with (Some n) left) (sym same_done) ∙ ap (λ t. map Some new.done.items ++ attributes_with t left) (sym is);
+      h.made (sym same_broken ∙ b) ∙ ap (λ t. map Some old.done ++ attributes_with t (z ∷ left)) was ∙ ap (λ t. map Some old.done ++ t) (here ∙ sym there)
+      ∙ ap (λ t. map Some t ++ attributes_with (Some n) left) (sym same_done) ∙ ap (λ t. map Some new.done ++ attributes_with t left) (sym is);
   stray = λ b.
       h.stray (sym same_broken ∙ b) ∙ ap (λ t. list_any is_stray (placed (is_some t) (z ∷ left))) was ∙ stray_skips true z left (set_only z e).0 (set_only z e).1
       ∙ ap (λ t. list_any is_stray (placed (is_some t) left)) (sym is);
@@ -177,27 +176,27 @@ set_taken old new o n z left group e was no_set same_broken same_done is class s
 
 -- ---- a value
 
-pub value_taken : (old new : Attributes) (z : Entry) (left group : List Entry) (text : List ℕ) → closes z ≡ true → z.value ≡ text → is_some old.opened ≡ true
-    → new.is_broken ≡ old.is_broken → new.opened ≡ None → new.done.items ≡ old.done.items ++ closed_with text old.opened
+pub value_taken : (old new : KeptAttributes) (z : Entry) (left group : List Entry) (text : List ℕ) → closes z ≡ true → z.value ≡ text → is_some old.opened ≡ true
+    → new.is_broken ≡ old.is_broken → new.opened ≡ None → new.done ≡ old.done ++ closed_with text old.opened
     → StoresAttributes old (z ∷ left) group → StoresAttributes new left group
 value_taken old new z left group text e same was same_broken is done h = record {
   broken = λ b. h.broken (sym same_broken ∙ b);
   made = λ b.
-      closed_in (z ∷ left) group text old.opened old.done.items new.done.items (set_stops z left (or_right _ _ e)) (sym same ∙ value_found z left (value_only z e).0 e) (h.made (sym same_broken ∙ b)) done
-      ∙ ap (λ t. map Some new.done.items ++ t) (attributes_skip z left (value_only z e).0) ∙ ap (λ t. map Some new.done.items ++ attributes_with t left) (sym is);
+      closed_in (z ∷ left) group text old.opened old.done new.done (set_stops z left (or_right _ _ e)) (sym same ∙ value_found z left (value_only z e).0 e) (h.made (sym same_broken ∙ b)) done
+      ∙ ap (λ t. map Some new.done ++ t) (attributes_skip z left (value_only z e).0) ∙ ap (λ t. map Some new.done ++ attributes_with t left) (sym is);
   stray = λ b. h.stray (sym same_broken ∙ b) ∙ stray_closes (is_some old.opened) z left (value_only z e).0 e was ∙ ap (λ t. list_any is_stray (placed (is_some t) left)) (sym is);
   repeated = λ b.
       h.repeated (sym same_broken ∙ b) ∙ repeats_over (z ∷ left) old.opened (no_sets z left (or_right _ _ e)) ∙ skips_repeat z left (value_only z e).0 ∙ ap (λ t. repeats_with t left) (sym is);
 }
 
-pub stray_taken : (old new : Attributes) (z : Entry) (left group : List Entry) → closes z ≡ true → is_some old.opened ≡ false → new.is_broken ≡ true → StoresAttributes old (z ∷ left) group → StoresAttributes new left group
+pub stray_taken : (old new : KeptAttributes) (z : Entry) (left group : List Entry) → closes z ≡ true → is_some old.opened ≡ false → new.is_broken ≡ true → StoresAttributes old (z ∷ left) group → StoresAttributes new left group
 stray_taken old new z left group e was broken h = stays_broken old new (z ∷ left) left group broken (λ b. or_right _ _ (or_left _ _ (h.stray b ∙ stray_here (is_some old.opened) z left e was))) h
 
 -- ---- all zones have come
 
-pub attributes_come : (a : Attributes) (done : List Attribute) (group : List Entry) → a.is_broken ≡ false → done ≡ a.done.items ++ closed_with [] a.opened → StoresAttributes a [] group → attributes group ≡ map Some done
-attributes_come a done group b closed h = closed_in [] group [] a.opened a.done.items done set_none value_none (h.made b) closed ∙ ap (λ t. map Some done ++ t) attributes_end ∙ append-nil (map Some done)
+pub attributes_come : (a : KeptAttributes) (done : List Attribute) (group : List Entry) → a.is_broken ≡ false → done ≡ a.done ++ closed_with [] a.opened → StoresAttributes a [] group → attributes group ≡ map Some done
+attributes_come a done group b closed h = closed_in [] group [] a.opened a.done done set_none value_none (h.made b) closed ∙ ap (λ t. map Some done ++ t) attributes_end ∙ append-nil (map Some done)
 
-pub attributes_sound : (a : Attributes) (done : List Attribute) (group : List Entry) → a.is_broken ≡ false → done ≡ a.done.items ++ closed_with [] a.opened → StoresAttributes a [] group → has_bad_attribute group ≡ false
+pub attributes_sound : (a : KeptAttributes) (done : List Attribute) (group : List Entry) → a.is_broken ≡ false → done ≡ a.done ++ closed_with [] a.opened → StoresAttributes a [] group → has_bad_attribute group ≡ false
 attributes_sound a done group b closed h =
     good_attributes group done (list_any is_stray (placed false group)) (repeats_with None group) (attributes_come a done group b closed h) refl (h.stray b ∙ stray_end (is_some a.opened)) refl (h.repeated b ∙ repeats_over [] a.opened refl)

@@ -9,8 +9,7 @@ use Rattle.edi_record.specs.Texts.{shown}
 use Rattle.edi_record.specs.Records.{is_link, points_at}
 use Rattle.edi_record.specs.inner.Records.{sns_after, ends}
 use Rattle.edi_record.specs.inner.RecordRules.{kind_in, count_until, repeats, has_bad_end}
-use Rattle.edi_record.specs.inner.Stored.{has_stray, sns_with, sns_come, end_with, ends_with, ended_with, bad_sns_with, StoresEnds}
-use Rattle.edi_record.specs.declared.ends.Ends.{Ends}
+use Rattle.edi_record.specs.inner.Stored.{has_stray, sns_with, sns_come, end_with, ends_with, ended_with, bad_sns_with, StoresEnds, KeptEnds}
 use Rattle.edi_record.specs.declared.ends.OpenEnd.{OpenEnd}
 use Rattle.edi_record.specs.declared.pointer.Pointer.{Pointer}
 use Rattle.edi_record.specs.declared.record.Kind.{Kind}
@@ -59,15 +58,15 @@ no_senses z zs e = rw e refl
 no_stray : (z : Entry) (zs : List Entry) → points_at z ≡ true → has_stray (z ∷ zs) ≡ false
 no_stray z zs e = rw e refl
 
-pub pointer_taken : (old new : Ends) (p : Pointer) (z : Entry) (left group : List Entry) (text : List ℕ) → points_at z ≡ true → z.value ≡ text → Some (shown p) ≡ pointer text
-    → new.is_broken ≡ old.is_broken → new.opened ≡ Some (record { pointer = p; sense = None }) → new.done.items ≡ old.done.items ++ ended_with old.opened
+pub pointer_taken : (old new : KeptEnds) (p : Pointer) (z : Entry) (left group : List Entry) (text : List ℕ) → points_at z ≡ true → z.value ≡ text → Some (shown p) ≡ pointer text
+    → new.is_broken ≡ old.is_broken → new.opened ≡ Some (record { pointer = p; sense = None }) → new.done ≡ old.done ++ ended_with old.opened
     → StoresEnds old (z ∷ left) group → StoresEnds new left group
 pointer_taken old new p z left group text e same read same_broken opened done h = record {
   broken = λ b. h.broken (sym same_broken ∙ b);
   made = λ b.
-      ended_in (z ∷ left) group old.opened old.done.items new.done.items (sns_stops z left e) (h.made (sym same_broken ∙ b)) done
-      ∙ ap (λ t. map Some new.done.items ++ t) (end_read z left text (shown p) e (sym same) read)
-      ∙ ap (λ o. map Some new.done.items ++ ends_with o left) (sym opened);
+      ended_in (z ∷ left) group old.opened old.done new.done (sns_stops z left e) (h.made (sym same_broken ∙ b)) done
+      ∙ ap (λ t. map Some new.done ++ t) (end_read z left text (shown p) e (sym same) read)
+      ∙ ap (λ o. map Some new.done ++ ends_with o left) (sym opened);
   sns = λ b. h.sns (sym same_broken ∙ b) ∙ sns_over (z ∷ left) old.opened (no_senses z left e) (no_stray z left e) ∙ here ∙ ap (λ o. bad_sns_with o left) (sym opened);
 }
   where
@@ -75,7 +74,7 @@ pointer_taken old new p z left group text e same read same_broken opened done h 
     here = rw e refl
 
 -- whatever was stored, the rule is broken
-pub ends_broken : (old new : Ends) (zs left group : List Entry) → new.is_broken ≡ true → (old.is_broken ≡ false → (list_any is_none (ends group) || bad_sns_with None group) ≡ true) → StoresEnds old zs group → StoresEnds new left group
+pub ends_broken : (old new : KeptEnds) (zs left group : List Entry) → new.is_broken ≡ true → (old.is_broken ≡ false → (list_any is_none (ends group) || bad_sns_with None group) ≡ true) → StoresEnds old zs group → StoresEnds new left group
 ends_broken old new zs left group broken found h = record {
   broken = λ b. by_old old.is_broken refl;
   made = λ b. let wrong : true ≡ false = sym broken ∙ b in absurd (cc);
@@ -86,10 +85,10 @@ ends_broken old new zs left group broken found h = record {
     by_old true e = h.broken e
     by_old false e = found e
 
-pub no_pointer_taken : (old new : Ends) (done : List End) (z : Entry) (left group : List Entry) (text : List ℕ) → points_at z ≡ true → z.value ≡ text → None ≡ pointer text
-    → new.is_broken ≡ true → done ≡ old.done.items ++ ended_with old.opened → StoresEnds old (z ∷ left) group → StoresEnds new left group
+pub no_pointer_taken : (old new : KeptEnds) (done : List End) (z : Entry) (left group : List Entry) (text : List ℕ) → points_at z ≡ true → z.value ≡ text → None ≡ pointer text
+    → new.is_broken ≡ true → done ≡ old.done ++ ended_with old.opened → StoresEnds old (z ∷ left) group → StoresEnds new left group
 no_pointer_taken old new done z left group text e same read broken pushed h = ends_broken old new (z ∷ left) left group broken (λ b. or_left _ _ (one_missing (ends group) (ends (z ∷ left)) (ends left) done
-    (ended_in (z ∷ left) group old.opened old.done.items done (sns_stops z left e) (h.made b) pushed)
+    (ended_in (z ∷ left) group old.opened old.done done (sns_stops z left e) (h.made b) pushed)
     (no_end z left text e (sym same) read))) h
 
 -- ---- an SNS
@@ -100,14 +99,14 @@ senses_more z left e = rw (sense_only z e, e) refl
 skips_repeat : (z : Entry) (zs : List Entry) → points_at z ≡ false → repeats_left (z ∷ zs) ≡ repeats_left zs
 skips_repeat z zs e = rw e refl
 
-pub sense_taken : (old new : Ends) (o n : OpenEnd) (z : Entry) (left group : List Entry) → has_code (codes "SNS") z ≡ true → old.opened ≡ Some o → is_some o.sense ≡ false
-    → new.is_broken ≡ old.is_broken → new.done.items ≡ old.done.items → new.opened ≡ Some n → n.pointer ≡ o.pointer → sns_come n ≡ Some z.value → is_some n.sense ≡ true
+pub sense_taken : (old new : KeptEnds) (o n : OpenEnd) (z : Entry) (left group : List Entry) → has_code (codes "SNS") z ≡ true → old.opened ≡ Some o → is_some o.sense ≡ false
+    → new.is_broken ≡ old.is_broken → new.done ≡ old.done → new.opened ≡ Some n → n.pointer ≡ o.pointer → sns_come n ≡ Some z.value → is_some n.sense ≡ true
     → StoresEnds old (z ∷ left) group → StoresEnds new left group
 sense_taken old new o n z left group e was no_sense same_broken same_done is class sense some h = record {
   broken = λ b. h.broken (sym same_broken ∙ b);
   made = λ b.
-      h.made (sym same_broken ∙ b) ∙ ap (λ t. map Some old.done.items ++ ends_with t (z ∷ left)) was ∙ ap (λ t. map Some old.done.items ++ t) (here ∙ sym there)
-      ∙ ap (λ t. map Some t ++ ends_with (Some n) left) (sym same_done) ∙ ap (λ t. map Some new.done.items ++ ends_with t left) (sym is);
+      h.made (sym same_broken ∙ b) ∙ ap (λ t. map Some old.done ++ ends_with t (z ∷ left)) was ∙ ap (λ t. map Some old.done ++ t) (here ∙ sym there)
+      ∙ ap (λ t. map Some t ++ ends_with (Some n) left) (sym same_done) ∙ ap (λ t. map Some new.done ++ ends_with t left) (sym is);
   sns = λ b. h.sns (sym same_broken ∙ b) ∙ ap (λ t. bad_sns_with t (z ∷ left)) was ∙ once ∙ ap (λ t. bad_sns_with t left) (sym is);
 }
   where
@@ -127,15 +126,15 @@ sense_taken old new o n z left group e was no_sense same_broken same_done is cla
 sns_here : (z : Entry) (zs : List Entry) → has_code (codes "SNS") z ≡ true → has_stray (z ∷ zs) ≡ true
 sns_here z zs e = rw (sense_only z e, one-add, e) refl
 
-pub stray_sense : (old new : Ends) (z : Entry) (left group : List Entry) → has_code (codes "SNS") z ≡ true → old.opened ≡ None → new.is_broken ≡ true → StoresEnds old (z ∷ left) group → StoresEnds new left group
+pub stray_sense : (old new : KeptEnds) (z : Entry) (left group : List Entry) → has_code (codes "SNS") z ≡ true → old.opened ≡ None → new.is_broken ≡ true → StoresEnds old (z ∷ left) group → StoresEnds new left group
 stray_sense old new z left group e was broken h = ends_broken old new (z ∷ left) left group broken (λ b. or_right _ _ (h.sns b ∙ ap (λ o. bad_sns_with o (z ∷ left)) was ∙ or_left _ _ (sns_here z left e))) h
 
 -- ---- a zone that no end takes
 
-pub ends_pass : (a : Ends) (z : Entry) (left group : List Entry) → points_at z ≡ false → has_code (codes "SNS") z ≡ false → StoresEnds a (z ∷ left) group → StoresEnds a left group
+pub ends_pass : (a : KeptEnds) (z : Entry) (left group : List Entry) → points_at z ≡ false → has_code (codes "SNS") z ≡ false → StoresEnds a (z ∷ left) group → StoresEnds a left group
 ends_pass a z left group not_end not_sense h = record {
   broken = h.broken;
-  made = λ b. h.made b ∙ ap (λ t. map Some a.done.items ++ t) (past a.opened);
+  made = λ b. h.made b ∙ ap (λ t. map Some a.done ++ t) (past a.opened);
   sns = λ b. h.sns b ∙ past_sns a.opened;
 }
   where
@@ -153,17 +152,17 @@ ends_pass a z left group not_end not_sense h = record {
 
 -- ---- all zones have come
 
-pub ends_come : (a : Ends) (done : List End) (group : List Entry) → a.is_broken ≡ false → done ≡ a.done.items ++ ended_with a.opened → StoresEnds a [] group → ends group ≡ map Some done
-ends_come a done group b closed h = ended_in [] group a.opened a.done.items done sns_none (h.made b) closed ∙ ap (λ t. map Some done ++ t) ends_end ∙ append-nil (map Some done)
+pub ends_come : (a : KeptEnds) (done : List End) (group : List Entry) → a.is_broken ≡ false → done ≡ a.done ++ ended_with a.opened → StoresEnds a [] group → ends group ≡ map Some done
+ends_come a done group b closed h = ended_in [] group a.opened a.done done sns_none (h.made b) closed ∙ ap (λ t. map Some done ++ t) ends_end ∙ append-nil (map Some done)
 
-pub ends_sound : (a : Ends) (kind : Kind) (done : List End) (group : List Entry) → a.is_broken ≡ false → done ≡ a.done.items ++ ended_with a.opened → 2 ≤ length done → kind_in group ≡ Some kind → is_link kind ≡ true → StoresEnds a [] group → has_bad_end group ≡ false
+pub ends_sound : (a : KeptEnds) (kind : Kind) (done : List End) (group : List Entry) → a.is_broken ≡ false → done ≡ a.done ++ ended_with a.opened → 2 ≤ length done → kind_in group ≡ Some kind → is_link kind ≡ true → StoresEnds a [] group → has_bad_end group ≡ false
 ends_sound a kind done group b closed many k link h =
     good_ends kind group done (bad_sns_with None group) k link (ends_come a done group b closed h) many refl (h.sns b ∙ sns_over [] a.opened refl refl)
 
-pub ends_few : (a : Ends) (kind : Kind) (done : List End) (group : List Entry) → a.is_broken ≡ false → done ≡ a.done.items ++ ended_with a.opened → length done < 2 → kind_in group ≡ Some kind → is_link kind ≡ true → StoresEnds a [] group → has_bad_end group ≡ true
+pub ends_few : (a : KeptEnds) (kind : Kind) (done : List End) (group : List Entry) → a.is_broken ≡ false → done ≡ a.done ++ ended_with a.opened → length done < 2 → kind_in group ≡ Some kind → is_link kind ≡ true → StoresEnds a [] group → has_bad_end group ≡ true
 ends_few a kind done group b closed few k link h = few_ends kind group done k link (ends_come a done group b closed h) few
 
-pub ends_bad : (a : Ends) (kind : Kind) (group : List Entry) → a.is_broken ≡ true → kind_in group ≡ Some kind → is_link kind ≡ true → StoresEnds a [] group → has_bad_end group ≡ true
+pub ends_bad : (a : KeptEnds) (kind : Kind) (group : List Entry) → a.is_broken ≡ true → kind_in group ≡ Some kind → is_link kind ≡ true → StoresEnds a [] group → has_bad_end group ≡ true
 ends_bad a kind group b k link h = by_pointer (list_any is_none (ends group)) refl (h.broken b)
   where
     by_pointer : (p : Bool) → list_any is_none (ends group) ≡ p → (p || bad_sns_with None group) ≡ true → has_bad_end group ≡ true

@@ -34,3 +34,5 @@ pub mod SheetBlocks
 pub mod BlockLists
 pub mod GoneThrough
 pub mod StatedAt
+pub mod GroupRules
+pub mod RecordsBroken

@@ -8,9 +8,7 @@ use Rattle.edi_record.specs.Shapes.{may_have_points}
 use Rattle.edi_record.specs.Records.{values, has_points}
 use Rattle.edi_record.specs.inner.Records.{placed, is_open_after, is_extra, extra, extras}
 use Rattle.edi_record.specs.inner.RecordRules.{kind_in, has_bad_point, is_unknown_pointer, has_unknown_pointer}
-use Rattle.edi_record.specs.inner.Stored.{StoresPoints, StoresExtras, TakesExtra, extras_after}
-use Rattle.edi_record.specs.declared.points.Points.{Points}
-use Rattle.edi_record.specs.declared.extras.Extras.{Extras}
+use Rattle.edi_record.specs.inner.Stored.{StoresPoints, StoresExtras, TakesExtra, extras_after, KeptPoints, KeptExtras}
 use Rattle.edi_record.specs.declared.record.Kind.{Kind}
 use Rattle.edi_record.specs.declared.record.Point.{Point}
 use Rattle.edi_record.proofs.GroupCuts.{value_skipped}
@@ -22,23 +20,23 @@ places zs = map point (values (codes "COR") zs)
 
 -- ---- points
 
-pub points_pass : (a : Points) (z : Entry) (left group : List Entry) → has_code (codes "COR") z ≡ false → StoresPoints a (z ∷ left) group → StoresPoints a left group
+pub points_pass : (a : KeptPoints) (z : Entry) (left group : List Entry) → has_code (codes "COR") z ≡ false → StoresPoints a (z ∷ left) group → StoresPoints a left group
 points_pass a z left group e h = record {
   broken = h.broken;
-  made = λ b. h.made b ∙ ap (λ vs. map Some a.list.items ++ map point vs) (value_skipped (codes "COR") z left e);
+  made = λ b. h.made b ∙ ap (λ vs. map Some a.list ++ map point vs) (value_skipped (codes "COR") z left e);
 }
 
-pub points_come : (a : Points) (group : List Entry) → a.is_broken ≡ false → StoresPoints a [] group → places group ≡ map Some a.list.items
-points_come a group b h = h.made b ∙ append-nil (map Some a.list.items)
+pub points_come : (a : KeptPoints) (group : List Entry) → a.is_broken ≡ false → StoresPoints a [] group → places group ≡ map Some a.list
+points_come a group b h = h.made b ∙ append-nil (map Some a.list)
 
-pub points_sound : (a : Points) (kind : Kind) (group : List Entry) → a.is_broken ≡ false → may_have_points kind (length a.list.items) ≡ true → kind_in group ≡ Some kind → has_points kind ≡ true → StoresPoints a [] group → has_bad_point group ≡ false
-points_sound a kind group b may k has h = right_points kind group a.list.items k has (points_come a group b h) may
+pub points_sound : (a : KeptPoints) (kind : Kind) (group : List Entry) → a.is_broken ≡ false → may_have_points kind (length a.list) ≡ true → kind_in group ≡ Some kind → has_points kind ≡ true → StoresPoints a [] group → has_bad_point group ≡ false
+points_sound a kind group b may k has h = right_points kind group a.list k has (points_come a group b h) may
 
-pub points_bad : (a : Points) (kind : Kind) (group : List Entry) → a.is_broken ≡ true → kind_in group ≡ Some kind → has_points kind ≡ true → StoresPoints a [] group → has_bad_point group ≡ true
+pub points_bad : (a : KeptPoints) (kind : Kind) (group : List Entry) → a.is_broken ≡ true → kind_in group ≡ Some kind → has_points kind ≡ true → StoresPoints a [] group → has_bad_point group ≡ true
 points_bad a kind group b k has h = bad_place kind group k has (h.broken b)
 
-pub points_not_right : (a : Points) (kind : Kind) (group : List Entry) → a.is_broken ≡ false → may_have_points kind (length a.list.items) ≡ false → kind_in group ≡ Some kind → has_points kind ≡ true → StoresPoints a [] group → has_bad_point group ≡ true
-points_not_right a kind group b may k has h = wrong_number kind group a.list.items k has (points_come a group b h) may
+pub points_not_right : (a : KeptPoints) (kind : Kind) (group : List Entry) → a.is_broken ≡ false → may_have_points kind (length a.list) ≡ false → kind_in group ≡ Some kind → has_points kind ≡ true → StoresPoints a [] group → has_bad_point group ≡ true
+points_not_right a kind group b may k has h = wrong_number kind group a.list k has (points_come a group b h) may
 
 -- ---- extras
 
@@ -46,16 +44,16 @@ points_not_right a kind group b may k has h = wrong_number kind group a.list.ite
 abbrev pub is_pointer : Entry → Bool
 is_pointer z = eqb z.format 80 && ltb 0 (length z.value)
 
-pub extra_taken : (old new : Extras) (z : Entry) → is_pointer z ≡ false → new.is_broken ≡ old.is_broken → new.list.items ≡ old.list.items ++ extra z ∷ [] → TakesExtra z old new
+pub extra_taken : (old new : KeptExtras) (z : Entry) → is_pointer z ≡ false → new.is_broken ≡ old.is_broken → new.list ≡ old.list ++ extra z ∷ [] → TakesExtra z old new
 extra_taken old new z plain same_broken pushed kind is_open left group e h = record {
   broken = λ b. h.broken (sym same_broken ∙ b);
   made = λ b.
-      extras_grow (extras kind group) (extras_after kind is_open (z ∷ left)) (extras_after kind (is_open_after is_open z) left) old.list.items new.list.items (extra z) (h.made (sym same_broken ∙ b))
+      extras_grow (extras kind group) (extras_after kind is_open (z ∷ left)) (extras_after kind (is_open_after is_open z) left) old.list new.list (extra z) (h.made (sym same_broken ∙ b))
       (extras_here kind is_open z left e) pushed;
   unknown = λ b. h.unknown (sym same_broken ∙ b) ∙ unknown_skip kind is_open z left (rw (e, plain) refl);
 }
 
-pub pointer_met : (old new : Extras) (z : Entry) → is_pointer z ≡ true → new.is_broken ≡ true → TakesExtra z old new
+pub pointer_met : (old new : KeptExtras) (z : Entry) → is_pointer z ≡ true → new.is_broken ≡ true → TakesExtra z old new
 pointer_met old new z pointed broken kind is_open left group e h = record {
   broken = λ b. by_old old.is_broken refl;
   made = λ b. let wrong : true ≡ false = sym broken ∙ b in absurd (cc);
@@ -67,15 +65,15 @@ pointer_met old new z pointed broken kind is_open left group e h = record {
     by_old false f = h.unknown f ∙ unknown_here kind is_open z left (rw (e, pointed) refl)
 
 -- of a zone that is no extra
-pub extras_pass : (kind : Kind) (is_open : Bool) (a : Extras) (z : Entry) (left group : List Entry) → is_extra kind (record { open_before = is_open; zone = z }) ≡ false → StoresExtras kind is_open a (z ∷ left) group → StoresExtras kind (is_open_after is_open z) a left group
+pub extras_pass : (kind : Kind) (is_open : Bool) (a : KeptExtras) (z : Entry) (left group : List Entry) → is_extra kind (record { open_before = is_open; zone = z }) ≡ false → StoresExtras kind is_open a (z ∷ left) group → StoresExtras kind (is_open_after is_open z) a left group
 extras_pass kind is_open a z left group e h = record {
   broken = h.broken;
-  made = λ b. h.made b ∙ ap (λ t. a.list.items ++ t) (extras_skip kind is_open z left e);
+  made = λ b. h.made b ∙ ap (λ t. a.list ++ t) (extras_skip kind is_open z left e);
   unknown = λ b. h.unknown b ∙ unknown_skip kind is_open z left (rw e refl);
 }
 
-pub extras_come : (kind : Kind) (is_open : Bool) (a : Extras) (group : List Entry) → a.is_broken ≡ false → StoresExtras kind is_open a [] group → extras kind group ≡ a.list.items
-extras_come kind is_open a group b h = h.made b ∙ ap (λ t. a.list.items ++ t) (extras_none kind is_open) ∙ append-nil a.list.items
+pub extras_come : (kind : Kind) (is_open : Bool) (a : KeptExtras) (group : List Entry) → a.is_broken ≡ false → StoresExtras kind is_open a [] group → extras kind group ≡ a.list
+extras_come kind is_open a group b h = h.made b ∙ ap (λ t. a.list ++ t) (extras_none kind is_open) ∙ append-nil a.list
 
-pub extras_sound : (kind : Kind) (is_open : Bool) (a : Extras) (group : List Entry) → a.is_broken ≡ false → kind_in group ≡ Some kind → StoresExtras kind is_open a [] group → has_unknown_pointer group ≡ false
+pub extras_sound : (kind : Kind) (is_open : Bool) (a : KeptExtras) (group : List Entry) → a.is_broken ≡ false → kind_in group ≡ Some kind → StoresExtras kind is_open a [] group → has_unknown_pointer group ≡ false
 extras_sound kind is_open a group b k h = unknown_in kind group k ∙ h.unknown b ∙ unknown_none kind is_open

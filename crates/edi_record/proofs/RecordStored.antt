@@ -7,11 +7,8 @@ use Rattle.edi_line.specs.Entry.{Entry, has_code}
 use Rattle.edi_record.specs.Records.{values, has_points, is_link, known_anywhere, known_in, is_known}
 use Rattle.edi_record.specs.inner.Records.{is_open_after, is_extra}
 use Rattle.edi_record.specs.inner.RecordRules.{is_arc}
-use Rattle.edi_record.specs.inner.Stored.{AreTexts, StoresAttributes, StoresPoints, StoresEnds, StoresExtras, StoresRecord, LeavesOpen, TakesExtra}
+use Rattle.edi_record.specs.inner.Stored.{AreTexts, StoresAttributes, StoresPoints, StoresEnds, StoresExtras, StoresRecord, TakesExtra, KeptAttributes, KeptExtras, KeptRecord}
 use Rattle.edi_record.specs.declared.only.Only.{Only}
-use Rattle.edi_record.specs.declared.attributes.Attributes.{Attributes}
-use Rattle.edi_record.specs.declared.extras.Extras.{Extras}
-use Rattle.edi_record.specs.declared.draft.Draft.{Draft}
 use Rattle.edi_record.specs.declared.role.ZoneRole.TheVariants.{BodyCount, Skipped, Unknown}
 use Rattle.edi_record.specs.declared.record.Kind.{Kind}
 use Rattle.edi_record.specs.declared.record.Kind.TheVariants.{Pno, Par, Pfe, Fea, Lnk}
@@ -41,7 +38,7 @@ count_taken code n all z left e h = let here = ap length (value_here code z left
 
 -- ---- the parts that don't take a zone with a code
 
-pub record Others (code : List ℕ) (d : Draft) (z : Entry) (left group : List Entry) : Type 0 where
+pub record Others (code : List ℕ) (d : KeptRecord) (z : Entry) (left group : List Entry) : Type 0 where
   pub identifier : bytes_eq code (codes "RID") ≡ false → AreTexts d.identifier (values (codes "RID") left) (values (codes "RID") group)
   pub class : bytes_eq code (codes "SCP") ≡ false → AreTexts d.class (values (codes "SCP") left) (values (codes "SCP") group)
   pub attribute_count : bytes_eq code (codes "ATC") ≡ false → AreTexts d.attribute_count (values (codes "ATC") left) (values (codes "ATC") group)
@@ -54,7 +51,7 @@ pub record Others (code : List ℕ) (d : Draft) (z : Entry) (left group : List E
   pub ends : bytes_eq code (codes "FTP") ≡ false → bytes_eq code (codes "SNS") ≡ false → is_link d.kind ≡ true → StoresEnds d.ends left group
   pub extras : is_known d.kind code ≡ true → d.attributes.is_broken ≡ false → StoresExtras d.kind (is_open_after (is_some d.attributes.opened) z) d.extras left group
 
-pub others : (code : List ℕ) (d : Draft) (z : Entry) (left group : List Entry) → z.code ≡ code → StoresRecord d (z ∷ left) group → Others code d z left group
+pub others : (code : List ℕ) (d : KeptRecord) (z : Entry) (left group : List Entry) → z.code ≡ code → StoresRecord d (z ∷ left) group → Others code d z left group
 others code d z left group is h = record {
   identifier = λ e. texts_pass d.identifier (codes "RID") z left (values (codes "RID") group) (no (codes "RID") e) h.identifier;
   class = λ e. texts_pass d.class (codes "SCP") z left (values (codes "SCP") group) (no (codes "SCP") e) h.class;
@@ -80,7 +77,7 @@ pub open_stays : (code : List ℕ) (is_open : Bool) (z : Entry) → z.code ≡ c
 open_stays code is_open z is e f = rw (ap (λ t. bytes_eq t (codes "ATP")) is ∙ e, ap (λ t. bytes_eq t (codes "ATV")) is ∙ f) refl
 
 -- the extras where this zone, which isn't one, opened and closed no attribute
-pub extras_stay : (code : List ℕ) (d : Draft) (z : Entry) (left group : List Entry) → z.code ≡ code → bytes_eq code (codes "ATP") ≡ false → bytes_eq code (codes "ATV") ≡ false
+pub extras_stay : (code : List ℕ) (d : KeptRecord) (z : Entry) (left group : List Entry) → z.code ≡ code → bytes_eq code (codes "ATP") ≡ false → bytes_eq code (codes "ATV") ≡ false
     → (d.attributes.is_broken ≡ false → StoresExtras d.kind (is_open_after (is_some d.attributes.opened) z) d.extras left group) → d.attributes.is_broken ≡ false → StoresExtras d.kind (is_some d.attributes.opened) d.extras left group
 extras_stay code d z left group is e f h b = subst (λ o. StoresExtras d.kind o d.extras left group) (open_stays code (is_some d.attributes.opened) z is e f) (h b)
 
@@ -89,16 +86,20 @@ extras_stay code d z left group is e f h b = subst (λ o. StoresExtras d.kind o 
 pub has : (code : List ℕ) (z : Entry) → z.code ≡ code → has_code code z ≡ true
 has code z is = (bytes_eq-Decides z.code code).1 is
 
-pub no_set : (d : Draft) → (is_some d.attributes.opened && false) ≡ false
+pub no_set : (d : KeptRecord) → (is_some d.attributes.opened && false) ≡ false
 no_set d = go (is_some d.attributes.opened)
   where
     go : (b : Bool) → (b && false) ≡ false
     go true = refl
     go false = refl
 
+-- where the rule isn't broken then, it wasn't before, and an attribute is open then or none is
+abbrev leaves_open : Bool → KeptAttributes → KeptAttributes → Type 0
+leaves_open is_open old new = new.is_broken ≡ false → (old.is_broken ≡ false) × (is_some new.opened ≡ is_open)
+
 -- the extras where a zone opened or closed an attribute
-pub extras_move : (is_open : Bool) (code : List ℕ) (d : Draft) (new : Attributes) (z : Entry) (left group : List Entry) → z.code ≡ code → cond (bytes_eq code (codes "ATP")) true (cond (bytes_eq code (codes "ATV")) false (is_some d.attributes.opened)) ≡ is_open
-    → LeavesOpen is_open d.attributes new → (d.attributes.is_broken ≡ false → StoresExtras d.kind (is_open_after (is_some d.attributes.opened) z) d.extras left group)
+pub extras_move : (is_open : Bool) (code : List ℕ) (d : KeptRecord) (new : KeptAttributes) (z : Entry) (left group : List Entry) → z.code ≡ code → cond (bytes_eq code (codes "ATP")) true (cond (bytes_eq code (codes "ATV")) false (is_some d.attributes.opened)) ≡ is_open
+    → leaves_open is_open d.attributes new → (d.attributes.is_broken ≡ false → StoresExtras d.kind (is_open_after (is_some d.attributes.opened) z) d.extras left group)
     → new.is_broken ≡ false → StoresExtras d.kind (is_some new.opened) d.extras left group
 extras_move is_open code d new z left group is after leaves h b =
     let was = leaves b in
@@ -106,7 +107,7 @@ extras_move is_open code d new z left group is after leaves h b =
     subst (λ o. StoresExtras d.kind o d.extras left group) same (h was.0)
 
 -- the extras where the open attribute took a character set
-pub extras_beside_set : (d : Draft) (new : Attributes) (z : Entry) (left group : List Entry) → z.code ≡ codes "TEX" → is_some d.attributes.opened ≡ true → LeavesOpen (is_some d.attributes.opened) d.attributes new
+pub extras_beside_set : (d : KeptRecord) (new : KeptAttributes) (z : Entry) (left group : List Entry) → z.code ≡ codes "TEX" → is_some d.attributes.opened ≡ true → leaves_open (is_some d.attributes.opened) d.attributes new
     → (d.attributes.is_broken ≡ false → StoresExtras d.kind (is_some d.attributes.opened) d.extras (z ∷ left) group) → new.is_broken ≡ false → StoresExtras d.kind (is_some new.opened) d.extras left group
 extras_beside_set d new z left group is was leaves h =
     extras_move (is_some d.attributes.opened) (codes "TEX") d new z left group is refl leaves (λ b. extras_pass d.kind (is_some d.attributes.opened) d.extras z left group not_extra (h b))
@@ -125,7 +126,7 @@ set_is_extra kind is_open z is none = rw (is, none) (by_kind kind)
     by_kind Lnk = refl
 
 -- the extras with one more
-pub extra_kept : (code : List ℕ) (d : Draft) (new : Extras) (z : Entry) (left group : List Entry) → z.code ≡ code → bytes_eq code (codes "ATP") ≡ false → bytes_eq code (codes "ATV") ≡ false
+pub extra_kept : (code : List ℕ) (d : KeptRecord) (new : KeptExtras) (z : Entry) (left group : List Entry) → z.code ≡ code → bytes_eq code (codes "ATP") ≡ false → bytes_eq code (codes "ATV") ≡ false
     → is_extra d.kind (record { open_before = is_some d.attributes.opened; zone = z }) ≡ true → TakesExtra z d.extras new
     → (d.attributes.is_broken ≡ false → StoresExtras d.kind (is_some d.attributes.opened) d.extras (z ∷ left) group) → d.attributes.is_broken ≡ false → StoresExtras d.kind (is_some d.attributes.opened) new left group
 extra_kept code d new z left group is e f extra takes h b =
@@ -133,7 +134,7 @@ extra_kept code d new z left group is e f extra takes h b =
 
 -- ---- counts of points or of ends
 
-pub body_count_taken : (d : Draft) (new : Only) (z : Entry) (left group : List Entry) (text : List ℕ) → CodeIs d.kind z.code BodyCount → text ≡ z.value
+pub body_count_taken : (d : KeptRecord) (new : Only) (z : Entry) (left group : List Entry) (text : List ℕ) → CodeIs d.kind z.code BodyCount → text ≡ z.value
     → ((left all : List (List ℕ)) → AreTexts d.body_count (text ∷ left) all → AreTexts new left all) → StoresRecord d (z ∷ left) group
     → StoresRecord (record { kind = d.kind; identifier = d.identifier; class = d.class; attribute_count = d.attribute_count; body_count = new; counted = d.counted; attributes = d.attributes; points = d.points; ends = d.ends; extras = d.extras }) left group
 body_count_taken d new z left group text (inl (arc, is)) same takes h =
@@ -173,7 +174,7 @@ body_count_taken d new z left group text (inr (link, is)) same takes h =
 abbrev taken_codes : List (List ℕ)
 taken_codes = codes "RID" ∷ codes "SCP" ∷ codes "ATC" ∷ codes "PTC" ∷ codes "FTC" ∷ codes "COR" ∷ codes "FTP" ∷ codes "SNS" ∷ codes "ATP" ∷ codes "ATV" ∷ codes "TEX" ∷ []
 
-passed : (code : List ℕ) (d : Draft) (z : Entry) (left group : List Entry) → z.code ≡ code → list_any (bytes_eq code) taken_codes ≡ false → is_known d.kind code ≡ true → StoresRecord d (z ∷ left) group → StoresRecord d left group
+passed : (code : List ℕ) (d : KeptRecord) (z : Entry) (left group : List Entry) → z.code ≡ code → list_any (bytes_eq code) taken_codes ≡ false → is_known d.kind code ≡ true → StoresRecord d (z ∷ left) group → StoresRecord d left group
 passed code d z left group is free known h =
     let o = others code d z left group is h in
     let a = any_apart (bytes_eq code) taken_codes free in
@@ -193,14 +194,14 @@ passed code d z left group is free known h =
       extras = extras_stay code d z left group is attributes.0 attributes.1.0 (o.extras known);
     }
 
-pub skipped : (d : Draft) (z : Entry) (left group : List Entry) → CodeIs d.kind z.code Skipped → StoresRecord d (z ∷ left) group → StoresRecord d left group
+pub skipped : (d : KeptRecord) (z : Entry) (left group : List Entry) → CodeIs d.kind z.code Skipped → StoresRecord d (z ∷ left) group → StoresRecord d left group
 skipped d z left group (inl is) h = passed (codes "RTY") d z left group is refl refl h
 skipped d z left group (inr (inl is)) h = passed (codes "QAC") d z left group is refl refl h
 skipped d z left group (inr (inr is)) h = passed (codes "QAP") d z left group is refl refl h
 
 -- ---- zones whose code isn't known
 
-pub unknown_taken : (d : Draft) (new : Extras) (z : Entry) (left group : List Entry) → CodeIs d.kind z.code Unknown → TakesExtra z d.extras new → StoresRecord d (z ∷ left) group
+pub unknown_taken : (d : KeptRecord) (new : KeptExtras) (z : Entry) (left group : List Entry) → CodeIs d.kind z.code Unknown → TakesExtra z d.extras new → StoresRecord d (z ∷ left) group
     → StoresRecord (record { kind = d.kind; identifier = d.identifier; class = d.class; attribute_count = d.attribute_count; body_count = d.body_count; counted = d.counted; attributes = d.attributes; points = d.points; ends = d.ends; extras = new }) left group
 unknown_taken d new z left group is takes h =
     let o = others z.code d z left group refl h in

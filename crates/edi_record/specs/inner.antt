@@ -3,9 +3,12 @@ pub mod Texts
 pub mod Records
 pub mod RecordRules
 pub mod Stored
+pub mod RecordParts
 pub mod RecordRefusal
 pub mod Lists
 pub mod Shapes
 pub mod SheetBlocks
 pub mod BlockLists
 pub mod SheetRest
+pub mod GroupRules
+pub mod AllBroken

@@ -5,7 +5,8 @@ ghost use Rattle.edi_line.specs.Entry.{Entry};
 ghost use Rattle.edi_record.specs.inner.Records.{attributes};
 ghost use Rattle.edi_record.specs.inner.RecordRules.{has_bad_attribute};
 ghost use Rattle.edi_record.specs.inner.RecordRefusal.{IsBreachOf};
-ghost use Rattle.edi_record.specs.inner.Stored.{Takes, StoresAttributes, LeavesOpen, closed_with};
+ghost use Rattle.edi_record.specs.inner.Stored.{Takes, StoresAttributes, LeavesOpen, closed_with, kept_attributes};
+ghost use Rattle.edi_record.specs.declared.record.Attribute.{Attribute as AttributeMade};
 
 use crate::fault::GroupFault;
 use crate::pointer::Pointer;
@@ -62,23 +63,21 @@ fn push_attribute(
     Ok(())
 }
 
-/// The attributes of the zones that have come. One is closed by its value, by the next or by the end.
-#[derive(Drop)]
+/// The attribute that is open among the zones that have come. It is closed by its value, by the next or by the end, and
+/// then goes behind those that are done, which are in a list beside.
+#[derive(Clone, Copy)]
 pub(crate) struct Attributes<'a> {
-    done: Vec<Attribute>,
     opened: Option<OpenAttribute<'a>>,
     is_broken: bool,
 }
 
 impl<'a> Attributes<'a> {
-    /// No attributes, with a list for them that is empty.
-    pub(crate) fn new(done: Vec<Attribute>) -> Attributes<'a>
-        requires { done.items ≡ [] }
-        ensures keeps { (group : List Entry) → StoresAttributes result group group }
+    /// No attributes have come.
+    pub(crate) fn new() -> Attributes<'a>
+        ensures keeps { (group : List Entry) → StoresAttributes (kept_attributes result []) group group }
         ensures closed { is_some result.opened ≡ false }
     {
         Attributes {
-            done,
             opened: None,
             is_broken: false,
         }
@@ -92,25 +91,35 @@ impl<'a> Attributes<'a> {
     }
 
     /// Closes the attribute that is open, if one is, with this value.
-    fn close(&mut self, alloc: Global, value: &[u8]) -> Result<(), AllocError>
+    fn close(
+        &mut self,
+        alloc: Global,
+        done: &mut Vec<Attribute>,
+        value: &[u8],
+    ) -> Result<(), AllocError>
         ensures broken { OnOk result (self.new.is_broken ≡ self.old.is_broken) }
         ensures opened { OnOk result (self.new.opened ≡ None) }
-        ensures done { OnOk result (self.new.done.items
-            ≡ self.old.done.items ++ closed_with value.now self.old.opened) }
+        ensures done { OnOk result (done.new.items ≡ done.old.items ++ closed_with value.now self.old.opened) }
     {
         if let Some(opened) = &self.opened {
-            push_attribute(&mut self.done, alloc, opened, value)?;
+            push_attribute(done, alloc, opened, value)?;
             self.opened = None;
         }
         Ok(())
     }
 
     /// Takes the class of the next attribute.
-    pub(crate) fn take_class(&mut self, alloc: Global, text: &'a [u8]) -> Result<(), AllocError>
-        ensures keeps { OnOk result (Takes StoresAttributes (codes "ATP") text.entry.now self.old self.new) }
+    pub(crate) fn take_class(
+        &mut self,
+        alloc: Global,
+        done: &mut Vec<Attribute>,
+        text: &'a [u8],
+    ) -> Result<(), AllocError>
+        ensures keeps { OnOk result (Takes StoresAttributes (codes "ATP") text.entry.now
+            (kept_attributes self.old done.old.items) (kept_attributes self.new done.new.items)) }
         ensures opens { OnOk result (LeavesOpen true self.old self.new) }
     {
-        self.close(alloc, &[])?;
+        self.close(alloc, done, &[])?;
         match Pointer::read(text) {
             Some(class) => self.opened = Some(OpenAttribute { class, set: None }),
             None => self.is_broken = true,
@@ -120,7 +129,8 @@ impl<'a> Attributes<'a> {
 
     /// Takes a character set.
     pub(crate) fn take_set(&mut self, text: &'a [u8])
-        ensures keeps { Takes StoresAttributes (codes "TEX") text.entry.now self.old self.new }
+        ensures keeps { (done : List AttributeMade) → Takes StoresAttributes (codes "TEX") text.entry.now
+            (kept_attributes self.old done) (kept_attributes self.new done) }
         ensures opens { LeavesOpen (is_some self.old.opened) self.old self.new }
     {
         let Some(opened) = self.opened else {
@@ -137,34 +147,46 @@ impl<'a> Attributes<'a> {
     }
 
     /// Takes a value.
-    pub(crate) fn take_value(&mut self, alloc: Global, text: &[u8]) -> Result<(), AllocError>
-        ensures keeps { OnOk result (Takes StoresAttributes (codes "ATV") text.now self.old self.new) }
+    pub(crate) fn take_value(
+        &mut self,
+        alloc: Global,
+        done: &mut Vec<Attribute>,
+        text: &[u8],
+    ) -> Result<(), AllocError>
+        ensures keeps { OnOk result (Takes StoresAttributes (codes "ATV") text.now
+            (kept_attributes self.old done.old.items) (kept_attributes self.new done.new.items)) }
         ensures closes { OnOk result (LeavesOpen false self.old self.new) }
     {
         if !self.is_open() {
             self.is_broken = true;
             return Ok(());
         }
-        self.close(alloc, text)?;
+        self.close(alloc, done, text)?;
         Ok(())
     }
 
-    /// The attributes; or rule 204, where the class of one is no pointer, a value comes where no
+    /// Closes the last attribute; or rule 204 is broken, where the class of one is no pointer, a value comes where no
     /// attribute is open, or an open attribute has two character sets.
-    pub(crate) fn finish(mut self, alloc: Global) -> Result<Vec<Attribute>, GroupFault>
-        ensures states { IfOk result (λ v. (group : List Entry) → StoresAttributes self.entry [] group
-            → attributes group ≡ map Some v.items) }
-        ensures unbroken { OnOk result (self.entry.is_broken ≡ false) }
-        ensures sound { OnOk result ((group : List Entry) → StoresAttributes self.entry [] group
+    pub(crate) fn finish(
+        &mut self,
+        alloc: Global,
+        done: &mut Vec<Attribute>,
+    ) -> Result<(), GroupFault>
+        ensures states { OnOk result ((group : List Entry)
+            → StoresAttributes (kept_attributes self.old done.old.items) [] group
+            → attributes group ≡ map Some done.new.items) }
+        ensures unbroken { OnOk result (self.old.is_broken ≡ false) }
+        ensures sound { OnOk result ((group : List Entry)
+            → StoresAttributes (kept_attributes self.old done.old.items) [] group
             → has_bad_attribute group ≡ false) }
-        ensures breach { IfErr result (λ fault. (group : List Entry) → StoresAttributes self.entry [] group
+        ensures breach { IfErr result (λ fault. (group : List Entry)
+            → StoresAttributes (kept_attributes self.old done.old.items) [] group
             → IsBreachOf 204 (has_bad_attribute group) fault) }
     {
         if self.is_broken {
             return Err(GroupFault::Broken(204));
         }
-        self.close(alloc, &[])?;
-        let Attributes { done, .. } = self;
-        Ok(done)
+        self.close(alloc, done, &[])?;
+        Ok(())
     }
 }

@@ -10,7 +10,9 @@ ghost use Rattle.edi_record.specs.inner.Records.{ReadsAs};
 ghost use Rattle.edi_record.specs.RecordRules.{just_one, is_identifier as is_identifier_text};
 ghost use Rattle.edi_record.specs.inner.RecordRules.{kind_in, is_arc, counts_right, record_tests};
 ghost use Rattle.edi_record.specs.inner.RecordRefusal.{IsGroupRefusal};
-ghost use Rattle.edi_record.specs.inner.Stored.{AreTexts, StoresRecord};
+ghost use Rattle.edi_record.specs.inner.Stored.{AreTexts, StoresRecord, kept};
+ghost use Rattle.edi_record.specs.inner.RecordParts.{AreEmpty, whole};
+ghost use Rattle.edi_record.specs.declared.record_parts.RecordParts.{RecordParts as Parts};
 
 use crate::attributes::Attributes;
 use crate::counts::is_wrong;
@@ -21,15 +23,15 @@ use crate::groups::is_identifier;
 use crate::only::Only;
 use crate::pointer::Pointer;
 use crate::points::Points;
-use crate::record::{Kind, Record};
+use crate::record::Kind;
+use crate::record_parts::{RecordHead, RecordParts};
 use crate::role::{ZoneRole, role_of};
-use crate::spare_lists::SpareLists;
-use edi_line::{Sequence, Text, Zone};
+use edi_line::{Text, Zone};
 use std::alloc::{AllocError, Global};
 
-/// What is stored of the zones of a record that have come, each looked at once. The zones own what
+/// What is stored of the zones of a record that have come, each looked at once, beside its parts. The zones own what
 /// is copied when the record is made.
-#[derive(Drop)]
+#[derive(Clone, Copy)]
 pub(crate) struct Draft<'a> {
     kind: Kind,
     identifier: Only<'a>,
@@ -46,9 +48,10 @@ pub(crate) struct Draft<'a> {
 }
 
 impl<'a> Draft<'a> {
-    /// Nothing of a record of this type has come but its type. Its parts will lie in the spare lists.
-    pub(crate) fn new(spare: SpareLists, kind: Kind) -> Draft<'a>
-        ensures keeps { (group : List Entry) → StoresRecord result group group }
+    /// Nothing of a record of this type has come but its type.
+    pub(crate) fn new(kind: Kind) -> Draft<'a>
+        ensures keeps { (parts : Parts) (group : List Entry) → AreEmpty parts
+            → StoresRecord (kept result parts) group group }
         ensures kind { result.kind ≡ kind }
         ensures counted { result.counted ≡ 0 }
     {
@@ -59,55 +62,74 @@ impl<'a> Draft<'a> {
             attribute_count: Only::Absent,
             body_count: Only::Absent,
             counted: 0,
-            attributes: Attributes::new(spare.attributes),
-            points: Points::new(spare.points),
-            ends: Ends::new(spare.ends),
-            extras: Extras::new(spare.extras),
+            attributes: Attributes::new(),
+            points: Points::new(),
+            ends: Ends::new(),
+            extras: Extras::new(),
         }
     }
 
     /// Takes the next zone of the record.
-    pub(crate) fn take(&mut self, alloc: Global, zone: &'a Zone<'_>) -> Result<(), AllocError>
+    pub(crate) fn take(
+        &mut self,
+        alloc: Global,
+        parts: &mut RecordParts,
+        zone: &'a Zone<'_>,
+    ) -> Result<(), AllocError>
         requires { self.old.counted + 1 < 2 ^ 64 }
         ensures kind { OnOk result (self.new.kind ≡ self.old.kind) }
         ensures counted { OnOk result (self.new.counted ≤ self.old.counted + 1) }
         ensures keeps { OnOk result ((left group : List Entry)
-            → StoresRecord self.old (entry zone.entry.now ∷ left) group → StoresRecord self.new left group) }
+            → StoresRecord (kept self.old parts.old) (entry zone.entry.now ∷ left) group
+            → StoresRecord (kept self.new parts.new) left group) }
     {
         let text = zone.value.as_slice();
         match role_of(self.kind, zone.code) {
             ZoneRole::Identifier => self.identifier.take(text),
             ZoneRole::Class => self.class.take(text),
             ZoneRole::AttributeCount => self.attribute_count.take(text),
-            ZoneRole::AttributeClass => self.attributes.take_class(alloc, text)?,
+            ZoneRole::AttributeClass => {
+                self.attributes
+                    .take_class(alloc, &mut parts.attributes, text)?;
+            }
             ZoneRole::AttributeSet if self.attributes.is_open() => self.attributes.take_set(text),
-            ZoneRole::AttributeSet => self.extras.take(alloc, zone)?,
-            ZoneRole::AttributeValue => self.attributes.take_value(alloc, text)?,
+            ZoneRole::AttributeSet => self.extras.take(alloc, &mut parts.extras, zone)?,
+            ZoneRole::AttributeValue => {
+                self.attributes
+                    .take_value(alloc, &mut parts.attributes, text)?;
+            }
             ZoneRole::BodyCount => self.body_count.take(text),
             ZoneRole::Position => {
                 self.counted += 1;
-                self.points.take(text)?;
+                self.points.take(&mut parts.points, text)?;
             }
             ZoneRole::EndPointer => {
                 self.counted += 1;
-                self.ends.take_pointer(alloc, text)?;
+                self.ends.take_pointer(alloc, &mut parts.ends, text)?;
             }
             ZoneRole::EndSense => self.ends.take_sense(text),
             ZoneRole::Skipped => {}
-            ZoneRole::Unknown => self.extras.take(alloc, zone)?,
+            ZoneRole::Unknown => self.extras.take(alloc, &mut parts.extras, zone)?,
         }
         Ok(())
     }
 
-    /// The record, of which all zones have come, or the least of the rules 202 to 208 that it breaks.
-    pub(crate) fn finish(self, alloc: Global) -> Result<Record, GroupFault>
-        ensures states { IfOk result (λ r. (group : List Entry) → length (values (codes "RTY") group) ≡ 1
-            → kind_in group ≡ Some self.entry.kind → StoresRecord self.entry [] group → ReadsAs group r) }
-        ensures shape { IfOk result (λ r. is_in_shape r ≡ true) }
-        ensures sound { OnOk result ((group : List Entry) → kind_in group ≡ Some self.entry.kind
-            → StoresRecord self.entry [] group → first_broken (record_tests group) ≡ None) }
-        ensures least { IfErr result (λ fault. (group : List Entry) → kind_in group ≡ Some self.entry.kind
-            → StoresRecord self.entry [] group → IsGroupRefusal group fault) }
+    /// The record but for its parts, of which all zones have come, or the least of the rules 202 to 208 that it breaks.
+    /// The draft stays where it is, and its parts are in lists already: to move all of them at each step took some 300
+    /// instructions a record.
+    pub(crate) fn finish(
+        &mut self,
+        alloc: Global,
+        parts: &mut RecordParts,
+    ) -> Result<RecordHead, GroupFault>
+        ensures states { IfOk result (λ h. (group : List Entry) → length (values (codes "RTY") group) ≡ 1
+            → kind_in group ≡ Some self.old.kind → StoresRecord (kept self.old parts.old) [] group
+            → ReadsAs group (whole h parts.new)) }
+        ensures shape { IfOk result (λ h. is_in_shape (whole h parts.new) ≡ true) }
+        ensures sound { OnOk result ((group : List Entry) → kind_in group ≡ Some self.old.kind
+            → StoresRecord (kept self.old parts.old) [] group → first_broken (record_tests group) ≡ None) }
+        ensures least { IfErr result (λ fault. (group : List Entry) → kind_in group ≡ Some self.old.kind
+            → StoresRecord (kept self.old parts.old) [] group → IsGroupRefusal group fault) }
     {
         let Some(rid) = identifier_of(self.identifier) else {
             return Err(GroupFault::Broken(202));
@@ -115,23 +137,19 @@ impl<'a> Draft<'a> {
         let Some(class) = class_pointer(self.class) else {
             return Err(GroupFault::Broken(203));
         };
-        let attributes = self.attributes.finish(alloc)?;
-        if is_wrong(self.attribute_count, attributes.len())
+        self.attributes.finish(alloc, &mut parts.attributes)?;
+        if is_wrong(self.attribute_count, parts.attributes.len())
             || is_body_wrong(self.kind, self.body_count, self.counted)
         {
             return Err(GroupFault::Broken(205));
         }
-        let points = self.points.finish(self.kind)?;
-        let ends = self.ends.finish(alloc, self.kind)?;
-        let extras = self.extras.finish()?;
-        Ok(Record {
+        self.points.finish(self.kind, &mut parts.points)?;
+        self.ends.finish(alloc, self.kind, &mut parts.ends)?;
+        self.extras.finish()?;
+        Ok(RecordHead {
             kind: self.kind,
             rid: Text::from_slice(alloc, rid)?,
             scp: class.name(alloc)?,
-            points: Sequence::from_vec(points),
-            ends: Sequence::from_vec(ends),
-            attributes: Sequence::from_vec(attributes),
-            extras: Sequence::from_vec(extras),
         })
     }
 }

@@ -1,13 +1,15 @@
 //! The ends of a link.
 
-ghost use Rattle.std.specs.Prelude.{◌≡◌, ℕ, List, [], ◌++◌, ◌≤◌, codes, map, length, true, false, if◌then◌else◌, Some, None, option_map, IfOk, IfErr, OnOk};
+ghost use Rattle.std.specs.Prelude.{◌≡◌, ℕ, List, [], ◌++◌, ◌≤◌, ◌<◌, codes, map, length, true, false, if◌then◌else◌, Some, None, option_map, IfOk, IfErr, OnOk};
 ghost use Rattle.edi_line.specs.Entry.{Entry};
+ghost use Rattle.std.specs.Vec.{vec_len, vec_capacity};
 ghost use Rattle.edi_record.specs.Shapes.{may_have_ends};
 ghost use Rattle.edi_record.specs.Records.{is_link};
 ghost use Rattle.edi_record.specs.inner.Records.{ends};
 ghost use Rattle.edi_record.specs.inner.RecordRules.{kind_in, has_bad_end};
 ghost use Rattle.edi_record.specs.inner.RecordRefusal.{IsBreachOf};
-ghost use Rattle.edi_record.specs.inner.Stored.{Takes, StoresEnds, ended_with};
+ghost use Rattle.edi_record.specs.inner.Stored.{Takes, StoresEnds, ended_with, kept_ends};
+ghost use Rattle.edi_record.specs.declared.record.End.{End as EndMade};
 
 use crate::attributes::copied;
 use crate::fault::GroupFault;
@@ -79,6 +81,19 @@ fn push_long(ends: &mut Vec<End>, alloc: Global, opened: &OpenEnd<'_>) -> Result
     Ok(())
 }
 
+/// Puts the end with this pointer and without SNS behind others, for which there is room. Between making it and putting
+/// it there nothing can fail, so no place is made ready for it in between: that took a fifth of the instructions.
+fn push_short(ends: &mut Vec<End>, alloc: Global, pointer: Pointer<'_>)
+    requires lot { length pointer.lot.now ≤ 14 }
+    requires subset { length pointer.subset.now ≤ 14 }
+    requires rty { length pointer.rty.now ≤ 14 }
+    requires rid { length pointer.rid.now ≤ 14 }
+    requires room { vec_len ends.old < vec_capacity ends.old }
+    ensures { ends.new.items ≡ ends.old.items ++ ended_with (Some (record { pointer = pointer.entry; sense = None })) }
+{
+    ends.push_reserved(pointer.short_end(alloc));
+}
+
 /// Puts an end behind others. A short one has a way of its own, since what other ends need would have to be made ready
 /// for each. It stands apart, so that where no end is open nothing is made ready.
 #[inline(never)]
@@ -86,51 +101,56 @@ fn push_end(ends: &mut Vec<End>, alloc: Global, opened: &OpenEnd<'_>) -> Result<
     ensures { OnOk result (ends.new.items ≡ ends.old.items ++ ended_with (Some opened.now)) }
 {
     if opened.sense.is_none() && opened.pointer.is_short() {
-        ends.push(opened.pointer.short_end(alloc))?;
+        ends.reserve(1)?;
+        push_short(ends, alloc, opened.pointer);
         return Ok(());
     }
     push_long(ends, alloc, opened)
 }
 
-/// The ends of the zones that have come. One is closed by the next or by the end of the zones.
-#[derive(Drop)]
+/// The end that is open among the zones that have come. It is closed by the next or by the end of the zones, and then
+/// goes behind those that are done, which are in a list beside.
+#[derive(Clone, Copy)]
 pub(crate) struct Ends<'a> {
-    done: Vec<End>,
     opened: Option<OpenEnd<'a>>,
     is_broken: bool,
 }
 
 impl<'a> Ends<'a> {
-    /// No ends, with a list for them that is empty.
-    pub(crate) fn new(done: Vec<End>) -> Ends<'a>
-        requires { done.items ≡ [] }
-        ensures { (group : List Entry) → StoresEnds result group group }
+    /// No ends have come.
+    pub(crate) fn new() -> Ends<'a>
+        ensures { (group : List Entry) → StoresEnds (kept_ends result []) group group }
     {
         Ends {
-            done,
             opened: None,
             is_broken: false,
         }
     }
 
     /// Closes the end that is open, if one is.
-    fn close(&mut self, alloc: Global) -> Result<(), AllocError>
+    fn close(&mut self, alloc: Global, done: &mut Vec<End>) -> Result<(), AllocError>
         ensures broken { OnOk result (self.new.is_broken ≡ self.old.is_broken) }
         ensures opened { OnOk result (self.new.opened ≡ None) }
-        ensures done { OnOk result (self.new.done.items ≡ self.old.done.items ++ ended_with self.old.opened) }
+        ensures done { OnOk result (done.new.items ≡ done.old.items ++ ended_with self.old.opened) }
     {
         if let Some(opened) = &self.opened {
-            push_end(&mut self.done, alloc, opened)?;
+            push_end(done, alloc, opened)?;
             self.opened = None;
         }
         Ok(())
     }
 
     /// Takes the pointer of the next end.
-    pub(crate) fn take_pointer(&mut self, alloc: Global, text: &'a [u8]) -> Result<(), AllocError>
-        ensures { OnOk result (Takes StoresEnds (codes "FTP") text.entry.now self.old self.new) }
+    pub(crate) fn take_pointer(
+        &mut self,
+        alloc: Global,
+        done: &mut Vec<End>,
+        text: &'a [u8],
+    ) -> Result<(), AllocError>
+        ensures { OnOk result (Takes StoresEnds (codes "FTP") text.entry.now (kept_ends self.old done.old.items)
+            (kept_ends self.new done.new.items)) }
     {
-        self.close(alloc)?;
+        self.close(alloc, done)?;
         match Pointer::read(text) {
             Some(pointer) => {
                 self.opened = Some(OpenEnd {
@@ -145,7 +165,8 @@ impl<'a> Ends<'a> {
 
     /// Takes an SNS.
     pub(crate) fn take_sense(&mut self, text: &'a [u8])
-        ensures { Takes StoresEnds (codes "SNS") text.entry.now self.old self.new }
+        ensures { (done : List EndMade) → Takes StoresEnds (codes "SNS") text.entry.now (kept_ends self.old done)
+            (kept_ends self.new done) }
     {
         let Some(opened) = self.opened else {
             self.is_broken = true;
@@ -161,31 +182,35 @@ impl<'a> Ends<'a> {
         });
     }
 
-    /// The ends of a link, and none of other records; or rule 207, where one of them is no pointer,
-    /// there are fewer than two, or an SNS comes before any end or twice for one.
-    pub(crate) fn finish(mut self, alloc: Global, kind: Kind) -> Result<Vec<End>, GroupFault>
-        ensures states { IfOk result (λ v. (group : List Entry) → (is_link kind ≡ true → StoresEnds self.entry [] group)
-            → (if is_link kind then ends group else []) ≡ map Some v.items) }
-        ensures shape { IfOk result (λ v. may_have_ends kind (length v.items) ≡ true) }
+    /// Closes the last end of a link, and leaves none for other records; or rule 207 is broken, where one of them is no
+    /// pointer, there are fewer than two, or an SNS comes before any end or twice for one. It is inlined, since records
+    /// of other types have nothing to do here.
+    #[inline(always)]
+    pub(crate) fn finish(
+        &mut self,
+        alloc: Global,
+        kind: Kind,
+        done: &mut Vec<End>,
+    ) -> Result<(), GroupFault>
+        ensures states { OnOk result ((group : List Entry)
+            → (is_link kind ≡ true → StoresEnds (kept_ends self.old done.old.items) [] group)
+            → (if is_link kind then ends group else []) ≡ map Some done.new.items) }
+        ensures shape { OnOk result (may_have_ends kind (length done.new.items) ≡ true) }
         ensures sound { OnOk result ((group : List Entry) → kind_in group ≡ Some kind
-            → (is_link kind ≡ true → StoresEnds self.entry [] group) → has_bad_end group ≡ false) }
+            → (is_link kind ≡ true → StoresEnds (kept_ends self.old done.old.items) [] group)
+            → has_bad_end group ≡ false) }
         ensures breach { IfErr result (λ fault. (group : List Entry) → kind_in group ≡ Some kind
-            → (is_link kind ≡ true → StoresEnds self.entry [] group) → IsBreachOf 207 (has_bad_end group) fault) }
+            → (is_link kind ≡ true → StoresEnds (kept_ends self.old done.old.items) [] group)
+            → IsBreachOf 207 (has_bad_end group) fault) }
     {
         if !kind.is_link() {
-            let Ends { mut done, .. } = self;
             done.clear();
-            return Ok(done);
+            return Ok(());
         }
-        self.close(alloc)?;
-        let Ends {
-            done,
-            is_broken,
-            ..
-        } = self;
-        if is_broken || done.len() < 2 {
+        self.close(alloc, done)?;
+        if self.is_broken || done.len() < 2 {
             return Err(GroupFault::Broken(207));
         }
-        Ok(done)
+        Ok(())
     }
 }

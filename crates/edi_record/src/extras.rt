@@ -6,7 +6,8 @@ ghost use Rattle.edi_record.specs.Records.{may_be_number as number_format};
 ghost use Rattle.edi_record.specs.inner.Records.{value_of as value_in, extra as extra_in, extras};
 ghost use Rattle.edi_record.specs.inner.RecordRules.{kind_in, has_unknown_pointer};
 ghost use Rattle.edi_record.specs.inner.RecordRefusal.{IsBreachOf};
-ghost use Rattle.edi_record.specs.inner.Stored.{StoresExtras, TakesExtra};
+ghost use Rattle.edi_record.specs.inner.Stored.{StoresExtras, TakesExtra, kept_extras};
+ghost use Rattle.edi_record.specs.declared.record.Extra.{Extra as ExtraZone};
 ghost use Rattle.edi_record.specs.declared.record.Kind.{Kind};
 
 use crate::fault::GroupFault;
@@ -43,58 +44,59 @@ fn extra(alloc: Global, zone: &Zone<'_>) -> Result<Extra, AllocError>
 }
 
 /// Whether a zone is a pointer that isn't empty.
-fn is_pointer(zone: &Zone<'_>) -> bool
+pub(crate) fn is_pointer(zone: &Zone<'_>) -> bool
     ensures { result ≡ ((zone.now.format == 80) && nat_lt 0 (length (entry zone.now).value)) }
 {
     zone.format == b'P' && !zone.value.as_slice().is_empty()
 }
 
-/// The extras of the zones that have come.
-#[derive(Drop)]
+/// Whether an extra that has come is a pointer that isn't empty. The extras are in a list beside.
+#[derive(Clone, Copy)]
 pub(crate) struct Extras {
-    list: Vec<Extra>,
     is_broken: bool,
 }
 
 impl Extras {
-    /// No extras, with a list for them that is empty.
-    pub(crate) fn new(list: Vec<Extra>) -> Extras
-        requires { list.items ≡ [] }
-        ensures { (kind : Kind) (group : List Entry) → StoresExtras kind false result group group }
+    /// No extras have come.
+    pub(crate) fn new() -> Extras
+        ensures { (kind : Kind) (group : List Entry) → StoresExtras kind false (kept_extras result []) group group }
     {
-        Extras {
-            list,
-            is_broken: false,
-        }
+        Extras { is_broken: false }
     }
 
     /// Takes a zone that is an extra.
-    pub(crate) fn take(&mut self, alloc: Global, zone: &Zone<'_>) -> Result<(), AllocError>
-        ensures { OnOk result (TakesExtra (entry zone.now) self.old self.new) }
+    pub(crate) fn take(
+        &mut self,
+        alloc: Global,
+        list: &mut Vec<Extra>,
+        zone: &Zone<'_>,
+    ) -> Result<(), AllocError>
+        ensures { OnOk result (TakesExtra (entry zone.now) (kept_extras self.old list.old.items)
+            (kept_extras self.new list.new.items)) }
     {
         if is_pointer(zone) {
             self.is_broken = true;
             return Ok(());
         }
-        self.list.push(extra(alloc, zone)?)?;
+        list.push(extra(alloc, zone)?)?;
         Ok(())
     }
 
-    /// The extras, in the order of their zones; or rule 208, where one of them is a pointer that
+    /// All extras have come, in the order of their zones; or rule 208 is broken, where one of them is a pointer that
     /// isn't empty.
-    pub(crate) fn finish(self) -> Result<Vec<Extra>, GroupFault>
-        ensures states { IfOk result (λ v. (kind : Kind) (is_open : Bool) (group : List Entry)
-            → StoresExtras kind is_open self [] group → extras kind group ≡ v.items) }
-        ensures sound { OnOk result ((kind : Kind) (is_open : Bool) (group : List Entry) → kind_in group ≡ Some kind
-            → StoresExtras kind is_open self [] group → has_unknown_pointer group ≡ false) }
-        ensures breach { IfErr result (λ fault. (kind : Kind) (is_open : Bool) (group : List Entry)
-            → kind_in group ≡ Some kind → StoresExtras kind is_open self [] group
+    pub(crate) fn finish(self) -> Result<(), GroupFault>
+        ensures states { OnOk result ((kind : Kind) (is_open : Bool) (list : List ExtraZone) (group : List Entry)
+            → StoresExtras kind is_open (kept_extras self list) [] group → extras kind group ≡ list) }
+        ensures sound { OnOk result ((kind : Kind) (is_open : Bool) (list : List ExtraZone) (group : List Entry)
+            → kind_in group ≡ Some kind → StoresExtras kind is_open (kept_extras self list) [] group
+            → has_unknown_pointer group ≡ false) }
+        ensures breach { IfErr result (λ fault. (kind : Kind) (is_open : Bool) (list : List ExtraZone)
+            (group : List Entry) → kind_in group ≡ Some kind → StoresExtras kind is_open (kept_extras self list) [] group
             → IsBreachOf 208 (has_unknown_pointer group) fault) }
     {
-        let Extras { list, is_broken } = self;
-        if is_broken {
+        if self.is_broken {
             return Err(GroupFault::Broken(208));
         }
-        Ok(list)
+        Ok(())
     }
 }

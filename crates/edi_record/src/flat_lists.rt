@@ -4,12 +4,11 @@ ghost use Rattle.std.specs.Prelude.{◌≡◌, ◌+◌, ◌≤◌, ◌<◌, ◌�
 ghost use Rattle.std.specs.Vec.{vec_len, vec_capacity};
 ghost use Rattle.std.specs.Vec.Iter.{into_iter_items};
 
-use edi_line::Sequence;
 use std::alloc::{AllocError, Global};
 use std::mem;
 use std::vec::IntoIter;
 
-/// How many elements an empty list may have room for and still be kept for later ones.
+/// How many elements a list may have room for and still be kept for later ones.
 const MOST_KEPT: usize = 65_536;
 
 /// A length in four bytes, or want of memory where it has more.
@@ -53,33 +52,30 @@ pub(crate) fn push_behind<T: Drop>(list: &mut Vec<T>, item: T)
     let _never_fails = list.push(item);
 }
 
-/// Moves the elements of a part behind those of a list that has room for them, or puts the part in its place where it
-/// has none. An empty list is the answer.
-pub(crate) fn append<T: Drop>(list: &mut Vec<T>, part: Sequence<T>) -> Vec<T>
-    requires { 0 < vec_len list.old → vec_len list.old + length part ≤ vec_capacity list.old }
-    ensures moved { list.new.items ≡ list.old.items ++ part }
-    ensures emptied { result.items ≡ [] }
+/// Moves elements behind those of a list that has room for them, or, where it has none, exchanges the two lists.
+pub(crate) fn append<T: Drop>(list: &mut Vec<T>, items: &mut Vec<T>)
+    requires { 0 < vec_len list.old → vec_len list.old + vec_len items.old ≤ vec_capacity list.old }
+    ensures moved { list.new.items ≡ list.old.items ++ items.old.items }
+    ensures emptied { items.new.items ≡ [] }
 {
-    let mut items = part.into_vec();
     if items.is_empty() {
-        return items;
+        return;
     }
     if list.is_empty() {
-        return mem::replace(list, items);
+        mem::swap(list, items);
+        return;
     }
-    move_behind(list, &mut items);
-    items
+    move_behind(list, items);
 }
 
-/// An empty list, which is kept for later elements unless it has room for very many.
-pub(crate) fn kept<T: Drop>(alloc: Global, list: Vec<T>) -> Vec<T>
-    requires { list.items ≡ [] }
-    ensures { result.items ≡ [] }
+/// Empties a list. It is kept for later elements unless it has room for very many.
+pub(crate) fn empty<T: Drop>(alloc: Global, list: &mut Vec<T>)
+    ensures { list.new.items ≡ [] }
 {
     if list.capacity() > MOST_KEPT {
-        Vec::new(alloc)
+        *list = Vec::new(alloc);
     } else {
-        list
+        list.clear();
     }
 }
 

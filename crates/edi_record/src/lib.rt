@@ -2,12 +2,14 @@
 #![tactic(auto)]
 
 mod attributes;
+pub mod broken;
 mod counts;
 mod draft;
 mod ends;
 mod extras;
 pub mod fault;
 mod flat_lists;
+mod group_rules;
 pub mod groups;
 pub mod laws;
 pub mod list;
@@ -18,6 +20,7 @@ pub mod pointer;
 mod points;
 pub mod reading;
 pub mod record;
+mod record_parts;
 pub mod record_ref;
 mod role;
 pub mod sheet;
@@ -25,9 +28,9 @@ pub mod sheet_block;
 mod sheet_blocks;
 pub mod sheet_records;
 pub mod sheet_rest;
-mod spare_lists;
 mod stating;
 
+pub use broken::{broken_records, broken_records_from};
 pub use counts::is_count;
 pub use fault::{RecordFault, SheetFault};
 pub use groups::{first_value, group_here, lacks_identifier};

@@ -12,14 +12,13 @@ ghost use Rattle.edi_record.specs.Beside.{HasTakenAll};
 ghost use Rattle.edi_record.specs.inner.Lists.{IsMadeOf};
 
 use crate::fault::{GroupFault, RecordFault, SheetFault};
+use crate::record_parts::RecordParts;
 use crate::sheet::Sheet;
 use crate::sheet_records::SheetRecords;
-use crate::spare_lists::SpareLists;
 use crate::stating::record_of;
 use edi_line::{FileBytes, GroupOut, Zone, read_groups_from};
 use std::alloc::{AllocError, Global};
 use std::borrow::CowSlice;
-use std::mem;
 
 /// The records of the zones that have come, until one breaks a rule, which is then the fault.
 #[derive(Drop)]
@@ -27,7 +26,7 @@ struct RecordsUntilFault {
     list: SheetRecords,
     fault: Option<RecordFault>,
     /// For the parts of the next record.
-    spare: SpareLists,
+    parts: RecordParts,
 }
 
 impl GroupOut for RecordsUntilFault {
@@ -40,9 +39,9 @@ impl GroupOut for RecordsUntilFault {
         if self.fault.is_some() {
             return Ok(());
         }
-        let spare = mem::replace(&mut self.spare, SpareLists::new(alloc)).limited(alloc);
-        match record_of(alloc, spare, head, behind) {
-            Ok((record, _)) => self.spare = self.list.take(record)?,
+        self.parts.clear(alloc);
+        match record_of(alloc, &mut self.parts, head, behind) {
+            Ok((record, _)) => self.list.push(record, &mut self.parts)?,
             Err(GroupFault::Memory(fault)) => return Err(fault),
             Err(GroupFault::Broken(rule)) => {
                 let at = self.list.len() as u64 + 1;
@@ -135,7 +134,7 @@ pub fn read_sheet_from<O: GroupOut + Drop>(
         records: RecordsUntilFault {
             list: SheetRecords::new(alloc),
             fault: None,
-            spare: SpareLists::new(alloc),
+            parts: RecordParts::new(alloc),
         },
         other,
     };

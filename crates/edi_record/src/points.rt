@@ -8,7 +8,7 @@ ghost use Rattle.edi_record.specs.Shapes.{may_have_points};
 ghost use Rattle.edi_record.specs.Records.{values, has_points};
 ghost use Rattle.edi_record.specs.inner.RecordRules.{kind_in, has_bad_point};
 ghost use Rattle.edi_record.specs.inner.RecordRefusal.{IsBreachOf};
-ghost use Rattle.edi_record.specs.inner.Stored.{Takes, StoresPoints};
+ghost use Rattle.edi_record.specs.inner.Stored.{Takes, StoresPoints, kept_points};
 ghost use Rattle.std.specs.Bool.{MatchBool};
 ghost use Rattle.edi_record.specs.Texts.{IsPosition};
 ghost use Rattle.edi_record.specs.declared.record.Point.{Point as Position};
@@ -79,59 +79,54 @@ pub fn is_position(text: &[u8]) -> bool
     Point::read(text).is_some()
 }
 
-/// The points of the zones that have come.
-#[derive(Drop)]
+/// Whether a zone that has come, and should be a point, is none. The points are in a list beside.
+#[derive(Clone, Copy)]
 pub(crate) struct Points {
-    list: Vec<Point>,
     is_broken: bool,
 }
 
 impl Points {
-    /// No points, in a list that is empty.
-    pub(crate) fn new(list: Vec<Point>) -> Points
-        requires { list.items ≡ [] }
-        ensures { (group : List Entry) → StoresPoints result group group }
+    /// No points have come.
+    pub(crate) fn new() -> Points
+        ensures { (group : List Entry) → StoresPoints (kept_points result []) group group }
     {
-        Points {
-            list,
-            is_broken: false,
-        }
+        Points { is_broken: false }
     }
 
     /// Takes a place.
-    pub(crate) fn take(&mut self, text: &[u8]) -> Result<(), AllocError>
-        ensures { OnOk result (Takes StoresPoints (codes "COR") text.now self.old self.new) }
+    pub(crate) fn take(&mut self, list: &mut Vec<Point>, text: &[u8]) -> Result<(), AllocError>
+        ensures { OnOk result (Takes StoresPoints (codes "COR") text.now (kept_points self.old list.old.items)
+            (kept_points self.new list.new.items)) }
     {
         let Some(Point { x, y, z }) = Point::read(text) else {
             self.is_broken = true;
             return Ok(());
         };
-        self.list.push(Point { x, y, z })?;
+        list.push(Point { x, y, z })?;
         Ok(())
     }
 
     /// The points of a node or an arc, and none of other records; or rule 206, where one of them is
     /// no place or their number isn't that of the type.
-    pub(crate) fn finish(self, kind: Kind) -> Result<Vec<Point>, GroupFault>
-        ensures states { IfOk result (λ v. (group : List Entry) → (has_points kind ≡ true → StoresPoints self [] group)
-            → (if has_points kind then map point (values (codes "COR") group) else []) ≡ map Some v.items) }
-        ensures shape { IfOk result (λ v. may_have_points kind (length v.items) ≡ true) }
+    pub(crate) fn finish(self, kind: Kind, list: &mut Vec<Point>) -> Result<(), GroupFault>
+        ensures states { OnOk result ((group : List Entry)
+            → (has_points kind ≡ true → StoresPoints (kept_points self list.old.items) [] group)
+            → (if has_points kind then map point (values (codes "COR") group) else []) ≡ map Some list.new.items) }
+        ensures shape { OnOk result (may_have_points kind (length list.new.items) ≡ true) }
         ensures sound { OnOk result ((group : List Entry) → kind_in group ≡ Some kind
-            → (has_points kind ≡ true → StoresPoints self [] group) → has_bad_point group ≡ false) }
+            → (has_points kind ≡ true → StoresPoints (kept_points self list.old.items) [] group)
+            → has_bad_point group ≡ false) }
         ensures breach { IfErr result (λ fault. (group : List Entry) → kind_in group ≡ Some kind
-            → (has_points kind ≡ true → StoresPoints self [] group) → IsBreachOf 206 (has_bad_point group) fault) }
+            → (has_points kind ≡ true → StoresPoints (kept_points self list.old.items) [] group)
+            → IsBreachOf 206 (has_bad_point group) fault) }
     {
-        let Points {
-            mut list,
-            is_broken,
-        } = self;
         if !kind.has_points() {
             list.clear();
-            return Ok(list);
+            return Ok(());
         }
-        if is_broken || !kind.may_have_points(list.len()) {
+        if self.is_broken || !kind.may_have_points(list.len()) {
             return Err(GroupFault::Broken(206));
         }
-        Ok(list)
+        Ok(())
     }
 }

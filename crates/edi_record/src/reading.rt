@@ -23,9 +23,9 @@ ghost use Rattle.edi_record.specs.declared.record.Value.{Value};
 use crate::attributes::copied;
 use crate::fault::RecordFault;
 use crate::groups::first_value;
+use crate::record_parts::RecordParts;
 use crate::sheet::Sheet;
 use crate::sheet_records::SheetRecords;
-use crate::spare_lists::SpareLists;
 use crate::stating::record_of;
 use edi_line::codes::{CSE, RTY};
 use edi_line::{Text, Zone};
@@ -63,13 +63,15 @@ fn list_of(alloc: Global, zones: &[Zone<'_>]) -> Result<SheetRecords, RecordFaul
     ensures least { IfErr result (IsRecordRefusal (FailsTest (entries zones.now))) }
 {
     let mut list = SheetRecords::new(alloc);
+    let mut parts = RecordParts::new(alloc);
     let mut at = 0;
     while let Some((zone, behind)) = zone_at(zones, at) {
         at += 1;
         if zone.code == RTY {
-            match record_of(alloc, SpareLists::new(alloc), zone, behind) {
+            parts.clear(alloc);
+            match record_of(alloc, &mut parts, zone, behind) {
                 Ok((record, own)) => {
-                    list.push(record)?;
+                    list.push(record, &mut parts)?;
                     at += own;
                 }
                 Err(fault) => return Err(fault.at(list.len() as u64 + 1)),

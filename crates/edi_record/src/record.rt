@@ -169,6 +169,8 @@ pub struct End {
 }
 
 impl Drop for End {
+    // Where a block's ends are let go a call for each would take a third of the instructions.
+    #[inline(always)]
     fn drop(self) {
         let End {
             lot: _,

@@ -3,14 +3,15 @@
 
 ghost use Rattle.std.specs.Prelude.{◌≡◌, ◌<◌, ◌∷◌, ◌++◌, [], length, slice_get, Some, IfOk, OnOk, OnErr};
 ghost use Rattle.edi_record.specs.Shapes.{stated_at};
+ghost use Rattle.edi_record.specs.inner.RecordParts.{whole};
 ghost use Rattle.edi_record.specs.inner.SheetBlocks.{no_stops, stops_before, records_in, AreParts, AreSame, HasRoom, AreStopsOf};
 
 use crate::flat_lists::{append, exact_room, handed_over, make_room, part, push_behind};
 use crate::name::Name;
-use crate::record::{Attribute, End, Extra, Kind, Point, Record};
+use crate::record::{Attribute, End, Extra, Kind, Point};
+use crate::record_parts::{RecordHead, RecordParts};
 use crate::record_ref::RecordRef;
-use crate::spare_lists::SpareLists;
-use edi_line::{Sequence, Text};
+use edi_line::Text;
 use std::alloc::{AllocError, Global};
 
 /// Where the parts of a record end in the lists. They begin where those of the record before end.
@@ -33,12 +34,24 @@ impl Stops {
 }
 
 /// A record but for its parts, and where these end.
-#[derive(Drop)]
 pub(crate) struct SheetHead {
     pub(crate) kind: Kind,
     pub(crate) rid: Text,
     pub(crate) scp: Name,
     pub(crate) stops: Stops,
+}
+
+impl Drop for SheetHead {
+    // As for ends, a call for each would take more than to let it go.
+    #[inline(always)]
+    fn drop(self) {
+        let SheetHead {
+            kind: _,
+            rid: _,
+            scp: _,
+            stops: _,
+        } = self;
+    }
 }
 
 /// The records by their places, with the lists of what they have.
@@ -78,37 +91,33 @@ impl SheetBlock {
     }
 
     /// Makes room for a record. Where its parts will end is the answer.
-    fn make_room(&mut self, record: &Record) -> Result<Stops, AllocError>
+    fn make_room(&mut self, parts: &RecordParts) -> Result<Stops, AllocError>
         ensures same { AreSame self.old self.new }
-        ensures room { OnOk result (HasRoom self.new record.now) }
-        ensures stops { IfOk result (AreStopsOf self.old record.now) }
+        ensures room { OnOk result (HasRoom self.new parts.now) }
+        ensures stops { IfOk result (AreStopsOf self.old parts.now) }
     {
         self.heads.reserve(1)?;
         Ok(Stops {
-            points: make_room(&mut self.points, record.points.len())?,
-            ends: make_room(&mut self.ends, record.ends.len())?,
-            attributes: make_room(&mut self.attributes, record.attributes.len())?,
-            extras: make_room(&mut self.extras, record.extras.len())?,
+            points: make_room(&mut self.points, parts.points.len())?,
+            ends: make_room(&mut self.ends, parts.ends.len())?,
+            attributes: make_room(&mut self.attributes, parts.attributes.len())?,
+            extras: make_room(&mut self.extras, parts.extras.len())?,
         })
     }
 
-    /// Adds a record. Its lists, emptied, are the answer.
-    pub(crate) fn push(&mut self, record: Record) -> Result<SpareLists, AllocError>
+    /// Adds a record. Its parts leave the lists that they are in.
+    pub(crate) fn push(
+        &mut self,
+        head: RecordHead,
+        parts: &mut RecordParts,
+    ) -> Result<(), AllocError>
         requires { AreParts self.old no_stops self.old.heads.items }
-        ensures records { OnOk result (records_in self.new ≡ records_in self.old ++ «record» ∷ []) }
+        ensures records { OnOk result (records_in self.new ≡ records_in self.old ++ whole head parts.old ∷ []) }
         ensures unchanged { OnErr result (records_in self.new ≡ records_in self.old) }
         ensures parts { AreParts self.new no_stops self.new.heads.items }
     {
-        let stops = self.make_room(&record)?;
-        let Record {
-            kind,
-            rid,
-            scp,
-            points,
-            ends,
-            attributes,
-            extras,
-        } = record;
+        let stops = self.make_room(parts)?;
+        let RecordHead { kind, rid, scp } = head;
         let head = SheetHead {
             kind,
             rid,
@@ -116,12 +125,11 @@ impl SheetBlock {
             stops,
         };
         push_behind(&mut self.heads, head);
-        Ok(SpareLists {
-            points: append(&mut self.points, points),
-            ends: append(&mut self.ends, ends),
-            attributes: append(&mut self.attributes, attributes),
-            extras: append(&mut self.extras, extras),
-        })
+        append(&mut self.points, &mut parts.points);
+        append(&mut self.ends, &mut parts.ends);
+        append(&mut self.attributes, &mut parts.attributes);
+        append(&mut self.extras, &mut parts.extras);
+        Ok(())
     }
 
     /// The same records, in a block with no room for more. This block has none of them, and mostly room for as many.

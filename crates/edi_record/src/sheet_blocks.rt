@@ -4,11 +4,12 @@ ghost use Rattle.std.specs.Prelude.{◌≡◌, ◌<◌, ◌%◌, ◌^◌, ◌∷
 ghost use Rattle.edi_record.specs.Shapes.{stated_at};
 ghost use Rattle.edi_record.specs.inner.SheetBlocks.{no_stops, records_in, AreParts};
 ghost use Rattle.edi_record.specs.inner.BlockLists.{records_of, AreWithin};
+ghost use Rattle.edi_record.specs.inner.RecordParts.{whole};
 
-use crate::record::{End, Kind, Record};
+use crate::record::{End, Kind};
+use crate::record_parts::{RecordHead, RecordParts};
 use crate::record_ref::RecordRef;
 use crate::sheet_block::SheetBlock;
-use crate::spare_lists::SpareLists;
 use edi_line::Text;
 use std::alloc::{AllocError, Global};
 
@@ -58,18 +59,22 @@ impl SheetBlocks {
         Ok(())
     }
 
-    /// Adds a record. Its lists, emptied, are the answer.
+    /// Adds a record. Its parts leave the lists that they are in.
     #[tactic(auto, unfolding(crate::specs::inner::BlockLists::records_of))]
-    pub(crate) fn push(&mut self, record: Record) -> Result<SpareLists, AllocError>
+    pub(crate) fn push(
+        &mut self,
+        head: RecordHead,
+        parts: &mut RecordParts,
+    ) -> Result<(), AllocError>
         requires { AreWithin self.old }
-        ensures records { OnOk result (records_of self.new ≡ records_of self.old ++ «record» ∷ []) }
+        ensures records { OnOk result (records_of self.new ≡ records_of self.old ++ whole head parts.old ∷ []) }
         ensures unchanged { OnErr result (records_of self.new ≡ records_of self.old) }
         ensures within { AreWithin self.new }
     {
         if self.last.len() == BLOCK {
             self.close_last()?;
         }
-        self.last.push(record)
+        self.last.push(head, parts)
     }
 
     /// How many records there are.

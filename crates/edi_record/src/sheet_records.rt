@@ -2,12 +2,13 @@
 
 ghost use Rattle.std.specs.Prelude.{◌≡◌, ◌↔◌, ◌<◌, ◌^◌, ◌∷◌, ◌++◌, [], IsTrue, Some, slice_get, length, IfOk, OnOk, OnErr};
 ghost use Rattle.edi_record.specs.Shapes.{stated_at};
+ghost use Rattle.edi_record.specs.inner.RecordParts.{whole};
 
-use crate::record::{End, Kind, Record};
+use crate::record::{End, Kind};
+use crate::record_parts::{RecordHead, RecordParts};
 use crate::record_ref::RecordRef;
 use crate::sheet_blocks::SheetBlocks;
 use crate::sheet_rest::SheetRest;
-use crate::spare_lists::SpareLists;
 use edi_line::Text;
 use std::alloc::{AllocError, Global};
 use std::marker::Model;
@@ -46,20 +47,16 @@ impl SheetRecords {
         }
     }
 
-    /// Puts a record behind the others.
-    pub(crate) fn push(&mut self, record: Record) -> Result<(), AllocError>
-        ensures { OnOk result (self.new ≡ self.old ++ «record» ∷ []) }
-    {
-        let _ = self.take(record)?;
-        Ok(())
-    }
-
-    /// Puts a record behind the others. Its lists, emptied, are the answer.
-    pub(crate) fn take(&mut self, record: Record) -> Result<SpareLists, AllocError>
-        ensures records { OnOk result (self.new ≡ self.old ++ «record» ∷ []) }
+    /// Puts a record behind the others. Its parts leave the lists that they are in.
+    pub(crate) fn push(
+        &mut self,
+        head: RecordHead,
+        parts: &mut RecordParts,
+    ) -> Result<(), AllocError>
+        ensures records { OnOk result (self.new ≡ self.old ++ whole head parts.old ∷ []) }
         ensures unchanged { OnErr result (self.new ≡ self.old) }
     {
-        self.blocks.push(record)
+        self.blocks.push(head, parts)
     }
 
     /// How many records there are.

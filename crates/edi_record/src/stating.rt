@@ -8,16 +8,17 @@ ghost use Rattle.edi_record.specs.Shapes.{is_in_shape};
 ghost use Rattle.edi_record.specs.inner.Records.{ReadsAs};
 ghost use Rattle.edi_record.specs.inner.RecordRules.{kind_named as kind_by, record_tests};
 ghost use Rattle.edi_record.specs.inner.RecordRefusal.{IsGroupRefusal};
+ghost use Rattle.edi_record.specs.inner.RecordParts.{AreEmpty, whole};
 
 use crate::draft::Draft;
 use crate::fault::GroupFault;
-use crate::record::{Kind, Record};
-use crate::spare_lists::SpareLists;
+use crate::record::Kind;
+use crate::record_parts::{RecordHead, RecordParts};
 use edi_line::Zone;
 use std::alloc::Global;
 
 /// The type that a code names.
-fn kind_named(code: &[u8]) -> Option<Kind>
+pub(crate) fn kind_named(code: &[u8]) -> Option<Kind>
     ensures { result ≡ kind_by code.now }
 {
     match code {
@@ -37,17 +38,19 @@ fn ends_record(zone: &Zone<'_>) -> bool
     matches!(&zone.code, b"RTY" | b"EOM")
 }
 
-/// The record that begins with this zone, with how many of the zones behind it are its own; or the
-/// least of the rules 201 to 208 that it breaks. Its parts lie in the spare lists.
+/// The record that begins with this zone, but for its parts, with how many of the zones behind it are its own; or the
+/// least of the rules 201 to 208 that it breaks. Its parts go into the lists.
 pub(crate) fn record_of(
     alloc: Global,
-    spare: SpareLists,
+    parts: &mut RecordParts,
     head: &Zone<'_>,
     behind: &[Zone<'_>],
-) -> Result<(Record, usize), GroupFault>
-    requires { begins_group (entry head.now) ≡ true }
-    ensures states { IfOk result (λ p. ReadsAs (entry head.now ∷ before_end (entries behind.now)) p.0) }
-    ensures shape { IfOk result (λ p. is_in_shape p.0 ≡ true) }
+) -> Result<(RecordHead, usize), GroupFault>
+    requires begins { begins_group (entry head.now) ≡ true }
+    requires empty { AreEmpty parts.old }
+    ensures states { IfOk result (λ p. ReadsAs (entry head.now ∷ before_end (entries behind.now))
+        (whole p.0 parts.new)) }
+    ensures shape { IfOk result (λ p. is_in_shape (whole p.0 parts.new) ≡ true) }
     ensures within { IfOk result (λ p. p.1 ≤ length behind.now) }
     ensures left { IfOk result (λ p. groups_of (entries (drop p.1 behind.now)) ≡ groups_of (entries behind.now)) }
     ensures sound { OnOk result
@@ -57,14 +60,14 @@ pub(crate) fn record_of(
     let Some(kind) = kind_named(head.value.as_slice()) else {
         return Err(GroupFault::Broken(201));
     };
-    let mut draft = Draft::new(spare, kind);
+    let mut draft = Draft::new(kind);
     let mut own = 0;
     for zone in behind {
         if ends_record(zone) {
             break;
         }
-        draft.take(alloc, zone)?;
+        draft.take(alloc, parts, zone)?;
         own += 1;
     }
-    Ok((draft.finish(alloc)?, own))
+    Ok((draft.finish(alloc, parts)?, own))
 }

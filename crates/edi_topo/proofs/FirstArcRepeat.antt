@@ -1,5 +1,5 @@
 -- The least member of a layer of arcs that ties is the least arc with the points of an earlier one.
-use Rattle.std.proofs.Common.{◌≡◌, ℕ, ◌<◌, ◌≤◌, ◌⊎◌, inl, inr, Bool, true, false, not, cond, List, [], reverse, length, get_or, refl, sym, ap, ◌∙◌, arith, Ordering, Less, Equal, Greater}
+use Rattle.std.proofs.Common.{◌≡◌, ℕ, ◌<◌, ◌≤◌, ◌⊎◌, inl, inr, Bool, true, false, not, cond, List, [], reverse, length, get_or, refl, sym, ap, ◌∙◌, subst, arith, Ordering, Less, Equal, Greater}
 use Rattle.std.specs.Ordering.{is_lt, ordering_reverse}
 use Rattle.std.proofs.lemmas.List.{get_or-map, reverse-reverse}
 use Rattle.std.proofs.lemmas.Bool.{cases_order}
@@ -12,9 +12,11 @@ use Rattle.edi_plan.specs.Plans.{Drawing, record_at}
 use Rattle.edi_plan.proofs.Orders.{exact_lists, point_exact, points_total}
 use Rattle.edi_plan.proofs.PlaceLemmas.{place_there, place_of_kind, places_rise, has_place}
 use Rattle.edi_topo.specs.Arcs.{forward_keys}
+use Rattle.edi_topo.specs.Marks.{AreMarksOf, IsPlaceOfMark}
 use Rattle.edi_topo.specs.inner.Arcs.{RepeatsAnEarlierArc}
 use Rattle.edi_topo.specs.Directions.{is_forward, forward}
 use Rattle.edi_topo.specs.Ranking.{Ties}
+use Rattle.edi_topo.proofs.MarksPlaced.{marks_at_places}
 
 abbrev pub count_of : Drawing → ℕ
 count_of p = length (places_of Par p)
@@ -98,10 +100,19 @@ module _ (p : Drawing) where
   pub none_repeats : ((m : ℕ) → ¬ (Ties points_cmp (key_of p) (count_of p) m)) → (n : ℕ) → ¬ (RepeatsAnEarlierArc p n)
   none_repeats none n d = let t = tying_member n d in none t.0 t.1
 
+  pub tie_repeats : (m : ℕ) → Ties points_cmp (key_of p) (count_of p) m → RepeatsAnEarlierArc p (place m)
+  tie_repeats m tie = repeats_there tie.1.0 m tie.1.1 tie.0 tie.1.2
+
+  -- the places of the members that tie are those of the arcs with the points of an earlier one
+  pub marks_repeat : (q : Drawing) → q ≡ p → (marks read by_place : List Bool) (places : List ℕ) (count : ℕ) → read ≡ marks → places ≡ places_of Par p → count ≡ length p.list
+      → AreMarksOf (count_of q) (Ties points_cmp (key_of q) (count_of q)) marks → AreMarksOf count (IsPlaceOfMark places read) by_place → AreMarksOf (length p.list) (RepeatsAnEarlierArc p) by_place
+  marks_repeat q same marks read by_place places count e f g tied placed = marks_at_places Par p (Ties points_cmp (key_of p) (count_of p)) (RepeatsAnEarlierArc p) (λ m t. t.0) tie_repeats tying_member
+      marks read by_place places (count_of p) count e f g (subst (λ r. AreMarksOf (count_of r) (Ties points_cmp (key_of r) (count_of r)) marks) same tied) placed
+
   pub least_repeats : (m : ℕ) → Ties points_cmp (key_of p) (count_of p) m → ((n : ℕ) → Ties points_cmp (key_of p) (count_of p) n → m ≤ n)
       → RepeatsAnEarlierArc p (place m) × ((k : ℕ) → RepeatsAnEarlierArc p k → place m ≤ k)
   least_repeats m tie least = (
-    repeats_there tie.1.0 m tie.1.1 tie.0 tie.1.2,
+    tie_repeats m tie,
     λ k d. let t = tying_member k d in behind t.0 t.1.0 k t.2 (least t.0 t.1) (cases_order m t.0),
   )
     where

@@ -1,5 +1,5 @@
 -- The least member of a layer of nodes that ties is the least node that equals an earlier one.
-use Rattle.std.proofs.Common.{◌≡◌, ℕ, ◌<◌, ◌≤◌, ◌⊎◌, inl, inr, List, length, get_or, sym, ap, ◌∙◌, subst, arith, Equal}
+use Rattle.std.proofs.Common.{◌≡◌, ℕ, ◌<◌, ◌≤◌, ◌⊎◌, inl, inr, Bool, List, length, get_or, sym, ap, ◌∙◌, subst, arith, Equal}
 use Rattle.std.proofs.lemmas.List.{get_or-map}
 use Rattle.std.proofs.lemmas.Bool.{cases_order}
 use Rattle.edi_record.specs.declared.record.Kind.TheVariants.{Pno}
@@ -8,10 +8,12 @@ use Rattle.edi_plan.specs.Plans.{Drawing, record_at}
 use Rattle.edi_plan.specs.Whole.{IsWholePlan}
 use Rattle.edi_plan.proofs.PlaceLemmas.{place_there, place_of_kind, places_rise, has_place}
 use Rattle.edi_topo.specs.NodeKeys.{node_key, node_keys, node_key_cmp, no_node, IsNodeRanking}
+use Rattle.edi_topo.specs.Marks.{AreMarksOf, IsPlaceOfMark}
 use Rattle.edi_topo.specs.inner.Nodes.{RepeatsAnEarlier}
 use Rattle.edi_topo.specs.Ranking.{Ties, IsRanking}
 use Rattle.edi_topo.specs.TopologyRules.{AreEqualNodes}
 use Rattle.edi_topo.specs.declared.node_key.NodeKey.{NodeKey}
+use Rattle.edi_topo.proofs.MarksPlaced.{marks_at_places}
 use Rattle.edi_topo.proofs.NodeOrders.{node_order, keys_of_alike, equal_from_keys}
 use Rattle.edi_topo.specs.contracts.node_key.NodeKeyOrd.TheImpl.{ghosts as nodes}
 
@@ -56,17 +58,22 @@ module _ (p : Drawing) (whole : IsWholePlan p) where
   pub none_repeats : ((m : ℕ) → ¬ (Ties nodes.cmp (key_of p) (count_of p) m)) → (n : ℕ) → ¬ (RepeatsAnEarlier p n)
   none_repeats none n d = let t = tying_member n d in none t.0 t.1
 
+  pub tie_repeats : (m : ℕ) → Ties nodes.cmp (key_of p) (count_of p) m → RepeatsAnEarlier p (place m)
+  tie_repeats m tie = let i = tie.1.0 in (place i, places_rise Pno p i m tie.1.1 tie.0, equal_there i m (omega (arith, tie.0, tie.1.1)) tie.0 tie.1.2)
+
   pub least_repeats : (m : ℕ) → Ties nodes.cmp (key_of p) (count_of p) m → ((n : ℕ) → Ties nodes.cmp (key_of p) (count_of p) n → m ≤ n) → RepeatsAnEarlier p (place m) × ((k : ℕ) → RepeatsAnEarlier p k → place m ≤ k)
-  least_repeats m tie least =
-      let i = tie.1.0 in (
-        (place i, places_rise Pno p i m tie.1.1 tie.0, equal_there i m (omega (arith, tie.0, tie.1.1)) tie.0 tie.1.2),
-        λ k d. let t = tying_member k d in behind t.0 t.1.0 k t.2 (least t.0 t.1) (cases_order m t.0),
-      )
+  least_repeats m tie least = (tie_repeats m tie, λ k d. let t = tying_member k d in behind t.0 t.1.0 k t.2 (least t.0 t.1) (cases_order m t.0))
     where
       behind : (j : ℕ) → j < count_of p → (k : ℕ) → place j ≡ k → m ≤ j → (m ≡ j) ⊎ ((m < j) ⊎ (j < m)) → place m ≤ k
       behind j h k e le (inl same) = omega (arith, ap place same, e)
       behind j h k e le (inr (inl less)) = omega (arith, places_rise Pno p m j less h, e)
       behind j h k e le (inr (inr more)) = absurd (omega arith)
+
+  -- the places of the members that tie are those of the nodes that equal an earlier one
+  pub marks_repeat : (q : Drawing) → q ≡ p → (marks read by_place : List Bool) (places : List ℕ) (count : ℕ) → read ≡ marks → places ≡ places_of Pno p → count ≡ length p.list
+      → AreMarksOf (count_of q) (Ties nodes.cmp (key_of q) (count_of q)) marks → AreMarksOf count (IsPlaceOfMark places read) by_place → AreMarksOf (length p.list) (RepeatsAnEarlier p) by_place
+  marks_repeat q same marks read by_place places count e f g tied placed = marks_at_places Pno p (Ties nodes.cmp (key_of p) (count_of p)) (RepeatsAnEarlier p) (λ m t. t.0) tie_repeats tying_member
+      marks read by_place places (count_of p) count e f g (subst (λ r. AreMarksOf (count_of r) (Ties nodes.cmp (key_of r) (count_of r)) marks) same tied) placed
 
 -- the numbers by the derived order are those by the written one
 pub ranking_of : (p q : Drawing) (numbers : List ℕ) → q ≡ p → IsRanking nodes.cmp (key_of q) (count_of q) numbers → IsNodeRanking p numbers

@@ -1,4 +1,4 @@
--- In the order of the keys, the least repeat is the least member with the key of an earlier one.
+-- In the order of the keys, the members that follow one with their key are those with the key of an earlier one.
 use Rattle.std.proofs.Common.{◌≡◌, ◌≢◌, ℕ, zero, suc, ◌+◌, ◌-◌, ◌<◌, ◌≤◌, ◌⊎◌, inl, inr, Bool, true, false, true≢false, ◌||◌, nat_eq, List, [], ◌∷◌, ◌++◌, length, get_or, refl, sym, ap, ◌∙◌, subst, arith, All, Contains, IsPermutation, IsSorted, Ordering, Less, Equal, Greater, is_lt, is_gt, nat_cmp, eq-eqb, ne_eqb}
 use Rattle.std.specs.List.{list_any, AllByRecursion, IsDistinct}
 use Rattle.std.specs.Cmp.{IsTotalOrder, IsEquivalence}
@@ -7,10 +7,12 @@ use Rattle.std.proofs.lemmas.Bool.{cases_order}
 use Rattle.std.proofs.lemmas.Cmp.{on_total, then_total, nat_cmp_total, on_equiv, nat_eq_equiv, tied_back}
 use Rattle.std.proofs.lemmas.List.{get_or_default}
 use Rattle.std.proofs.lemmas.List.Elements.{recursion_from_All}
-use Rattle.std.proofs.lemmas.List.Sorted.{All-permutation, Contains-permutation, ranks_by, sorted_far}
+use Rattle.std.proofs.lemmas.List.Sorted.{All-permutation, Contains-permutation, length_permutation, ranks_by, sorted_far}
 use Rattle.std.proofs.lemmas.Map.Keys.{IsDistinct-push, IsDistinct-IsPermutation, apart_from_distinct}
-use Rattle.edi_topo.specs.inner.Keyed.{keyed, HasEarlier, IsFirstTie, IsLeastRepeat}
-use Rattle.edi_topo.proofs.KeyOrder.{has_member, AreMembers}
+use Rattle.edi_topo.specs.Marks.{AreMarksOf}
+use Rattle.edi_topo.specs.Ranking.{Ties}
+use Rattle.edi_topo.specs.inner.Keyed.{keyed, IsFirstTie, IsLeastRepeat, FollowsItsKey}
+use Rattle.edi_topo.proofs.KeyOrder.{has_member, length-keyed, AreMembers}
 
 module _ {K : Type 0} (key : ℕ → K) where
   same_member : K × ℕ → K × ℕ → Bool
@@ -71,10 +73,7 @@ module _ {K : Type 0} (cmp : K → K → Ordering) (total : IsTotalOrder cmp) (k
       go Equal p o-is p-is g h = refl
       go Greater p o-is p-is g h = absurd (true≢false g)
 
-  module _ (m : ℕ) (r : IsLeastRepeat cmp xs (length xs) m) where
-    d : K × ℕ
-    d = (key m, m)
-
+  module _ (m : ℕ) (r : FollowsItsKey cmp xs (length xs) m) where
     abbrev at : ℕ → K × ℕ
     at i = get_or xs i (key m, m)
 
@@ -96,46 +95,73 @@ module _ {K : Type 0} (cmp : K → K → Ordering) (total : IsTotalOrder cmp) (k
             let f : is_lt (nat_cmp (at (r.place + 1)).1 (at r.place).1) ≡ false = subst (λ o. is_lt (ordering_then o (nat_cmp (at (r.place + 1)).1 (at r.place).1)) ≡ false) back (far r.place (r.place + 1) (key m, m) (omega arith) r.within) in
             absurd (true≢false (sym (ap is_lt (less_of _ _ more)) ∙ f))
 
-    place_of : (i : ℕ) → i < n → (j : ℕ) × (j < length xs) × (at j ≡ (key i, i))
-    place_of i h = let c = Contains-permutation (keyed key n) xs (key i, i) same (has_member key n i h) in (c.0, c.1, get_or_default xs c.0 (key m, m) (key i, i) c.1 ∙ c.2)
+    -- a member that follows one with its key has the key of an earlier one
+    pub follower_ties : Ties cmp key n m
+    follower_ties = (subst (λ k. k < n) last_is (each (r.place + 1) (key m, m) r.within).0, ((at r.place).1, earlier, keys_tie))
 
-    none_before : (i : ℕ) → i < m → i < n → HasEarlier cmp key i → ⊥
-    none_before i l h t = go (cases_order x.0 y.0)
-      where
-        x : (j : ℕ) × (j < length xs) × (at j ≡ (key t.0, t.0))
-        x = place_of t.0 (omega (arith, t.1))
+  place_of : (i : ℕ) → i < n → (j : ℕ) × (j < length xs) × ((d : K × ℕ) → get_or xs j d ≡ (key i, i))
+  place_of i h =
+      let c = Contains-permutation (keyed key n) xs (key i, i) same (has_member key n i h) in
+      (c.0, c.1, λ d. get_or_default xs c.0 d (key i, i) c.1 ∙ c.2)
 
-        y : (j : ℕ) × (j < length xs) × (at j ≡ (key i, i))
-        y = place_of i h
+  -- a member with the key of an earlier one follows one with its key
+  pub tie_follows : (m : ℕ) → Ties cmp key n m → FollowsItsKey cmp xs (length xs) m
+  tie_follows m t = go (cases_order x.0 y.0)
+    where
+      x : (j : ℕ) × (j < length xs) × ((d : K × ℕ) → get_or xs j d ≡ (key t.1.0, t.1.0))
+      x = place_of t.1.0 (omega (arith, t.0, t.1.1))
 
-        tie : cmp (at x.0).0 (at y.0).0 ≡ Equal
-        tie = subst (λ (p : K × ℕ). cmp p.0 (at y.0).0 ≡ Equal) (sym x.2) (subst (λ (p : K × ℕ). cmp (key t.0) p.0 ≡ Equal) (sym y.2) t.2)
+      y : (j : ℕ) × (j < length xs) × ((d : K × ℕ) → get_or xs j d ≡ (key m, m))
+      y = place_of m t.0
 
-        member : (at y.0).1 ≡ i
-        member = ap (λ (p : K × ℕ). p.1) y.2
+      tie : (d : K × ℕ) → cmp (get_or xs x.0 d).0 (get_or xs y.0 d).0 ≡ Equal
+      tie d = subst (λ (p : K × ℕ). cmp p.0 (get_or xs y.0 d).0 ≡ Equal) (sym (x.2 d)) (subst (λ (p : K × ℕ). cmp (key t.1.0) p.0 ≡ Equal) (sym (y.2 d)) t.1.2)
 
-        earlier_member : (at x.0).1 ≡ t.0
-        earlier_member = ap (λ (p : K × ℕ). p.1) x.2
+      member : (d : K × ℕ) → (get_or xs y.0 d).1 ≡ m
+      member d = ap (λ (p : K × ℕ). p.1) (y.2 d)
 
-        go : (x.0 ≡ y.0) ⊎ ((x.0 < y.0) ⊎ (y.0 < x.0)) → ⊥
-        go (inl e) = omega (arith, t.1, sym member ∙ (ap (λ j. (at j).1) (sym e) ∙ earlier_member))
-        go (inr (inl less)) =
-            let round : y.0 - 1 + 1 ≡ y.0 = omega arith in
-            let near = between (at x.0).0 (at (y.0 - 1)).0 (at y.0).0 tie (at_most x.0 (y.0 - 1) (key m, m) (omega arith) (omega (arith, y.1))) (at_most (y.0 - 1) y.0 (key m, m) (omega arith) y.1) in
-            let le = r.least (y.0 - 1) (key m, m) (subst (λ j. j < length xs) (sym round) y.1) (subst (λ j. cmp (at (y.0 - 1)).0 (at j).0 ≡ Equal) (sym round) near) in
-            let le' : m ≤ (at y.0).1 = subst (λ j. m ≤ (at j).1) round le in
-            omega (arith, le', member)
-        go (inr (inr more)) =
-            let f = far y.0 x.0 (key m, m) (omega arith) x.1 in
-            let g : is_lt (nat_cmp (at x.0).1 (at y.0).1) ≡ false = subst (λ o. is_lt (ordering_then o (nat_cmp (at x.0).1 (at y.0).1)) ≡ false) tie f in
-            let less : (at x.0).1 < (at y.0).1 = omega (arith, t.1, member, earlier_member) in
-            true≢false (sym (ap is_lt (less_of _ _ less)) ∙ g)
+      earlier_member : (d : K × ℕ) → (get_or xs x.0 d).1 ≡ t.1.0
+      earlier_member d = ap (λ (p : K × ℕ). p.1) (x.2 d)
 
-    pub first_tie_is : IsFirstTie cmp key n m
-    first_tie_is =
-        let within : m < n = subst (λ k. k < n) last_is (each (r.place + 1) (key m, m) r.within).0 in
-        record {
-          within = within;
-          tied = ((at r.place).1, earlier, keys_tie);
-          first = λ i l t. none_before i l (omega arith) t;
-        }
+      near : (d : K × ℕ) → x.0 < y.0 → cmp (get_or xs (y.0 - 1) d).0 (get_or xs y.0 d).0 ≡ Equal
+      near d less = between (get_or xs x.0 d).0 (get_or xs (y.0 - 1) d).0 (get_or xs y.0 d).0 (tie d) (at_most x.0 (y.0 - 1) d (omega arith) (omega (arith, y.1))) (at_most (y.0 - 1) y.0 d (omega arith) y.1)
+
+      go : (x.0 ≡ y.0) ⊎ ((x.0 < y.0) ⊎ (y.0 < x.0)) → FollowsItsKey cmp xs (length xs) m
+      go (inl e) = absurd (omega (arith, t.1.1, sym (member (key m, m)) ∙ (ap (λ j. (get_or xs j (key m, m)).1) (sym e) ∙ earlier_member (key m, m))))
+      go (inr (inl less)) =
+          let round : y.0 - 1 + 1 ≡ y.0 = omega arith in
+          let within : y.0 - 1 + 1 < length xs = subst (λ j. j < length xs) (sym round) y.1 in
+          record {
+            place = y.0 - 1;
+            within = within;
+            seen = within;
+            repeats = λ d. subst (λ j. cmp (get_or xs (y.0 - 1) d).0 (get_or xs j d).0 ≡ Equal) (sym round) (near d less);
+            is = λ d. ap (λ j. (get_or xs j d).1) round ∙ member d;
+          }
+      go (inr (inr more)) =
+          let d : K × ℕ = (key m, m) in
+          let f = far y.0 x.0 d (omega arith) x.1 in
+          let g : is_lt (nat_cmp (get_or xs x.0 d).1 (get_or xs y.0 d).1) ≡ false = subst (λ o. is_lt (ordering_then o (nat_cmp (get_or xs x.0 d).1 (get_or xs y.0 d).1)) ≡ false) (tie d) f in
+          let less : (get_or xs x.0 d).1 < (get_or xs y.0 d).1 = omega (arith, t.1.1, member d, earlier_member d) in
+          absurd (true≢false (sym (ap is_lt (less_of _ _ less)) ∙ g))
+
+  pub first_tie_is : (m : ℕ) → IsLeastRepeat cmp xs (length xs) m → IsFirstTie cmp key n m
+  first_tie_is m r =
+      let tie = follower_ties m (record { place = r.place; within = r.within; seen = r.within; repeats = r.repeats; is = r.is }) in
+      record { within = tie.0; tied = tie.1; first = λ i less earlier. none_before i less (tie_follows i (omega (arith, less, tie.0), earlier)) }
+    where
+      none_before : (i : ℕ) → i < m → FollowsItsKey cmp xs (length xs) i → ⊥
+      none_before i less f = omega (arith, less, f.is (key m, m), r.least f.place (key m, m) f.within (f.repeats (key m, m)))
+
+  long : length xs ≡ n
+  long = length_permutation _ _ same ∙ length-keyed key n
+
+  pub members_fit : All (λ (x : K × ℕ). x.1 < length xs) xs
+  members_fit k d h = subst (λ j. (get_or xs k d).1 < j) (sym long) (each k d h).0
+
+  -- marks of the members that follow one with their key are marks of those that tie
+  pub marks_tie : (marks : List Bool) → AreMarksOf (length xs) (FollowsItsKey cmp xs (length xs)) marks → AreMarksOf n (Ties cmp key n) marks
+  marks_tie marks are = record {
+    all = are.all ∙ long;
+    each = λ m. (λ t. follower_ties m ((are.each m).0 t), λ t. (are.each m).1 (tie_follows m t));
+  }

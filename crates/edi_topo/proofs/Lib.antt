@@ -2,6 +2,8 @@ pub mod Sums
 mod KeyPlaces
 pub mod KeyOrder
 pub mod KeyTies
+pub mod TieMarks
+pub mod MarksPlaced
 pub mod NodeOrders
 pub mod FirstRepeat
 pub mod RankOrder
@@ -10,3 +12,4 @@ pub mod FirstArcRepeat
 pub mod AtPlaces
 pub mod ArcEnds
 pub mod Marked
+pub mod BreaksAt

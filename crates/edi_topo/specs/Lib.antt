@@ -1,6 +1,7 @@
 pub mod TopologyRules
 pub mod NodeKeys
 pub mod Ranking
+pub mod Marks
 pub mod Directions
 pub mod Arcs
 pub mod inner

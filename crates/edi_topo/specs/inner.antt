@@ -2,5 +2,6 @@
 pub mod AtRecord
 pub mod Faces
 pub mod Keyed
+pub mod Placed
 pub mod Nodes
 pub mod Arcs

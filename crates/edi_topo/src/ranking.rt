@@ -26,7 +26,10 @@ fn keyed_members<L: Layer>(alloc: Global, layer: &L) -> Result<Vec<(L::Key, u32)
 }
 
 /// Each member with its key, in the order of the keys, and of members where keys tie.
-fn members_by_key<L: Layer>(alloc: Global, layer: &L) -> Result<Vec<(L::Key, u32)>, AllocError>
+pub(crate) fn members_by_key<L: Layer>(
+    alloc: Global,
+    layer: &L,
+) -> Result<Vec<(L::Key, u32)>, AllocError>
     ensures few { OnOk result (L.size layer.now < 2 ^ 32) }
     ensures permutation { IfOk result (λ pairs.
         IsPermutation (keyed (L.key_of layer.now) (L.size layer.now)) pairs.items) }
@@ -68,7 +71,7 @@ fn lesser(least: Option<u32>, member: u32) -> u32
 }
 
 /// Whether the pair at a place has the key of the one before.
-fn is_repeat<K: Ord>(pairs: &[(K, u32)], i: usize) -> bool
+pub(crate) fn is_repeat<K: Ord>(pairs: &[(K, u32)], i: usize) -> bool
     requires low { 1 ≤ i }
     requires within { i < length pairs.now }
     ensures { MatchBool result ((d : K × ℕ)
@@ -79,7 +82,7 @@ fn is_repeat<K: Ord>(pairs: &[(K, u32)], i: usize) -> bool
 }
 
 /// The member at a place.
-fn member_at<K>(pairs: &[(K, u32)], i: usize) -> u32
+pub(crate) fn member_at<K>(pairs: &[(K, u32)], i: usize) -> u32
     requires { i < length pairs.now }
     ensures { (d : K × ℕ) → (slice_index_or pairs.now i d).1 ≡ result }
 {

@@ -42,9 +42,17 @@ records_of line = option_map (λ met. one_of (codes "records") met.1) (subcomman
 abbrev pub json_of : Text → Option (Option Text)
 json_of line = option_map (λ met. one_of (codes "json") met.1) (subcommand_of edicad (words_in line))
 
+-- the value of a line's option for the identifiers of the attributes that name objects
+abbrev pub named_by_of : Text → Option (Option Text)
+named_by_of line = option_map (λ met. first_of (codes "name-by") met.1) (subcommand_of edicad (words_in line))
+
 -- and that for the digest of the schema
 abbrev pub with_schema_of : Text → Option (Option Text)
 with_schema_of line = option_map (λ met. one_of (codes "schema") met.1) (subcommand_of edicad (words_in line))
+
+-- and that for all that is broken
+abbrev pub all_of_line : Text → Option (Option Text)
+all_of_line line = option_map (λ met. one_of (codes "all") met.1) (subcommand_of edicad (words_in line))
 
 -- the subcommand of a line, with the values of its last argument PATH
 abbrev pub paths_asked : Text → Option (Text × List Text)

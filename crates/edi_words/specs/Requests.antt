@@ -1,5 +1,5 @@
 -- What the words of the command line ask for.
-use Rattle.std.specs.Prelude.{◌≡◌, ◌≢◌, ◌⊎◌, ◌<◌, ◌≤◌, ◌+◌, ◌==◌, ◌||◌, ℕ, Bool, true, false, if◌then◌else◌, List, [], ◌∷◌, Option, Some, None, codes, is_some, length, map, option_map, unwrap_or, IfSome}
+use Rattle.std.specs.Prelude.{◌≡◌, ◌≢◌, ◌⊎◌, ◌<◌, ◌≤◌, ◌+◌, ◌==◌, ◌||◌, ◌&&◌, ℕ, Bool, true, false, if◌then◌else◌, List, [], ◌∷◌, Option, Some, None, codes, is_some, length, map, option_map, unwrap_or, IfSome}
 use Rattle.std.specs.List.{list_any, slice_split}
 use Rattle.std.specs.Str.{bytes_eq}
 use Rattle.std.proofs.Common.{Bor}
@@ -10,11 +10,11 @@ use Rattle.clap.specs.declared.error.kind.ErrorKind.{ErrorKind}
 use Rattle.clap.specs.declared.error.kind.ErrorKind.TheVariants.{OutOfMemory, DisplayHelp, DisplayVersion}
 use Rattle.edi_schema.specs.Roles.{KindCodes, AreKindCodes}
 use Rattle.edi_words.specs.declared.words.Request.{Request}
-use Rattle.edi_words.specs.declared.words.Request.TheVariants.{Bundle, Check, Canon, Pair, Hash, CheckList, Delivery, Manifest, CheckManifest, Explain, Draw, Changed, Misused, Answered}
+use Rattle.edi_words.specs.declared.words.Request.TheVariants.{Bundle, Check, Canon, Pair, Hash, CheckList, Delivery, Manifest, CheckManifest, Explain, ExplainAll, Rules, Draw, Changed, Misused, Answered}
 use Rattle.edi_words.specs.declared.words.Request.TheVariants as asks
 use Rattle.edi_words.specs.declared.words.PairRequest.TheVariants.{Compare, Verify, Diff}
 use Rattle.edi_words.specs.declared.words.Misuse.{Misuse}
-use Rattle.edi_words.specs.declared.words.Misuse.TheVariants.{BadKinds, TwoStandard, NoSheet, NothingHashed, ListAndMore, StandardPairing, StandardPicture, NotOneManifest}
+use Rattle.edi_words.specs.declared.words.Misuse.TheVariants.{BadKinds, TwoStandard, NoSheet, SeveralSheets, NothingHashed, ListAndMore, StandardPairing, StandardPicture, NotOneManifest}
 use Rattle.edi_words.specs.declared.words.BadKinds.{BadKinds as BadCodes}
 use Rattle.edi_words.specs.declared.words.KindsFault.{KindsFault}
 use Rattle.edi_words.specs.declared.words.KindsFault.TheVariants.{Count, Empty, Twice}
@@ -49,6 +49,10 @@ records_rule = record (new_rule (codes "records")) { long = Some (codes "records
 abbrev pub json_rule : Rule
 json_rule = record (new_rule (codes "json")) { long = Some (codes "json"); action = Some SetTrue }
 
+-- the option with the identifiers of the attributes that name objects, which has one value
+abbrev pub name_by_rule : Rule
+name_by_rule = record (new_rule (codes "name-by")) { long = Some (codes "name-by"); value_names = 1 }
+
 -- a file that has to be named
 abbrev pub file_rule : Text → Rule
 file_rule id = record (new_rule id) { required = true }
@@ -81,15 +85,15 @@ output_command name = with_rule (with_rule (schema_command name) (file_rule (cod
 
 -- the subcommands: over a sheet, over a sheet and where its canonical file goes, over two sheets, over many
 abbrev pub check_command : App
-check_command = with_rule (schema_command (codes "check")) (file_rule (codes "VEC"))
+check_command = with_rule (with_rule (schema_command (codes "check")) (file_rule (codes "VEC"))) json_rule
 
 abbrev pub canon_command : App
 canon_command = output_command (codes "canon")
 
 abbrev pub compare_command : App
 compare_command =
-    with_rule (with_rule (with_rule (schema_command (codes "compare")) (file_rule (codes "A")))
-    (file_rule (codes "B"))) pairing_rule
+    with_rule (with_rule (with_rule (with_rule (schema_command (codes "compare")) (file_rule (codes "A")))
+    (file_rule (codes "B"))) pairing_rule) json_rule
 
 abbrev pub hash_command : App
 hash_command =
@@ -97,27 +101,31 @@ hash_command =
     (with_rule (with_rule (schema_command (codes "hash")) (optional_files_rule (codes "VEC"))) schema_flag_rule)
     check_rule
 
--- a rule's number, or the first file of a schema
+-- a rule's number, or the first file of a schema, or neither
 abbrev pub subject_rule : Rule
-subject_rule = record (file_rule (codes "SCD")) { value_names = 1 }
+subject_rule = record (new_rule (codes "SCD")) { value_names = 1 }
 
--- the subcommand that explains a rule or a sheet
+-- the flag for all that is broken
+abbrev pub all_rule : Rule
+all_rule = record (new_rule (codes "all")) { long = Some (codes "all"); action = Some SetTrue }
+
+-- the subcommand that lists the rules, or explains a rule or sheets
 abbrev pub explain_command : App
 explain_command =
-    with_rule (with_rule (with_rule (with_rule (new_app (codes "explain")) kinds_rule) subject_rule)
-    (new_rule (codes "DIC"))) (new_rule (codes "VEC"))
+    with_rule (with_rule (with_rule (with_rule (with_rule (new_app (codes "explain")) kinds_rule) subject_rule)
+    (new_rule (codes "DIC"))) (optional_files_rule (codes "VEC"))) all_rule
 
 -- the subcommand over two sheets and a pairing's file
 abbrev pub verify_command : App
 verify_command =
-    with_rule (with_rule (with_rule (schema_command (codes "verify")) (file_rule (codes "A"))) (file_rule (codes "B")))
-    (file_rule (codes "FILE"))
+    with_rule (with_rule (with_rule (with_rule (schema_command (codes "verify")) (file_rule (codes "A")))
+    (file_rule (codes "B"))) (file_rule (codes "FILE"))) json_rule
 
 -- the subcommand that reports what differs between two sheets
 abbrev pub diff_command : App
 diff_command =
-    with_rule (with_rule (with_rule (with_rule (with_rule (with_rule (schema_command (codes "diff"))
-    (file_rule (codes "A"))) (file_rule (codes "B"))) brief_rule) records_rule) json_rule) picture_rule
+    with_rule (with_rule (with_rule (with_rule (with_rule (with_rule (with_rule (schema_command (codes "diff"))
+    (file_rule (codes "A"))) (file_rule (codes "B"))) brief_rule) records_rule) json_rule) name_by_rule) picture_rule
 
 -- the subcommand over a sheet and where its picture goes
 abbrev pub draw_command : App
@@ -264,14 +272,19 @@ AsksForDigests rows = (with_schema : Bool) × IsFlag (one_of (codes "schema") ro
     × ((with_schema || is_given (codes "VEC") rows) ≡ true)
 
 -- The arguments of a subcommand can't be meant: the codes are no codes, standard input is to be read twice, explain is
--- given two files of three, hash is given no sheet and no list and isn't asked for the digest of the schema, or it is
--- given a list and one of these, the pairing of a comparison or the picture of a difference is to go to standard
--- output, or delivery is to make a manifest and to check one, or is to do one of these for several paths.
+-- given two files of three, or no sheet of which all is to be said, or several and not all is to be said, hash is given
+-- no sheet and no list and isn't asked for the digest of the schema, or it is given a list and one of these, the pairing
+-- of a comparison or the picture of a difference is to go to standard output, or delivery is to make a manifest and to
+-- check one, or is to do one of these for several paths.
 abbrev pub IsMisuse : Text → List Row → Misuse → Type 0
 IsMisuse name rows (BadKinds bad) = HasBadKinds rows × AreBadKinds (first_of (codes "kinds") rows) bad
 IsMisuse name rows TwoStandard = 1 < standard_count rows
-IsMisuse name rows NoSheet =
-    (name ≡ codes "explain") × (is_given (codes "DIC") rows ≡ true) × (is_given (codes "VEC") rows ≡ false)
+IsMisuse name rows NoSheet = (name ≡ codes "explain")
+    × (((is_given (codes "DIC") rows ≡ true) × (is_given (codes "VEC") rows ≡ false))
+    ⊎ (IsFlag (one_of (codes "all") rows) true
+    × ((is_given (codes "DIC") rows && is_given (codes "VEC") rows) ≡ false)))
+IsMisuse name rows SeveralSheets = (name ≡ codes "explain") × IsFlag (one_of (codes "all") rows) false
+    × (length (values_at (codes "VEC") rows) ≢ 1) × (is_given (codes "VEC") rows ≡ true)
 IsMisuse name rows NothingHashed =
     (name ≡ codes "hash") × IsFlag (one_of (codes "schema") rows) false × (is_given (codes "VEC") rows ≡ false)
     × (is_given (codes "check") rows ≡ false)
@@ -289,6 +302,7 @@ abbrev pub misuse_text : Misuse → List ℕ
 misuse_text (BadKinds bad) = codes "bad kinds"
 misuse_text TwoStandard = codes "only one input can be -"
 misuse_text NoSheet = codes "explain takes RULE, or SCD, DIC and VEC"
+misuse_text SeveralSheets = codes "explain takes one VEC, or several with --all"
 misuse_text NothingHashed = codes "hash takes SCD, DIC and a VEC, or --schema"
 misuse_text ListAndMore = codes "hash --check LIST takes SCD and DIC alone"
 misuse_text StandardPairing = codes "--pairing takes a file, and not -"
@@ -300,18 +314,19 @@ abbrev pub IsOptionFile : Text → List Row → Option (Bor (List ℕ)) → Type
 IsOptionFile id rows file =
     (option_map (λ (p : Bor (List ℕ)). p.now) file ≡ first_of id rows) × (is_option_standard id rows ≡ false)
 
--- what the subcommand and its arguments ask for, or want of memory for the paths of `hash` or `delivery`, whose status
--- is 5
+-- what the subcommand and its arguments ask for, or want of memory for the paths of `hash`, `delivery` or `explain`,
+-- whose status is 5
 abbrev pub Means : Option (Text × List Row) → Request → Type 0
 Means met Bundle = met ≡ None
-Means met (Check kinds files) =
+Means met (Check kinds files json) =
     (rows : List Row) × (met ≡ Some (codes "check", rows)) × GiveKinds rows kinds × AreSheetFiles rows files
+    × IsFlag (one_of (codes "json") rows) json
 Means met (Canon kinds files out) =
     (rows : List Row) × (met ≡ Some (codes "canon", rows)) × GiveKinds rows kinds × AreSheetFiles rows files
     × (out.now ≡ value_at (codes "OUT") rows)
-Means met (Pair kinds files (Compare pairing)) =
+Means met (Pair kinds files (Compare pairing json)) =
     (rows : List Row) × (met ≡ Some (codes "compare", rows)) × GiveKinds rows kinds × ArePairFiles rows files
-    × IsOptionFile (codes "pairing") rows pairing
+    × IsOptionFile (codes "pairing") rows pairing × IsFlag (one_of (codes "json") rows) json
 Means met (Hash kinds files with_schema) =
     (rows : List Row) × (met ≡ Some (codes "hash", rows)) × GiveKinds rows kinds × AreManyFiles rows files
     × IsFlag (one_of (codes "schema") rows) with_schema × ((with_schema || is_given (codes "VEC") rows) ≡ true)
@@ -332,17 +347,27 @@ Means met (CheckManifest kinds path manifest) =
     × (is_given (codes "manifest") rows ≡ false)
 Means met (Explain kinds files) =
     (rows : List Row) × (met ≡ Some (codes "explain", rows)) × GiveKinds rows kinds × AreSheetFiles rows files
+    × (is_given (codes "DIC") rows ≡ true) × (length (values_at (codes "VEC") rows) ≡ 1)
+    × IsFlag (one_of (codes "all") rows) false
+Means met (ExplainAll kinds files) =
+    (rows : List Row) × (met ≡ Some (codes "explain", rows)) × GiveKinds rows kinds × AreManyFiles rows files
     × (is_given (codes "DIC") rows ≡ true) × (is_given (codes "VEC") rows ≡ true)
+    × IsFlag (one_of (codes "all") rows) true
 Means met (asks.Rule word) =
     (rows : List Row) × (met ≡ Some (codes "explain", rows)) × (word.now ≡ value_at (codes "SCD") rows)
-    × (is_given (codes "DIC") rows ≡ false)
-Means met (Pair kinds files (Verify pairing)) =
+    × (is_given (codes "SCD") rows ≡ true) × (is_given (codes "DIC") rows ≡ false)
+    × IsFlag (one_of (codes "all") rows) false
+Means met Rules = (rows : List Row) × (met ≡ Some (codes "explain", rows)) × (is_given (codes "SCD") rows ≡ false)
+    × IsFlag (one_of (codes "all") rows) false
+Means met (Pair kinds files (Verify pairing json)) =
     (rows : List Row) × (met ≡ Some (codes "verify", rows)) × GiveKinds rows kinds × ArePairFiles rows files
-    × (pairing.now ≡ value_at (codes "FILE") rows)
-Means met (Pair kinds files (Diff brief records json picture)) =
+    × (pairing.now ≡ value_at (codes "FILE") rows) × IsFlag (one_of (codes "json") rows) json
+Means met (Pair kinds files (Diff brief records json named_by picture)) =
     (rows : List Row) × (met ≡ Some (codes "diff", rows)) × GiveKinds rows kinds × ArePairFiles rows files
     × IsFlag (one_of (codes "brief") rows) brief × IsFlag (one_of (codes "records") rows) records
-    × IsFlag (one_of (codes "json") rows) json × IsOptionFile (codes "picture") rows picture
+    × IsFlag (one_of (codes "json") rows) json
+    × (option_map (λ (text : Bor (List ℕ)). text.now) named_by ≡ first_of (codes "name-by") rows)
+    × IsOptionFile (codes "picture") rows picture
 Means met (Draw kinds files out) =
     (rows : List Row) × (met ≡ Some (codes "draw", rows)) × GiveKinds rows kinds × AreSheetFiles rows files
     × (out.now ≡ value_at (codes "OUT") rows)
@@ -351,7 +376,8 @@ Means met (Changed before after) =
     × (after.now ≡ value_at (codes "AFTER") rows)
 Means met (Misused misuse) = (name : Text) × (rows : List Row) × (met ≡ Some (name, rows)) × IsMisuse name rows misuse
 Means met (Answered status) =
-    (rows : List Row) × ((met ≡ Some (codes "hash", rows)) ⊎ (met ≡ Some (codes "delivery", rows))) × (status ≡ 5)
+    (rows : List Row) × ((met ≡ Some (codes "hash", rows)) ⊎ ((met ≡ Some (codes "delivery", rows))
+    ⊎ (met ≡ Some (codes "explain", rows)))) × (status ≡ 5)
 
 -- whether words in good form can't be meant
 abbrev pub is_misused : Request → Bool

@@ -1,7 +1,7 @@
 //! The command line, as clap takes it.
 ghost use Rattle.std.specs.Prelude.{◌≡◌, IfOk, IsOkAnd, codes};
 ghost use Rattle.clap.specs.Words.{AddsArg, AddsSubcommand, app_of, new_app, new_rule, rule_of, with_rule};
-ghost use Rattle.edi_words.specs.Requests.{brief_rule, canon_command, changed_command, check_command, check_rule, compare_command, delivery_command, diff_command, draw_command, edicad, explain_command, file_option_rule, file_rule, files_rule, hash_command, json_rule, kinds_rule, manifest_rule, optional_files_rule, pairing_rule, picture_rule, records_rule, schema_command, schema_flag_rule, subject_rule, verify_command};
+ghost use Rattle.edi_words.specs.Requests.{all_rule, brief_rule, canon_command, changed_command, check_command, check_rule, compare_command, delivery_command, diff_command, draw_command, edicad, explain_command, file_option_rule, file_rule, files_rule, hash_command, json_rule, kinds_rule, manifest_rule, name_by_rule, optional_files_rule, pairing_rule, picture_rule, records_rule, schema_command, schema_flag_rule, subject_rule, verify_command};
 
 use clap::{Arg, ArgAction, Command};
 use std::alloc::{AllocError, Global};
@@ -9,6 +9,8 @@ use std::alloc::{AllocError, Global};
 const SHEET: &str = "The sheet, a file of type VEC";
 
 const DICTIONARY: &str = "The dictionary of the delivery, a file of type DIC";
+
+const JSON_ANSWER: &str = "Answers with a line of JSON";
 
 const VERSION: &str = "0.1.0";
 
@@ -70,11 +72,12 @@ fn with_argument<'a>(
 fn check<'a>(alloc: Global) -> Result<Command<'a>, AllocError>
     ensures { IfOk result (λ c. app_of c ≡ check_command) }
 {
-    over_sheet(
+    let over_sheet = over_sheet(
         alloc,
         "check",
         "Says whether a sheet is accepted, or which rule it breaks first",
-    )
+    );
+    with_argument(over_sheet, json_flag(alloc, JSON_ANSWER))
 }
 
 // The subcommand that writes a sheet's canonical file.
@@ -116,7 +119,8 @@ fn compare<'a>(alloc: Global) -> Result<Command<'a>, AllocError>
         "compare",
         "Says whether two sheets state the same plan",
     );
-    with_argument(over_pair, pairing_option(alloc))
+    let with_pairing = with_argument(over_pair, pairing_option(alloc));
+    with_argument(with_pairing, json_flag(alloc, JSON_ANSWER))
 }
 
 // The subcommand that gives the digests of sheets.
@@ -170,18 +174,19 @@ fn changed<'a>(alloc: Global) -> Result<Command<'a>, AllocError>
     with_argument(with_before, after)
 }
 
-// The subcommand that explains a rule or a sheet.
+// The subcommand that lists the rules, or explains a rule or sheets.
 fn explain<'a>(alloc: Global) -> Result<Command<'a>, AllocError>
     ensures { IfOk result (λ c. app_of c ≡ explain_command) }
 {
     let with_kinds = with_kinds(
         alloc,
         "explain",
-        "Says what a rule means, or where and why a sheet is refused",
+        "Lists the rules, or says what one means, or why a sheet is refused",
     );
     let with_subject = with_argument(with_kinds, subject(alloc));
     let with_dic = with_argument(with_subject, optional_file(alloc, "DIC", DICTIONARY));
-    with_argument(with_dic, optional_file(alloc, "VEC", SHEET))
+    let with_sheets = with_argument(with_dic, sheets_argument(alloc));
+    with_argument(with_sheets, all_flag(alloc))
 }
 
 // The subcommand that checks a pairing's file.
@@ -194,7 +199,8 @@ fn verify<'a>(alloc: Global) -> Result<Command<'a>, AllocError>
         "Says whether a file pairs two sheets that state the same plan",
     );
     let pairing = file(alloc, "FILE", "The pairing, as compare --pairing writes it");
-    with_argument(over_pair, pairing)
+    let with_pairing = with_argument(over_pair, pairing);
+    with_argument(with_pairing, json_flag(alloc, JSON_ANSWER))
 }
 
 // The subcommand that reports what differs between two sheets.
@@ -204,8 +210,10 @@ fn diff<'a>(alloc: Global) -> Result<Command<'a>, AllocError>
     let over_pair = over_pair(alloc, "diff", "Says what differs between two sheets");
     let with_brief = with_argument(over_pair, brief_flag(alloc));
     let with_records = with_argument(with_brief, records_flag(alloc));
-    let with_json = with_argument(with_records, json_flag(alloc));
-    with_argument(with_json, picture_option(alloc))
+    let json = json_flag(alloc, "Lists each record that differs as a line of JSON");
+    let with_json = with_argument(with_records, json);
+    let with_names = with_argument(with_json, name_by_option(alloc));
+    with_argument(with_names, picture_option(alloc))
 }
 
 // A subcommand over a sheet.
@@ -251,11 +259,13 @@ fn with_kinds<'a>(alloc: Global, name: &'a str, about: &'a str) -> Result<Comman
         .arg(kinds_option(alloc))
 }
 
-// A rule's number, or the first file of a schema.
+// A rule's number, or the first file of a schema, or neither.
 fn subject<'a>(alloc: Global) -> Arg<'a>
     ensures { rule_of result ≡ subject_rule }
 {
-    file(alloc, "SCD", "The number of a rule, or a file of type SCD").value_name("RULE|SCD")
+    optional_file(alloc, "SCD", "The number of a rule, or a file of type SCD").value_name(
+        "RULE|SCD",
+    )
 }
 
 // A file that may be named.
@@ -377,12 +387,32 @@ fn records_flag<'a>(alloc: Global) -> Arg<'a>
         .help("Lists each record that differs, and not the objects")
 }
 
+// The flag that asks for all that is broken.
+fn all_flag<'a>(alloc: Global) -> Arg<'a>
+    ensures { rule_of result ≡ all_rule }
+{
+    Arg::new(alloc, "all")
+        .long("all")
+        .action(ArgAction::SetTrue)
+        .help("Lists every place that is wrong, and counts by rule")
+}
+
+// The option with the identifiers of the attributes that name objects.
+fn name_by_option<'a>(alloc: Global) -> Arg<'a>
+    ensures { rule_of result ≡ name_by_rule }
+{
+    Arg::new(alloc, "name-by")
+        .long("name-by")
+        .value_name("ID,ID")
+        .help("Attributes that name objects [default: the usual]")
+}
+
 // The flag that asks for lines of JSON.
-fn json_flag<'a>(alloc: Global) -> Arg<'a>
+fn json_flag<'a>(alloc: Global, help: &'a str) -> Arg<'a>
     ensures { rule_of result ≡ json_rule }
 {
     Arg::new(alloc, "json")
         .long("json")
         .action(ArgAction::SetTrue)
-        .help("Lists each record that differs as a line of JSON")
+        .help(help)
 }

@@ -2,7 +2,7 @@
 ghost use Rattle.std.specs.Prelude.{◌≡◌, [], ◌∷◌, None, Some, codes};
 ghost use Rattle.clap.specs.Words.{fault_of, subcommand_of};
 ghost use Rattle.clap.specs.declared.error.ErrorKind.TheVariants.{DisplayHelp, DisplayVersion, InvalidSubcommand, MissingRequiredArgument, UnknownArgument};
-ghost use Rattle.edi_words.specs.Known.{brief_of, json_of, list_asked, lists_asked, manifests_asked, pairing_files_of, paths_asked, picture_of, records_of, sheets_of, values_of, with_schema_of, words_in};
+ghost use Rattle.edi_words.specs.Known.{all_of_line, brief_of, json_of, list_asked, named_by_of, lists_asked, manifests_asked, pairing_files_of, paths_asked, picture_of, records_of, sheets_of, values_of, with_schema_of, words_in};
 ghost use Rattle.edi_words.specs.Requests.{edicad};
 
 /// Known words ask for what they should.
@@ -28,6 +28,10 @@ pub fn known_words_are_asked()
         ) }
     ensures hash { sheets_of (codes "edicad hash s d a b c")
         ≡ Some (codes "hash", codes "a" ∷ codes "b" ∷ codes "c" ∷ []) }
+    ensures all_sheets { sheets_of (codes "edicad explain --all s d a b")
+        ≡ Some (codes "explain", codes "a" ∷ codes "b" ∷ []) }
+    ensures all_asked { all_of_line (codes "edicad explain s d a --all") ≡ Some (Some (codes "true")) }
+    ensures first_asked { all_of_line (codes "edicad explain s d a") ≡ Some (Some (codes "false")) }
     ensures no_sheets { sheets_of (codes "edicad hash --schema s d") ≡ Some (codes "hash", []) }
     ensures with_schema { with_schema_of (codes "edicad hash --schema s d") ≡ Some (Some (codes "true")) }
     ensures without_schema { with_schema_of (codes "edicad hash s d a") ≡ Some (Some (codes "false")) }
@@ -45,6 +49,8 @@ pub fn known_words_are_asked()
           None ∷ Some (codes "s") ∷ Some (codes "d") ∷ Some (codes "v") ∷ None ∷ None ∷ None
               ∷ [],
         ) }
+    ensures rules { values_of (codes "edicad explain")
+        ≡ Some (codes "explain", None ∷ None ∷ None ∷ None ∷ None ∷ None ∷ None ∷ []) }
     ensures rule { values_of (codes "edicad explain 403")
         ≡ Some (codes "explain", None ∷ Some (codes "403") ∷ None ∷ None ∷ None ∷ None ∷ None ∷ []) }
     ensures verify { values_of (codes "edicad verify s d a b f")
@@ -67,6 +73,11 @@ pub fn known_words_are_asked()
     ensures by_objects { records_of (codes "edicad diff s d a b") ≡ Some (Some (codes "false")) }
     ensures by_records { records_of (codes "edicad diff --records s d a b") ≡ Some (Some (codes "true")) }
     ensures as_json { json_of (codes "edicad diff --json s d a b") ≡ Some (Some (codes "true")) }
+    ensures check_as_json { json_of (codes "edicad check --json s d v") ≡ Some (Some (codes "true")) }
+    ensures check_as_words { json_of (codes "edicad check s d v") ≡ Some (Some (codes "false")) }
+    ensures compare_as_json { json_of (codes "edicad compare s d a b --json") ≡ Some (Some (codes "true")) }
+    ensures verify_as_json { json_of (codes "edicad verify --json s d a b f") ≡ Some (Some (codes "true")) }
+    ensures named_by { named_by_of (codes "edicad diff --name-by X,Y s d a b") ≡ Some (Some (codes "X,Y")) }
     ensures as_text { json_of (codes "edicad diff --records s d a b") ≡ Some (Some (codes "false")) }
     ensures drawn { values_of (codes "edicad draw s d v o")
         ≡ Some (
@@ -88,10 +99,13 @@ pub fn known_words_are_asked()
     ensures no_changed_fault { fault_of edicad (words_in (codes "edicad changed a b")) ≡ [] }
     ensures no_after { fault_of edicad (words_in (codes "edicad changed a")) ≡ MissingRequiredArgument ∷ [] }
     ensures no_explain_fault { fault_of edicad (words_in (codes "edicad explain s d v")) ≡ [] }
+    ensures no_all_fault { fault_of edicad (words_in (codes "edicad explain --all s d a b")) ≡ [] }
+    ensures no_rules_fault { fault_of edicad (words_in (codes "edicad explain")) ≡ [] }
     ensures no_rule_fault { fault_of edicad (words_in (codes "edicad explain 403")) ≡ [] }
     ensures no_verify_fault { fault_of edicad (words_in (codes "edicad verify s d a b f")) ≡ [] }
     ensures no_pairing_fault { fault_of edicad (words_in (codes "edicad compare --pairing f s d a b")) ≡ [] }
     ensures no_diff_fault { fault_of edicad (words_in (codes "edicad diff s d a b")) ≡ [] }
+    ensures no_names_fault { fault_of edicad (words_in (codes "edicad diff --name-by X,Y s d a b")) ≡ [] }
     ensures no_brief_fault { fault_of edicad (words_in (codes "edicad diff --brief s d a b")) ≡ [] }
     ensures no_json_fault { fault_of edicad (words_in (codes "edicad diff s d a b --json")) ≡ [] }
     ensures no_records_fault { fault_of edicad (words_in (codes "edicad diff --records s d a b")) ≡ [] }

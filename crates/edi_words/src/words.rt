@@ -53,6 +53,7 @@ pub enum Request<'a> {
     Check {
         kinds: GivenKinds<'a>,
         files: SheetFiles<'a>,
+        json: bool,
     },
     /// The canonical file of a sheet.
     Canon {
@@ -88,6 +89,11 @@ pub enum Request<'a> {
         kinds: GivenKinds<'a>,
         files: SheetFiles<'a>,
     },
+    /// All that the first broken phase of each sheet breaks.
+    ExplainAll {
+        kinds: GivenKinds<'a>,
+        files: ManyFiles<'a>,
+    },
     /// The manifest of a delivery, and where it goes.
     Manifest {
         kinds: GivenKinds<'a>,
@@ -104,6 +110,8 @@ pub enum Request<'a> {
     Rule {
         word: &'a str,
     },
+    /// Which rules there are.
+    Rules,
     /// The picture of a sheet.
     Draw {
         kinds: GivenKinds<'a>,
@@ -127,17 +135,20 @@ pub enum PairRequest<'a> {
     /// Whether they state the same plan, and where a pairing of them goes.
     Compare {
         pairing: Option<&'a str>,
+        json: bool,
     },
     /// Whether a file states a pairing that carries the plan of the one onto that of the other.
     Verify {
         pairing: &'a str,
+        json: bool,
     },
     /// What differs between them, object by object, record by record or as lines of JSON, or only how many records
-    /// differ, and where a picture of that goes.
+    /// differ; the identifiers, parted by commas, of the attributes that name objects; and where a picture of that goes.
     Diff {
         brief: bool,
         records: bool,
         json: bool,
+        named_by: Option<&'a str>,
         picture: Option<&'a str>,
     },
 }
@@ -149,8 +160,10 @@ pub enum Misuse<'a> {
     BadKinds(BadKinds<'a>),
     /// Standard input is to be read twice.
     TwoStandard,
-    /// A schema is named, and no sheet.
+    /// A schema is named, or all that is broken asked for, and no sheet.
     NoSheet,
+    /// Several sheets are named, and it isn't asked for all that is broken.
+    SeveralSheets,
     /// No sheet and no list is named, nor is the digest of the schema asked for.
     NothingHashed,
     /// A list is named, and beside it a sheet, or the digest of the schema is asked for.
@@ -234,6 +247,7 @@ fn subcommand_meant<'a, R: Eprint + AllocGlobal>(
         "check" => Request::Check {
             kinds,
             files: sheet_files(given),
+            json: flag(given, "json"),
         },
         "canon" => Request::Canon {
             kinds,
@@ -247,6 +261,7 @@ fn subcommand_meant<'a, R: Eprint + AllocGlobal>(
             files: pair_files(given),
             what: PairRequest::Verify {
                 pairing: path(given, "FILE"),
+                json: flag(given, "json"),
             },
         },
         "diff" => differing(given, kinds),
@@ -260,7 +275,7 @@ fn subcommand_meant<'a, R: Eprint + AllocGlobal>(
             before: path(given, "BEFORE"),
             after: path(given, "AFTER"),
         },
-        _ => explained(given, kinds),
+        _ => explained(rt, given, kinds),
     }
 }
 
@@ -277,6 +292,7 @@ fn compared<'a>(given: &ArgMatches<'a>, kinds: GivenKinds<'a>) -> Request<'a>
         files: pair_files(given),
         what: PairRequest::Compare {
             pairing: given.get_str("pairing"),
+            json: flag(given, "json"),
         },
     }
 }
@@ -372,7 +388,7 @@ fn of_manifest<'a>(given: &ArgMatches<'a>, kinds: GivenKinds<'a>) -> Request<'a>
     ensures { GiveKinds (rows_of (found_of given.now)) kinds.entry
         → Means (Some (codes "delivery", rows_of (found_of given.now))) result }
 {
-    let Some(path) = only_path(given) else {
+    let Some(path) = only_path(given, "PATH") else {
         return Request::Misused(Misuse::NotOneManifest);
     };
     match (given.get_str("manifest"), given.get_str("check")) {
@@ -387,12 +403,12 @@ fn of_manifest<'a>(given: &ArgMatches<'a>, kinds: GivenKinds<'a>) -> Request<'a>
     }
 }
 
-// The path of a delivery, if there is one alone.
-fn only_path<'a>(given: &ArgMatches<'a>) -> Option<&'a str>
-    ensures { MatchOption result (length (values_at (codes "PATH") (rows_of (found_of given.now))) ≢ 1)
-        (λ path. values_at (codes "PATH") (rows_of (found_of given.now)) ≡ path.now ∷ []) }
+// The value of an argument, if there is one alone.
+fn only_path<'a>(given: &ArgMatches<'a>, name: &str) -> Option<&'a str>
+    ensures { MatchOption result (length (values_at name.now (rows_of (found_of given.now))) ≢ 1)
+        (λ path. values_at name.now (rows_of (found_of given.now)) ≡ path.now ∷ []) }
 {
-    match given.get_strs("PATH") {
+    match given.get_strs(name) {
         Some(paths) => only_of(paths),
         None => None,
     }
@@ -431,25 +447,69 @@ fn differing<'a>(given: &ArgMatches<'a>, kinds: GivenKinds<'a>) -> Request<'a>
             brief: flag(given, "brief"),
             records: flag(given, "records"),
             json: flag(given, "json"),
+            named_by: given.get_str("name-by"),
             picture: given.get_str("picture"),
         },
     }
 }
 
 // What the arguments of `explain` ask for.
-fn explained<'a>(given: &ArgMatches<'a>, kinds: GivenKinds<'a>) -> Request<'a>
+fn explained<'a, R: Eprint + AllocGlobal>(
+    rt: &R,
+    given: &ArgMatches<'a>,
+    kinds: GivenKinds<'a>,
+) -> Request<'a>
     ensures { GiveKinds (rows_of (found_of given.now)) kinds.entry
         → Means (Some (codes "explain", rows_of (found_of given.now))) result }
 {
+    if flag(given, "all") {
+        return all_explained(rt, given, kinds);
+    }
+    if !is_given(given, "SCD") {
+        return Request::Rules;
+    }
     match (is_given(given, "DIC"), is_given(given, "VEC")) {
         (false, _) => Request::Rule {
             word: path(given, "SCD"),
         },
         (true, false) => Request::Misused(Misuse::NoSheet),
-        (true, true) => Request::Explain {
+        (true, true) => sheet_explained(given, kinds),
+    }
+}
+
+// What the arguments of `explain` ask for where they name sheets, and not all is to be said.
+fn sheet_explained<'a>(given: &ArgMatches<'a>, kinds: GivenKinds<'a>) -> Request<'a>
+    requires all { IsFlag (one_of (codes "all") (rows_of (found_of given.now))) false }
+    requires dic { is_given (codes "DIC") (rows_of (found_of given.now)) ≡ true }
+    requires vec { is_given (codes "VEC") (rows_of (found_of given.now)) ≡ true }
+    ensures { GiveKinds (rows_of (found_of given.now)) kinds.entry
+        → Means (Some (codes "explain", rows_of (found_of given.now))) result }
+{
+    match only_path(given, "VEC") {
+        Some(_) => Request::Explain {
             kinds,
             files: sheet_files(given),
         },
+        None => Request::Misused(Misuse::SeveralSheets),
+    }
+}
+
+// What the arguments of `explain` ask for where all is to be said.
+fn all_explained<'a, R: Eprint + AllocGlobal>(
+    rt: &R,
+    given: &ArgMatches<'a>,
+    kinds: GivenKinds<'a>,
+) -> Request<'a>
+    requires { IsFlag (one_of (codes "all") (rows_of (found_of given.now))) true }
+    ensures { GiveKinds (rows_of (found_of given.now)) kinds.entry
+        → Means (Some (codes "explain", rows_of (found_of given.now))) result }
+{
+    if !(is_given(given, "DIC") && is_given(given, "VEC")) {
+        return Request::Misused(Misuse::NoSheet);
+    }
+    match many_files(rt.alloc(), given) {
+        Ok(files) => Request::ExplainAll { kinds, files },
+        Err(_) => Request::Answered(out_of_memory(rt)),
     }
 }
 

@@ -10,6 +10,7 @@ use Rattle.edi_drawing.specs.declared.drawn.DrawnDifference.{DrawnDifference}
 use Rattle.edi_words.specs.declared.words.PairFiles.{PairFiles}
 use Rattle.edi_outcome.specs.Status.{status_of_fault}
 use Rattle.edi_answers.specs.Paths.{names_of_paths}
+use Rattle.edi_answers.specs.declared.form.AnswerForm.TheVariants as answer_form
 use Rattle.edi_answers.specs.Effects.{Effects, Inputs, Stream}
 use Rattle.edi_answers.specs.SheetRuns.{IsPairPut, IsPairReplaced, OfPair, PairFileFault, PutPairFault}
 use Rattle.edicad.specs.Made.{IsPictureOfPair, ShowsDifference, names_of_pair}
@@ -60,12 +61,12 @@ module _ (run : Effects) (out err : Stream) (kinds : KindCodes) (files : PairFil
   }
 
   pub unanswered_status : (e : RunFault) → PairFileFault run.inputs kinds files (λ _. ⊥) e
-      → IsSaid run.why out err (outcome.Fault e) (pair_paths_of files (codes "-")) s → IsDiffStatus run out err kinds files form s
+      → IsSaid run.why out err answer_form.Words (outcome.Fault e) (pair_paths_of files (codes "-")) s → IsDiffStatus run out err kinds files form s
   unanswered_status e h said = record {
     tried = pair_tried run.inputs kinds files (λ _. ⊥) e h;
     different = λ one. absurd (not_one s (known_fault (status_of_fault e) s (fault_status e) said.status) one);
     means = means_fault _ _ _ run.why (pair_paths_of files (codes "-")) out err s e (λ silent. (h, silent))
-        (λ is line. pair_refused (Answers out err) kinds (names_of_paths (pair_paths_of files (codes "-"))) refl run.inputs files (λ _. ⊥) e h is line) said;
+        (λ is line. pair_refused (Answers out err) kinds (names_of_paths (pair_paths_of files (codes "-"))) refl run.inputs files (λ _. ⊥) e h is line.0) said;
   }
 
 -- a picture that was drawn shows what differs
@@ -97,12 +98,12 @@ module _ (run : Effects) (out err : Stream) (kinds : KindCodes) (files : PairFil
   }
 
   pub undrawn_status : (e : RunFault) → PutPairFault run (IsPictureOfPair kinds (names_of_pair files) form) kinds files path e
-      → IsSaid run.why out err (outcome.Fault e) (pair_paths_of files path) s → IsPictureStatus run out err kinds files form path s
+      → IsSaid run.why out err answer_form.Words (outcome.Fault e) (pair_paths_of files path) s → IsPictureStatus run out err kinds files form path s
   undrawn_status e h said = record {
     tried = put_pair_tried run _ kinds files path e h;
     different = λ one. absurd (not_one s (known_fault (status_of_fault e) s (fault_status e) said.status) one);
     means = means_fault _ _ _ run.why (pair_paths_of files path) out err s e (λ silent. (h, silent))
-        (λ is line. put_pair_refused run _ kinds files path (Answers out err) e h is line) said;
+        (λ is line. put_pair_refused run _ kinds files path (Answers out err) e h is line.0) said;
     leaves = inr (e, h);
     replaced = replaced;
   }

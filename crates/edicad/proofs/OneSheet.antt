@@ -5,6 +5,7 @@ use Rattle.edi_compare.specs.Runs.{BeforeWriting}
 use Rattle.edi_compare.specs.declared.fault.RunFault.{RunFault}
 use Rattle.edi_files.specs.declared.product.Product.{Product}
 use Rattle.edi_words.specs.declared.words.SheetFiles.{SheetFiles}
+use Rattle.edi_answers.specs.declared.form.AnswerForm.TheVariants as answer_form
 use Rattle.edi_answers.specs.Effects.{Effects, Stream}
 use Rattle.edi_answers.specs.Paths.{names_of_paths}
 use Rattle.edi_answers.specs.SheetRuns.{FileFault}
@@ -19,20 +20,20 @@ use Rattle.edicad.proofs.Refusals.{put_refused, put_tried}
 module _ (run : Effects) (out err : Stream) (kinds : KindCodes) (files : SheetFiles) (s : ℕ) where
   module _ (product : Product) (path : List ℕ) (replaced : IsReplaced run product kinds files path) where
     -- what is made of it is put at a path, or not
-    pub put_status : IsPut run product kinds files path → IsSaid run.why out err outcome.Accepted (paths_of files path) s → IsPutStatus run out err product kinds files path s
+    pub put_status : IsPut run product kinds files path → IsSaid run.why out err answer_form.Words outcome.Accepted (paths_of files path) s → IsPutStatus run out err product kinds files path s
     put_status h said = record {
       tried = inr (inl (were_there run.inputs files _ h.1));
-      means = means_answer _ _ _ run.why (paths_of files path) out err s outcome.Accepted (omega arith) (λ zero. (h, said.answer (omega (arith, zero)))) said;
+      means = means_answer _ _ _ run.why (paths_of files path) out err s outcome.Accepted (omega arith) (λ zero. (h, (said.answer (omega (arith, zero))).0)) said;
       leaves = inl h;
       replaced = replaced;
     }
 
-    pub unput_status : (e : RunFault) → PutFault run product kinds files path e → IsSaid run.why out err (outcome.Fault e) (paths_of files path) s
+    pub unput_status : (e : RunFault) → PutFault run product kinds files path e → IsSaid run.why out err answer_form.Words (outcome.Fault e) (paths_of files path) s
         → IsPutStatus run out err product kinds files path s
     unput_status e h said = record {
       tried = put_tried run product kinds files path e h;
       means = means_fault _ _ _ run.why (paths_of files path) out err s e (λ silent. (h, silent))
-          (λ is line. put_refused (Answers out err) kinds (names_of_paths (paths_of files path)) refl run product files path e h is line) said;
+          (λ is line. put_refused (Answers out err) kinds (names_of_paths (paths_of files path)) refl run product files path e h is line.0) said;
       leaves = inr (e, h);
       replaced = replaced;
     }

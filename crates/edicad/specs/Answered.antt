@@ -6,7 +6,8 @@ use Rattle.edi_changes.specs.Statuses.{IsChangedStatus}
 use Rattle.edi_deliveries.specs.Checks.{IsCheckStatus}
 use Rattle.edi_deliveries.specs.Deliveries.{IsDeliveryStatus, Listings}
 use Rattle.edi_deliveries.specs.Manifests.{IsManifestStatus}
-use Rattle.edi_answers.specs.Explains.{IsExplainStatus, IsRuleStatus}
+use Rattle.edi_answers.specs.Census.{IsCensusStatus}
+use Rattle.edi_answers.specs.Explains.{IsExplainStatus, IsRuleListStatus, IsRuleStatus}
 use Rattle.edi_answers.specs.Hashes.{IsHashStatus}
 use Rattle.edi_files.specs.declared.product.Product.{Product}
 use Rattle.edi_files.specs.declared.product.Product.TheVariants.{Canonical, Picture}
@@ -16,7 +17,7 @@ use Rattle.edi_answers.specs.Effects.{Effects, Stream}
 use Rattle.edi_answers.specs.Misuses.{misuse_lines, not_text_lines, shows_words}
 use Rattle.edi_answers.specs.Notes.{InTurn, IsNoteOf, Notes}
 use Rattle.edi_answers.specs.Statuses.{IsBundleStatus, IsCompareStatus, IsFileStatus, IsPairingStatus, IsVerifyStatus, Complains, LacksMemory, Prints, Warns}
-use Rattle.edicad.specs.Forms.{form_asked}
+use Rattle.edicad.specs.Forms.{answer_form_asked, form_asked}
 use Rattle.edicad.specs.Statuses.{IsDiffStatus, IsPictureStatus, IsPutStatus, IsSendStatus}
 use Rattle.edi_schema.specs.Roles.{KindCodes}
 use Rattle.edi_words.specs.declared.words.PairFiles.{PairFiles}
@@ -24,7 +25,7 @@ use Rattle.edi_words.specs.declared.words.PairRequest.{PairRequest}
 use Rattle.edi_words.specs.declared.words.PairRequest.TheVariants.{Compare, Verify, Diff}
 use Rattle.edi_words.specs.declared.words.SheetFiles.{SheetFiles}
 use Rattle.edi_words.specs.declared.words.Request.{Request}
-use Rattle.edi_words.specs.declared.words.Request.TheVariants.{Bundle, Check, Canon, Pair, Hash, CheckList, Delivery, Manifest, CheckManifest, Explain, Rule, Draw, Changed, Misused, Answered}
+use Rattle.edi_words.specs.declared.words.Request.TheVariants.{Bundle, Check, Canon, Pair, Hash, CheckList, Delivery, Manifest, CheckManifest, Explain, ExplainAll, Rule, Rules, Draw, Changed, Misused, Answered}
 
 -- The status of what is made of a sheet, which is sent to the output or put at a path.
 abbrev pub IsMadeStatus : Effects → Stream → Stream → Product → KindCodes → SheetFiles → List ℕ → ℕ → Type 0
@@ -42,24 +43,26 @@ IsMisusedStatus out err misuse s =
 -- The status of what was asked of two sheets. Where no FILE is named to which something goes, nothing in the folder has
 -- changed.
 abbrev pub IsPairReplied : Effects → Stream → Stream → KindCodes → PairFiles → PairRequest → ℕ → Type 0
-IsPairReplied run out err kinds files (Compare pairing) s =
-    MatchOption pairing (run.untouched × IsCompareStatus run out err kinds files s)
-    (λ path. IsPairingStatus run out err kinds files path.now s)
-IsPairReplied run out err kinds files (Verify pairing) s =
-    run.untouched × IsVerifyStatus run out err kinds files pairing.now s
-IsPairReplied run out err kinds files (Diff brief records json picture) s =
-    MatchOption picture (run.untouched × IsDiffStatus run out err kinds files (form_asked brief records json) s)
-    (λ path. IsPictureStatus run out err kinds files (form_asked brief records json) path.now s)
+IsPairReplied run out err kinds files (Compare pairing json) s =
+    MatchOption pairing (run.untouched × IsCompareStatus run out err kinds files (answer_form_asked json) s)
+    (λ path. IsPairingStatus run out err kinds files (answer_form_asked json) path.now s)
+IsPairReplied run out err kinds files (Verify pairing json) s =
+    run.untouched × IsVerifyStatus run out err kinds files (answer_form_asked json) pairing.now s
+IsPairReplied run out err kinds files (Diff brief records json named_by picture) s =
+    MatchOption picture
+    (run.untouched × IsDiffStatus run out err kinds files (form_asked brief records json named_by) s)
+    (λ path. IsPictureStatus run out err kinds files (form_asked brief records json named_by) path.now s)
 
 -- The status of what was asked for but for the note on kinds, over what was found in the folder and left there, and
 -- what the two streams have before and after. Where no OUT or FILE is named, nothing in the folder has changed.
 abbrev pub IsReplied : Effects → Listings → Stream → Stream → Request → ℕ → Type 0
 IsReplied run listings out err Bundle s = run.untouched × IsBundleStatus run out err s
-IsReplied run listings out err (Check kinds files) s = run.untouched × IsFileStatus run out err kinds files s
+IsReplied run listings out err (Check kinds files json) s =
+    run.untouched × IsFileStatus run out err kinds files (answer_form_asked json) s
 IsReplied run listings out err (Canon kinds files path) s = IsMadeStatus run out err Canonical kinds files path.now s
 IsReplied run listings out err (Pair kinds files what) s = IsPairReplied run out err kinds files what s
 IsReplied run listings out err (Hash kinds files with_schema) s =
-    run.untouched × IsHashStatus run out err kinds files with_schema s
+    run.untouched × IsHashStatus run out err kinds files with_schema [] s
 IsReplied run listings out err (CheckList kinds files list) s =
     run.untouched × IsHeldStatus run out err kinds files list.now s
 IsReplied run listings out err (Delivery kinds paths) s =
@@ -69,7 +72,9 @@ IsReplied run listings out err (Manifest kinds path file) s =
 IsReplied run listings out err (CheckManifest kinds path manifest) s = run.untouched
     × IsCheckStatus run listings kinds manifest.now path.now out err s
 IsReplied run listings out err (Explain kinds files) s = run.untouched × IsExplainStatus run out err kinds files s
+IsReplied run listings out err (ExplainAll kinds files) s = run.untouched × IsCensusStatus run out err kinds files s
 IsReplied run listings out err (Rule word) s = run.untouched × IsRuleStatus out err word.now s
+IsReplied run listings out err Rules s = run.untouched × IsRuleListStatus out err s
 IsReplied run listings out err (Draw kinds files path) s = IsMadeStatus run out err Picture kinds files path.now s
 IsReplied run listings out err (Changed before after) s =
     run.untouched × IsChangedStatus run out err before.now after.now s

@@ -15,14 +15,14 @@ use Rattle.edicad.specs.Made.{IsInput, IsPictureOfPair, IsPut, IsReplaced, OfMad
 use Rattle.edi_words.specs.declared.words.PairFiles.{PairFiles}
 use Rattle.edi_words.specs.declared.words.SheetFiles.{SheetFiles}
 use Rattle.edi_words.specs.declared.words.Request.{Request}
-use Rattle.edi_words.specs.declared.words.Request.TheVariants.{Bundle, Check, Canon, Pair, Hash, CheckList, Delivery, Manifest, CheckManifest, Explain, Rule, Draw, Changed, Misused, Answered}
-use Rattle.edi_answers.specs.Statuses.{Answers, AreFourTried, AreTried, Complains, IsPageStatus, IsPairStatus, IsSheetStatus, MeansStatus, Prints, PrintsFirst, SaysPairRefusal, SaysRefusal, pair_paths_of, paths_of}
+use Rattle.edi_words.specs.declared.words.Request.TheVariants.{Bundle, Check, Canon, Pair, Hash, CheckList, Delivery, Manifest, CheckManifest, Explain, ExplainAll, Rule, Rules, Draw, Changed, Misused, Answered}
+use Rattle.edi_answers.specs.Statuses.{Answers, AreFourTried, AreTried, Complains, IsListStatus, IsPageStatus, IsPairStatus, IsSheetStatus, MeansStatus, Prints, PrintsFirst, SaysPairRefusal, SaysRefusal, pair_paths_of, paths_of}
 use Rattle.edi_diff.specs.declared.form.TextForm.{TextForm}
 
 -- of what was asked for, whatever the files hold
 abbrev pub IsStatusOf : Request → ℕ → Type 0
 IsStatusOf Bundle s = IsSheetStatus s
-IsStatusOf (Check kinds files) s = IsSheetStatus s
+IsStatusOf (Check kinds files json) s = IsSheetStatus s
 IsStatusOf (Canon kinds files out) s = IsSheetStatus s
 IsStatusOf (Pair kinds files what) s = IsPairStatus s
 IsStatusOf (Hash kinds files with_schema) s = IsSheetStatus s
@@ -31,7 +31,9 @@ IsStatusOf (Delivery kinds paths) s = IsSheetStatus s
 IsStatusOf (Manifest kinds path file) s = IsSheetStatus s
 IsStatusOf (CheckManifest kinds path manifest) s = IsPairStatus s
 IsStatusOf (Explain kinds files) s = IsSheetStatus s
+IsStatusOf (ExplainAll kinds files) s = IsSheetStatus s
 IsStatusOf (Rule word) s = IsPageStatus s
+IsStatusOf Rules s = IsListStatus s
 IsStatusOf (Draw kinds files out) s = IsSheetStatus s
 IsStatusOf (Changed before after) s = IsPairStatus s
 IsStatusOf (Misused misuse) s = (s ≡ 3) ⊎ (IsTrue (shows_words misuse) × (s ≡ 5))

@@ -7,12 +7,14 @@ ghost use Rattle.edi_answers.specs.Notes.{HasNoteOf};
 ghost use Rattle.edicad.specs.inner.Notes.{LeavesNoteOf};
 ghost use Rattle.edi_answers.specs.Statuses.{Answers, IsPairStatus, IsSheetStatus, IsUnsaid};
 ghost use Rattle.edi_deliveries.specs.Deliveries.{listings};
-ghost use Rattle.edicad.specs.Forms.{form_asked};
+ghost use Rattle.edicad.specs.Forms.{answer_form_asked, form_asked};
 ghost use Rattle.edicad.specs.Statuses.{HasStatus, IsDiffStatus, IsPictureStatus, IsPutStatus, IsSendStatus, IsStatus, IsStatusOf};
 
 use crate::sheets;
+use edi_answers::census::explain_all;
 use edi_answers::commands::{bundle, check, compare_or_pair, verify};
-use edi_answers::explains::{explain, explain_rule};
+use edi_answers::explains::{explain, explain_rule, explain_rules};
+use edi_answers::form::AnswerForm;
 use edi_answers::hashes::hash;
 use edi_answers::{notes, report};
 use edi_changes::answer::changed;
@@ -33,6 +35,8 @@ use std::io;
 use std::rt::{Files, Runtime};
 
 const DIFFERENT_STATUS: u8 = 1;
+
+const WORDS: AnswerForm = AnswerForm::Words;
 
 /// Does what the words of the command line ask for, and gives the exit status. Where standard error is a terminal, it
 /// shows how far a run over many deliveries or lots has come.
@@ -136,7 +140,10 @@ fn replied<F: Folder + Listing, O: ByteOut, E: ByteOut + Progress>(
 {
     match request {
         Request::Bundle => bundle(alloc, folder, out, err),
-        Request::Check { kinds, files } => check(alloc, folder, &kinds, &files, out, err, note),
+        Request::Check { kinds, files, json } => {
+            let form = answer_form_asked(json);
+            check(alloc, folder, &kinds, &files, form, out, err, note)
+        }
         Request::Canon {
             kinds,
             files,
@@ -151,7 +158,7 @@ fn replied<F: Folder + Listing, O: ByteOut, E: ByteOut + Progress>(
             kinds,
             files,
             with_schema,
-        } => hash(alloc, folder, &kinds, &files, with_schema, out, err),
+        } => hash(alloc, folder, &kinds, &files, with_schema, &[], out, err),
         Request::CheckList { kinds, files, list } => {
             check_list(alloc, folder, &kinds, &files, list, out, err)
         }
@@ -166,7 +173,11 @@ fn replied<F: Folder + Listing, O: ByteOut, E: ByteOut + Progress>(
         } => check_manifest(alloc, folder, &kinds, manifest, path, out, err),
         Request::Changed { before, after } => changed(alloc, folder, before, after, out, err),
         Request::Explain { kinds, files } => explain(alloc, folder, &kinds, &files, out, err),
+        Request::ExplainAll { kinds, files } => {
+            explain_all(alloc, folder, &kinds, &files, out, err)
+        }
         Request::Rule { word } => explain_rule(alloc, word, out, err),
+        Request::Rules => explain_rules(alloc, out, err),
         Request::Draw {
             kinds,
             files,
@@ -196,19 +207,22 @@ fn replied_of_pair<F: Folder, O: ByteOut, E: ByteOut>(
         (inputs F.Folder F.Reader.ByteIn folder.old) kinds.now files.now.scd.now result note.old.items note.new.items }
 {
     match what {
-        PairRequest::Compare { pairing } => {
-            compare_or_pair(alloc, folder, kinds, files, pairing, out, err, note)
+        PairRequest::Compare { pairing, json } => {
+            let form = answer_form_asked(json);
+            compare_or_pair(alloc, folder, kinds, files, form, pairing, out, err, note)
         }
-        PairRequest::Verify { pairing } => {
-            verify(alloc, folder, kinds, files, pairing, out, err, note)
+        PairRequest::Verify { pairing, json } => {
+            let form = answer_form_asked(json);
+            verify(alloc, folder, kinds, files, form, pairing, out, err, note)
         }
         PairRequest::Diff {
             brief,
             records,
             json,
+            named_by,
             picture,
         } => {
-            let form = form_asked(brief, records, json);
+            let form = form_asked(brief, records, json, named_by);
             diff_or_draw(alloc, folder, kinds, files, form, picture, out, err, note)
         }
     }
@@ -263,8 +277,16 @@ fn put<F: Folder, O: ByteOut, E: ByteOut>(
 {
     let paths = [files.scd, files.dic, files.vec, path];
     match sheets::put(alloc, folder, product, kinds, files, path, note) {
-        Ok(()) => report::answer(alloc, folder, out, err, &Outcome::Accepted, &paths),
-        Err(fault) => report::answer(alloc, folder, out, err, &Outcome::Fault(fault), &paths),
+        Ok(()) => report::answer(alloc, folder, out, err, WORDS, &Outcome::Accepted, &paths),
+        Err(fault) => report::answer(
+            alloc,
+            folder,
+            out,
+            err,
+            WORDS,
+            &Outcome::Fault(fault),
+            &paths,
+        ),
     }
 }
 
@@ -293,15 +315,27 @@ fn send<F: Folder, O: ByteOut, E: ByteOut>(
     }
 }
 
-/// In which form the words ask for what differs.
-fn form_asked(brief: bool, records: bool, json: bool) -> TextForm
-    ensures { result ≡ form_asked brief records json }
+/// In which form the words ask for an answer.
+fn answer_form_asked(json: bool) -> AnswerForm
+    ensures { result ≡ answer_form_asked json }
 {
-    match (brief, records, json) {
-        (true, _, _) => TextForm::Brief,
-        (false, _, true) => TextForm::Json,
-        (false, true, false) => TextForm::Records,
-        (false, false, false) => TextForm::Objects,
+    if json {
+        AnswerForm::Json
+    } else {
+        AnswerForm::Words
+    }
+}
+
+/// In which form the words ask for what differs.
+fn form_asked(brief: bool, records: bool, json: bool, named_by: Option<&str>) -> TextForm<'_>
+    ensures { result ≡ form_asked brief records json named_by.entry }
+{
+    match (brief, records, json, named_by) {
+        (true, _, _, _) => TextForm::Brief,
+        (false, _, true, _) => TextForm::Json,
+        (false, true, false, _) => TextForm::Records,
+        (false, false, false, Some(identifiers)) => TextForm::ObjectsNamedBy(identifiers),
+        (false, false, false, None) => TextForm::Objects,
     }
 }
 
@@ -311,7 +345,7 @@ fn diff_or_draw<F: Folder, O: ByteOut, E: ByteOut>(
     folder: &mut F,
     kinds: &GivenKinds<'_>,
     files: &PairFiles<'_>,
-    form: TextForm,
+    form: TextForm<'_>,
     picture: Option<&str>,
     out: &mut O,
     err: &mut E,
@@ -320,10 +354,10 @@ fn diff_or_draw<F: Folder, O: ByteOut, E: ByteOut>(
     ensures status { IsPairStatus result }
     ensures answer { MatchOption picture.entry ((folder.new ≡ folder.old)
         × IsDiffStatus (effects F.Folder F.Reader.ByteIn F.Sink.ByteOut F.NewFile.ByteOut folder.old folder.new)
-        (written O.ByteOut out.old out.new) (written E.ByteOut err.old err.new) kinds.now files.now form result)
+        (written O.ByteOut out.old out.new) (written E.ByteOut err.old err.new) kinds.now files.now form.entry result)
         (λ path. IsPictureStatus
         (effects F.Folder F.Reader.ByteIn F.Sink.ByteOut F.NewFile.ByteOut folder.old folder.new)
-        (written O.ByteOut out.old out.new) (written E.ByteOut err.old err.new) kinds.now files.now form path.now
+        (written O.ByteOut out.old out.new) (written E.ByteOut err.old err.new) kinds.now files.now form.entry path.now
         result) }
     ensures note { HasNoteOf
         (inputs F.Folder F.Reader.ByteIn folder.old) kinds.now files.now.scd.now result note.old.items note.new.items }
@@ -340,7 +374,7 @@ fn diff<F: Folder, O: ByteOut, E: ByteOut>(
     folder: &F,
     kinds: &GivenKinds<'_>,
     files: &PairFiles<'_>,
-    form: TextForm,
+    form: TextForm<'_>,
     out: &mut O,
     err: &mut E,
     note: &mut Vec<u8>,
@@ -348,14 +382,22 @@ fn diff<F: Folder, O: ByteOut, E: ByteOut>(
     ensures status { IsPairStatus result }
     ensures answer { IsDiffStatus
         (effects F.Folder F.Reader.ByteIn F.Sink.ByteOut F.NewFile.ByteOut folder.now folder.now)
-        (written O.ByteOut out.old out.new) (written E.ByteOut err.old err.new) kinds.now files.now form result }
+        (written O.ByteOut out.old out.new) (written E.ByteOut err.old err.new) kinds.now files.now form.entry result }
     ensures note { HasNoteOf
         (inputs F.Folder F.Reader.ByteIn folder.now) kinds.now files.now.scd.now result note.old.items note.new.items }
 {
     let paths = [files.scd, files.dic, files.first, files.second, "-"];
     match sheets::diff(alloc, folder, kinds, files, form, note) {
         Ok(difference) => put_difference(&difference, out, err),
-        Err(fault) => report::answer(alloc, folder, out, err, &Outcome::Fault(fault), &paths),
+        Err(fault) => report::answer(
+            alloc,
+            folder,
+            out,
+            err,
+            WORDS,
+            &Outcome::Fault(fault),
+            &paths,
+        ),
     }
 }
 
@@ -365,7 +407,7 @@ fn draw_difference<F: Folder, O: ByteOut, E: ByteOut>(
     folder: &mut F,
     kinds: &GivenKinds<'_>,
     files: &PairFiles<'_>,
-    form: TextForm,
+    form: TextForm<'_>,
     path: &str,
     out: &mut O,
     err: &mut E,
@@ -374,7 +416,7 @@ fn draw_difference<F: Folder, O: ByteOut, E: ByteOut>(
     ensures status { IsPairStatus result }
     ensures answer { IsPictureStatus
         (effects F.Folder F.Reader.ByteIn F.Sink.ByteOut F.NewFile.ByteOut folder.old folder.new)
-        (written O.ByteOut out.old out.new) (written E.ByteOut err.old err.new) kinds.now files.now form path.now
+        (written O.ByteOut out.old out.new) (written E.ByteOut err.old err.new) kinds.now files.now form.entry path.now
         result }
     ensures note { HasNoteOf
         (inputs F.Folder F.Reader.ByteIn folder.old) kinds.now files.now.scd.now result note.old.items note.new.items }
@@ -382,7 +424,15 @@ fn draw_difference<F: Folder, O: ByteOut, E: ByteOut>(
     let paths = [files.scd, files.dic, files.first, files.second, path];
     match sheets::draw_difference(alloc, folder, kinds, files, form, path, note) {
         Ok(difference) => put_difference(&difference, out, err),
-        Err(fault) => report::answer(alloc, folder, out, err, &Outcome::Fault(fault), &paths),
+        Err(fault) => report::answer(
+            alloc,
+            folder,
+            out,
+            err,
+            WORDS,
+            &Outcome::Fault(fault),
+            &paths,
+        ),
     }
 }
 

@@ -99,11 +99,11 @@ pub fn diff<F: Folder>(
     folder: &F,
     kinds: &GivenKinds<'_>,
     files: &PairFiles<'_>,
-    form: TextForm,
+    form: TextForm<'_>,
     note: &mut Vec<u8>,
 ) -> Result<Difference, RunFault>
     ensures ok { IfOk result (λ difference. OfPair (inputs F.Folder F.Reader.ByteIn folder.now) files.now
-        (λ s d a b. IsDifferenceUnder kinds.now s d a b form difference)) }
+        (λ s d a b. IsDifferenceUnder kinds.now s d a b form.entry difference)) }
     ensures err { IfErr result
         (PairFileFault (inputs F.Folder F.Reader.ByteIn folder.now) kinds.now files.now (λ _. ⊥)) }
     ensures names { IfErr result (λ e. FaultHasNames e 5) }
@@ -140,19 +140,19 @@ pub fn draw_difference<F: Folder>(
     folder: &mut F,
     kinds: &GivenKinds<'_>,
     files: &PairFiles<'_>,
-    form: TextForm,
+    form: TextForm<'_>,
     out: &str,
     note: &mut Vec<u8>,
 ) -> Result<Difference, RunFault>
     ensures ok { IfOk result (λ difference.
         IsPairPut (effects F.Folder F.Reader.ByteIn F.Sink.ByteOut F.NewFile.ByteOut folder.old folder.new)
-        (ShowsDifference kinds.now (names_of_pair files.now) form difference) files.now out.now) }
+        (ShowsDifference kinds.now (names_of_pair files.now) form.entry difference) files.now out.now) }
     ensures err { IfErr result
         (PutPairFault (effects F.Folder F.Reader.ByteIn F.Sink.ByteOut F.NewFile.ByteOut folder.old folder.new)
-        (IsPictureOfPair kinds.now (names_of_pair files.now) form) kinds.now files.now out.now) }
+        (IsPictureOfPair kinds.now (names_of_pair files.now) form.entry) kinds.now files.now out.now) }
     ensures replaced { IsPairReplaced
         (effects F.Folder F.Reader.ByteIn F.Sink.ByteOut F.NewFile.ByteOut folder.old folder.new)
-        (IsPictureOfPair kinds.now (names_of_pair files.now) form) files.now out.now }
+        (IsPictureOfPair kinds.now (names_of_pair files.now) form.entry) files.now out.now }
     ensures names { IfErr result (λ e. FaultHasNames e 5) }
     ensures noted { IfOk result (λ _.
         GivesNote (inputs F.Folder F.Reader.ByteIn folder.old) kinds.now files.now.scd.now note.new.items) }
@@ -183,11 +183,11 @@ fn drawn_difference<F: Folder>(
     folder: &F,
     kinds: &GivenKinds<'_>,
     files: &PairFiles<'_>,
-    form: TextForm,
+    form: TextForm<'_>,
     note: &mut Vec<u8>,
 ) -> Result<DrawnDifference, RunFault>
     ensures ok { IfOk result (λ drawn. OfPair (inputs F.Folder F.Reader.ByteIn folder.now) files.now
-        (λ s d a b. IsDrawnDifferenceUnder kinds.now (names_of_pair files.now) s d a b form drawn)) }
+        (λ s d a b. IsDrawnDifferenceUnder kinds.now (names_of_pair files.now) s d a b form.entry drawn)) }
     ensures err { IfErr result
         (PairFileFault (inputs F.Folder F.Reader.ByteIn folder.now) kinds.now files.now (λ _. ⊥)) }
     ensures names { IfErr result (λ e. FaultHasNames e 5) }

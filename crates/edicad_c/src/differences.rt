@@ -35,7 +35,7 @@ pub extern "C" fn edicad_diff(
 }
 
 // The form of a number, if there is one.
-fn form_numbered(number: u8) -> Option<TextForm>
+fn form_numbered(number: u8) -> Option<TextForm<'static>>
     ensures { result ≡ form_numbered number }
 {
     match number {
@@ -53,12 +53,13 @@ fn diff_in_form(
     schema: &mut Handle,
     first: &[u8],
     second: &[u8],
-    form: TextForm,
+    form: TextForm<'_>,
     text: &mut Handle,
 ) -> Answer
     ensures kept { schema.new.held ≡ schema.old.held }
     ensures answer { MatchSchema schema.old.held
-        (λ s. IsDifferenceGiven s first.now second.now form text.new.held result) (IsWrongCall text.new.held result) }
+        (λ s. IsDifferenceGiven s first.now second.now form.entry text.new.held result)
+        (IsWrongCall text.new.held result) }
 {
     text.clear(alloc);
     let Some(content) = schema.take(alloc) else {
@@ -75,10 +76,10 @@ fn difference(
     content: &Content,
     first: &[u8],
     second: &[u8],
-    form: TextForm,
+    form: TextForm<'_>,
 ) -> Given
     ensures { MatchSchema (Some content.now)
-        (λ s. IsDifferenceGiven s first.now second.now form (in_box result.content) result.answer)
+        (λ s. IsDifferenceGiven s first.now second.now form.entry (in_box result.content) result.answer)
         (IsWrongCall (in_box result.content) result.answer) }
 {
     let Some(schema) = content.schema() else {

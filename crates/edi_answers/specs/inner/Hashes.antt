@@ -13,9 +13,9 @@ use Rattle.edi_answers.specs.Effects.{Inputs, Stream}
 use Rattle.edi_answers.specs.Statuses.{LacksMemory, Prints, Warns}
 
 -- the streams got what a sheet adds, and this is its status
-abbrev pub StepsOn : Inputs → Why → Classes → List ℕ → Stream → Stream → ℕ → Type 0
-StepsOn inputs why s path out err status =
-    (step : Step) × IsStep inputs why s path step × (step.status ≡ status) × Prints out step.out × Warns err step.err
+abbrev pub StepsOn : Inputs → Why → Classes → List (List ℕ) → List ℕ → Stream → Stream → ℕ → Type 0
+StepsOn inputs why s siblings path out err status =
+    (step : Step) × IsStep inputs why s siblings path step × (step.status ≡ status) × Prints out step.out × Warns err step.err
 
 -- the output failed in the line of the sheet of a path, of which so many bytes went out
 abbrev pub StopsAt : Inputs → Classes → List ℕ → Stream → Type 0
@@ -24,10 +24,10 @@ StopsAt inputs s path out = (digest : List ℕ) × IsAnswerOf inputs s path (Ok 
 
 -- the errors were told of a fault of the sheet of a path, and this is the status: its line and that of its reason, and
 -- then the hints on its file; or that there is no memory for these, or for all
-abbrev pub TellsSheetFault : Inputs → Why → Stream → RunFault → List ℕ → ℕ → Type 0
-TellsSheetFault inputs why err e path status =
+abbrev pub TellsSheetFault : Inputs → Why → List (List ℕ) → Stream → RunFault → List ℕ → ℕ → Type 0
+TellsSheetFault inputs why siblings err e path status =
     ((reason : Option Reason) × IsReasonOf why e path reason
-    × (((hints : List ℕ) × AreFaultHints inputs e path hints × (status ≡ status_of_fault e)
+    × (((hints : List ℕ) × AreFaultHints inputs siblings e path hints × (status ≡ status_of_fault e)
     × Warns err (fault_line e path ++ reason_line (escaped_name path) reason ++ hints))
     ⊎ ((status ≡ 5)
     × Warns err (fault_line e path ++ reason_line (escaped_name path) reason ++ ended (codes "out of memory")))))

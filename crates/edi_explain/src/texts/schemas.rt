@@ -28,7 +28,8 @@ pub(crate) static SCHEMAS: [RuleText; 4] = [
     },
     RuleText {
         rule: 604,
-        sentence: "two classes of one kind, a class of a kind without one of its partner's kind, or a class whose type holds `;` while its partner's holds none",
+        sentence: "two classes of one kind, a class of a kind without one of its partner's kind, or a class whose \
+            type holds `;` while its partner's holds none",
         reason: "A link of one of the four kinds is written with one class, and an arc that is turned needs the class of the other side.",
         cause: "The codes of --kinds are those of another producer, or the SCD file defines a class twice or lacks one of the four.",
         remedy: "Check the four codes against the KND values of the SCD file, and name them with --kinds; if they \

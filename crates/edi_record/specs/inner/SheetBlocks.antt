@@ -2,6 +2,7 @@
 use Rattle.std.specs.Prelude.{◌≡◌, ℕ, zero, suc, ◌+◌, ◌<◌, ◌≤◌, List, [], ◌∷◌, length, slice_range}
 use Rattle.std.specs.Vec.{vec_len, vec_capacity}
 use Rattle.edi_record.specs.declared.record.Record.{Record}
+use Rattle.edi_record.specs.declared.record_parts.RecordParts.{RecordParts}
 use Rattle.edi_record.specs.declared.sheet_block.Stops.{Stops}
 use Rattle.edi_record.specs.declared.sheet_block.SheetHead.{SheetHead}
 use Rattle.edi_record.specs.declared.sheet_block.SheetBlock.{SheetBlock}
@@ -70,17 +71,17 @@ pub record AreSame (old new : SheetBlock) : Type 0 where
   pub extras : new.extras.items ≡ old.extras.items
 
 -- there is room for one more record, in each list that isn't empty
-pub record HasRoom (block : SheetBlock) (r : Record) : Type 0 where
+pub record HasRoom (block : SheetBlock) (p : RecordParts) : Type 0 where
   pub heads : vec_len block.heads + 1 ≤ vec_capacity block.heads
-  pub points : 0 < vec_len block.points → vec_len block.points + length r.points ≤ vec_capacity block.points
-  pub ends : 0 < vec_len block.ends → vec_len block.ends + length r.ends ≤ vec_capacity block.ends
+  pub points : 0 < vec_len block.points → vec_len block.points + vec_len p.points ≤ vec_capacity block.points
+  pub ends : 0 < vec_len block.ends → vec_len block.ends + vec_len p.ends ≤ vec_capacity block.ends
   pub attributes : 0 < vec_len block.attributes
-      → vec_len block.attributes + length r.attributes ≤ vec_capacity block.attributes
-  pub extras : 0 < vec_len block.extras → vec_len block.extras + length r.extras ≤ vec_capacity block.extras
+      → vec_len block.attributes + vec_len p.attributes ≤ vec_capacity block.attributes
+  pub extras : 0 < vec_len block.extras → vec_len block.extras + vec_len p.extras ≤ vec_capacity block.extras
 
 -- the parts of the next record will end here
-pub record AreStopsOf (block : SheetBlock) (r : Record) (to : Stops) : Type 0 where
-  pub points : to.points ≡ length block.points.items + length r.points
-  pub ends : to.ends ≡ length block.ends.items + length r.ends
-  pub attributes : to.attributes ≡ length block.attributes.items + length r.attributes
-  pub extras : to.extras ≡ length block.extras.items + length r.extras
+pub record AreStopsOf (block : SheetBlock) (p : RecordParts) (to : Stops) : Type 0 where
+  pub points : to.points ≡ length block.points.items + length p.points.items
+  pub ends : to.ends ≡ length block.ends.items + length p.ends.items
+  pub attributes : to.attributes ≡ length block.attributes.items + length p.attributes.items
+  pub extras : to.extras ≡ length block.extras.items + length p.extras.items

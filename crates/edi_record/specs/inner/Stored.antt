@@ -22,6 +22,8 @@ use Rattle.edi_record.specs.declared.ends.Ends.{Ends}
 use Rattle.edi_record.specs.declared.ends.OpenEnd.{OpenEnd}
 use Rattle.edi_record.specs.declared.extras.Extras.{Extras}
 use Rattle.edi_record.specs.declared.draft.Draft.{Draft}
+use Rattle.edi_record.specs.declared.record.Point.{Point as PointMade}
+use Rattle.edi_record.specs.declared.record_parts.RecordParts.{RecordParts}
 
 -- the role of a code that isn't known in every record
 abbrev pub body_role_in : Kind → List ℕ → ZoneRole
@@ -61,6 +63,66 @@ Takes Keeps code value old new =
     (z : Entry) (left group : List Entry) → has_code code z ≡ true → z.value ≡ value → Keeps old (z ∷ left) group
     → Keeps new left group
 
+-- the attributes that are done, beside the one that is open
+pub record KeptAttributes : Type 0 where
+  pub done : List Attribute
+  pub opened : Option OpenAttribute
+  pub is_broken : Bool
+
+abbrev pub kept_attributes : Attributes → List Attribute → KeptAttributes
+kept_attributes a done = record { done = done; opened = a.opened; is_broken = a.is_broken }
+
+pub record KeptPoints : Type 0 where
+  pub list : List PointMade
+  pub is_broken : Bool
+
+abbrev pub kept_points : Points → List PointMade → KeptPoints
+kept_points p list = record { list = list; is_broken = p.is_broken }
+
+-- the ends that are done, beside the one that is open
+pub record KeptEnds : Type 0 where
+  pub done : List End
+  pub opened : Option OpenEnd
+  pub is_broken : Bool
+
+abbrev pub kept_ends : Ends → List End → KeptEnds
+kept_ends e done = record { done = done; opened = e.opened; is_broken = e.is_broken }
+
+pub record KeptExtras : Type 0 where
+  pub list : List Extra
+  pub is_broken : Bool
+
+abbrev pub kept_extras : Extras → List Extra → KeptExtras
+kept_extras e list = record { list = list; is_broken = e.is_broken }
+
+-- all that is stored of a record
+pub record KeptRecord : Type 0 where
+  pub kind : Kind
+  pub identifier : Only
+  pub class : Only
+  pub attribute_count : Only
+  pub body_count : Only
+  pub counted : ℕ
+  pub attributes : KeptAttributes
+  pub points : KeptPoints
+  pub ends : KeptEnds
+  pub extras : KeptExtras
+
+-- what is stored in a draft and in the lists beside it
+abbrev pub kept : Draft → RecordParts → KeptRecord
+kept d p = record {
+  kind = d.kind;
+  identifier = d.identifier;
+  class = d.class;
+  attribute_count = d.attribute_count;
+  body_count = d.body_count;
+  counted = d.counted;
+  attributes = kept_attributes d.attributes p.attributes.items;
+  points = kept_points d.points p.points.items;
+  ends = kept_ends d.ends p.ends.items;
+  extras = kept_extras d.extras p.extras.items;
+}
+
 -- a value where no attribute is open
 abbrev pub is_stray : Placed → Bool
 is_stray p = closes p.zone && not p.open_before
@@ -97,9 +159,9 @@ repeats_with (Some opened) left =
     || repeats opens (λ z. opens z || closes z) (codes "TEX") left
 
 -- of a group's attributes so much is stored, where these zones are left
-pub record StoresAttributes (a : Attributes) (left group : List Entry) : Type 0 where
+pub record StoresAttributes (a : KeptAttributes) (left group : List Entry) : Type 0 where
   pub broken : a.is_broken ≡ true → has_bad_attribute group ≡ true
-  pub made : a.is_broken ≡ false → attributes group ≡ map Some a.done.items ++ attributes_with a.opened left
+  pub made : a.is_broken ≡ false → attributes group ≡ map Some a.done ++ attributes_with a.opened left
   pub stray : a.is_broken ≡ false
       → list_any is_stray (placed false group) ≡ list_any is_stray (placed (is_some a.opened) left)
   pub repeated : a.is_broken ≡ false → repeats_with None group ≡ repeats_with a.opened left
@@ -109,10 +171,10 @@ abbrev pub LeavesOpen : Bool → Attributes → Attributes → Type 0
 LeavesOpen is_open old new = new.is_broken ≡ false → (old.is_broken ≡ false) × (is_some new.opened ≡ is_open)
 
 -- of a group's points so much is stored, where these zones are left
-pub record StoresPoints (p : Points) (left group : List Entry) : Type 0 where
+pub record StoresPoints (p : KeptPoints) (left group : List Entry) : Type 0 where
   pub broken : p.is_broken ≡ true → list_any is_none (map point (values (codes "COR") group)) ≡ true
   pub made : p.is_broken ≡ false
-      → map point (values (codes "COR") group) ≡ map Some p.list.items ++ map point (values (codes "COR") left)
+      → map point (values (codes "COR") group) ≡ map Some p.list ++ map point (values (codes "COR") left)
 
 -- an SNS comes before any end
 abbrev pub has_stray : List Entry → Bool
@@ -153,9 +215,9 @@ bad_sns_with (Some opened) left =
     || repeats points_at points_at (codes "SNS") left
 
 -- of a group's ends so much is stored, where these zones are left
-pub record StoresEnds (e : Ends) (left group : List Entry) : Type 0 where
+pub record StoresEnds (e : KeptEnds) (left group : List Entry) : Type 0 where
   pub broken : e.is_broken ≡ true → (list_any is_none (ends group) || bad_sns_with None group) ≡ true
-  pub made : e.is_broken ≡ false → ends group ≡ map Some e.done.items ++ ends_with e.opened left
+  pub made : e.is_broken ≡ false → ends group ≡ map Some e.done ++ ends_with e.opened left
   pub sns : e.is_broken ≡ false → bad_sns_with None group ≡ bad_sns_with e.opened left
 
 -- the extras among zones before which an attribute is open or none is
@@ -163,21 +225,21 @@ abbrev pub extras_after : Kind → Bool → List Entry → List Extra
 extras_after kind is_open zs = map (λ (p : Placed). extra p.zone) (filter (is_extra kind) (placed is_open zs))
 
 -- of a group's extras so much is stored, where these zones are left, and an attribute is open or none is
-pub record StoresExtras (kind : Kind) (is_open : Bool) (e : Extras) (left group : List Entry) : Type 0 where
+pub record StoresExtras (kind : Kind) (is_open : Bool) (e : KeptExtras) (left group : List Entry) : Type 0 where
   pub broken : e.is_broken ≡ true → list_any (is_unknown_pointer kind) (placed false group) ≡ true
-  pub made : e.is_broken ≡ false → extras kind group ≡ e.list.items ++ extras_after kind is_open left
+  pub made : e.is_broken ≡ false → extras kind group ≡ e.list ++ extras_after kind is_open left
   pub unknown : e.is_broken ≡ false → list_any (is_unknown_pointer kind) (placed false group)
       ≡ list_any (is_unknown_pointer kind) (placed is_open left)
 
 -- an extra goes from the zones that are left to those that have come
-abbrev pub TakesExtra : Entry → Extras → Extras → Type 0
+abbrev pub TakesExtra : Entry → KeptExtras → KeptExtras → Type 0
 TakesExtra z old new =
     (kind : Kind) (is_open : Bool) (left group : List Entry)
     → is_extra kind (record { open_before = is_open; zone = z }) ≡ true
     → StoresExtras kind is_open old (z ∷ left) group → StoresExtras kind (is_open_after is_open z) new left group
 
 -- of a group so much is stored, where these zones are left
-pub record StoresRecord (d : Draft) (left group : List Entry) : Type 0 where
+pub record StoresRecord (d : KeptRecord) (left group : List Entry) : Type 0 where
   pub identifier : AreTexts d.identifier (values (codes "RID") left) (values (codes "RID") group)
   pub class : AreTexts d.class (values (codes "SCP") left) (values (codes "SCP") group)
   pub attribute_count : AreTexts d.attribute_count (values (codes "ATC") left) (values (codes "ATC") group)

@@ -25,6 +25,14 @@ IsLeastRepeatIfAny cmp pairs n least =
     MatchOption least (AllAdjacentBelow (λ x y. cmp x.0 y.0 ≢ Equal) pairs n)
     (λ member. IsLeastRepeat cmp pairs n member)
 
+-- one of the first n places has this member, behind one with its key
+pub record FollowsItsKey {K : Type 0} (cmp : K → K → Ordering) (pairs : List (K × ℕ)) (n member : ℕ) : Type 0 where
+  pub place : ℕ
+  pub within : place + 1 < length pairs
+  pub seen : place + 1 < n
+  pub repeats : (d : K × ℕ) → cmp (slice_index_or pairs place d).0 (slice_index_or pairs (place + 1) d).0 ≡ Equal
+  pub is : (d : K × ℕ) → (slice_index_or pairs (place + 1) d).1 ≡ member
+
 -- an earlier member has the key
 abbrev pub HasEarlier : {K : Type 0} → (K → K → Ordering) → (ℕ → K) → ℕ → Type 0
 HasEarlier cmp key member = (i : ℕ) × (i < member) × (cmp (key i) (key member) ≡ Equal)

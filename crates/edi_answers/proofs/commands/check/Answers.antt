@@ -11,7 +11,7 @@ returns-in-Ok-clause-answer g c =
     let answer = c.answer in
     let out = written g.O.ByteOut c.args.out.now answer.new.out in
     let err = written g.E.ByteOut c.args.err.now answer.new.err in
-    accepted_status run out err c.args.kinds.now c.args.files.now answer.result c.in-Ok.ensures.ok answer.ensures.said
+    accepted_status run out err c.args.kinds.now c.args.files.now c.args.form answer.result c.in-Ok.ensures.ok answer.ensures.said
 
 pub returns-in-Err-clause-answer : goal.returns-in-Err-clause-answer
 returns-in-Err-clause-answer g c =
@@ -19,7 +19,7 @@ returns-in-Err-clause-answer g c =
     let answer = c.answer-in-Err in
     let out = written g.O.ByteOut c.args.out.now answer.new.out in
     let err = written g.E.ByteOut c.args.err.now answer.new.err in
-    file_status run out err c.args.kinds.now c.args.files.now answer.result c.in-Err.fault c.in-Err.ensures.err answer.ensures.said
+    file_status run out err c.args.kinds.now c.args.files.now c.args.form answer.result c.in-Err.fault c.in-Err.ensures.err answer.ensures.said
 
 pub returns-in-Ok-clause-note : goal.returns-in-Ok-clause-note
 returns-in-Ok-clause-note g c = inl c.in-Ok.ensures.noted

@@ -15,8 +15,8 @@ returns-clause-answer g c =
     let run = effects g.F.Folder g.F.Reader.ByteIn g.F.Sink.ByteOut g.F.NewFile.ByteOut c.args.folder.now c.args.folder.now in
     let out = written g.O.ByteOut c.args.out.now c.answer.new.out in
     let err = written g.E.ByteOut c.args.err.now c.answer.new.err in
-    compare_status run out err c.args.kinds.now c.args.files.now c.answer.result c.compare.result c.compare.ensures.ok c.compare.ensures.err
-    (subst (λ o. IsSaid run.why out err o (pair_paths_of c.args.files.now (codes "-")) c.answer.result) c.outcome_of-outcome.ensures c.answer.ensures.said)
+    compare_status run out err c.args.kinds.now c.args.files.now c.args.form c.answer.result c.compare.result c.compare.ensures.ok c.compare.ensures.err
+    (subst (λ o. IsSaid run.why out err c.args.form o (pair_paths_of c.args.files.now (codes "-")) c.answer.result) c.outcome_of-outcome.ensures c.answer.ensures.said)
 
 pub returns-clause-note : goal.returns-clause-note
 returns-clause-note g c =

@@ -16,8 +16,8 @@ returns-clause-answer g c =
     let run = effects g.F.Folder g.F.Reader.ByteIn g.F.Sink.ByteOut g.F.NewFile.ByteOut c.args.folder.now c.pair.new.folder in
     let out = written g.O.ByteOut c.args.out.now c.answer.new.out in
     let err = written g.E.ByteOut c.args.err.now c.answer.new.err in
-    pairing_status run out err c.args.kinds.now c.args.files.now path c.answer.result c.pair.result c.pair.ensures.ok c.pair.ensures.err c.pair.ensures.replaced
-    (subst (λ o. IsSaid run.why out err o (pair_paths_of c.args.files.now path) c.answer.result) c.outcome_of_paired-outcome.ensures c.answer.ensures.said)
+    pairing_status run out err c.args.kinds.now c.args.files.now c.args.form path c.answer.result c.pair.result c.pair.ensures.ok c.pair.ensures.err c.pair.ensures.replaced
+    (subst (λ o. IsSaid run.why out err c.args.form o (pair_paths_of c.args.files.now path) c.answer.result) c.outcome_of_paired-outcome.ensures c.answer.ensures.said)
 
 pub returns-clause-note : goal.returns-clause-note
 returns-clause-note g c =

@@ -16,8 +16,8 @@ returns-clause-answer g c =
     let paths = verify_paths_of c.args.files.now c.args.pairing.now in
     let out = written g.O.ByteOut c.args.out.now c.answer.new.out in
     let err = written g.E.ByteOut c.args.err.now c.answer.new.err in
-    verify_status run out err c.args.kinds.now c.args.files.now c.args.pairing.now c.answer.result c.verify.result c.verify.ensures.ok c.verify.ensures.err
-    (subst (λ o. IsSaid run.why out err o paths c.answer.result) c.outcome_of_verified-outcome.ensures c.answer.ensures.said)
+    verify_status run out err c.args.kinds.now c.args.files.now c.args.form c.args.pairing.now c.answer.result c.verify.result c.verify.ensures.ok c.verify.ensures.err
+    (subst (λ o. IsSaid run.why out err c.args.form o paths c.answer.result) c.outcome_of_verified-outcome.ensures c.answer.ensures.said)
 
 pub returns-clause-note : goal.returns-clause-note
 returns-clause-note g c =

@@ -8,7 +8,7 @@ use Rattle.edi_compare.specs.declared.fault.RunFault.{RunFault}
 use Rattle.edi_answers.specs.Effects.{Inputs, Stream, inputs, written}
 use Rattle.edi_answers.specs.Statuses.{Prints}
 use Rattle.edi_answers.specs.inner.Hashes.{StepsOn, TellsSheetFault}
-use Rattle.edi_answers.proofs.Answering.{appends_nothing}
+use Rattle.edi_answers.proofs.Answering.{appends_nothing, paths_of}
 use Rattle.edi_answers.proofs.hashes.answer.Goals as goal
 
 pub returns-in-Ok-put_all-clause-ok : goal.returns-in-Ok-put_all-clause-ok
@@ -32,8 +32,8 @@ returns-in-Ok-clause-ok g c = (
 )
 
 -- what a sheet adds with a fault, from what the errors were told of it
-module _ (inputs : Inputs) (why : Why) (s : Classes) (path : List ℕ) (out err : Stream) (e : RunFault) (status : ℕ) (is : IsAnswerOf inputs s path (Err e)) (silent : Prints out []) where
-  fault_told : TellsSheetFault inputs why err e path status → StepsOn inputs why s path out err status
+module _ (inputs : Inputs) (why : Why) (s : Classes) (siblings : List (List ℕ)) (path : List ℕ) (out err : Stream) (e : RunFault) (status : ℕ) (is : IsAnswerOf inputs s path (Err e)) (silent : Prints out []) where
+  fault_told : TellsSheetFault inputs why siblings err e path status → StepsOn inputs why s siblings path out err status
   fault_told (inl (reason, given, inl h)) = (
     record { out = []; err = fault_line e path ++ reason_line (escaped_name path) reason ++ h.0; status = status_of_fault e },
     inr (inl (e, reason, h.0, is, given, h.1, refl)),
@@ -52,6 +52,6 @@ module _ (inputs : Inputs) (why : Why) (s : Classes) (path : List ℕ) (out err 
 
 pub returns-clause-ok : goal.returns-clause-ok
 returns-clause-ok g c =
-    fault_told (inputs g.F.Folder g.F.Reader.ByteIn c.args.folder.now) (g.F.Folder.why c.args.folder.now) c.args.schema.now c.args.path.now
+    fault_told (inputs g.F.Folder g.F.Reader.ByteIn c.args.folder.now) (g.F.Folder.why c.args.folder.now) c.args.schema.now (paths_of c.args.siblings.now) c.args.path.now
     (written g.O.ByteOut c.args.out.now c.args.out.now) (written g.E.ByteOut c.args.err.now c.tell_sheet.new.err) c.in-Err.fault c.tell_sheet.result c.in-Err.ensures
     (appends_nothing (g.O.ByteOut.contents c.args.out.now)) c.tell_sheet.ensures.contents

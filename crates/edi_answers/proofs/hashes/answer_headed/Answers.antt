@@ -4,7 +4,7 @@ use Rattle.std.proofs.lemmas.Bool.{false≢true}
 use Rattle.edi_answers.specs.Effects.{inputs, written}
 use Rattle.edi_answers.specs.Hashes.{AnswersAll, schema_line}
 use Rattle.edi_answers.specs.Statuses.{PrintsFirst}
-use Rattle.edi_answers.proofs.Answering.{over}
+use Rattle.edi_answers.proofs.Answering.{over, paths_of}
 use Rattle.edi_answers.proofs.hashes.answer_headed.Goals as goal
 
 pub returns-in-Ok-put_all-clause-answer : goal.returns-in-Ok-put_all-clause-answer
@@ -19,7 +19,7 @@ returns-in-Ok-put_all-clause-answer g c =
       false,
       λ t. absurd (false≢true t),
       subst (Appends (g.O.ByteOut.contents c.args.out.now) (g.O.ByteOut.contents c.put_all.new.writer)) line c.in-Ok-put_all.ensures.ok,
-      subst (λ (sheets : List (Bor (List ℕ))). AnswersAll (inputs g.F.Folder g.F.Reader.ByteIn c.args.folder.now) (g.F.Folder.why c.args.folder.now) s rest err
+      subst (λ (sheets : List (Bor (List ℕ))). AnswersAll (inputs g.F.Folder g.F.Reader.ByteIn c.args.folder.now) (g.F.Folder.why c.args.folder.now) s (paths_of c.args.siblings.now) rest err
           (map (λ (p : Bor (List ℕ)). p.now) sheets) c.answer_all.result) c.deref-in-Ok-put_all.ensures.value c.answer_all.ensures.answer,
     )
 

@@ -22,7 +22,7 @@ returns-in-Some c =
     let e = subst (λ (r : Option (Vec Zone)). option_map (λ v. entries v.items) r ≡ group_numbered (groups_of zones) number) c.in-Some.is found.here in
     let ends = λ (place : ℕ) (n : number ≡ suc place). c.first_end-end.ensures zones place (subst (λ (m : ℕ). AreFound zones m earlier records) n found) in
     line_as (IsZoneOfRecord s group end rule) (IsZoneOfSheet s zones earlier rule number) c.args.name.now rule lines.items
-    (sheet_zone zones rule number group e s earlier end ends) (zone_sheet zones rule number group e s earlier end ends)
+    (sheet_zone zones rule number group e c.requires s earlier end ends) (zone_sheet zones rule number group e c.requires s earlier end ends)
     (subst (λ (zs : List Zone). IsZoneLine (IsZoneOfRecord s (entries zs) end rule) c.args.name.now rule lines.items) c.deref.ensures.value h)) c.line_of_record.ensures
 
 pub returns-in-None : goal.returns-in-None

@@ -1,6 +1,6 @@
 use Rattle.std.proofs.Common.{◌≡◌, ◌++◌, List, OnOk, codes, subst, ℕ}
 use Rattle.edi_json.specs.Values.{text_value}
-use Rattle.edi_json.specs.inner.Tokens.{member_tokens}
+use Rattle.edi_json.specs.Members.{member_tokens}
 use Rattle.edi_json.proofs.members.put_type.Goals as goal
 
 pub returns-clause-tokens : goal.returns-clause-tokens

@@ -1,4 +1,4 @@
-use Rattle.std.proofs.Common.{rules, zero, suc, slice_index_or, replicate, ◌≡◌, ◌∙◌, ◌+◌, ◌≤◌, ℕ, [], None, Some, true≢false, List, Option, refl, sym, ap, subst, arith, length, take, drop}
+use Rattle.std.proofs.Common.{rules, ◌≡◌, ◌∙◌, ◌+◌, ◌≤◌, ℕ, [], None, Some, true≢false, List, Option, sym, ap, subst, arith, length, take, drop}
 use Rattle.std.proofs.lemmas.List.{length-replicate, take_all}
 use Rattle.std.specs.List.{AllZip}
 use Rattle.std.proofs.lemmas.Option.{slice_get_within}
@@ -7,10 +7,8 @@ use Rattle.edi_plan.proofs.TargetLemmas.{zip_taken}
 use Rattle.edi_line.specs.inner.Refusal.{first_broken}
 use Rattle.edi_plan.specs.inner.Done.{IsDone, IsJoinIfAny}
 use Rattle.edi_plan.specs.inner.SideTable.{side_at}
-use Rattle.edi_schema.specs.ByRole.{no_values, of_role}
+use Rattle.edi_schema.specs.ByRole.{of_role}
 use Rattle.edi_schema.specs.declared.by_role.ByRole.{ByRole}
-use Rattle.edi_schema.specs.declared.role.Role.{Role}
-use Rattle.edi_schema.specs.declared.role.Role.TheVariants.{Initial, Final, Left, Right, Plain}
 use Rattle.edi_plan.specs.PlanOf.{StatesPlanRecord}
 use Rattle.edi_record.specs.RecordRefusal.{IsRecordRefusal}
 use Rattle.edi_plan.specs.ReferenceRules.{BreaksReferenceRule}
@@ -20,6 +18,7 @@ use Rattle.edi_plan.specs.inner.RecordLists.{records_of}
 use Rattle.edi_plan.specs.declared.references.Subset.{Subset}
 use Rattle.edi_plan.proofs.DoneLemmas.{least_here, refused_at, repeats_301, step_done}
 use Rattle.edi_plan.proofs.RecordLemmas.{own_targets, later_targets, enough_targets, entries_there, record_stated, cut_at, got_there, left_there, none_left, one_left_less, fresh_at, repeats_here, ahead_more, written}
+use Rattle.edi_plan.proofs.NewTable.{new_entries, nothing_of}
 use Rattle.edi_plan.proofs.records.plan_records.Goals as goal
 
 pub returns-then-is_place-clause-least : goal.returns-then-is_place-clause-least
@@ -97,19 +96,6 @@ loop-record-preserved c =
           (later_targets list (drop c.loop-record.place c.args.records) (drop (c.loop-record.place + 1) c.args.records) r next c.loop-record.targets.now i.left);
       done = subst (IsDone s list (place + 1)) (sym (written c.plan_record.new.sides c.loop-record.sides.items c.loop-record.sides.len c.loop-record.sides.ok.0 (c.in-Ok.ensures.noted.long ∙ ap length c.deref_mut.ensures.value))) done;
     }
-
--- no record has anything in a new table
-new_entries : (n a : ℕ) → slice_index_or (replicate n no_values) a no_values ≡ no_values {X = ℕ}
-new_entries zero a = refl
-new_entries (suc n) zero = refl
-new_entries (suc n) (suc a) = new_entries n a
-
-nothing_of : (role : Role) → of_role (no_values {X = ℕ}) role ≡ None
-nothing_of Initial = refl
-nothing_of Final = refl
-nothing_of Left = refl
-nothing_of Right = refl
-nothing_of Plain = refl
 
 pub loop-record-init : goal.loop-record-init
 loop-record-init c = record {

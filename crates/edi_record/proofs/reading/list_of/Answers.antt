@@ -2,6 +2,7 @@ use Rattle.std.proofs.Common.{◌≡◌, ◌∙◌, ◌+◌, length, drop, sym, 
 use Rattle.std.proofs.lemmas.List.{drop-drop}
 use Rattle.edi_line.specs.Entry.{entry, entries}
 use Rattle.edi_line.specs.Zones.{groups_of}
+use Rattle.edi_record.specs.inner.RecordParts.{whole}
 use Rattle.edi_record.proofs.ListRead.{one_more, moved, refusal_at, all_unbroken, few_in_all}
 use Rattle.edi_record.proofs.Loops.{no_zone}
 use Rattle.edi_record.proofs.reading.list_of.Goals as goal
@@ -18,8 +19,8 @@ loop-zone-preserved-in-Ok c =
       within = omega (arith, c.in-Ok.ensures.within, long, length-drop (c.loop-zone.at + 1) c.args.zones.now, here.0);
       so_far =
           moved zones (entries behind) (entries (drop (c.loop-zone.at + 1 + c.in-Ok.own) c.args.zones.now)) c.push.new.self
-          (one_more zones (entries (drop c.loop-zone.at c.args.zones.now)) c.loop-zone.list c.push.new.self zone (entries behind) c.in-Ok.record c.loop-zone.invariant.so_far here.1 (sym c.eq.ensures ∙ c.if-eq.true)
-          c.in-Ok.ensures.states c.in-Ok.ensures.shape c.in-Ok.ensures.sound c.in_ok-push-in-Ok.ensures)
+          (one_more zones (entries (drop c.loop-zone.at c.args.zones.now)) c.loop-zone.list c.push.new.self zone (entries behind) (whole c.in-Ok.record c.record_of.new.parts) c.loop-zone.invariant.so_far here.1 (sym c.eq.ensures ∙ c.if-eq.true)
+          c.in-Ok.ensures.states c.in-Ok.ensures.shape c.in-Ok.ensures.sound c.in_ok-push-in-Ok.ensures.records)
           (ap (λ zs. groups_of (entries zs)) (sym left) ∙ c.in-Ok.ensures.left);
     }
 

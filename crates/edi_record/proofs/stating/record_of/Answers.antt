@@ -4,7 +4,7 @@ use Rattle.edi_line.specs.Entry.{entry, entries}
 use Rattle.edi_line.specs.Zones.{before_end, groups_of}
 use Rattle.edi_record.specs.inner.RecordRules.{kind_in}
 use Rattle.edi_record.specs.inner.RecordRefusal.{IsGroupRefusal}
-use Rattle.edi_record.specs.inner.Stored.{StoresRecord}
+use Rattle.edi_record.specs.inner.Stored.{StoresRecord, kept}
 use Rattle.edi_record.proofs.GroupCuts.{head_kind, one_type, goes_on, stops, no_group}
 use Rattle.edi_record.proofs.Loops.{next_zone, no_zone}
 use Rattle.edi_record.proofs.RecordStored.{skipped}
@@ -20,24 +20,24 @@ loop-zone-init c =
       own = refl;
       kind = refl;
       counted = omega (arith, c.new-draft.ensures.counted);
-      keeps = skipped c.new-draft.result head left (head ∷ left) (inl ((bytes_eq-Decides head.code (codes "RTY")).0 c.requires)) (c.new-draft.ensures.keeps (head ∷ left));
+      keeps = skipped (kept c.new-draft.result c.args.parts.now) head left (head ∷ left) (inl ((bytes_eq-Decides head.code (codes "RTY")).0 c.requires.begins)) (c.new-draft.ensures.keeps c.args.parts.now (head ∷ left) c.requires.empty);
       left = refl;
     }
 
 pub loop-zone-preserved : goal.loop-zone-preserved
 loop-zone-preserved c =
-    let kept = c.loop-zone.invariant in
+    let so_far = c.loop-zone.invariant in
     let zone = entry c.zone-item.result in
     let group = entry c.args.head.now ∷ before_end (entries c.args.behind.now) in
     let after = entries (drop (c.loop-zone.zone-index + 1) c.args.behind.now) in
     let next = next_zone c.args.behind.now c.loop-zone.zone-index c.zone-item.result c.loop-zone-test.true c.zone-item.is in
     let inner = sym c.ends_record.ensures ∙ c.if-ends_record.false in
     record {
-      own = ap (λ n. n + 1) kept.own;
-      kind = c.in_ok-take.ensures.kind ∙ kept.kind;
-      counted = omega (arith, c.in_ok-take.ensures.counted, kept.counted);
-      keeps = c.in_ok-take.ensures.keeps (before_end after) group (subst (λ zs. StoresRecord c.loop-zone.draft zs group) (ap before_end next ∙ goes_on zone after inner) kept.keeps);
-      left = sym (ap groups_of next ∙ no_group zone after inner) ∙ kept.left;
+      own = ap (λ n. n + 1) so_far.own;
+      kind = c.in_ok-take.ensures.kind ∙ so_far.kind;
+      counted = omega (arith, c.in_ok-take.ensures.counted, so_far.counted);
+      keeps = c.in_ok-take.ensures.keeps (before_end after) group (subst (λ zs. StoresRecord (kept c.loop-zone.draft c.loop-zone.parts) zs group) (ap before_end next ∙ goes_on zone after inner) so_far.keeps);
+      left = sym (ap groups_of next ∙ no_group zone after inner) ∙ so_far.left;
     }
 
 pub returns-in_err-finish-clause-least : goal.returns-in_err-finish-clause-least
@@ -48,9 +48,9 @@ returns-in_err-finish-clause-least c =
       | else-loop-zone-test w ↦ ap before_end (no_zone c.args.behind.now c.loop-zone.zone-index w.loop-zone-test.false)
       | then-loop-zone-test+then-ends_record w ↦ ap before_end (next_zone c.args.behind.now c.loop-zone.zone-index w.zone-item.result w.loop-zone-test.true w.zone-item.is) ∙ stops (entry w.zone-item.result) (entries (drop (c.loop-zone.zone-index + 1) c.args.behind.now)) (sym w.ends_record.ensures ∙ w.if-ends_record.true)
     ] in
-    let kind : kind_in group ≡ Some c.loop-zone.draft.kind = head_kind head (before_end (entries c.args.behind.now)) c.as_slice.result.now c.in-Some.kind c.requires c.as_slice.ensures.value c.in-Some.ensures ∙ ap (λ k. Some k) (sym c.new-draft.ensures.kind ∙ sym c.loop-zone.invariant.kind) in
+    let kind : kind_in group ≡ Some c.loop-zone.draft.kind = head_kind head (before_end (entries c.args.behind.now)) c.as_slice.result.now c.in-Some.kind c.requires.begins c.as_slice.ensures.value c.in-Some.ensures ∙ ap (λ k. Some k) (sym c.new-draft.ensures.kind ∙ sym c.loop-zone.invariant.kind) in
     err_kept _ c.in_err-finish.field-0.0 (IsGroupRefusal group) c.from_residual-in_err-finish.ensures.1
-    (c.in_err-finish.ensures.least group kind (subst (λ zs. StoresRecord c.loop-zone.draft zs group) over c.loop-zone.invariant.keeps))
+    (c.in_err-finish.ensures.least group kind (subst (λ zs. StoresRecord (kept c.loop-zone.draft c.loop-zone.parts) zs group) over c.loop-zone.invariant.keeps))
 
 pub returns-clause-states : goal.returns-clause-states
 returns-clause-states c =
@@ -60,8 +60,8 @@ returns-clause-states c =
       | else-loop-zone-test w ↦ ap before_end (no_zone c.args.behind.now c.loop-zone.zone-index w.loop-zone-test.false)
       | then-loop-zone-test+then-ends_record w ↦ ap before_end (next_zone c.args.behind.now c.loop-zone.zone-index w.zone-item.result w.loop-zone-test.true w.zone-item.is) ∙ stops (entry w.zone-item.result) (entries (drop (c.loop-zone.zone-index + 1) c.args.behind.now)) (sym w.ends_record.ensures ∙ w.if-ends_record.true)
     ] in
-    let kind : kind_in group ≡ Some c.loop-zone.draft.kind = head_kind head (before_end (entries c.args.behind.now)) c.as_slice.result.now c.in-Some.kind c.requires c.as_slice.ensures.value c.in-Some.ensures ∙ ap (λ k. Some k) (sym c.new-draft.ensures.kind ∙ sym c.loop-zone.invariant.kind) in
-    c.in_ok-finish.ensures.states group (one_type head (entries c.args.behind.now) c.requires) kind (subst (λ zs. StoresRecord c.loop-zone.draft zs group) over c.loop-zone.invariant.keeps)
+    let kind : kind_in group ≡ Some c.loop-zone.draft.kind = head_kind head (before_end (entries c.args.behind.now)) c.as_slice.result.now c.in-Some.kind c.requires.begins c.as_slice.ensures.value c.in-Some.ensures ∙ ap (λ k. Some k) (sym c.new-draft.ensures.kind ∙ sym c.loop-zone.invariant.kind) in
+    c.in_ok-finish.ensures.states group (one_type head (entries c.args.behind.now) c.requires.begins) kind (subst (λ zs. StoresRecord (kept c.loop-zone.draft c.loop-zone.parts) zs group) over c.loop-zone.invariant.keeps)
 
 pub returns-clause-sound : goal.returns-clause-sound
 returns-clause-sound c =
@@ -71,5 +71,5 @@ returns-clause-sound c =
       | else-loop-zone-test w ↦ ap before_end (no_zone c.args.behind.now c.loop-zone.zone-index w.loop-zone-test.false)
       | then-loop-zone-test+then-ends_record w ↦ ap before_end (next_zone c.args.behind.now c.loop-zone.zone-index w.zone-item.result w.loop-zone-test.true w.zone-item.is) ∙ stops (entry w.zone-item.result) (entries (drop (c.loop-zone.zone-index + 1) c.args.behind.now)) (sym w.ends_record.ensures ∙ w.if-ends_record.true)
     ] in
-    let kind : kind_in group ≡ Some c.loop-zone.draft.kind = head_kind head (before_end (entries c.args.behind.now)) c.as_slice.result.now c.in-Some.kind c.requires c.as_slice.ensures.value c.in-Some.ensures ∙ ap (λ k. Some k) (sym c.new-draft.ensures.kind ∙ sym c.loop-zone.invariant.kind) in
-    c.in_ok-finish.ensures.sound group kind (subst (λ zs. StoresRecord c.loop-zone.draft zs group) over c.loop-zone.invariant.keeps)
+    let kind : kind_in group ≡ Some c.loop-zone.draft.kind = head_kind head (before_end (entries c.args.behind.now)) c.as_slice.result.now c.in-Some.kind c.requires.begins c.as_slice.ensures.value c.in-Some.ensures ∙ ap (λ k. Some k) (sym c.new-draft.ensures.kind ∙ sym c.loop-zone.invariant.kind) in
+    c.in_ok-finish.ensures.sound group kind (subst (λ zs. StoresRecord (kept c.loop-zone.draft c.loop-zone.parts) zs group) over c.loop-zone.invariant.keeps)

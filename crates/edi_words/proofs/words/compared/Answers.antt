@@ -14,4 +14,5 @@ returns c = λ give. (
     c.get_str.ensures ∙ first_value-rows (found_of c.args.given.now) _,
     ap is_standard_path (sym c.path.ensures) ∙ (sym c.is_standard.ensures ∙ c.if-is_standard.false),
   ),
+  c.flag.ensures,
 )

@@ -13,8 +13,9 @@ returns c = λ give. (
   c.flag.ensures,
   c.flag-2.ensures,
   c.flag-3.ensures,
+  c.get_str.ensures ∙ first_value-rows (found_of c.args.given.now) _,
   (
-    c.get_str.ensures ∙ first_value-rows (found_of c.args.given.now) _,
+    c.get_str-2.ensures ∙ first_value-rows (found_of c.args.given.now) _,
     ap is_standard_path (sym c.path.ensures) ∙ (sym c.is_standard.ensures ∙ c.if-is_standard.false),
   ),
 )

@@ -4,7 +4,7 @@ use Rattle.edi_words.specs.Requests.{Means}
 use Rattle.edi_words.proofs.words.subcommand_meant.Goals as goal
 
 pub returns-in-check : goal.returns-in-check
-returns-in-check g c = λ own give. (rows_of (found_of c.args.given.now), ap (λ name. Some (name, rows_of (found_of c.args.given.now))) c.in-check.is, give, c.sheet_files.ensures)
+returns-in-check g c = λ own give. (rows_of (found_of c.args.given.now), ap (λ name. Some (name, rows_of (found_of c.args.given.now))) c.in-check.is, give, c.sheet_files.ensures, c.flag.ensures)
 
 pub returns-in-canon : goal.returns-in-canon
 returns-in-canon g c = λ own give. (rows_of (found_of c.args.given.now), ap (λ name. Some (name, rows_of (found_of c.args.given.now))) c.in-canon.is, give, c.sheet_files-in-canon.ensures, c.path.ensures)
@@ -13,7 +13,7 @@ pub returns-in-compare : goal.returns-in-compare
 returns-in-compare g c = λ own give. subst (λ name. Means (Some (name, rows_of (found_of c.args.given.now))) c.compared.result) (sym c.in-compare.is) (c.compared.ensures give)
 
 pub returns-in-verify : goal.returns-in-verify
-returns-in-verify g c = λ own give. (rows_of (found_of c.args.given.now), ap (λ name. Some (name, rows_of (found_of c.args.given.now))) c.in-verify.is, give, c.pair_files.ensures, c.path-in-verify.ensures)
+returns-in-verify g c = λ own give. (rows_of (found_of c.args.given.now), ap (λ name. Some (name, rows_of (found_of c.args.given.now))) c.in-verify.is, give, c.pair_files.ensures, c.path-in-verify.ensures, c.flag-in-verify.ensures)
 
 pub returns-in-diff : goal.returns-in-diff
 returns-in-diff g c = λ own give. subst (λ name. Means (Some (name, rows_of (found_of c.args.given.now))) c.differing.result) (sym c.in-diff.is) (c.differing.ensures give)

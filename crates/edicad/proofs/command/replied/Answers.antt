@@ -27,3 +27,9 @@ returns-in-Misused-clause-answer g c =
 
 pub returns-in-CheckList-clause-answer : goal.returns-in-CheckList-clause-answer
 returns-in-CheckList-clause-answer g c = rw c.in-CheckList.is (refl, c.check_list.ensures.answer)
+
+pub returns-in-CheckManifest-clause-answer : goal.returns-in-CheckManifest-clause-answer
+returns-in-CheckManifest-clause-answer g c = rw c.in-CheckManifest.is (refl, c.check_manifest.ensures.answer)
+
+pub returns-in-Changed-clause-answer : goal.returns-in-Changed-clause-answer
+returns-in-Changed-clause-answer g c = rw c.in-Changed.is (refl, c.changed.ensures.answer)

@@ -2,13 +2,14 @@ use Rattle.std.proofs.Common.{◌≡◌, ◌∙◌, ◌&&◌, true, false, refl,
 use Rattle.edi_line.specs.Entry.{entry}
 use Rattle.edi_record.specs.Records.{values}
 use Rattle.edi_record.specs.declared.role.ZoneRole.TheVariants.{Identifier, Class, AttributeCount, AttributeClass, AttributeSet, AttributeValue, BodyCount, Position, EndPointer, EndSense, Skipped, Unknown}
+use Rattle.edi_record.specs.inner.Stored.{kept, kept_attributes, kept_extras}
 use Rattle.edi_record.proofs.RecordStored.{text_taken, count_taken, others, has, no_set, extras_stay, extras_move, extras_beside_set, set_is_extra, extra_kept, body_count_taken, skipped, unknown_taken}
 use Rattle.edi_record.proofs.Roles.{code_of, place_known, link_known, no_link}
 use Rattle.edi_record.proofs.draft.Draft.take.Goals as goal
 
 pub returns-in-Identifier-clause-keeps : goal.returns-in-Identifier-clause-keeps
 returns-in-Identifier-clause-keeps c = λ left group h.
-    let d = c.args.self.now in
+    let d = kept c.args.self.now c.args.parts.now in
     let z = entry c.args.zone.now in
     let is : z.code ≡ codes "RID" = code_of d.kind z.code Identifier c.in-Identifier.ensures in
     let o = others (codes "RID") d z left group is h in
@@ -28,7 +29,7 @@ returns-in-Identifier-clause-keeps c = λ left group h.
 
 pub returns-in-Class-clause-keeps : goal.returns-in-Class-clause-keeps
 returns-in-Class-clause-keeps c = λ left group h.
-    let d = c.args.self.now in
+    let d = kept c.args.self.now c.args.parts.now in
     let z = entry c.args.zone.now in
     let is : z.code ≡ codes "SCP" = code_of d.kind z.code Class c.in-Class.ensures in
     let o = others (codes "SCP") d z left group is h in
@@ -48,7 +49,7 @@ returns-in-Class-clause-keeps c = λ left group h.
 
 pub returns-in-AttributeCount-clause-keeps : goal.returns-in-AttributeCount-clause-keeps
 returns-in-AttributeCount-clause-keeps c = λ left group h.
-    let d = c.args.self.now in
+    let d = kept c.args.self.now c.args.parts.now in
     let z = entry c.args.zone.now in
     let is : z.code ≡ codes "ATC" = code_of d.kind z.code AttributeCount c.in-AttributeCount.ensures in
     let o = others (codes "ATC") d z left group is h in
@@ -68,7 +69,7 @@ returns-in-AttributeCount-clause-keeps c = λ left group h.
 
 pub returns-in_ok-take_class-in-AttributeClass-clause-keeps : goal.returns-in_ok-take_class-in-AttributeClass-clause-keeps
 returns-in_ok-take_class-in-AttributeClass-clause-keeps c = λ left group h.
-    let d = c.args.self.now in
+    let d = kept c.args.self.now c.args.parts.now in
     let z = entry c.args.zone.now in
     let is : z.code ≡ codes "ATP" = code_of d.kind z.code AttributeClass c.in-AttributeClass.ensures in
     let o = others (codes "ATP") d z left group is h in
@@ -83,12 +84,12 @@ returns-in_ok-take_class-in-AttributeClass-clause-keeps c = λ left group h.
       attributes = c.in_ok-take_class-in-AttributeClass.ensures.keeps z left group (has (codes "ATP") z is) (sym c.as_slice-text.ensures.value) h.attributes;
       points = o.points refl;
       ends = o.ends refl refl;
-      extras = extras_move true (codes "ATP") d c.take_class.new.self z left group is refl c.in_ok-take_class-in-AttributeClass.ensures.opens (o.extras refl);
+      extras = extras_move true (codes "ATP") d (kept_attributes c.take_class.new.self c.take_class.new.done.items) z left group is refl c.in_ok-take_class-in-AttributeClass.ensures.opens (o.extras refl);
     }
 
 pub returns-in_ok-take_value-in-AttributeValue-clause-keeps : goal.returns-in_ok-take_value-in-AttributeValue-clause-keeps
 returns-in_ok-take_value-in-AttributeValue-clause-keeps c = λ left group h.
-    let d = c.args.self.now in
+    let d = kept c.args.self.now c.args.parts.now in
     let z = entry c.args.zone.now in
     let is : z.code ≡ codes "ATV" = code_of d.kind z.code AttributeValue c.in-AttributeValue.ensures in
     let o = others (codes "ATV") d z left group is h in
@@ -103,12 +104,12 @@ returns-in_ok-take_value-in-AttributeValue-clause-keeps c = λ left group h.
       attributes = c.in_ok-take_value-in-AttributeValue.ensures.keeps z left group (has (codes "ATV") z is) (sym c.as_slice-text.ensures.value) h.attributes;
       points = o.points refl;
       ends = o.ends refl refl;
-      extras = extras_move false (codes "ATV") d c.take_value.new.self z left group is refl c.in_ok-take_value-in-AttributeValue.ensures.closes (o.extras refl);
+      extras = extras_move false (codes "ATV") d (kept_attributes c.take_value.new.self c.take_value.new.done.items) z left group is refl c.in_ok-take_value-in-AttributeValue.ensures.closes (o.extras refl);
     }
 
 pub returns-in-AttributeSet-clause-keeps : goal.returns-in-AttributeSet-clause-keeps
 returns-in-AttributeSet-clause-keeps c = λ left group h.
-    let d = c.args.self.now in
+    let d = kept c.args.self.now c.args.parts.now in
     let z = entry c.args.zone.now in
     let is : z.code ≡ codes "TEX" = code_of d.kind z.code AttributeSet c.in-AttributeSet.ensures in
     let o = others (codes "TEX") d z left group is h in
@@ -120,15 +121,15 @@ returns-in-AttributeSet-clause-keeps c = λ left group h.
       end_count = o.end_count refl;
       counted_points = o.counted_points refl;
       counted_ends = o.counted_ends refl;
-      attributes = c.take_set.ensures.keeps z left group (has (codes "TEX") z is) (sym c.as_slice-text.ensures.value) h.attributes;
+      attributes = c.take_set.ensures.keeps c.args.parts.now.attributes.items z left group (has (codes "TEX") z is) (sym c.as_slice-text.ensures.value) h.attributes;
       points = o.points refl;
       ends = o.ends refl refl;
-      extras = extras_beside_set d c.take_set.new.self z left group is (sym c.is_open.ensures ∙ c.if-is_open.true) c.take_set.ensures.opens h.extras;
+      extras = extras_beside_set d (kept_attributes c.take_set.new.self c.args.parts.now.attributes.items) z left group is (sym c.is_open.ensures ∙ c.if-is_open.true) c.take_set.ensures.opens h.extras;
     }
 
 pub returns-in_ok-take-in-AttributeSet-2-clause-keeps : goal.returns-in_ok-take-in-AttributeSet-2-clause-keeps
 returns-in_ok-take-in-AttributeSet-2-clause-keeps c = λ left group h.
-    let d = c.args.self.now in
+    let d = kept c.args.self.now c.args.parts.now in
     let z = entry c.args.zone.now in
     let is : z.code ≡ codes "TEX" = code_of d.kind z.code AttributeSet c.in-AttributeSet.ensures in
     let o = others (codes "TEX") d z left group is h in
@@ -144,12 +145,12 @@ returns-in_ok-take-in-AttributeSet-2-clause-keeps c = λ left group h.
       attributes = o.attributes refl refl (ap (λ b. b && bytes_eq (codes "TEX") (codes "TEX")) none);
       points = o.points refl;
       ends = o.ends refl refl;
-      extras = extra_kept (codes "TEX") d c.take-in-AttributeSet-2.new.self z left group is refl refl (set_is_extra d.kind (is_some d.attributes.opened) z is none) c.in_ok-take-in-AttributeSet-2.ensures h.extras;
+      extras = extra_kept (codes "TEX") d (kept_extras c.take-in-AttributeSet-2.new.self c.take-in-AttributeSet-2.new.list.items) z left group is refl refl (set_is_extra d.kind (is_some d.attributes.opened) z is none) c.in_ok-take-in-AttributeSet-2.ensures h.extras;
     }
 
 pub returns-in_ok-take-in-Position-clause-keeps : goal.returns-in_ok-take-in-Position-clause-keeps
 returns-in_ok-take-in-Position-clause-keeps c = λ left group h.
-    let d = c.args.self.now in
+    let d = kept c.args.self.now c.args.parts.now in
     let z = entry c.args.zone.now in
     let place = code_of d.kind z.code Position c.in-Position.ensures in
     let is : z.code ≡ codes "COR" = place.1 in
@@ -170,7 +171,7 @@ returns-in_ok-take-in-Position-clause-keeps c = λ left group h.
 
 pub returns-in_ok-take_pointer-in-EndPointer-clause-keeps : goal.returns-in_ok-take_pointer-in-EndPointer-clause-keeps
 returns-in_ok-take_pointer-in-EndPointer-clause-keeps c = λ left group h.
-    let d = c.args.self.now in
+    let d = kept c.args.self.now c.args.parts.now in
     let z = entry c.args.zone.now in
     let link = code_of d.kind z.code EndPointer c.in-EndPointer.ensures in
     let is : z.code ≡ codes "FTP" = link.1 in
@@ -191,7 +192,7 @@ returns-in_ok-take_pointer-in-EndPointer-clause-keeps c = λ left group h.
 
 pub returns-in-EndSense-clause-keeps : goal.returns-in-EndSense-clause-keeps
 returns-in-EndSense-clause-keeps c = λ left group h.
-    let d = c.args.self.now in
+    let d = kept c.args.self.now c.args.parts.now in
     let z = entry c.args.zone.now in
     let link = code_of d.kind z.code EndSense c.in-EndSense.ensures in
     let is : z.code ≡ codes "SNS" = link.1 in
@@ -206,24 +207,24 @@ returns-in-EndSense-clause-keeps c = λ left group h.
       counted_ends = o.counted_ends refl;
       attributes = o.attributes refl refl (no_set d);
       points = o.points refl;
-      ends = λ k. c.take_sense.ensures z left group (has (codes "SNS") z is) (sym c.as_slice-text.ensures.value) (h.ends k);
+      ends = λ k. c.take_sense.ensures c.args.parts.now.ends.items z left group (has (codes "SNS") z is) (sym c.as_slice-text.ensures.value) (h.ends k);
       extras = extras_stay (codes "SNS") d z left group is refl refl (o.extras (link_known d.kind (codes "SNS") link.0 refl));
     }
 
 pub returns-in-BodyCount-clause-keeps : goal.returns-in-BodyCount-clause-keeps
 returns-in-BodyCount-clause-keeps c = λ left group h.
-    let d = c.args.self.now in
+    let d = kept c.args.self.now c.args.parts.now in
     let z = entry c.args.zone.now in
     body_count_taken d c.take-in-BodyCount.new.self z left group c.as_slice-text.result.now (code_of d.kind z.code BodyCount c.in-BodyCount.ensures) c.as_slice-text.ensures.value c.take-in-BodyCount.ensures h
 
 pub returns-in-Skipped-clause-keeps : goal.returns-in-Skipped-clause-keeps
 returns-in-Skipped-clause-keeps c = λ left group h.
-    let d = c.args.self.now in
+    let d = kept c.args.self.now c.args.parts.now in
     let z = entry c.args.zone.now in
     skipped d z left group (code_of d.kind z.code Skipped c.in-Skipped.ensures) h
 
 pub returns-in_ok-take-in-Unknown-clause-keeps : goal.returns-in_ok-take-in-Unknown-clause-keeps
 returns-in_ok-take-in-Unknown-clause-keeps c = λ left group h.
-    let d = c.args.self.now in
+    let d = kept c.args.self.now c.args.parts.now in
     let z = entry c.args.zone.now in
-    unknown_taken d c.take-in-Unknown.new.self z left group (code_of d.kind z.code Unknown c.in-Unknown.ensures) c.in_ok-take-in-Unknown.ensures h
+    unknown_taken d (kept_extras c.take-in-Unknown.new.self c.take-in-Unknown.new.list.items) z left group (code_of d.kind z.code Unknown c.in-Unknown.ensures) c.in_ok-take-in-Unknown.ensures h

@@ -1,6 +1,7 @@
 use Rattle.std.proofs.Common.{◌∙◌, ◌++◌, ◌∷◌, [], refl, ap}
 use Rattle.edi_record.specs.declared.sheet_block.SheetHead.{SheetHead}
 use Rattle.edi_record.specs.declared.sheet_block.SheetBlock.{SheetBlock}
+use Rattle.edi_record.specs.inner.RecordParts.{whole}
 use Rattle.edi_record.proofs.SheetBlocks.{Grows, IsHeadOf, records_pushed, parts_pushed, parts_same}
 use Rattle.edi_record.proofs.sheet_block.SheetBlock.push.Goals as goal
 
@@ -9,7 +10,7 @@ returns-in_err-stops-clause-parts c = let same = c.in_err-stops.ensures.same in 
 
 pub returns-clause-records : goal.returns-clause-records
 returns-clause-records c =
-    let r = c.args.record in
+    let r = whole c.args.head c.args.parts.now in
     let same = c.in_ok-stops.ensures.same in
     let stops = c.in_ok-stops.ensures.stops in
     let new : SheetBlock = record { heads = c.push_behind.new.list; points = c.append.new.list; ends = c.append-2.new.list; attributes = c.append-3.new.list; extras = c.append-4.new.list } in
@@ -25,7 +26,7 @@ returns-clause-records c =
 
 pub returns-clause-parts : goal.returns-clause-parts
 returns-clause-parts c =
-    let r = c.args.record in
+    let r = whole c.args.head c.args.parts.now in
     let same = c.in_ok-stops.ensures.same in
     let stops = c.in_ok-stops.ensures.stops in
     let new : SheetBlock = record { heads = c.push_behind.new.list; points = c.append.new.list; ends = c.append-2.new.list; attributes = c.append-3.new.list; extras = c.append-4.new.list } in

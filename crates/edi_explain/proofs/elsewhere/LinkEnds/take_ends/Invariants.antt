@@ -1,0 +1,9 @@
+use Rattle.std.proofs.Common.{◌++◌, ℕ, List, codes, take}
+use Rattle.edi_line.specs.Entry.{entries}
+use Rattle.edi_record.specs.Records.{values}
+use Rattle.edi_explain.specs.inner.Elsewhere.{AreEnds}
+use Rattle.edi_explain.proofs.elsewhere.LinkEnds.take_ends.Given as goal
+
+abbrev pub invariant-loop-zone : goal.invariant-loop-zone
+invariant-loop-zone l = (ends : List (List ℕ)) → AreEnds ends l.initial.self
+    → AreEnds (ends ++ values (codes "FTP") (entries (take l.zone-index l.group))) l.self

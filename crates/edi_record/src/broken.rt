@@ -1,0 +1,119 @@
+//! All rules that the records of a file break.
+
+ghost use Rattle.std.specs.Prelude.{◌≡◌, ◌≤◌, ◌∷◌, [], ◌++◌, List, length, option_to_list, IfOk, IfErr, OnOk};
+ghost use Rattle.edi_line.specs.AllBroken.{AreAllBroken};
+ghost use Rattle.edi_line.specs.Bytes.{most_records};
+ghost use Rattle.edi_line.specs.Entry.{Entry, entries};
+ghost use Rattle.edi_line.specs.FileBytes.{file_bytes};
+ghost use Rattle.edi_line.specs.LineRules.{BreaksLineRule, IsZonesOf};
+ghost use Rattle.edi_line.specs.Refusal.{IsUnbroken, IsLineRefusal};
+ghost use Rattle.edi_line.specs.Zones.{groups_of};
+ghost use Rattle.edi_line.specs.inner.AllBroken.{with_broken};
+ghost use Rattle.edi_record.specs.RecordRules.{BreaksRecordRule};
+ghost use Rattle.edi_record.specs.Records.{group_at};
+ghost use Rattle.edi_record.specs.inner.AllBroken.{HoldsGroups};
+ghost use Rattle.edi_record.specs.inner.RecordRules.{record_tests};
+
+use crate::group_rules::{
+    has_bad_attribute, has_bad_end, has_bad_point, has_unknown_pointer, has_wrong_count,
+    lacks_class, lacks_kind,
+};
+use crate::groups::{group_here, lacks_identifier};
+use edi_line::{
+    BrokenRule, FileBytes, GroupOut, LineFault, Zone, push_if_broken, read_groups_from,
+};
+use std::alloc::{AllocError, Global};
+
+/// Puts each of the rules 201 to 208 behind others that the zones of a record break, the least first.
+fn push_broken(list: &mut Vec<BrokenRule>, group: &[Zone<'_>], at: u64) -> Result<(), AllocError>
+    ensures { OnOk result (list.new.items ≡ with_broken list.old.items at (record_tests (entries group.now))) }
+{
+    push_if_broken(list, lacks_kind(group), 201, at)?;
+    push_if_broken(list, lacks_identifier(group), 202, at)?;
+    push_if_broken(list, lacks_class(group), 203, at)?;
+    push_if_broken(list, has_bad_attribute(group), 204, at)?;
+    push_if_broken(list, has_wrong_count(group), 205, at)?;
+    push_if_broken(list, has_bad_point(group), 206, at)?;
+    push_if_broken(list, has_bad_end(group), 207, at)?;
+    push_if_broken(list, has_unknown_pointer(group), 208, at)?;
+    Ok(())
+}
+
+/// How many records have come, and each rule that they break.
+#[derive(Drop)]
+struct BrokenGroups {
+    place: u64,
+    list: Vec<BrokenRule>,
+}
+
+impl BrokenGroups {
+    /// No records have come.
+    fn new(alloc: Global) -> BrokenGroups
+        ensures { HoldsGroups [] result }
+    {
+        BrokenGroups {
+            place: 0,
+            list: Vec::new(alloc),
+        }
+    }
+
+    /// Takes the zones of the next record.
+    fn take_group(&mut self, group: &[Zone<'_>]) -> Result<(), AllocError>
+        ensures { OnOk result ((groups : List (List Entry)) → HoldsGroups groups self.old
+            → HoldsGroups (groups ++ entries group.now ∷ []) self.new) }
+    {
+        self.place = self.place.saturating_add(1);
+        push_broken(&mut self.list, group, self.place)?;
+        Ok(())
+    }
+
+    /// Takes the zones of the record that begins with the first of these, if one does.
+    fn take_first(&mut self, zones: &[Zone<'_>]) -> Result<(), AllocError>
+        ensures { OnOk result ((groups : List (List Entry)) → HoldsGroups groups self.old
+            → HoldsGroups (groups ++ option_to_list (group_at (entries zones.now))) self.new) }
+    {
+        match group_here(zones) {
+            Some(group) => self.take_group(group),
+            None => Ok(()),
+        }
+    }
+}
+
+impl GroupOut for BrokenGroups {
+    ghost Holds = { λ broken groups. HoldsGroups groups broken };
+
+    fn take(&mut self, _alloc: Global, group: &[Zone<'_>]) -> Result<(), AllocError> {
+        self.take_group(group)
+    }
+}
+
+/// Each of the rules 201 to 208 that the records of a file's zones break, with the number of its record, from 1, by
+/// records and in one record by rules. A record of no known type (201) may break 202 to 205 as well, and no other
+/// (docs/FORMAT.md, "The order of the rules").
+pub fn broken_records(alloc: Global, zones: &[Zone<'_>]) -> Result<Vec<BrokenRule>, AllocError>
+    requires few { length (groups_of (entries zones.now)) ≤ most_records }
+    ensures { IfOk result (λ list. AreAllBroken (BreaksRecordRule (entries zones.now)) list.items) }
+{
+    let mut broken = BrokenGroups::new(alloc);
+    let mut left = zones;
+    while let [_, behind @ ..] = left {
+        broken.take_first(left)?;
+        left = behind;
+    }
+    let BrokenGroups { list, .. } = broken;
+    Ok(list)
+}
+
+/// What `broken_records` gives of the zones of a file that is let go as it is read, or the first broken rule of lines.
+/// The zones of one record alone are in memory at a time.
+pub fn broken_records_from(alloc: Global, file: FileBytes<'_>) -> Result<Vec<BrokenRule>, LineFault>
+    ensures records { IfOk result (λ list. (zones : List Entry) × IsZonesOf (file_bytes file.entry) zones
+        × AreAllBroken (BreaksRecordRule zones) list.items) }
+    ensures lines { OnOk result (IsUnbroken (BreaksLineRule (file_bytes file.entry))) }
+    ensures least { IfErr result (IsLineRefusal (BreaksLineRule (file_bytes file.entry))) }
+{
+    let mut broken = BrokenGroups::new(alloc);
+    read_groups_from(alloc, file, &mut broken)?;
+    let BrokenGroups { list, .. } = broken;
+    Ok(list)
+}

@@ -1,0 +1,51 @@
+//! The record whose zones are coming, in lists that are used for one record after the other.
+
+ghost use Rattle.edi_record.specs.inner.RecordParts.{AreEmpty};
+
+use crate::flat_lists::empty;
+use crate::name::Name;
+use crate::record::{Attribute, End, Extra, Kind, Point};
+use edi_line::Text;
+use std::alloc::Global;
+
+/// A record but for its parts.
+#[derive(Drop)]
+pub(crate) struct RecordHead {
+    pub(crate) kind: Kind,
+    pub(crate) rid: Text,
+    pub(crate) scp: Name,
+}
+
+/// The parts of a record. They are written into these lists as its zones come, and move from here into those of a block,
+/// so a record is never moved whole.
+#[derive(Drop)]
+pub(crate) struct RecordParts {
+    pub(crate) points: Vec<Point>,
+    pub(crate) ends: Vec<End>,
+    pub(crate) attributes: Vec<Attribute>,
+    pub(crate) extras: Vec<Extra>,
+}
+
+impl RecordParts {
+    /// No parts, in lists without room.
+    pub(crate) fn new(alloc: Global) -> RecordParts
+        ensures { AreEmpty result }
+    {
+        RecordParts {
+            points: Vec::new(alloc),
+            ends: Vec::new(alloc),
+            attributes: Vec::new(alloc),
+            extras: Vec::new(alloc),
+        }
+    }
+
+    /// Lets the parts go. The lists are kept, but for those that have room for very many elements.
+    pub(crate) fn clear(&mut self, alloc: Global)
+        ensures { AreEmpty self.new }
+    {
+        empty(alloc, &mut self.points);
+        empty(alloc, &mut self.ends);
+        empty(alloc, &mut self.attributes);
+        empty(alloc, &mut self.extras);
+    }
+}
