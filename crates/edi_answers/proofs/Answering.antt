@@ -9,6 +9,7 @@ use Rattle.edi_schema.specs.Classes.{Classes}
 use Rattle.edi_answers.specs.Hashes.{AreAnswered, IsCutOff, IsStep, Step, worst_of}
 use Rattle.edi_answers.specs.inner.Hashes.{StepsOn, StopsAt}
 use Rattle.edi_files.specs.Reasons.{Why, ended}
+use Rattle.edi_answers.specs.declared.form.AnswerForm.{AnswerForm}
 use Rattle.edi_answers.specs.Effects.{Inputs, Stream}
 use Rattle.edi_answers.specs.Statuses.{GoesOut, IsSheetStatus}
 use Rattle.edi_explain.proofs.Zipped.{zip_push}
@@ -74,39 +75,40 @@ max_status a b (inr (inr (inr e))) (inr (inr (inr f))) = inr (inr (inr (omega (a
 abbrev pub over : Option (List ℕ) → Option (List ℕ) → Bool → Stream
 over before after failed = record { before = before; after = after; failed = failed }
 
-pub none_answered : (inputs : Inputs) (why : Why) (s : Classes) (siblings : List (List ℕ)) (o : Option (List ℕ)) (of : Bool) (a : Option (List ℕ)) (af : Bool) → AreAnswered inputs why s siblings (over o o of) (over a a af) [] 0
-none_answered inputs why s siblings o of a af = ([], tt, appends_nothing o, inl (appends_nothing a), refl)
+pub none_answered : (inputs : Inputs) (why : Why) (s : Classes) (siblings : List (List ℕ)) (form : AnswerForm) (o : Option (List ℕ)) (of : Bool) (a : Option (List ℕ)) (af : Bool) → AreAnswered inputs why s siblings form (over o o of) (over a a af) [] 0
+none_answered inputs why s siblings form o of a af = ([], tt, appends_nothing o, inl (appends_nothing a), refl)
 
 -- over what the streams tell before the first sheet, before this one and after it
-module _ (inputs : Inputs) (why : Why) (s : Classes) (siblings : List (List ℕ)) (o p q : Option (List ℕ)) (pf qf : Bool) (a b c : Option (List ℕ)) (bf cf : Bool) where
-  pub answered_more : (paths : List (List ℕ)) (path : List ℕ) (worst status : ℕ) → AreAnswered inputs why s siblings (over o p pf) (over a b bf) paths worst
-      → StepsOn inputs why s siblings path (over p q qf) (over b c cf) status → (IsTrue bf → IsTrue cf)
-      → AreAnswered inputs why s siblings (over o q qf) (over a c cf) (paths ++ path ∷ []) (max worst status)
+module _ (inputs : Inputs) (why : Why) (s : Classes) (siblings : List (List ℕ)) (form : AnswerForm) (o p q : Option (List ℕ)) (pf qf : Bool) (a b c : Option (List ℕ)) (bf cf : Bool) where
+  pub answered_more : (paths : List (List ℕ)) (path : List ℕ) (worst status : ℕ) → AreAnswered inputs why s siblings form (over o p pf) (over a b bf) paths worst
+      → StepsOn inputs why s siblings form path (over p q qf) (over b c cf) status → (IsTrue bf → IsTrue cf)
+      → AreAnswered inputs why s siblings form (over o q qf) (over a c cf) (paths ++ path ∷ []) (max worst status)
   answered_more paths path worst status h k stays =
       let steps = h.0 in
       let step = k.0 in (
         steps ++ step ∷ [],
-        zip_push (IsStep inputs why s siblings) paths steps path step h.1 k.1,
+        zip_push (IsStep inputs why s siblings form) paths steps path step h.1 k.1,
         subst (Appends o q) (sym (said_push (λ (t : Step). t.out) steps step)) (appends_more o p q _ _ h.2 k.3),
         subst (GoesOut a c cf) (sym (said_push (λ (t : Step). t.err) steps step)) (goes_more a b c bf cf _ _ h.3 k.4 stays),
         ap (λ w. max w status) h.4 ∙ (ap (max (worst_of steps)) (sym k.2) ∙ sym (fold-append (λ w (t : Step). max w t.status) 0 steps (step ∷ []))),
       )
 
-  pub cut_off : (paths done more : List (List ℕ)) (path : List ℕ) (worst status : ℕ) → paths ≡ done ++ path ∷ more → AreAnswered inputs why s siblings (over o p pf) (over a b bf) done worst
-      → StopsAt inputs s path (over p q qf) → GoesOut b c cf (ended (codes "cannot write standard output")) → (IsTrue bf → IsTrue cf) → status ≡ 4
-      → IsCutOff inputs why s siblings (over o q qf) (over a c cf) paths status
+  pub cut_off : (paths done more : List (List ℕ)) (path : List ℕ) (worst status : ℕ) → paths ≡ done ++ path ∷ more → AreAnswered inputs why s siblings form (over o p pf) (over a b bf) done worst
+      → StopsAt inputs s form path (over p q qf) → GoesOut b c cf (ended (codes "cannot write standard output")) → (IsTrue bf → IsTrue cf) → status ≡ 4
+      → IsCutOff inputs why s siblings form (over o q qf) (over a c cf) paths status
   cut_off paths done more path worst status is h k said stays four = (
     done,
     path,
     more,
     h.0,
     k.0,
-    k.3.0,
+    k.4.0,
     is,
     h.1,
     k.1,
-    appends_more o p q _ _ h.2 k.3.1,
     k.2,
+    appends_more o p q _ _ h.2 k.4.1,
+    k.3,
     goes_more a b c bf cf _ _ h.3 said stays,
     four,
   )

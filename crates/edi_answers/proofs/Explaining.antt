@@ -1,5 +1,5 @@
 -- What is said of a sheet, from what its parts say.
-use Rattle.std.proofs.Common.{◌≡◌, ◌++◌, ℕ, Bool, true, false, List, [], Option, Some, None, IfSome, IsTrue, codes, sym, subst, inl, inr}
+use Rattle.std.proofs.Common.{◌≡◌, ◌∙◌, ◌++◌, ℕ, Bool, true, false, List, [], ◌∷◌, Option, Some, None, IfSome, IsTrue, ap, codes, refl, sym, subst, inl, inr}
 use Rattle.std.specs.Bool.{MatchBool}
 use Rattle.edi_schema.specs.Classes.{Classes}
 use Rattle.edi_schema.specs.Roles.{KindCodes}
@@ -14,48 +14,77 @@ use Rattle.edi_line.specs.LineRules.{BreaksLineRule}
 use Rattle.edi_line.specs.Refusal.{IsUnbroken}
 use Rattle.edi_compare.specs.Runs.{IsProperSchemaFault, IfThreeKnown}
 use Rattle.edi_compare.specs.declared.fault.Fault.{Fault}
+use Rattle.edi_compare.specs.declared.fault.RunFault.{RunFault}
+use Rattle.edi_compare.specs.declared.fault.RunFault.TheVariants.{Schema, First}
 use Rattle.edi_explain.specs.ClassCounts.{DescribesSheet}
 use Rattle.edi_explain.specs.Explained.{ExplainsSchema, ExplainsSheet}
 use Rattle.edi_explain.specs.Hints.{AreHintsOfSheet}
 use Rattle.edi_explain.specs.KindLines.{DescribesKinds}
 use Rattle.edi_explain.specs.Skipped.{DescribesSkipped}
 use Rattle.edi_words.specs.declared.words.SheetFiles.{SheetFiles}
+use Rattle.edi_outcome.specs.declared.outcome.Outcome.{Outcome}
+use Rattle.edi_outcome.specs.declared.outcome.Outcome.TheVariants as outcome
+use Rattle.edi_json.specs.Texts.{ReadsAs, json_text}
+use Rattle.edi_json_answers.specs.Answers.{outcome_value}
+use Rattle.edi_json_answers.specs.Told.{told_values}
+use Rattle.edi_json_answers.proofs.InTurn.{read_in_turn}
+use Rattle.edi_answers.specs.declared.form.AnswerForm.{AnswerForm}
+use Rattle.edi_answers.specs.declared.form.AnswerForm.TheVariants.{Words, Json}
+use Rattle.edi_answers.specs.ExplainForms.{AreWordsReadIn, TellsIn, words_in_form}
 use Rattle.edi_answers.specs.Explains.{DescribesRest, GiveHints, TellsAccepted, TellsCause, TellsPlan, TellsRefusal}
-use Rattle.edi_files.specs.Reasons.{ended}
-use Rattle.edi_outcome.specs.Words.{schema_text, sheet_text}
-use Rattle.edi_answers.specs.Paths.{input_name}
+use Rattle.edi_answers.specs.Paths.{input_name, names_of_paths, output_name}
+use Rattle.edi_answers.specs.Statuses.{paths_of}
+use Rattle.edi_answers.specs.inner.Explains.{AnswersAndTells, IsSheetTextIn, IsTextIn}
 
-module _ (kinds : KindCodes) (files : SheetFiles) (scd dic b : List ℕ) (said : Bool) (text : List ℕ) where
+-- an answer, with the words behind it
+told_in : (form : AnswerForm) (outcome : Outcome) (names : List (List ℕ)) (answer words text : List ℕ) → IsTextIn form outcome names answer
+    → text ≡ answer ++ words_in_form form words → AreWordsReadIn form words (words_in_form form words) → TellsIn form outcome names words text
+told_in Words outcome names answer words text h is read = record { all = is ∙ ap (λ (a : List ℕ). a ++ words) h.0; read = tt }
+told_in Json outcome names answer words text h is read =
+    let told = json_text (told_values words) in
+    let values = outcome_value outcome names ∷ told_values words in
+    record {
+      all = is ∙ ap (λ (a : List ℕ). a ++ told) h.0;
+      read = subst (λ (t : List ℕ). ReadsAs t values) (sym is) (read_in_turn answer told (outcome_value outcome names ∷ []) (told_values words) h.0 h.1 read);
+    }
+
+module _ (form : AnswerForm) (kinds : KindCodes) (files : SheetFiles) (scd dic b : List ℕ) (said : Bool) (answer words : List ℕ) where
   abbrev pub Tells : Type 0
-  Tells = MatchBool said (TellsPlan kinds scd dic b text) (TellsCause kinds files scd dic b text)
+  Tells = AnswersAndTells form kinds files scd dic b said answer words
 
-  yes : said ≡ true → TellsPlan kinds scd dic b text → Tells
-  yes e h = subst (λ (a : Bool). MatchBool a (TellsPlan kinds scd dic b text) (TellsCause kinds files scd dic b text)) (sym e) h
+  abbrev Accepts : Type 0
+  Accepts = IsSheetTextIn form outcome.Accepted answer × TellsPlan kinds scd dic b words
 
-  no : said ≡ false → TellsCause kinds files scd dic b text → Tells
-  no e h = subst (λ (a : Bool). MatchBool a (TellsPlan kinds scd dic b text) (TellsCause kinds files scd dic b text)) (sym e) h
+  abbrev Refuses : Type 0
+  Refuses = (fault : RunFault) × IsSheetTextIn form (outcome.Fault fault) answer × TellsCause kinds files scd dic b fault words
+
+  yes : said ≡ true → Accepts → Tells
+  yes e h = subst (λ (a : Bool). MatchBool a Accepts Refuses) (sym e) h
+
+  no : said ≡ false → Refuses → Tells
+  no e h = subst (λ (a : Bool). MatchBool a Accepts Refuses) (sym e) h
 
   module _ (s : Classes) (good : IsGoodSchema scd dic kinds s) where
     pub accepted_said : (p : Drawing) → IsAccepted s b → IsPlanOfFile s b p
-        → (said ≡ true) × ((lines : List ℕ) × DescribesSheet s p lines × (text ≡ ended (codes "accepted") ++ lines)) → Tells
-    accepted_said p accepted plan h = yes h.0 (s, p, h.1.0, good, accepted, plan, h.1.1, h.1.2)
+        → (said ≡ true) × IsSheetTextIn form outcome.Accepted answer × DescribesSheet s p words → Tells
+    accepted_said p accepted plan h = yes h.0 (h.1, (s, p, good, accepted, plan, h.2))
 
     pub sheet_said : (f : Fault) (name : List ℕ) → name ≡ input_name files.vec.now → IsRefusal s b f
-        → (said ≡ false) × IsProper f × ((lines : List ℕ) × ExplainsSheet s b name f lines × (text ≡ ended (sheet_text [] f) ++ lines)) → Tells
+        → (said ≡ false) × IsProper f × IsSheetTextIn form (outcome.Fault (First f)) answer × ExplainsSheet s b name f words → Tells
     sheet_said f name is refusal h =
-        no h.0 (inr (f, s, h.2.0, good, h.1, refusal, subst (λ (n : List ℕ). ExplainsSheet s b n f h.2.0) is h.2.1, h.2.2))
+        no h.0 (First f, h.2, inr (f, s, refl, good, h.1, refusal, subst (λ (n : List ℕ). ExplainsSheet s b n f words) is h.3))
 
   pub schema_said : (f : SchemaFault) (x y : List ℕ) → x ≡ input_name files.scd.now → y ≡ input_name files.dic.now → IsSchemaRefusal scd dic kinds f
-      → (said ≡ false) × IsProperSchemaFault f × ((lines : List ℕ) × ExplainsSchema kinds scd dic x y f lines × (text ≡ ended (schema_text f) ++ lines)) → Tells
+      → (said ≡ false) × IsProperSchemaFault f × IsSheetTextIn form (outcome.Fault (Schema f)) answer × ExplainsSchema kinds scd dic x y f words → Tells
   schema_said f x y first second refusal h =
-      let named = subst (λ (m : List ℕ). ExplainsSchema kinds scd dic (input_name files.scd.now) m f h.2.0) second
-      (subst (λ (n : List ℕ). ExplainsSchema kinds scd dic n y f h.2.0) first h.2.1) in
-      no h.0 (inl (f, h.2.0, (h.1, refusal), named, h.2.2))
+      let named = subst (λ (m : List ℕ). ExplainsSchema kinds scd dic (input_name files.scd.now) m f words) second
+      (subst (λ (n : List ℕ). ExplainsSchema kinds scd dic n y f words) first h.3) in
+      no h.0 (Schema f, h.2, inl (f, refl, (h.1, refusal), named))
 
   -- where a sheet is accepted, the file of classes breaks no rule of lines, nor does the sheet
   pub lines_hold : Tells → IsTrue said → IsUnbroken (BreaksLineRule scd) × IsUnbroken (BreaksLineRule b)
-  lines_hold h t = let plan = subst (λ (a : Bool). MatchBool a (TellsPlan kinds scd dic b text) (TellsCause kinds files scd dic b text)) t h in
-      (plan.3.lines.0, λ rule at g. plan.4 rule at (of_lines g))
+  lines_hold h t = let told = subst (λ (a : Bool). MatchBool a Accepts Refuses) t h in
+      (told.1.2.lines.0, λ rule at g. told.1.3 rule at (of_lines g))
 
 -- the lines behind those of an accepted sheet, by the names and the bytes that were read
 pub rest_said : (kinds k : KindCodes) (files : SheetFiles) (scd b x p r classes skipped lines : List ℕ) → k ≡ kinds → x ≡ input_name files.scd.now → p ≡ scd → r ≡ b
@@ -82,12 +111,23 @@ hints_named files scd dic b x y z p q r lines e f g h i j are =
     (subst (λ (v : List ℕ). AreHintsOfSheet m v y q z r lines) f
     (subst (λ (v : List ℕ). AreHintsOfSheet v p y q z r lines) e are)))))
 
--- what is said, with the lines behind it
-pub all_reported : (kinds : KindCodes) (files : SheetFiles) (scd dic b : List ℕ) (said : Bool) (text lines all : List ℕ)
-    → MatchBool said (TellsPlan kinds scd dic b text) (TellsCause kinds files scd dic b text) → MatchBool said (DescribesRest kinds files scd b lines) (GiveHints files scd dic b lines) → all ≡ text ++ lines
-    → MatchBool said (TellsAccepted kinds files scd dic b all) (TellsRefusal kinds files scd dic b all)
-all_reported kinds files scd dic b true text lines all h k e = (text, lines, h, k, e)
-all_reported kinds files scd dic b false text lines all h k e = (text, lines, h, k, e)
+-- the names of a run over one sheet
+abbrev answer_names : SheetFiles → List (List ℕ)
+answer_names files = names_of_paths (paths_of files (codes "-"))
+
+-- what is said, with the lines behind it, in a form
+pub all_reported : (form : AnswerForm) (kinds : KindCodes) (files : SheetFiles) (scd dic b : List ℕ) (said : Bool) (answer words lines all text : List ℕ)
+    → AnswersAndTells form kinds files scd dic b said answer words → MatchBool said (DescribesRest kinds files scd b lines) (GiveHints files scd dic b lines) → all ≡ words ++ lines
+    → text ≡ answer ++ words_in_form form all → AreWordsReadIn form all (words_in_form form all)
+    → MatchBool said (TellsAccepted form kinds files scd dic b text) (TellsRefusal form kinds files scd dic b text)
+all_reported form kinds files scd dic b true answer words lines all text h k e is read =
+    let answered = h.0 (input_name files.scd.now) (input_name files.dic.now) (input_name files.vec.now) (output_name (codes "-")) in
+    let told = told_in form outcome.Accepted (answer_names files) answer all text answered is read in
+    (words, lines, h.1, k, subst (λ (ws : List ℕ). TellsIn form outcome.Accepted (answer_names files) ws text) e told)
+all_reported form kinds files scd dic b false answer words lines all text h k e is read =
+    let answered = h.1 (input_name files.scd.now) (input_name files.dic.now) (input_name files.vec.now) (output_name (codes "-")) in
+    let told = told_in form (outcome.Fault h.0) (answer_names files) answer all text answered is read in
+    (h.0, words, lines, h.2, k, subst (λ (ws : List ℕ). TellsIn form (outcome.Fault h.0) (answer_names files) ws text) e told)
 
 -- a fact of the bytes that were read holds of what the inputs tell
 pub known_bytes : (a c e : Option (List ℕ)) (x y z : List ℕ) (P : List ℕ → List ℕ → List ℕ → Type 0) → IfSome a (λ t. x ≡ t) → IfSome c (λ t. y ≡ t) → IfSome e (λ t. z ≡ t)

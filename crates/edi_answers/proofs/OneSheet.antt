@@ -66,12 +66,13 @@ two_or_four_only s (inl four) five = absurd (omega (arith, four, five))
 two_or_four_only s (inr two) five = absurd (omega (arith, two, five))
 
 -- a sheet is explained, or not
-module _ (run : Effects) (out err : Stream) (kinds : KindCodes) (files : SheetFiles) (s : ℕ) where
+module _ (run : Effects) (out err : Stream) (kinds : KindCodes) (files : SheetFiles) (form : AnswerForm) (s : ℕ) where
   abbrev pub Explains : Bool → List ℕ → Type 0
-  Explains is_accepted text = OfFiles run.inputs files (λ scd dic b. MatchBool is_accepted (TellsAccepted kinds files scd dic b text) (TellsRefusal kinds files scd dic b text))
+  Explains is_accepted text =
+      OfFiles run.inputs files (λ scd dic b. MatchBool is_accepted (TellsAccepted form kinds files scd dic b text) (TellsRefusal form kinds files scd dic b text))
 
   pub explained_status : (is_accepted : Bool) (text : List ℕ) → Explains is_accepted text → (s ≡ 4) ⊎ MatchBool is_accepted (s ≡ 0) (s ≡ 2)
-      → (s < 3 → Answers out err text) → (s ≡ 4 → IsUnsaid out err) → IsExplainStatus run out err kinds files s
+      → (s < 3 → Answers out err text) → (s ≡ 4 → IsUnsaid out err) → IsExplainStatus run out err kinds files form s
   explained_status true text h is written unsaid = record {
     tried = inl (were_there run.inputs files _ h);
     means = record {
@@ -92,7 +93,7 @@ module _ (run : Effects) (out err : Stream) (kinds : KindCodes) (files : SheetFi
   }
 
   pub unexplained_status : (e : RunFault) → FileFault run.inputs kinds files (λ _. ⊥) e → 2 < status_of_fault e
-      → IsSaid run.why out err answer_form.Words (outcome.Fault e) (paths_of files (codes "-")) s → IsExplainStatus run out err kinds files s
+      → IsSaid run.why out err answer_form.Words (outcome.Fault e) (paths_of files (codes "-")) s → IsExplainStatus run out err kinds files form s
   unexplained_status e h big said = record {
     tried = file_tried run.inputs kinds files _ e h;
     means = means_fault _ _ _ run.why (paths_of files (codes "-")) out err s e (λ silent. (h, silent)) (λ is line. absurd (omega (arith, is, big))) said;

@@ -17,6 +17,8 @@ use Rattle.edi_files.specs.Reasons.{Why, ended, reason_line}
 use Rattle.edi_files.specs.declared.reason.Reason.{Reason}
 use Rattle.edi_outcome.specs.Status.{status_of_fault}
 use Rattle.edi_words.specs.declared.words.ManyFiles.{ManyFiles}
+use Rattle.edi_json_answers.specs.BrokenSheets.{IsTextOfValues, all_broken_values, rule_count_value}
+use Rattle.edi_json_answers.specs.declared.broken_sheets.RuleCount.{RuleCount}
 use Rattle.edi_answers.specs.Effects.{Effects, Inputs, Stream}
 use Rattle.edi_answers.specs.Hashes.{GivesSchema, LoadFault, TellsFault, escaped_name, fault_line, schema_fault_path}
 use Rattle.edi_answers.specs.Notes.{InTurn, Notes}
@@ -24,6 +26,8 @@ use Rattle.edi_answers.specs.Paths.{input_name}
 use Rattle.edi_answers.specs.Reasons.{IsReasonOf}
 use Rattle.edi_answers.specs.SheetRuns.{Gives, HasFailedAt, HoldsTooMuch, IsMissing, IsThere}
 use Rattle.edi_answers.specs.Statuses.{Prints, Warns}
+use Rattle.edi_answers.specs.declared.form.AnswerForm.{AnswerForm}
+use Rattle.edi_answers.specs.declared.form.AnswerForm.TheVariants.{Words, Json}
 
 -- why the sheet of a path can't be read: it can't be opened; or it was, and fails or is too long
 abbrev pub SheetReadFault : Inputs → List ℕ → RunFault → Type 0
@@ -34,20 +38,31 @@ SheetReadFault inputs path e =
     (λ n. (n ≡ 3) × HoldsTooMuch inputs path)
     (λ _. ⊥) (λ _. ⊥) (λ _. ⊥) (λ _. ⊥))
 
--- the line of an accepted sheet
+-- the line of words of an accepted sheet
 abbrev pub accepted_line : List ℕ → List ℕ
 accepted_line path = shown_bytes (input_name path) ++ codes ": " ++ ended (codes "accepted")
 
--- all that the sheet b of a path breaks, and the lines on it: one for each place and rule, or that it is accepted
-pub record TellsAll (s : Classes) (b path : List ℕ) (broken : List BrokenRule) (text : List ℕ) : Type 0 where
-  pub all : AreAllBroken (Breaks s b) broken
+-- the lines of words on all that the sheet b of a path breaks: one for each place and rule, or that it is accepted
+pub record IsToldInWords (b path : List ℕ) (broken : List BrokenRule) (text : List ℕ) : Type 0 where
   pub accepted : broken ≡ [] → text ≡ accepted_line path
   pub refused : broken ≢ [] → ListsBroken b (input_name path) broken text
 
+-- the lines in a form on all that the sheet b of a path breaks
+abbrev pub IsToldIn : AnswerForm → List ℕ → List ℕ → List BrokenRule → List ℕ → Type 0
+IsToldIn Words b path broken text = IsToldInWords b path broken text
+IsToldIn Json b path broken text = IsTextOfValues text (all_broken_values (input_name path) broken)
+
+-- all that the sheet b of a path breaks, and the lines on it in a form
+pub record TellsAll (s : Classes) (form : AnswerForm) (b path : List ℕ) (broken : List BrokenRule) (text : List ℕ)
+    : Type 0 where
+  pub all : AreAllBroken (Breaks s b) broken
+  pub told : IsToldIn form b path broken text
+
 -- what the contents of the sheet of a path break, and the lines on it, where these contents are known
-abbrev pub TellsAllOf : Inputs → Classes → List ℕ → List BrokenRule → List ℕ → Type 0
-TellsAllOf inputs s path broken text =
-    (contents : Option (List ℕ)) × Gives inputs path contents × IfSome contents (λ b. TellsAll s b path broken text)
+abbrev pub TellsAllOf : Inputs → Classes → AnswerForm → List ℕ → List BrokenRule → List ℕ → Type 0
+TellsAllOf inputs s form path broken text =
+    (contents : Option (List ℕ)) × Gives inputs path contents
+    × IfSome contents (λ b. TellsAll s form b path broken text)
 
 -- accepted where nothing is broken, and else refused
 abbrev pub status_of_all : List BrokenRule → ℕ
@@ -63,9 +78,9 @@ pub record Share : Type 0 where
 
 -- What a sheet adds: the lines on all that it breaks; or on errors the line of a fault and that of its reason; or there,
 -- without memory for these, words that say so.
-abbrev pub IsShare : Inputs → Why → Classes → List ℕ → Share → Type 0
-IsShare inputs why s path share =
-    ((broken : List BrokenRule) × (text : List ℕ) × TellsAllOf inputs s path broken text
+abbrev pub IsShare : Inputs → Why → Classes → AnswerForm → List ℕ → Share → Type 0
+IsShare inputs why s form path share =
+    ((broken : List BrokenRule) × (text : List ℕ) × TellsAllOf inputs s form path broken text
     × (share ≡ record { out = text; err = []; status = status_of_all broken; rules = map (λ it. it.rule) broken }))
     ⊎ (((e : RunFault) × (reason : Option Reason) × SheetReadFault inputs path e × IsReasonOf why e path reason
     × (share ≡ record {
@@ -93,14 +108,23 @@ shared_rules shares = flat_map (λ (share : Share). share.rules) shares
 abbrev pub sheet_rules : List ℕ
 sheet_rules = (((line_rules ++ record_rules) ++ reference_rules) ++ topology_rules) ++ object_rules
 
--- how often a rule is broken, as a line; nothing for one that isn't
-abbrev pub rule_count_line : ℕ → ℕ → List ℕ
-rule_count_line rule zero = []
-rule_count_line rule (suc n) = ended (codes "rule " ++ decimal rule ++ codes ": " ++ decimal (suc n))
+-- a rule, and how often it is broken; nothing for one that isn't
+abbrev pub rule_count : ℕ → ℕ → List RuleCount
+rule_count rule zero = []
+rule_count rule (suc n) = record { rule = rule; count = suc n } ∷ []
 
--- the counts of all rules that are broken, where a list has the rule of each place
-abbrev pub rule_counts : List ℕ → List ℕ
-rule_counts broken = flat_map (λ rule. rule_count_line rule (count_by (λ r. r == rule) broken)) sheet_rules
+-- each rule that is broken and how often, in the order of their numbers, where a list has the rule of each place
+abbrev pub rule_counts : List ℕ → List RuleCount
+rule_counts broken = flat_map (λ rule. rule_count rule (count_by (λ r. r == rule) broken)) sheet_rules
+
+-- the line of words of how often a rule is broken
+abbrev pub rule_count_line : RuleCount → List ℕ
+rule_count_line it = ended (codes "rule " ++ decimal it.rule ++ codes ": " ++ decimal it.count)
+
+-- the lines in a form of how often each rule is broken, where a list has the rule of each place
+abbrev pub IsCountedIn : AnswerForm → List ℕ → List ℕ → Type 0
+IsCountedIn Words broken text = text ≡ flat_map rule_count_line (rule_counts broken)
+IsCountedIn Json broken text = IsTextOfValues text (map rule_count_value (rule_counts broken))
 
 -- the output failed in a text, behind what it had got; the errors got what they had got, and words that say so
 pub record IsCutIn (out err : Stream) (said told text : List ℕ) (status : ℕ) : Type 0 where
@@ -112,28 +136,31 @@ pub record IsCutIn (out err : Stream) (said told text : List ℕ) (status : ℕ)
 
 -- What came of the sheets of these paths: each added what it adds, and then came the counts; or the output failed in the
 -- lines of one, or in the counts; or there was no memory for the counts, which the errors say.
-pub data AnswersCensus (inputs : Inputs) (why : Why) (s : Classes) (out err : Stream) (paths : List (List ℕ))
-    (status : ℕ) : Type 0 where
-  counted : (shares : List Share) → AllZip (IsShare inputs why s) paths shares
-      → Prints out (shared_out shares ++ rule_counts (shared_rules shares)) → Warns err (shared_err shares)
-      → status ≡ worst_share shares → AnswersCensus inputs why s out err paths status
+pub data AnswersCensus (inputs : Inputs) (why : Why) (s : Classes) (form : AnswerForm) (out err : Stream)
+    (paths : List (List ℕ)) (status : ℕ) : Type 0 where
+  counted : (shares : List Share) (counts : List ℕ) → AllZip (IsShare inputs why s form) paths shares
+      → IsCountedIn form (shared_rules shares) counts → Prints out (shared_out shares ++ counts)
+      → Warns err (shared_err shares) → status ≡ worst_share shares
+      → AnswersCensus inputs why s form out err paths status
   cut_in_sheet : (done more : List (List ℕ)) (path : List ℕ) (shares : List Share) (broken : List BrokenRule)
-      (text : List ℕ) → paths ≡ done ++ path ∷ more → AllZip (IsShare inputs why s) done shares
-      → TellsAllOf inputs s path broken text → IsCutIn out err (shared_out shares) (shared_err shares) text status
-      → AnswersCensus inputs why s out err paths status
-  cut_in_counts : (shares : List Share) → AllZip (IsShare inputs why s) paths shares
-      → IsCutIn out err (shared_out shares) (shared_err shares) (rule_counts (shared_rules shares)) status
-      → AnswersCensus inputs why s out err paths status
-  uncounted : (shares : List Share) → AllZip (IsShare inputs why s) paths shares → Prints out (shared_out shares)
+      (text : List ℕ) → paths ≡ done ++ path ∷ more → AllZip (IsShare inputs why s form) done shares
+      → TellsAllOf inputs s form path broken text → IsCutIn out err (shared_out shares) (shared_err shares) text status
+      → AnswersCensus inputs why s form out err paths status
+  cut_in_counts : (shares : List Share) (counts : List ℕ) → AllZip (IsShare inputs why s form) paths shares
+      → IsCountedIn form (shared_rules shares) counts
+      → IsCutIn out err (shared_out shares) (shared_err shares) counts status
+      → AnswersCensus inputs why s form out err paths status
+  uncounted : (shares : List Share) → AllZip (IsShare inputs why s form) paths shares → Prints out (shared_out shares)
       → Warns err (shared_err shares ++ ended (codes "out of memory")) → status ≡ 5
-      → AnswersCensus inputs why s out err paths status
+      → AnswersCensus inputs why s form out err paths status
 
--- The status of a run that lists all that sheets break. The schema is loaded, the errors got the note on its kinds
--- first, and each sheet was answered under it; or there is none, which is said of its file, and the output got nothing.
-abbrev pub IsCensusStatus : Effects → Stream → Stream → KindCodes → ManyFiles → ℕ → Type 0
-IsCensusStatus run out err kinds files status =
+-- The status of a run that lists all that sheets break in a form. The schema is loaded, the errors got the note on its
+-- kinds first, and each sheet was answered under it; or there is none, which is said of its file, and the output got
+-- nothing.
+abbrev pub IsCensusStatus : Effects → Stream → Stream → KindCodes → ManyFiles → AnswerForm → ℕ → Type 0
+IsCensusStatus run out err kinds files form status =
     ((s : Classes) × (note : List ℕ) × GivesSchema run.inputs kinds files s note
     × InTurn err (λ e. Notes e note)
-    (λ e. AnswersCensus run.inputs run.why s out e (map (λ p. p.now) files.sheets.items) status))
+    (λ e. AnswersCensus run.inputs run.why s form out e (map (λ p. p.now) files.sheets.items) status))
     ⊎ ((e : RunFault) × LoadFault run.inputs kinds files e × TellsFault run.why err e (schema_fault_path files e) status
     × Prints out [])

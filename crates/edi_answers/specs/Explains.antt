@@ -10,6 +10,8 @@ use Rattle.edi_compare.specs.Refused.{IsProper, IsRefusal}
 use Rattle.edi_compare.specs.Rules.{IsAccepted}
 use Rattle.edi_compare.specs.Runs.{RefusesSchema}
 use Rattle.edi_compare.specs.declared.fault.Fault.{Fault}
+use Rattle.edi_compare.specs.declared.fault.RunFault.{RunFault}
+use Rattle.edi_compare.specs.declared.fault.RunFault.TheVariants.{Schema, First}
 use Rattle.edi_explain.specs.ClassCounts.{DescribesSheet}
 use Rattle.edi_explain.specs.Explained.{ExplainsSchema, ExplainsSheet, IsRuleWord, IsTextOfWord, rule_lines, rule_page}
 use Rattle.edi_explain.specs.Hints.{AreHintsOfSheet}
@@ -18,18 +20,19 @@ use Rattle.edi_explain.specs.Skipped.{DescribesSkipped}
 use Rattle.edi_explain.specs.declared.text.RuleText.{RuleText}
 use Rattle.edi_words.specs.declared.words.SheetFiles.{SheetFiles}
 use Rattle.edi_files.specs.Reasons.{ended}
-use Rattle.edi_outcome.specs.Words.{schema_text, sheet_text}
-use Rattle.edi_answers.specs.Paths.{input_name}
+use Rattle.edi_outcome.specs.declared.outcome.Outcome.{Outcome}
+use Rattle.edi_outcome.specs.declared.outcome.Outcome.TheVariants as outcome
+use Rattle.edi_answers.specs.declared.form.AnswerForm.{AnswerForm}
+use Rattle.edi_answers.specs.Paths.{input_name, names_of_paths}
 use Rattle.edi_answers.specs.Effects.{Effects, Stream}
+use Rattle.edi_answers.specs.ExplainForms.{AnswersLinesIn, TellsIn}
 use Rattle.edi_answers.specs.SheetRuns.{FileFault, OfFiles}
 use Rattle.edi_answers.specs.Statuses.{Answers, AreTried, Complains, IsUnsaid, MeansStatus, OnlyLacksMemory, Prints, paths_of}
 
--- an accepted sheet: that it is accepted, and the lines on its plan and on the classes of its records
+-- the lines on the plan of an accepted sheet, and on the classes of its records
 abbrev pub TellsPlan : KindCodes → List ℕ → List ℕ → List ℕ → List ℕ → Type 0
-TellsPlan kinds scd dic b text =
-    (s : Classes) × (p : Drawing) × (lines : List ℕ) × IsGoodSchema scd dic kinds s × IsAccepted s b
-    × IsPlanOfFile s b p
-    × DescribesSheet s p lines × (text ≡ ended (codes "accepted") ++ lines)
+TellsPlan kinds scd dic b lines = (s : Classes) × (p : Drawing) × IsGoodSchema scd dic kinds s × IsAccepted s b
+    × IsPlanOfFile s b p × DescribesSheet s p lines
 
 -- the lines on the classes of the four kinds, and those on what is read and not compared
 abbrev pub DescribesRest : KindCodes → SheetFiles → List ℕ → List ℕ → List ℕ → Type 0
@@ -38,57 +41,64 @@ DescribesRest kinds files scd b lines =
     × DescribesSkipped b skipped
     × (lines ≡ classes ++ skipped)
 
--- an accepted sheet, and then those lines
-abbrev pub TellsAccepted : KindCodes → SheetFiles → List ℕ → List ℕ → List ℕ → List ℕ → Type 0
-TellsAccepted kinds files scd dic b text =
-    (plan rest : List ℕ) × TellsPlan kinds scd dic b plan × DescribesRest kinds files scd b rest × (text ≡ plan ++ rest)
+-- in a form the answer of a check of these files, and behind it the lines that explain it
+abbrev pub TellsAnswer : AnswerForm → SheetFiles → Outcome → List ℕ → List ℕ → Type 0
+TellsAnswer form files outcome lines text =
+    TellsIn form outcome (names_of_paths (paths_of files (codes "-"))) lines text
 
--- a refused schema: the line of a check, and the lines that explain the refusal
-abbrev pub TellsSchema : KindCodes → SheetFiles → List ℕ → List ℕ → List ℕ → Type 0
-TellsSchema kinds files scd dic text = (f : SchemaFault) × (lines : List ℕ) × RefusesSchema kinds scd dic f
+-- an accepted sheet in a form: that it is accepted, and then those lines
+abbrev pub TellsAccepted : AnswerForm → KindCodes → SheetFiles → List ℕ → List ℕ → List ℕ → List ℕ → Type 0
+TellsAccepted form kinds files scd dic b text = (plan rest : List ℕ) × TellsPlan kinds scd dic b plan
+    × DescribesRest kinds files scd b rest × TellsAnswer form files outcome.Accepted (plan ++ rest) text
+
+-- a schema is refused with this fault, and the lines explain the refusal
+abbrev pub TellsSchema : KindCodes → SheetFiles → List ℕ → List ℕ → RunFault → List ℕ → Type 0
+TellsSchema kinds files scd dic fault lines = (f : SchemaFault) × (fault ≡ Schema f) × RefusesSchema kinds scd dic f
     × ExplainsSchema kinds scd dic (input_name files.scd.now) (input_name files.dic.now) f lines
-    × (text ≡ ended (schema_text f) ++ lines)
 
--- the same of a refused sheet
-abbrev pub TellsSheet : KindCodes → SheetFiles → List ℕ → List ℕ → List ℕ → List ℕ → Type 0
-TellsSheet kinds files scd dic b text =
-    (f : Fault) × (s : Classes) × (lines : List ℕ) × IsGoodSchema scd dic kinds s × IsProper f × IsRefusal s b f
-    × ExplainsSheet s b (input_name files.vec.now) f lines × (text ≡ ended (sheet_text [] f) ++ lines)
+-- the same of a sheet
+abbrev pub TellsSheet : KindCodes → SheetFiles → List ℕ → List ℕ → List ℕ → RunFault → List ℕ → Type 0
+TellsSheet kinds files scd dic b fault lines = (f : Fault) × (s : Classes) × (fault ≡ First f)
+    × IsGoodSchema scd dic kinds s × IsProper f × IsRefusal s b f
+    × ExplainsSheet s b (input_name files.vec.now) f lines
 
 -- either of them
-abbrev pub TellsCause : KindCodes → SheetFiles → List ℕ → List ℕ → List ℕ → List ℕ → Type 0
-TellsCause kinds files scd dic b text = TellsSchema kinds files scd dic text ⊎ TellsSheet kinds files scd dic b text
+abbrev pub TellsCause : KindCodes → SheetFiles → List ℕ → List ℕ → List ℕ → RunFault → List ℕ → Type 0
+TellsCause kinds files scd dic b fault lines =
+    TellsSchema kinds files scd dic fault lines ⊎ TellsSheet kinds files scd dic b fault lines
 
 -- the hints that the three files give, by their names
 abbrev pub GiveHints : SheetFiles → List ℕ → List ℕ → List ℕ → List ℕ → Type 0
 GiveHints files scd dic b hints =
     AreHintsOfSheet (input_name files.scd.now) scd (input_name files.dic.now) dic (input_name files.vec.now) b hints
 
--- a refusal, and then the hints
-abbrev pub TellsRefusal : KindCodes → SheetFiles → List ℕ → List ℕ → List ℕ → List ℕ → Type 0
-TellsRefusal kinds files scd dic b text =
-    (cause hints : List ℕ) × TellsCause kinds files scd dic b cause × GiveHints files scd dic b hints
-    × (text ≡ cause ++ hints)
+-- in a form a refusal, the lines that explain it, and then the hints
+abbrev pub TellsRefusal : AnswerForm → KindCodes → SheetFiles → List ℕ → List ℕ → List ℕ → List ℕ → Type 0
+TellsRefusal form kinds files scd dic b text = (fault : RunFault) × (cause hints : List ℕ)
+    × TellsCause kinds files scd dic b fault cause × GiveHints files scd dic b hints
+    × TellsAnswer form files (outcome.Fault fault) (cause ++ hints) text
 
--- The status of a run that explains a sheet, as that of a check; the output gets the check's line and what explains it.
+-- The status of a run that explains a sheet, as that of a check; the output gets the check's answer and what explains
+-- it, in a form.
 pub record IsExplainStatus (run : Effects) (out err : Stream) (kinds : KindCodes) (files : SheetFiles)
-    (s : ℕ) : Type 0 where
+    (form : AnswerForm) (s : ℕ) : Type 0 where
   pub tried : AreTried run.inputs files
   pub means : MeansStatus (OfFiles run.inputs files (λ scd dic b. (text : List ℕ)
-      × TellsAccepted kinds files scd dic b text × Answers out err text))
-      (OfFiles run.inputs files (λ scd dic b. (text : List ℕ) × TellsRefusal kinds files scd dic b text
+      × TellsAccepted form kinds files scd dic b text × Answers out err text))
+      (OfFiles run.inputs files (λ scd dic b. (text : List ℕ) × TellsRefusal form kinds files scd dic b text
       × Answers out err text))
       (λ e. FileFault run.inputs kinds files (λ _. ⊥) e × Prints out []) run.why (paths_of files (codes "-")) out err s
 
--- The status of a run that lists the rules: 0 only where the lines on all went out.
-pub record IsRuleListStatus (out err : Stream) (s : ℕ) : Type 0 where
-  pub done : s ≡ 0 → Answers out err rule_lines
+-- The status of a run that lists the rules in a form: 0 only where the lines on all went out.
+pub record IsRuleListStatus (out err : Stream) (form : AnswerForm) (s : ℕ) : Type 0 where
+  pub done : s ≡ 0 → AnswersLinesIn out err form rule_lines
   pub failed : s ≡ 4 → IsUnsaid out err
   pub memory : s ≡ 5 → OnlyLacksMemory out err
 
--- The status of a run that explains a rule: 0 only where its page went out, 3 only where the word is no rule's number.
-pub record IsRuleStatus (out err : Stream) (word : List ℕ) (s : ℕ) : Type 0 where
-  pub done : s ≡ 0 → (text : RuleText) × IsTextOfWord word text × Answers out err (rule_page text)
+-- The status of a run that explains a rule in a form: 0 only where its page went out, 3 only where the word is no
+-- rule's number.
+pub record IsRuleStatus (out err : Stream) (form : AnswerForm) (word : List ℕ) (s : ℕ) : Type 0 where
+  pub done : s ≡ 0 → (text : RuleText) × IsTextOfWord word text × AnswersLinesIn out err form (rule_page text)
   pub unknown : s ≡ 3
       → ((rule : ℕ) → ¬ IsRuleWord word rule) × Complains out err (ended (codes "no rule has this number"))
   pub failed : s ≡ 4 → IsUnsaid out err

@@ -5,6 +5,7 @@ use Rattle.std.specs.List.{AllZip, fold, list_any}
 use Rattle.std.proofs.Common.{Result, Ok, Err}
 use Rattle.hex.specs.Hex.{encode_lower}
 use Rattle.sha2.specs.Sha256.{sha256}
+use Rattle.json.specs.Json.{Json as JsonValue}
 use Rattle.edi_line.specs.Bytes.{carriage_return, line_feed}
 use Rattle.edi_schema.specs.Classes.{Classes, IsSchema}
 use Rattle.edi_schema.specs.Roles.{KindCodes}
@@ -25,7 +26,12 @@ use Rattle.edi_files.specs.Reasons.{Why, ended, reason_line}
 use Rattle.edi_files.specs.declared.reason.Reason.{Reason}
 use Rattle.edi_outcome.specs.Status.{status_of_fault}
 use Rattle.edi_outcome.specs.Words.{sheet_fault_text}
+use Rattle.edi_json.specs.Texts.{json_text}
+use Rattle.edi_json_answers.specs.Digests.{refused_sheet_values, schema_digest_value, sheet_digest_value}
+use Rattle.edi_answers.specs.AnswerForms.{AreReadIn}
 use Rattle.edi_answers.specs.Reasons.{IsReasonOf}
+use Rattle.edi_answers.specs.declared.form.AnswerForm.{AnswerForm}
+use Rattle.edi_answers.specs.declared.form.AnswerForm.TheVariants.{Words, Json}
 use Rattle.edi_answers.specs.Effects.{Effects, Inputs, Stream}
 use Rattle.edi_answers.specs.Hinted.{AreFaultHints}
 use Rattle.edi_answers.specs.Notes.{InTurn, IsNote, NamesSomeKinds, Notes}
@@ -103,33 +109,52 @@ named_line name words = mark_of name ++ escaped_name name ++ codes ": " ++ ended
 abbrev pub fault_line : RunFault → List ℕ → List ℕ
 fault_line e name = mark_of name ++ escaped_name name ++ codes ": " ++ ended (sheet_fault_text e)
 
+-- the values of JSON of what came of the sheet of a path: that of its digest or of its refusal, or none
+abbrev pub answer_values : List ℕ → Result (List ℕ) RunFault → List JsonValue
+answer_values path (Ok digest) = sheet_digest_value path digest ∷ []
+answer_values path (Err e) = refused_sheet_values path e
+
+-- what the output gets of that in a form: as words the line of the digest, and nothing of a fault
+abbrev pub answer_text : AnswerForm → List ℕ → Result (List ℕ) RunFault → List ℕ
+answer_text Words path (Ok digest) = digest_line digest path
+answer_text Words path (Err e) = []
+answer_text Json path answer = json_text (answer_values path answer)
+
+-- in this text as JSON a reader finds the values of what came of the sheet of a path
+abbrev pub IsAnswerRead : AnswerForm → List ℕ → Result (List ℕ) RunFault → Type 0
+IsAnswerRead form path answer = AreReadIn form (answer_values path answer) (answer_text form path answer)
+
 -- what a sheet adds to the output and to the errors, and its status
 pub record Step : Type 0 where
   pub out : List ℕ
   pub err : List ℕ
   pub status : ℕ
 
--- What a sheet adds: its digest's line, or its fault's line on errors, then that of the fault's reason, and of a refused
--- sheet the hints on its file and on records of its siblings; without memory for these, or for the lines, words that say so in their place.
-abbrev pub IsStep : Inputs → Why → Classes → List (List ℕ) → List ℕ → Step → Type 0
-IsStep inputs why s siblings path step =
-    ((digest : List ℕ) × IsAnswerOf inputs s path (Ok digest)
-    × (step ≡ record { out = digest_line digest path; err = []; status = 0 }))
-    ⊎ (((e : RunFault) × (reason : Option Reason) × (hints : List ℕ) × IsAnswerOf inputs s path (Err e)
-    × IsReasonOf why e path reason × AreFaultHints inputs siblings e path hints
-    × (step ≡ record {
-      out = [];
-      err = fault_line e path ++ reason_line (escaped_name path) reason ++ hints;
-      status = status_of_fault e;
-    }))
-    ⊎ (((e : RunFault) × (reason : Option Reason) × IsAnswerOf inputs s path (Err e) × IsReasonOf why e path reason
-    × (step ≡ record {
-      out = [];
-      err = fault_line e path ++ reason_line (escaped_name path) reason ++ ended (codes "out of memory");
-      status = 5;
-    }))
+-- What is said on errors of a fault of the sheet of a path, and the status: the fault's line, then that of its reason,
+-- and of a refused sheet the hints on its file and on records of its siblings; without memory for these, or for the
+-- lines, words that say so in their place.
+abbrev pub IsFaultSaid : Inputs → Why → List (List ℕ) → List ℕ → RunFault → List ℕ → ℕ → Type 0
+IsFaultSaid inputs why siblings path e said status =
+    ((reason : Option Reason) × IsReasonOf why e path reason
+    × (((hints : List ℕ) × AreFaultHints inputs siblings e path hints × (status ≡ status_of_fault e)
+    × (said ≡ fault_line e path ++ reason_line (escaped_name path) reason ++ hints))
+    ⊎ ((status ≡ 5)
+    × (said ≡ fault_line e path ++ reason_line (escaped_name path) reason ++ ended (codes "out of memory")))))
+    ⊎ ((status ≡ 5) × (said ≡ ended (codes "out of memory")))
+
+-- the same of what came of the sheet: nothing of a digest
+abbrev pub IsAnswerSaid : Inputs → Why → List (List ℕ) → List ℕ → Result (List ℕ) RunFault → List ℕ → ℕ → Type 0
+IsAnswerSaid inputs why siblings path (Ok digest) said status = (said ≡ []) × (status ≡ 0)
+IsAnswerSaid inputs why siblings path (Err e) said status = IsFaultSaid inputs why siblings path e said status
+
+-- What a sheet adds: to the output the text of what came of it in a form, and to the errors what is said of that;
+-- without memory for the text, words that say so on errors in place of both.
+abbrev pub IsStep : Inputs → Why → Classes → List (List ℕ) → AnswerForm → List ℕ → Step → Type 0
+IsStep inputs why s siblings form path step =
+    ((answer : Result (List ℕ) RunFault) × IsAnswerOf inputs s path answer × (step.out ≡ answer_text form path answer)
+    × IsAnswerRead form path answer × IsAnswerSaid inputs why siblings path answer step.err step.status)
     ⊎ ((answer : Result (List ℕ) RunFault) × IsAnswerOf inputs s path answer
-    × (step ≡ record { out = []; err = ended (codes "out of memory"); status = 5 }))))
+    × (step ≡ record { out = []; err = ended (codes "out of memory"); status = 5 }))
 
 -- the greatest status
 abbrev pub worst_of : List Step → ℕ
@@ -143,46 +168,68 @@ abbrev pub said_err : List Step → List ℕ
 said_err steps = flat_map (λ (step : Step). step.err) steps
 
 -- Each sheet was answered, in order: the streams got what the sheets add, and the status is the greatest of theirs.
-abbrev pub AreAnswered : Inputs → Why → Classes → List (List ℕ) → Stream → Stream → List (List ℕ) → ℕ → Type 0
-AreAnswered inputs why s siblings out err paths status =
-    (steps : List Step) × AllZip (IsStep inputs why s siblings) paths steps × Prints out (said_out steps)
+abbrev pub AreAnswered : Inputs → Why → Classes → List (List ℕ) → AnswerForm → Stream → Stream → List (List ℕ) → ℕ
+    → Type 0
+AreAnswered inputs why s siblings form out err paths status =
+    (steps : List Step) × AllZip (IsStep inputs why s siblings form) paths steps × Prints out (said_out steps)
     × Warns err (said_err steps) × (status ≡ worst_of steps)
 
--- Each sheet before that of a path was answered, and the output failed in the line of that one.
-abbrev pub IsCutOff : Inputs → Why → Classes → List (List ℕ) → Stream → Stream → List (List ℕ) → ℕ → Type 0
-IsCutOff inputs why s siblings out err paths status =
-    (done : List (List ℕ)) × (path : List ℕ) × (more : List (List ℕ)) × (steps : List Step) × (digest : List ℕ)
-    × (count : ℕ)
-    × (paths ≡ done ++ path ∷ more) × AllZip (IsStep inputs why s siblings) done steps × IsAnswerOf inputs s path (Ok digest)
-    × Prints out (said_out steps ++ take count (digest_line digest path)) × IsTrue out.failed
+-- Each sheet before that of a path was answered, and the output failed in the text of that one.
+abbrev pub IsCutOff : Inputs → Why → Classes → List (List ℕ) → AnswerForm → Stream → Stream → List (List ℕ) → ℕ
+    → Type 0
+IsCutOff inputs why s siblings form out err paths status =
+    (done : List (List ℕ)) × (path : List ℕ) × (more : List (List ℕ)) × (steps : List Step)
+    × (answer : Result (List ℕ) RunFault) × (count : ℕ)
+    × (paths ≡ done ++ path ∷ more) × AllZip (IsStep inputs why s siblings form) done steps
+    × IsAnswerOf inputs s path answer × (answer_text form path answer ≢ [])
+    × Prints out (said_out steps ++ take count (answer_text form path answer)) × IsTrue out.failed
     × Warns err (said_err steps ++ ended (codes "cannot write standard output")) × (status ≡ 4)
 
-abbrev pub AnswersAll : Inputs → Why → Classes → List (List ℕ) → Stream → Stream → List (List ℕ) → ℕ → Type 0
-AnswersAll inputs why s siblings out err paths status =
-    AreAnswered inputs why s siblings out err paths status ⊎ IsCutOff inputs why s siblings out err paths status
+abbrev pub AnswersAll : Inputs → Why → Classes → List (List ℕ) → AnswerForm → Stream → Stream → List (List ℕ) → ℕ
+    → Type 0
+AnswersAll inputs why s siblings form out err paths status =
+    AreAnswered inputs why s siblings form out err paths status
+    ⊎ IsCutOff inputs why s siblings form out err paths status
 
 -- the line of a schema: `schema `, and then as that of a sheet its digest, and the name of its file of classes
 abbrev pub schema_line : Classes → List ℕ → List ℕ
 schema_line s name = codes "schema " ++ digest_line (sha256 (text_of_schema s)) name
 
+-- the value of JSON of a schema: that of its digest
+abbrev pub schema_values : Classes → List ℕ → List JsonValue
+schema_values s name = schema_digest_value name (sha256 (text_of_schema s)) ∷ []
+
+-- the line of a schema in a form
+abbrev pub schema_line_in : AnswerForm → Classes → List ℕ → List ℕ
+schema_line_in Words s name = schema_line s name
+schema_line_in Json s name = json_text (schema_values s name)
+
+-- in that line as JSON a reader finds the value of the schema
+abbrev pub IsSchemaRead : AnswerForm → Classes → List ℕ → Type 0
+IsSchemaRead form s name = AreReadIn form (schema_values s name) (schema_line_in form s name)
+
 -- each sheet of the files was answered
-abbrev pub AnswersSheets : Inputs → Why → Classes → List (List ℕ) → Stream → Stream → ManyFiles → ℕ → Type 0
-AnswersSheets inputs why s siblings out err files status =
-    AnswersAll inputs why s siblings out err (map (λ p. p.now) files.sheets.items) status
+abbrev pub AnswersSheets : Inputs → Why → Classes → List (List ℕ) → AnswerForm → Stream → Stream → ManyFiles → ℕ
+    → Type 0
+AnswersSheets inputs why s siblings form out err files status =
+    AnswersAll inputs why s siblings form out err (map (λ p. p.now) files.sheets.items) status
 
 -- The output got the line of the schema, and then each sheet was answered; or the output failed in that line, or there
 -- was no memory for it.
-abbrev pub AnswersHeaded : Inputs → Why → Classes → List (List ℕ) → Stream → Stream → ManyFiles → ℕ → Type 0
-AnswersHeaded inputs why s siblings out err files status =
-    InTurn out (λ o. Prints o (schema_line s files.scd.now)) (λ o. AnswersSheets inputs why s siblings o err files status)
-    ⊎ (((count : ℕ) × PrintsFirst out count (schema_line s files.scd.now) × IsUnsaid out err × (status ≡ 4))
+abbrev pub AnswersHeaded : Inputs → Why → Classes → List (List ℕ) → AnswerForm → Stream → Stream → ManyFiles → ℕ
+    → Type 0
+AnswersHeaded inputs why s siblings form out err files status =
+    (InTurn out (λ o. Prints o (schema_line_in form s files.scd.now))
+    (λ o. AnswersSheets inputs why s siblings form o err files status) × IsSchemaRead form s files.scd.now)
+    ⊎ (((count : ℕ) × PrintsFirst out count (schema_line_in form s files.scd.now) × IsUnsaid out err × (status ≡ 4))
     ⊎ (OnlyLacksMemory out err × (status ≡ 5)))
 
 -- each sheet was answered, behind the line of the schema where it is asked for
-abbrev pub AnswersUnder : Inputs → Why → Classes → List (List ℕ) → Stream → Stream → ManyFiles → Bool → ℕ → Type 0
-AnswersUnder inputs why s siblings out err files with_schema status =
-    MatchBool with_schema (AnswersHeaded inputs why s siblings out err files status)
-    (AnswersSheets inputs why s siblings out err files status)
+abbrev pub AnswersUnder : Inputs → Why → Classes → List (List ℕ) → AnswerForm → Stream → Stream → ManyFiles → Bool → ℕ
+    → Type 0
+AnswersUnder inputs why s siblings form out err files with_schema status =
+    MatchBool with_schema (AnswersHeaded inputs why s siblings form out err files status)
+    (AnswersSheets inputs why s siblings form out err files status)
 
 -- The schema of the two files, where their contents are known; and the note on its kinds: that on the file of classes,
 -- where its contents are known, and where they are not, one that names some of the four kinds, or none.
@@ -242,11 +289,13 @@ TellsFault why err e path s =
     ⊎ ((s ≡ 5) × LacksMemory err)
 
 -- The status of a run over many sheets, with the siblings in which records are looked for. The schema is loaded, the
--- errors got the note on its kinds first, and each sheet was answered under it, behind its line where that is asked
--- for, or the output failed; or there is none, which is said of its file, and the output got nothing.
-abbrev pub IsHashStatus : Effects → Stream → Stream → KindCodes → ManyFiles → Bool → List (List ℕ) → ℕ → Type 0
-IsHashStatus run out err kinds files with_schema siblings status =
+-- errors got the note on its kinds first, and each sheet was answered under it in a form, behind its line where that is
+-- asked for, or the output failed; or there is none, which is said of its file, and the output got nothing.
+abbrev pub IsHashStatus : Effects → Stream → Stream → KindCodes → ManyFiles → AnswerForm → Bool → List (List ℕ) → ℕ
+    → Type 0
+IsHashStatus run out err kinds files form with_schema siblings status =
     ((s : Classes) × (note : List ℕ) × GivesSchema run.inputs kinds files s note
-    × InTurn err (λ e. Notes e note) (λ e. AnswersUnder run.inputs run.why s siblings out e files with_schema status))
+    × InTurn err (λ e. Notes e note)
+    (λ e. AnswersUnder run.inputs run.why s siblings form out e files with_schema status))
     ⊎ ((e : RunFault) × LoadFault run.inputs kinds files e × TellsFault run.why err e (schema_fault_path files e) status
     × Prints out [])

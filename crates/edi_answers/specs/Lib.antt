@@ -1,6 +1,7 @@
 pub mod AnswerForms
 pub mod Census
 pub mod Effects
+pub mod ExplainForms
 pub mod Explains
 pub mod Hashes
 pub mod Hinted

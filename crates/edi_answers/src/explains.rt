@@ -1,5 +1,5 @@
 //! What is said of a sheet, of a rule and of all rules.
-ghost use Rattle.std.specs.Prelude.{◌≡◌, ◌⊎◌, ◌++◌, ◌<◌, ℕ, List, [], false, true, IfErr, IfOk, IsTrue, codes};
+ghost use Rattle.std.specs.Prelude.{◌≡◌, ◌⊎◌, ◌++◌, ◌<◌, ℕ, List, false, true, IfErr, IfOk, IsTrue};
 ghost use Rattle.std.specs.Bool.{MatchBool};
 ghost use Rattle.std.specs.Io.KnownBytes.{Appends};
 ghost use Rattle.edi_line.specs.LineRules.{BreaksLineRule};
@@ -7,28 +7,32 @@ ghost use Rattle.edi_line.specs.Refusal.{IsUnbroken};
 ghost use Rattle.edi_schema.specs.SchemaRefusal.{IsSchemaRefusal};
 ghost use Rattle.edi_compare.specs.Refused.{IsProper};
 ghost use Rattle.edi_compare.specs.Runs.{IsProperSchemaFault};
+ghost use Rattle.edi_compare.specs.declared.fault.RunFault.TheVariants as run;
 ghost use Rattle.edi_explain.specs.ClassCounts.{DescribesSheet};
 ghost use Rattle.edi_explain.specs.Explained.{ExplainsSchema, ExplainsSheet};
 ghost use Rattle.edi_explain.specs.Found.{IsFound};
 ghost use Rattle.edi_explain.specs.KindClasses.{codes_of};
-ghost use Rattle.edi_answers.specs.Explains.{DescribesRest, GiveHints, IsExplainStatus, IsRuleListStatus, IsRuleStatus, TellsAccepted, TellsCause, TellsPlan, TellsRefusal};
-ghost use Rattle.edi_files.specs.Reasons.{ended};
+ghost use Rattle.edi_answers.specs.ExplainForms.{AnswersLinesIn, AreWordsReadIn, words_in_form};
+ghost use Rattle.edi_answers.specs.Explains.{DescribesRest, GiveHints, IsExplainStatus, IsRuleListStatus, IsRuleStatus, TellsAccepted, TellsRefusal};
+ghost use Rattle.edi_answers.specs.inner.Explains.{AnswersAndTells, IsSheetTextIn};
 ghost use Rattle.edi_outcome.specs.Status.{status_of_fault};
-ghost use Rattle.edi_outcome.specs.Words.{FaultHasNames, schema_text, sheet_text};
+ghost use Rattle.edi_outcome.specs.Words.{FaultHasNames};
+ghost use Rattle.edi_outcome.specs.declared.outcome.Outcome.TheVariants as outcome;
 ghost use Rattle.edi_answers.specs.Effects.{effects, inputs, written};
 ghost use Rattle.edi_answers.specs.SheetRuns.{FileFault, OfFiles};
-ghost use Rattle.edi_answers.specs.Statuses.{Answers, IsListStatus, IsPageStatus, IsSheetStatus, IsUnsaid};
+ghost use Rattle.edi_answers.specs.Statuses.{IsListStatus, IsPageStatus, IsSheetStatus, IsUnsaid, OnlyLacksMemory};
 
-use crate::form::AnswerForm;
+use crate::form::{AnswerForm, words_in_form};
 use crate::paths::input_name;
 use crate::report;
 use crate::sheets::opened;
-use edi_compare::{RunFault, read_input};
+use edi_compare::{Fault, RunFault, read_input};
 use edi_explain::{
     Found, NamedFile, describe_kinds, describe_sheet, describe_skipped, examine, explain_schema,
     explain_sheet, hints_of, list_rules, page_of, rule_of_word,
 };
 use edi_files::Folder;
+use edi_json_answers::refusals::{accepted_sheet_line, refused_schema_line, refused_sheet_line};
 use edi_line::ByteOut;
 use edi_outcome::{Outcome, line_of_fault, line_of_schema};
 use edi_plan::Plan;
@@ -56,7 +60,7 @@ impl Drop for SheetBytes {
     }
 }
 
-// What is said of a sheet.
+// What is said of a sheet, in a form.
 struct Account {
     is_accepted: bool,
     text: Vec<u8>,
@@ -71,23 +75,60 @@ impl Drop for Account {
     }
 }
 
-/// Says of a sheet what a check says, and then where and why it is refused, or what it holds. Gives the status of the
-/// check.
+// The parts of what is said of a sheet: the answer of a check, in a form, and the words that explain it.
+struct AccountParts {
+    is_accepted: bool,
+    answer: Vec<u8>,
+    words: Vec<u8>,
+}
+
+impl Drop for AccountParts {
+    fn drop(self) {
+        let AccountParts {
+            is_accepted: _,
+            answer: _,
+            words: _,
+        } = self;
+    }
+}
+
+impl AccountParts {
+    // Puts the parts together: the words in the form too.
+    fn put_together(self, alloc: Global, form: AnswerForm) -> Result<Account, AllocError>
+        ensures { IfOk result (λ said. (said.is_accepted ≡ self.is_accepted)
+            × (said.text.items ≡ self.answer.items ++ words_in_form form self.words.items)
+            × AreWordsReadIn form self.words.items (words_in_form form self.words.items)) }
+    {
+        let AccountParts {
+            is_accepted,
+            answer,
+            words,
+        } = self;
+        let mut text = answer;
+        let told = words_in_form(alloc, form, words)?;
+        text.extend_from_slice(&told)?;
+        Ok(Account { is_accepted, text })
+    }
+}
+
+/// Says of a sheet in a form what a check says, and then where and why it is refused, or what it holds. Gives the
+/// status of the check.
 pub fn explain<F: Folder, O: ByteOut, E: ByteOut>(
     alloc: Global,
     folder: &F,
     kinds: &GivenKinds<'_>,
     files: &SheetFiles<'_>,
+    form: AnswerForm,
     out: &mut O,
     err: &mut E,
 ) -> u8
     ensures status { IsSheetStatus result }
     ensures answer { IsExplainStatus
         (effects F.Folder F.Reader.ByteIn F.Sink.ByteOut F.NewFile.ByteOut folder.now folder.now)
-        (written O.ByteOut out.old out.new) (written E.ByteOut err.old err.new) kinds.now files.now result }
+        (written O.ByteOut out.old out.new) (written E.ByteOut err.old err.new) kinds.now files.now form result }
 {
     let paths = [files.scd, files.dic, files.vec, "-"];
-    match said(alloc, folder, kinds, files) {
+    match said(alloc, folder, kinds, files, form) {
         Ok(said) => put_said(&said, out, err),
         Err(fault) => report::answer(
             alloc,
@@ -114,16 +155,17 @@ fn put_said<O: ByteOut, E: ByteOut>(said: &Account, out: &mut O, err: &mut E) ->
     if said.is_accepted { 0 } else { REFUSED_STATUS }
 }
 
-// What is said of the sheet of three files. All are opened before the first is read.
+// What is said in a form of the sheet of three files. All are opened before the first is read.
 fn said<F: Folder>(
     alloc: Global,
     folder: &F,
     kinds: &GivenKinds<'_>,
     files: &SheetFiles<'_>,
+    form: AnswerForm,
 ) -> Result<Account, RunFault>
     ensures ok { IfOk result (λ said. OfFiles (inputs F.Folder F.Reader.ByteIn folder.now) files.now
         (λ s d v. MatchBool said.is_accepted
-        (TellsAccepted kinds.now files.now s d v said.text.items) (TellsRefusal kinds.now
+        (TellsAccepted form kinds.now files.now s d v said.text.items) (TellsRefusal form kinds.now
         files.now s d v said.text.items))) }
     ensures err { IfErr result (FileFault (inputs F.Folder F.Reader.ByteIn folder.now) kinds.now files.now (λ _. ⊥)) }
     ensures names { IfErr result (λ e. FaultHasNames e 4) }
@@ -135,28 +177,29 @@ fn said<F: Folder>(
     let scd = read_input(alloc, &mut scd, 1)?;
     let dic = read_input(alloc, &mut dic, 2)?;
     let vec = read_input(alloc, &mut vec, 3)?;
-    match all_said(alloc, kinds, files, &SheetBytes { scd, dic, vec }) {
+    match all_said(alloc, kinds, files, form, &SheetBytes { scd, dic, vec }) {
         Ok(said) => Ok(said),
         Err(error) => Err(RunFault::Memory(error)),
     }
 }
 
-// What is said of a sheet that was read, with the lines behind that.
+// What is said in a form of a sheet that was read, with the lines behind that.
 fn all_said(
     alloc: Global,
     kinds: &GivenKinds<'_>,
     files: &SheetFiles<'_>,
+    form: AnswerForm,
     bytes: &SheetBytes,
 ) -> Result<Account, AllocError>
-    ensures { IfOk result (λ said. MatchBool said.is_accepted (TellsAccepted
+    ensures { IfOk result (λ said. MatchBool said.is_accepted (TellsAccepted form
         kinds.now files.now bytes.now.scd.items bytes.now.dic.items bytes.now.vec.items said.text.items)
-        (TellsRefusal kinds.now files.now bytes.now.scd.items bytes.now.dic.items bytes.now.vec.items
+        (TellsRefusal form kinds.now files.now bytes.now.scd.items bytes.now.dic.items bytes.now.vec.items
         said.text.items)) }
 {
-    let mut said = said_of(alloc, kinds, files, bytes)?;
-    let lines = lines_behind(alloc, kinds, files, bytes, said.is_accepted)?;
-    said.text.extend_from_slice(&lines)?;
-    Ok(said)
+    let mut parts = parts_of(alloc, kinds, files, form, bytes)?;
+    let lines = lines_behind(alloc, kinds, files, bytes, parts.is_accepted)?;
+    parts.words.extend_from_slice(&lines)?;
+    parts.put_together(alloc, form)
 }
 
 // The classes of the four kinds, and what is read of an accepted sheet and not compared; or what the files of a refused
@@ -216,24 +259,33 @@ fn rest_of_accepted(
     Ok(lines)
 }
 
-// What is said of a sheet that was read.
-fn said_of(
+// The parts of what is said of a sheet that was read.
+fn parts_of(
     alloc: Global,
     kinds: &GivenKinds<'_>,
     files: &SheetFiles<'_>,
+    form: AnswerForm,
     bytes: &SheetBytes,
-) -> Result<Account, AllocError>
-    ensures { IfOk result (λ said. MatchBool said.is_accepted (TellsPlan
-        kinds.now bytes.now.scd.items bytes.now.dic.items bytes.now.vec.items said.text.items)
-        (TellsCause kinds.now files.now bytes.now.scd.items bytes.now.dic.items bytes.now.vec.items said.text.items)) }
+) -> Result<AccountParts, AllocError>
+    ensures { IfOk result (λ parts. AnswersAndTells form kinds.now files.now
+        bytes.now.scd.items bytes.now.dic.items bytes.now.vec.items
+        parts.is_accepted parts.answer.items parts.words.items) }
 {
     match Schema::load(alloc, &bytes.scd, &bytes.dic, kinds.kinds()) {
         Ok(schema) => match examine(alloc, &schema, &bytes.vec) {
-            Ok(sound) => said_of_accepted(alloc, &schema, sound.plan()),
-            Err(found) => said_of_sheet(alloc, &schema, &bytes.vec, input_name(files.vec), &found),
+            Ok(sound) => parts_of_accepted(alloc, form, &schema, sound.plan()),
+            Err(found) => parts_of_sheet(
+                alloc,
+                form,
+                &schema,
+                &bytes.vec,
+                input_name(files.vec),
+                &found,
+            ),
         },
-        Err(fault) => said_of_schema(
+        Err(fault) => parts_of_schema(
             alloc,
+            form,
             &NamedFile {
                 name: input_name(files.scd),
                 bytes: &bytes.scd,
@@ -248,106 +300,165 @@ fn said_of(
     }
 }
 
-// What is said of an accepted sheet, by its plan.
-fn said_of_accepted(alloc: Global, schema: &Schema, plan: &Plan) -> Result<Account, AllocError>
-    ensures { IfOk result (λ said. (said.is_accepted ≡ true) × ((lines : List ℕ)
-        × DescribesSheet schema.now plan.now lines × (said.text.items ≡ ended (codes "accepted") ++ lines))) }
+// The parts of what is said of an accepted sheet, by its plan.
+fn parts_of_accepted(
+    alloc: Global,
+    form: AnswerForm,
+    schema: &Schema,
+    plan: &Plan,
+) -> Result<AccountParts, AllocError>
+    ensures { IfOk result (λ parts. (parts.is_accepted ≡ true)
+        × IsSheetTextIn form outcome.Accepted parts.answer.items
+        × DescribesSheet schema.now plan.now parts.words.items) }
 {
-    let mut text = Vec::from_slice(alloc, b"accepted\n")?;
-    let lines = describe_sheet(alloc, schema, plan)?;
-    text.extend_from_slice(&lines)?;
-    Ok(Account {
+    let answer = answer_of_accepted(alloc, form)?;
+    let words = describe_sheet(alloc, schema, plan)?;
+    Ok(AccountParts {
         is_accepted: true,
-        text,
+        answer,
+        words,
     })
 }
 
-// What is said of a refused sheet.
-fn said_of_sheet(
+// The answer on an accepted sheet, in a form.
+fn answer_of_accepted(alloc: Global, form: AnswerForm) -> Result<Vec<u8>, AllocError>
+    ensures { IfOk result (λ answer. IsSheetTextIn form outcome.Accepted answer.items) }
+{
+    match form {
+        AnswerForm::Words => Vec::from_slice(alloc, b"accepted\n"),
+        AnswerForm::Json => accepted_sheet_line(alloc),
+    }
+}
+
+// The parts of what is said of a refused sheet.
+fn parts_of_sheet(
     alloc: Global,
+    form: AnswerForm,
     schema: &Schema,
     bytes: &[u8],
     name: &[u8],
     found: &Found,
-) -> Result<Account, AllocError>
+) -> Result<AccountParts, AllocError>
     requires { IsFound schema.now bytes.now found.now }
-    ensures { IfOk result (λ said. (said.is_accepted ≡ false) × IsProper found.now.fault × ((lines : List ℕ)
-        × ExplainsSheet schema.now bytes.now name.now found.now.fault lines
-        × (said.text.items ≡ ended (sheet_text [] found.now.fault) ++ lines))) }
+    ensures { IfOk result (λ parts. (parts.is_accepted ≡ false) × IsProper found.now.fault
+        × IsSheetTextIn form (outcome.Fault (run.First found.now.fault)) parts.answer.items
+        × ExplainsSheet schema.now bytes.now name.now found.now.fault parts.words.items) }
 {
-    let mut text = line_of_fault(alloc, &found.fault)?;
-    let lines = explain_sheet(alloc, schema, bytes, name, found)?;
-    text.extend_from_slice(&lines)?;
-    Ok(Account {
+    let answer = answer_of_sheet(alloc, form, &found.fault)?;
+    let words = explain_sheet(alloc, schema, bytes, name, found)?;
+    Ok(AccountParts {
         is_accepted: false,
-        text,
+        answer,
+        words,
     })
 }
 
-// What is said of a refused schema.
-fn said_of_schema(
+// The answer on a refused sheet, in a form.
+fn answer_of_sheet(alloc: Global, form: AnswerForm, fault: &Fault) -> Result<Vec<u8>, AllocError>
+    ensures { IfOk result (λ answer. IsSheetTextIn form (outcome.Fault (run.First fault.now)) answer.items) }
+{
+    match form {
+        AnswerForm::Words => line_of_fault(alloc, fault),
+        AnswerForm::Json => refused_sheet_line(alloc, fault),
+    }
+}
+
+// The parts of what is said of a refused schema.
+fn parts_of_schema(
     alloc: Global,
+    form: AnswerForm,
     scd: &NamedFile<'_>,
     dic: &NamedFile<'_>,
     codes: &ByRole<&[u8]>,
     fault: &SchemaFault,
-) -> Result<Account, AllocError>
+) -> Result<AccountParts, AllocError>
     requires { IsSchemaRefusal scd.now.bytes.now dic.now.bytes.now (codes_of codes.now) fault.now }
-    ensures { IfOk result (λ said. (said.is_accepted ≡ false) × IsProperSchemaFault fault.now × ((lines : List ℕ)
-        × ExplainsSchema
-        (codes_of codes.now) scd.now.bytes.now dic.now.bytes.now scd.now.name.now dic.now.name.now fault.now lines
-        × (said.text.items ≡ ended (schema_text fault.now) ++ lines))) }
+    ensures { IfOk result (λ parts. (parts.is_accepted ≡ false) × IsProperSchemaFault fault.now
+        × IsSheetTextIn form (outcome.Fault (run.Schema fault.now)) parts.answer.items
+        × ExplainsSchema (codes_of codes.now) scd.now.bytes.now dic.now.bytes.now scd.now.name.now
+        dic.now.name.now fault.now parts.words.items) }
 {
-    let mut text = line_of_schema(alloc, fault)?;
-    let lines = explain_schema(alloc, scd, dic, codes, fault)?;
-    text.extend_from_slice(&lines)?;
-    Ok(Account {
+    let answer = answer_of_schema(alloc, form, fault)?;
+    let words = explain_schema(alloc, scd, dic, codes, fault)?;
+    Ok(AccountParts {
         is_accepted: false,
-        text,
+        answer,
+        words,
     })
 }
 
-/// Says which rules there are, each with its number and where it is broken.
-pub fn explain_rules<O: ByteOut, E: ByteOut>(alloc: Global, out: &mut O, err: &mut E) -> u8
+// The answer on a refused schema, in a form.
+fn answer_of_schema(
+    alloc: Global,
+    form: AnswerForm,
+    fault: &SchemaFault,
+) -> Result<Vec<u8>, AllocError>
+    ensures { IfOk result (λ answer. IsSheetTextIn form (outcome.Fault (run.Schema fault.now)) answer.items) }
+{
+    match form {
+        AnswerForm::Words => line_of_schema(alloc, fault),
+        AnswerForm::Json => refused_schema_line(alloc, fault),
+    }
+}
+
+/// Says in a form which rules there are, each with its number and where it is broken.
+pub fn explain_rules<O: ByteOut, E: ByteOut>(
+    alloc: Global,
+    form: AnswerForm,
+    out: &mut O,
+    err: &mut E,
+) -> u8
     ensures status { IsListStatus result }
     ensures answer { IsRuleListStatus (written O.ByteOut out.old out.new)
-        (written E.ByteOut err.old err.new) result }
+        (written E.ByteOut err.old err.new) form result }
 {
     match list_rules(alloc) {
-        Ok(lines) => put_page(&lines, out, err),
+        Ok(lines) => put_page(alloc, form, lines, out, err),
         Err(_) => report::out_of_memory(err),
     }
 }
 
-// Writes lines on rules, and gives the status.
-fn put_page<O: ByteOut, E: ByteOut>(page: &[u8], out: &mut O, err: &mut E) -> u8
-    ensures status { (result ≡ 0) ⊎ (result ≡ 4) }
+// Writes lines on rules in a form, and gives the status.
+fn put_page<O: ByteOut, E: ByteOut>(
+    alloc: Global,
+    form: AnswerForm,
+    page: Vec<u8>,
+    out: &mut O,
+    err: &mut E,
+) -> u8
+    ensures status { IsListStatus result }
     ensures done { result ≡ 0
-        → Answers (written O.ByteOut out.old out.new) (written E.ByteOut err.old err.new) page.now }
+        → AnswersLinesIn (written O.ByteOut out.old out.new) (written E.ByteOut err.old err.new) form page.items }
     ensures failed { result ≡ 4 → IsUnsaid (written O.ByteOut out.old out.new) (written E.ByteOut err.old err.new) }
+    ensures memory { result ≡ 5
+        → OnlyLacksMemory (written O.ByteOut out.old out.new) (written E.ByteOut err.old err.new) }
 {
-    match put_all(out, page) {
+    let Ok(text) = words_in_form(alloc, form, page) else {
+        return report::out_of_memory(err);
+    };
+    match put_all(out, &text) {
         Ok(()) => 0,
         Err(_) => report::unwritten(err),
     }
 }
 
-/// Says what the rule of a number means, or that there is no such rule.
+/// Says in a form what the rule of a number means, or that there is no such rule.
 pub fn explain_rule<O: ByteOut, E: ByteOut>(
     alloc: Global,
     word: &str,
+    form: AnswerForm,
     out: &mut O,
     err: &mut E,
 ) -> u8
     ensures status { IsPageStatus result }
     ensures answer { IsRuleStatus (written O.ByteOut out.old out.new)
-        (written E.ByteOut err.old err.new) word.now result }
+        (written E.ByteOut err.old err.new) form word.now result }
 {
     let Some(text) = rule_of_word(word) else {
         return report::unknown_rule(err);
     };
     match page_of(alloc, &text) {
-        Ok(page) => put_page(&page, out, err),
+        Ok(page) => put_page(alloc, form, page, out, err),
         Err(_) => report::out_of_memory(err),
     }
 }

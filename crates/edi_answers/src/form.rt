@@ -2,17 +2,19 @@
 ghost use Rattle.std.specs.Prelude.{◌≡◌, IfOk, length};
 ghost use Rattle.edi_outcome.specs.Words.{HasNames, texts};
 ghost use Rattle.edi_answers.specs.AnswerForms.{IsReadIn, text_in_form};
+ghost use Rattle.edi_answers.specs.ExplainForms.{AreWordsReadIn, words_in_form};
 
 use edi_json_answers::json_of;
+use edi_json_answers::told::told_lines;
 use edi_outcome::{Outcome, line_of};
 use std::alloc::{AllocError, Global};
 
 /// In which form an answer or a refusal is written.
 #[derive(Clone, Copy)]
 pub enum AnswerForm {
-    /// As a line of words.
+    /// As words.
     Words,
-    /// As a line of JSON (docs/JSON.md, "Answers").
+    /// As lines of JSON (docs/JSON.md, "Answers" and "Explanations").
     Json,
 }
 
@@ -30,5 +32,16 @@ pub fn text_in_form(
     match form {
         AnswerForm::Words => line_of(alloc, outcome, names),
         AnswerForm::Json => json_of(alloc, outcome, names),
+    }
+}
+
+/// Words in a form: as they are, or a line of JSON for each of their lines. The only error is want of memory.
+pub fn words_in_form(alloc: Global, form: AnswerForm, words: Vec<u8>) -> Result<Vec<u8>, AllocError>
+    ensures text { IfOk result (λ text. text.items ≡ words_in_form form words.items) }
+    ensures read { IfOk result (λ text. AreWordsReadIn form words.items text.items) }
+{
+    match form {
+        AnswerForm::Words => Ok(words),
+        AnswerForm::Json => told_lines(alloc, &words),
     }
 }

@@ -1,17 +1,20 @@
 //! The digests of the canonical files of many sheets.
-ghost use Rattle.std.specs.Prelude.{◌≡◌, ◌++◌, IfErr, IfOk, IsTrue, OnOk, Option, map};
+ghost use Rattle.std.specs.Prelude.{◌≡◌, ◌≢◌, ◌++◌, ℕ, [], IfErr, IfOk, IsTrue, List, OnErr, OnOk, Option, map, take};
+ghost use Rattle.std.specs.Io.KnownBytes.{Appends};
 ghost use Rattle.std.specs.List.{list_any};
 ghost use Rattle.edi_answers.specs.Effects.{effects, inputs, written};
-ghost use Rattle.edi_answers.specs.Hashes.{AnswersAll, AnswersHeaded, AnswersUnder, GivesSchema, IsAnswerOf, IsHashStatus, LoadFault, TellsFault, digest_line, escaped_name, fault_line, is_escaped, mark_of, named_line, refused_path, schema_fault_path, schema_line};
+ghost use Rattle.edi_answers.specs.Hashes.{AnswersAll, AnswersHeaded, AnswersUnder, GivesSchema, IsAnswerOf, IsAnswerSaid, IsHashStatus, LoadFault, TellsFault, digest_line, escaped_name, fault_line, is_escaped, mark_of, named_line, refused_path, schema_fault_path, schema_line, schema_values};
 ghost use Rattle.edi_schema.specs.SchemaRefusal.{IsGoodSchema};
 ghost use Rattle.edi_compare.specs.Runs.{MatchFault, RefusesSchema};
 ghost use Rattle.edi_answers.specs.Notes.{IsNote, IsNoteOn};
-ghost use Rattle.edi_answers.specs.inner.Hashes.{StepsOn, StopsAt, TellsSheetFault};
+ghost use Rattle.edi_answers.specs.inner.Hashes.{IsAnswerText, IsSchemaText, StepsOn, StopsAt, TellsSheetFault};
 ghost use Rattle.edi_files.specs.Reasons.{reason_line};
 ghost use Rattle.edi_files.specs.declared.reason.Reason.{Reason};
 ghost use Rattle.edi_answers.specs.Reasons.{IsReasonOf};
-ghost use Rattle.edi_answers.specs.Statuses.{IsSheetStatus};
+ghost use Rattle.edi_answers.specs.Statuses.{IsSheetStatus, Warns};
+ghost use Rattle.edi_json.specs.Texts.{ReadsAs, json_text};
 
+use crate::form::AnswerForm;
 use crate::hinted::hints_at;
 use crate::notes::note_of;
 use crate::reason::add_reason;
@@ -19,6 +22,9 @@ use crate::sheets::opened;
 use crate::{notes, report};
 use edi_compare::{RunFault, canon_under, load_or_fault, read_input};
 use edi_files::Folder;
+use edi_json_answers::digests::{
+    json_of_refused_sheet, json_of_schema_digest, json_of_sheet_digest,
+};
 use edi_line::ByteOut;
 use edi_outcome::{line_of_sheet, status_of_fault};
 use edi_schema::{Schema, SchemaFault, Source};
@@ -29,16 +35,17 @@ use sha2::{Digest, Sha256};
 use std::alloc::{AllocError, Global};
 
 /// Writes a line for each sheet, in order: the digest of its canonical file and its name to `out`, or its name and why
-/// it has none to `err`; and above these that of the schema, where it is asked for. Gives the greatest of their
-/// statuses, or 4 as soon as `out` fails. The schema is loaded once, before any sheet is opened; where there is none,
-/// `err` says why by the name of its file, and where a kind of link has no class, `err` says so first. Behind the line
-/// of a sheet that is refused by 304, `err` says which of the siblings, VEC files of the same lot, has the record that a
-/// link points at.
+/// it has none to `err`; and above these that of the schema, where it is asked for. As JSON `out` also gets a line for a
+/// sheet that is refused, before `err` says why (docs/JSON.md, "Digests"). Gives the greatest of their statuses, or 4 as
+/// soon as `out` fails. The schema is loaded once, before any sheet is opened; where there is none, `err` says why by the
+/// name of its file, and where a kind of link has no class, `err` says so first. Behind the line of a sheet that is
+/// refused by 304, `err` says which of the siblings, VEC files of the same lot, has the record that a link points at.
 pub fn hash<F: Folder, O: ByteOut, E: ByteOut>(
     alloc: Global,
     folder: &F,
     kinds: &GivenKinds<'_>,
     files: &ManyFiles<'_>,
+    form: AnswerForm,
     with_schema: bool,
     siblings: &[&str],
     out: &mut O,
@@ -47,7 +54,7 @@ pub fn hash<F: Folder, O: ByteOut, E: ByteOut>(
     ensures status { IsSheetStatus result }
     ensures answer { IsHashStatus
         (effects F.Folder F.Reader.ByteIn F.Sink.ByteOut F.NewFile.ByteOut folder.now folder.now)
-        (written O.ByteOut out.old out.new) (written E.ByteOut err.old err.new) kinds.now files.now with_schema
+        (written O.ByteOut out.old out.new) (written E.ByteOut err.old err.new) kinds.now files.now form with_schema
         (map (λ p. p.now) siblings.now) result }
     ensures out_stays { IsTrue (O.has_failed out.old) → IsTrue (O.has_failed out.new) }
     ensures stays { IsTrue (E.has_failed err.old) → IsTrue (E.has_failed err.new) }
@@ -61,6 +68,7 @@ pub fn hash<F: Folder, O: ByteOut, E: ByteOut>(
                 folder,
                 schema,
                 siblings,
+                form,
                 files,
                 with_schema,
                 out,
@@ -145,6 +153,7 @@ fn answer_under<F: Folder, O: ByteOut, E: ByteOut>(
     folder: &F,
     schema: &Schema,
     siblings: &[&str],
+    form: AnswerForm,
     files: &ManyFiles<'_>,
     with_schema: bool,
     out: &mut O,
@@ -152,15 +161,16 @@ fn answer_under<F: Folder, O: ByteOut, E: ByteOut>(
 ) -> u8
     ensures status { IsSheetStatus result }
     ensures answer { AnswersUnder (inputs F.Folder F.Reader.ByteIn folder.now) (F.why folder.now) schema.now
-        (map (λ p. p.now) siblings.now) (written O.ByteOut out.old out.new) (written E.ByteOut err.old err.new)
+        (map (λ p. p.now) siblings.now) form (written O.ByteOut out.old out.new) (written E.ByteOut err.old err.new)
         files.now with_schema result }
     ensures out_stays { IsTrue (O.has_failed out.old) → IsTrue (O.has_failed out.new) }
     ensures stays { IsTrue (E.has_failed err.old) → IsTrue (E.has_failed err.new) }
 {
+    let sheets = &files.sheets;
     if with_schema {
-        answer_headed(alloc, folder, schema, siblings, files, out, err)
+        answer_headed(alloc, folder, schema, siblings, form, files, out, err)
     } else {
-        answer_all(alloc, folder, schema, siblings, &files.sheets, out, err)
+        answer_all(alloc, folder, schema, siblings, form, sheets, out, err)
     }
 }
 
@@ -170,22 +180,32 @@ fn answer_headed<F: Folder, O: ByteOut, E: ByteOut>(
     folder: &F,
     schema: &Schema,
     siblings: &[&str],
+    form: AnswerForm,
     files: &ManyFiles<'_>,
     out: &mut O,
     err: &mut E,
 ) -> u8
     ensures status { IsSheetStatus result }
     ensures answer { AnswersHeaded (inputs F.Folder F.Reader.ByteIn folder.now) (F.why folder.now) schema.now
-        (map (λ p. p.now) siblings.now) (written O.ByteOut out.old out.new) (written E.ByteOut err.old err.new)
+        (map (λ p. p.now) siblings.now) form (written O.ByteOut out.old out.new) (written E.ByteOut err.old err.new)
         files.now result }
     ensures out_stays { IsTrue (O.has_failed out.old) → IsTrue (O.has_failed out.new) }
     ensures stays { IsTrue (E.has_failed err.old) → IsTrue (E.has_failed err.new) }
 {
-    let Ok(line) = line_of_schema(alloc, schema, files.scd.as_bytes()) else {
+    let Ok(line) = text_of_schema_digest(alloc, form, schema, files.scd.as_bytes()) else {
         return report::out_of_memory(err);
     };
     match put_all(out, &line) {
-        Ok(()) => answer_all(alloc, folder, schema, siblings, &files.sheets, out, err),
+        Ok(()) => answer_all(
+            alloc,
+            folder,
+            schema,
+            siblings,
+            form,
+            &files.sheets,
+            out,
+            err,
+        ),
         Err(_) => report::unwritten(err),
     }
 }
@@ -196,20 +216,21 @@ fn answer_all<F: Folder, O: ByteOut, E: ByteOut>(
     folder: &F,
     schema: &Schema,
     siblings: &[&str],
+    form: AnswerForm,
     sheets: &[&str],
     out: &mut O,
     err: &mut E,
 ) -> u8
     ensures status { IsSheetStatus result }
     ensures answer { AnswersAll (inputs F.Folder F.Reader.ByteIn folder.now) (F.why folder.now) schema.now
-        (map (λ p. p.now) siblings.now) (written O.ByteOut out.old out.new) (written E.ByteOut err.old err.new)
+        (map (λ p. p.now) siblings.now) form (written O.ByteOut out.old out.new) (written E.ByteOut err.old err.new)
         (map (λ p. p.now) sheets.now) result }
     ensures out_stays { IsTrue (O.has_failed out.old) → IsTrue (O.has_failed out.new) }
     ensures stays { IsTrue (E.has_failed err.old) → IsTrue (E.has_failed err.new) }
 {
     let mut worst = 0;
     for path in sheets {
-        match answer(alloc, folder, schema, siblings, path, out, err) {
+        match answer(alloc, folder, schema, siblings, form, path, out, err) {
             Ok(status) => worst = worst.max(status),
             Err(_) => return report::unwritten(err),
         }
@@ -217,12 +238,13 @@ fn answer_all<F: Folder, O: ByteOut, E: ByteOut>(
     worst
 }
 
-// Answers a sheet, and gives its status, unless its line can't be written.
+// Answers a sheet, and gives its status, unless its text can't be written.
 fn answer<F: Folder, O: ByteOut, E: ByteOut>(
     alloc: Global,
     folder: &F,
     schema: &Schema,
     siblings: &[&str],
+    form: AnswerForm,
     path: &str,
     out: &mut O,
     err: &mut E,
@@ -230,22 +252,55 @@ fn answer<F: Folder, O: ByteOut, E: ByteOut>(
     ensures status { IfOk result IsSheetStatus }
     ensures ok { IfOk result
         (StepsOn (inputs F.Folder F.Reader.ByteIn folder.now) (F.why folder.now) schema.now
-        (map (λ p. p.now) siblings.now) path.now (written O.ByteOut out.old out.new)
+        (map (λ p. p.now) siblings.now) form path.now (written O.ByteOut out.old out.new)
         (written E.ByteOut err.old err.new)) }
-    ensures err { IfErr result (λ w. StopsAt (inputs F.Folder F.Reader.ByteIn folder.now) schema.now path.now
+    ensures err { IfErr result (λ w. StopsAt (inputs F.Folder F.Reader.ByteIn folder.now) schema.now form path.now
         (written O.ByteOut out.old out.new) × (err.new ≡ err.old)) }
     ensures out_stays { IsTrue (O.has_failed out.old) → IsTrue (O.has_failed out.new) }
     ensures stays { IsTrue (E.has_failed err.old) → IsTrue (E.has_failed err.new) }
 {
-    match digest_of(alloc, folder, schema, path) {
-        Ok(digest) => match line_of_digest(alloc, &digest, path.as_bytes()) {
-            Ok(line) => match put_all(out, &line) {
-                Ok(()) => Ok(0),
-                Err(written) => Err(written),
-            },
-            Err(_) => Ok(report::out_of_memory(err)),
-        },
-        Err(fault) => Ok(tell_sheet(alloc, folder, siblings, &fault, path, err)),
+    let answer = digest_of(alloc, folder, schema, path);
+    let Ok(text) = text_of_answer(alloc, form, &answer, path.as_bytes()) else {
+        return Ok(report::out_of_memory(err));
+    };
+    match put_unless_empty(out, &text) {
+        Ok(()) => Ok(tell_answer(alloc, folder, siblings, &answer, path, err)),
+        Err(written) => Err(written),
+    }
+}
+
+// Writes a text, where it isn't empty.
+fn put_unless_empty<O: ByteOut>(out: &mut O, text: &[u8]) -> Result<(), Written>
+    ensures ok { OnOk result (Appends (O.contents out.old) (O.contents out.new) text.now) }
+    ensures err { IfErr result (λ w. Appends (O.contents out.old) (O.contents out.new) (take w.count text.now)) }
+    ensures some { OnErr result (text.now ≢ []) }
+    ensures failed { OnErr result (IsTrue (O.has_failed out.new)) }
+    ensures stays { IsTrue (O.has_failed out.old) → IsTrue (O.has_failed out.new) }
+{
+    if text.is_empty() {
+        Ok(())
+    } else {
+        put_all(out, text)
+    }
+}
+
+// Says what is wrong with the sheet of a path, where something is, and gives the status.
+fn tell_answer<F: Folder, E: ByteOut>(
+    alloc: Global,
+    folder: &F,
+    siblings: &[&str],
+    answer: &Result<[u8; 32], RunFault>,
+    path: &str,
+    err: &mut E,
+) -> u8
+    ensures status { IsSheetStatus result }
+    ensures contents { (said : List ℕ) × IsAnswerSaid (inputs F.Folder F.Reader.ByteIn folder.now) (F.why folder.now)
+        (map (λ p. p.now) siblings.now) path.now answer.now said result × Warns (written E.ByteOut err.old err.new) said }
+    ensures stays { IsTrue (E.has_failed err.old) → IsTrue (E.has_failed err.new) }
+{
+    match answer {
+        Ok(_) => 0,
+        Err(fault) => tell_sheet(alloc, folder, siblings, fault, path, err),
     }
 }
 
@@ -258,6 +313,7 @@ fn tell_sheet<F: Folder, E: ByteOut>(
     path: &str,
     err: &mut E,
 ) -> u8
+    ensures status { IsSheetStatus result }
     ensures contents { TellsSheetFault (inputs F.Folder F.Reader.ByteIn folder.now) (F.why folder.now)
         (map (λ p. p.now) siblings.now) (written E.ByteOut err.old err.new) fault.now path.now result }
     ensures stays { IsTrue (E.has_failed err.old) → IsTrue (E.has_failed err.new) }
@@ -350,7 +406,48 @@ pub fn digest_of<F: Folder>(
     Ok(Sha256::digest(&canonical))
 }
 
-// The line of a schema, by the name of its file of classes.
+// The text in a form of what came of a sheet, by the name of its file.
+fn text_of_answer(
+    alloc: Global,
+    form: AnswerForm,
+    answer: &Result<[u8; 32], RunFault>,
+    name: &[u8],
+) -> Result<Vec<u8>, AllocError>
+    ensures { IfOk result (λ text. IsAnswerText form name.now answer.now text.items) }
+{
+    match (form, answer) {
+        (AnswerForm::Words, Ok(digest)) => line_of_digest(alloc, digest, name),
+        (AnswerForm::Words, Err(_)) => Ok(Vec::new(alloc)),
+        (AnswerForm::Json, Ok(digest)) => json_of_sheet_digest(alloc, name, digest),
+        (AnswerForm::Json, Err(fault)) => json_of_refused_sheet(alloc, name, fault),
+    }
+}
+
+// The line of a schema in a form, by the name of its file of classes.
+fn text_of_schema_digest(
+    alloc: Global,
+    form: AnswerForm,
+    schema: &Schema,
+    name: &[u8],
+) -> Result<Vec<u8>, AllocError>
+    ensures { IfOk result (λ line. IsSchemaText form schema.now name.now line.items) }
+{
+    match form {
+        AnswerForm::Words => line_of_schema(alloc, schema, name),
+        AnswerForm::Json => json_of_schema(alloc, schema, name),
+    }
+}
+
+// The line of JSON of a schema, by the name of its file of classes.
+fn json_of_schema(alloc: Global, schema: &Schema, name: &[u8]) -> Result<Vec<u8>, AllocError>
+    ensures text { IfOk result (λ line. line.items ≡ json_text (schema_values schema.now name.now)) }
+    ensures read { IfOk result (λ line. ReadsAs line.items (schema_values schema.now name.now)) }
+{
+    let digest = schema_digest(alloc, schema)?;
+    json_of_schema_digest(alloc, name, &digest)
+}
+
+// The line of words of a schema, by the name of its file of classes.
 fn line_of_schema(alloc: Global, schema: &Schema, name: &[u8]) -> Result<Vec<u8>, AllocError>
     ensures { IfOk result (λ line. line.items ≡ schema_line schema.now name.now) }
 {

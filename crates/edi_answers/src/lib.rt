@@ -2,6 +2,7 @@
 #![tactic(auto)]
 
 pub mod census;
+mod census_texts;
 pub mod classes;
 pub mod commands;
 pub mod explains;

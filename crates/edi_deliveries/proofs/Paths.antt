@@ -5,6 +5,7 @@ use Rattle.edi_schema.specs.Roles.{KindCodes}
 use Rattle.edi_delivery.specs.declared.lot.Lot.{Lot}
 use Rattle.edi_words.specs.declared.words.ManyFiles.{ManyFiles}
 use Rattle.edi_answers.specs.Effects.{Effects, Stream}
+use Rattle.edi_answers.specs.declared.form.AnswerForm.TheVariants.{Words}
 use Rattle.edi_answers.specs.Hashes.{IsHashStatus}
 use Rattle.edi_answers.specs.Statuses.{OnlyLacksMemory}
 use Rattle.edi_deliveries.specs.Deliveries.{AreLotFiles, IsLotHashed, siblings_of}
@@ -27,7 +28,7 @@ files_by before names lot paths files are have = record {
 
 pub lot_hashed : (run : Effects) (kinds : KindCodes) (before : List ℕ) (names : List (List ℕ)) (lot : Lot) (paths : LotPaths) (out err : Stream) (s : ℕ)
     → AreLotPaths before names lot paths
-    → ((files : ManyFiles) × HavePaths paths files × IsHashStatus run out err kinds files false (siblings_of files) s) ⊎ (OnlyLacksMemory out err × (s ≡ 5))
+    → ((files : ManyFiles) × HavePaths paths files × IsHashStatus run out err kinds files Words false (siblings_of files) s) ⊎ (OnlyLacksMemory out err × (s ≡ 5))
     → IsLotHashed run kinds before names lot out err s
 lot_hashed run kinds before names lot paths out err s are (inl h) = inl (h.0, files_by before names lot paths h.0 are h.1, h.2)
 lot_hashed run kinds before names lot paths out err s are (inr h) = inr (inr h)

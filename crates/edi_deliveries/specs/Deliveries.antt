@@ -23,6 +23,7 @@ use Rattle.edi_files.specs.declared.listing.Listing as listing
 use Rattle.edi_files.specs.declared.reason.Reason.TheVariants.{NoFile}
 use Rattle.edi_words.specs.Requests.{is_standard_path}
 use Rattle.edi_words.specs.declared.words.ManyFiles.{ManyFiles}
+use Rattle.edi_answers.specs.declared.form.AnswerForm.TheVariants.{Words}
 use Rattle.edi_answers.specs.Effects.{Effects, Inputs, Stream}
 use Rattle.edi_answers.specs.Hashes.{IsHashStatus, TellsFault, escaped_name, named_line}
 pub use Rattle.edi_answers.specs.Replies.{AddsNothing, EachInTurn, ErrorsSay, OneThenOther, Reply, SaysLines}
@@ -204,7 +205,7 @@ module _ (run : Effects) (kinds : KindCodes) where
   abbrev pub IsLotHashed : List ℕ → List (List ℕ) → Lot → Reply
   IsLotHashed before names lot out err s =
       ((files : ManyFiles) × AreLotFiles before names lot files
-      × IsHashStatus run out err kinds files false (siblings_of files) s)
+      × IsHashStatus run out err kinds files Words false (siblings_of files) s)
       ⊎ ((LacksSchema names lot × AddsNothing out err s) ⊎ (OnlyLacksMemory out err × (s ≡ 5)))
 
   -- to a lot: the errors name the files that are missing, and the rest is answered

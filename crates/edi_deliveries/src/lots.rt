@@ -1,5 +1,6 @@
 //! What is replied to the lots of a delivery.
 ghost use Rattle.std.specs.Prelude.{◌≡◌, ◌⊎◌, IfOk, IsTrue, false, map, string_bytes, take};
+ghost use Rattle.edi_answers.specs.declared.form.AnswerForm.TheVariants.{Words};
 ghost use Rattle.edi_answers.specs.Effects.{effects, written};
 ghost use Rattle.edi_answers.specs.Hashes.{IsHashStatus};
 ghost use Rattle.edi_answers.specs.Notes.{Notes};
@@ -11,6 +12,7 @@ ghost use Rattle.edi_deliveries.specs.inner.Paths.{HavePaths};
 use crate::found::FolderNames;
 use crate::lot_files::{LotPaths, lot_paths};
 use crate::said::{missing_lines, say_lines, unnamed_lines};
+use edi_answers::form::AnswerForm;
 use edi_answers::hashes::hash;
 use edi_answers::report;
 use edi_delivery::Lot;
@@ -54,7 +56,7 @@ fn hash_paths<F: Folder, O: ByteOut, E: ByteOut>(
     ensures status { IsSheetStatus result }
     ensures answer { ((files : ManyFiles) × HavePaths paths.now files
         × IsHashStatus (effects F.Folder F.Reader.ByteIn F.Sink.ByteOut F.NewFile.ByteOut folder.now folder.now)
-        (written O.ByteOut out.old out.new) (written E.ByteOut err.old err.new) kinds.now files false
+        (written O.ByteOut out.old out.new) (written E.ByteOut err.old err.new) kinds.now files Words false
         (siblings_of files) result)
         ⊎ (OnlyLacksMemory (written O.ByteOut out.old out.new) (written E.ByteOut err.old err.new) × (result ≡ 5)) }
     ensures out_stays { IsTrue (O.has_failed out.old) → IsTrue (O.has_failed out.new) }
@@ -69,7 +71,17 @@ fn hash_paths<F: Folder, O: ByteOut, E: ByteOut>(
         sheets,
     };
     let siblings = first_of(&files.sheets, MOST_SIBLINGS);
-    hash(alloc, folder, kinds, &files, false, siblings, out, err)
+    hash(
+        alloc,
+        folder,
+        kinds,
+        &files,
+        AnswerForm::Words,
+        false,
+        siblings,
+        out,
+        err,
+    )
 }
 
 // Answers the VEC files of a lot that are there.

@@ -1,1 +1,5 @@
+pub mod InTurn
+pub mod OneLine
+pub mod Pieces
+pub mod SheetValues
 pub mod Values

@@ -1,4 +1,4 @@
--- The values of answers: they are shallow, and their numbers are printed.
+-- The values of answers and digests: they are shallow, and their numbers are printed.
 use Rattle.std.proofs.Common.{◌≡◌, ◌≤◌, ℕ, List, [], ◌∷◌, Option, Some, None, arith, codes, length, refl}
 use Rattle.std.specs.List.{AllByRecursion}
 use Rattle.json.specs.Json.{Json, max_depth, no_members, null}
@@ -17,6 +17,7 @@ use Rattle.edi_outcome.specs.declared.outcome.Outcome.{Outcome}
 use Rattle.edi_outcome.specs.declared.outcome.Outcome.TheVariants.{Accepted, Same, Different, Pairs, Unpaired, WrongPairing, Fault}
 use Rattle.edi_json.specs.Values.{number_value, text_value}
 use Rattle.edi_json.proofs.PlainTexts.{IsPlainToken, all_append, plain_decimal}
+use Rattle.edi_json_answers.specs.Digests.{digest_value, refusal_value}
 use Rattle.edi_json_answers.specs.Answers.{answer_value, broken_value, different_value, failed_value, fault_value, first_word, number_or_null, outcome_value, reasoned_value, refused_value, schema_value, sheet_value, source_word, wrong_pairing_value}
 
 -- a value that can stand in a line: it is shallow, and its numbers are printed
@@ -25,9 +26,9 @@ pub record IsFit (value : Json) : Type 0 where
   pub plain : AllByRecursion IsPlainToken (json_tokens value)
 
 -- a value without parts, whose number is printed
-record IsFlat (value : Json) : Type 0 where
-  flat : depth value ≡ 0
-  plain : AllByRecursion IsPlainToken (json_tokens value)
+pub record IsFlat (value : Json) : Type 0 where
+  pub flat : depth value ≡ 0
+  pub plain : AllByRecursion IsPlainToken (json_tokens value)
 
 number_flat : (n : ℕ) → IsFlat (number_value n)
 number_flat n = record { flat = refl; plain = (plain_decimal n, tt) }
@@ -38,11 +39,11 @@ null_flat = record { flat = refl; plain = (tt, tt) }
 text_flat : (bytes : List ℕ) → IsFlat (text_value bytes)
 text_flat bytes = record { flat = refl; plain = (tt, tt) }
 
-number_or_null_flat : (n : Option ℕ) → IsFlat (number_or_null n)
+pub number_or_null_flat : (n : Option ℕ) → IsFlat (number_or_null n)
 number_or_null_flat None = null_flat
 number_or_null_flat (Some n) = number_flat n
 
-bare_fit : (answer : List ℕ) → IsFit (answer_value answer no_members)
+pub bare_fit : (answer : List ℕ) → IsFit (answer_value answer no_members)
 bare_fit answer = record { shallow = omega arith; plain = (tt, (tt, (plain_decimal 1, (tt, (tt, (tt, (tt, (tt, tt)))))))) }
 
 reasoned_fit : (answer why : List ℕ) → IsFit (reasoned_value answer why)
@@ -71,16 +72,31 @@ broken_fit file rule line place =
 wrong_pairing_fit : (line : ℕ) (why : List ℕ) → IsFit (wrong_pairing_value line why)
 wrong_pairing_fit line why = refused_fit (codes "pairing") _ _ _ _ null_flat (number_flat line) null_flat (text_flat why)
 
-schema_fit : (f : SchemaFault) → IsFit (schema_value f)
+pub schema_fit : (f : SchemaFault) → IsFit (schema_value f)
 schema_fit (schema.Memory e) = reasoned_fit (codes "failed") (codes "out of memory")
 schema_fit (schema.Line file rule at) = broken_fit (source_word file) rule (Some at) None
 schema_fit (schema.Entry file rule at) = broken_fit (source_word file) rule None (Some at)
 schema_fit schema.Kinds = broken_fit (codes "kinds") 604 None None
 
-sheet_fit : (which : List ℕ) (f : SheetFault) → IsFit (sheet_value which f)
+pub sheet_fit : (which : List ℕ) (f : SheetFault) → IsFit (sheet_value which f)
 sheet_fit which (sheet.Memory e) = reasoned_fit (codes "failed") (codes "out of memory")
 sheet_fit which (sheet.Line rule at) = broken_fit which rule (Some at) None
 sheet_fit which (sheet.Entry rule at) = broken_fit which rule None (Some at)
+
+pub digest_fit : (of name digits : List ℕ) → IsFit (digest_value of name digits)
+digest_fit of name digits =
+    record { shallow = omega arith; plain = (tt, (tt, (plain_decimal 1, (tt, (tt, (tt, (tt, (tt, (tt, (tt, (tt, (tt, tt)))))))))))) }
+
+pub refusal_fit : (name : List ℕ) (rule : ℕ) (line place : Option ℕ) → IsFit (refusal_value name rule line place)
+refusal_fit name rule line place =
+    let line_flat = number_or_null_flat line in
+    let place_flat = number_or_null_flat place in
+    let places = all_append IsPlainToken (json_tokens (number_or_null place)) (Token.end_object ∷ []) place_flat.plain (tt, tt) in
+    let lines = all_append IsPlainToken (json_tokens (number_or_null line)) _ line_flat.plain (tt, places) in
+    record {
+      shallow = omega (arith, line_flat.flat, place_flat.flat);
+      plain = (tt, (tt, (plain_decimal 1, (tt, (tt, (tt, (tt, (tt, (plain_decimal rule, (tt, lines))))))))));
+    }
 
 failed_fit : (fault : RunFault) (names : List (List ℕ)) → IsFit (failed_value fault names)
 failed_fit fault names = reasoned_fit (codes "failed") (words_of_fault fault names)

@@ -148,7 +148,11 @@ fn failed_words(alloc: Global, fault: &RunFault, names: &[&[u8]]) -> Result<Vec<
 }
 
 /// Writes which file of a schema is refused, and where it breaks which rule.
-fn write_schema(alloc: Global, writer: &mut Writer, fault: &SchemaFault) -> Result<(), AllocError>
+pub(crate) fn write_schema(
+    alloc: Global,
+    writer: &mut Writer,
+    fault: &SchemaFault,
+) -> Result<(), AllocError>
     ensures before { writer.new.before ≡ writer.old.before }
     ensures tokens { OnOk result (writer.new.tokens ≡ writer.old.tokens ++ json_tokens (schema_value fault.now)) }
 {
@@ -165,7 +169,7 @@ fn write_schema(alloc: Global, writer: &mut Writer, fault: &SchemaFault) -> Resu
 }
 
 /// Writes which sheet is refused, and where it breaks which rule.
-fn write_sheet(
+pub(crate) fn write_sheet(
     alloc: Global,
     writer: &mut Writer,
     which: &str,

@@ -1,4 +1,4 @@
-//! The lines of known outcomes.
+//! The lines of known outcomes, and of known words.
 
 ghost use Rattle.std.specs.Prelude.{◌≡◌, ◌++◌, ◌∷◌, [], alloc_error, codes};
 ghost use Rattle.edi_schema.specs.declared.fault.SchemaFault.TheVariants as schema;
@@ -9,9 +9,11 @@ ghost use Rattle.edi_pairing.specs.declared.fault.WrongLine.TheVariants.{Head};
 ghost use Rattle.edi_pairing.specs.declared.verified.Unpaired.TheVariants.{CharacterSets};
 ghost use Rattle.edi_outcome.specs.Known.{check_names, pair_names, sheet_names};
 ghost use Rattle.edi_outcome.specs.declared.outcome.Outcome.TheVariants as outcome;
-ghost use Rattle.edi_json.specs.Texts.{json_line};
+ghost use Rattle.edi_json.specs.Texts.{json_line, json_text};
 ghost use Rattle.edi_json_answers.specs.Answers.{outcome_value};
-ghost use Rattle.edi_json_answers.specs.Known.{answer_line, refusal_line};
+ghost use Rattle.edi_json_answers.specs.Digests.{refused_sheet_values, schema_digest_value, sheet_digest_value};
+ghost use Rattle.edi_json_answers.specs.Known.{answer_line, digest_start, refusal_line, sheet_refusal_line, words_line};
+ghost use Rattle.edi_json_answers.specs.Told.{told_values};
 
 /// Answers, and the line of each.
 pub fn known_answers_are_lines()
@@ -42,10 +44,35 @@ pub fn known_refusals_are_lines()
         (codes "\"pairing\",\"rule\":null,\"line\":1,\"record\":null,\"why\":\"it is not edicad pairing 1\"") }
 {}
 
+/// Digests and refusals of sheets, and the line of each.
+pub fn known_digests_are_lines()
+    ensures of_schema { json_line (schema_digest_value (codes "schema.scd") (73 ∷ 173 ∷ [])) ≡ digest_start
+        ++ codes "\"schema\",\"name\":\"schema.scd\",\"digest\":\"49ad\"}\n" }
+    ensures of_sheet { json_line (sheet_digest_value (codes "sheet.vec") (73 ∷ 173 ∷ [])) ≡ digest_start
+        ++ codes "\"sheet\",\"name\":\"sheet.vec\",\"digest\":\"49ad\"}\n" }
+    ensures at_line { json_text (refused_sheet_values (codes "bad.vec") (run.First (sheet.Line 101 3)))
+        ≡ sheet_refusal_line (codes "\"rule\":101,\"line\":3,\"record\":null") }
+    ensures at_record { json_text (refused_sheet_values (codes "bad.vec") (run.First (sheet.Entry 403 12)))
+        ≡ sheet_refusal_line (codes "\"rule\":403,\"line\":null,\"record\":12") }
+    ensures unread { json_text (refused_sheet_values (codes "bad.vec") (run.Read 3)) ≡ [] }
+{}
+
 /// Failures, and the line of each.
 pub fn known_failures_are_lines()
     ensures unread { json_line (outcome_value (outcome.Fault (run.Read 2)) sheet_names)
         ≡ answer_line (codes "\"failed\",\"why\":\"cannot read d\"") }
     ensures memory { json_line (outcome_value (outcome.Fault (run.Memory alloc_error)) sheet_names)
         ≡ answer_line (codes "\"failed\",\"why\":\"out of memory\"") }
+{}
+
+/// Words, and the line of JSON of each of their lines: an empty one has a line too, and so has a last one without a
+/// line feed.
+pub fn known_words_are_lines()
+    ensures two { json_text (told_values (codes "nodes: 2\narcs: 2\n"))
+        ≡ words_line (codes "\"nodes: 2\"") ++ words_line (codes "\"arcs: 2\"") }
+    ensures between { json_text (told_values (codes "a\n\nb"))
+        ≡ words_line (codes "\"a\"") ++ words_line (codes "\"\"") ++ words_line (codes "\"b\"") }
+    ensures escaped { json_text (told_values (codes "class \"A\"\n")) ≡ words_line (codes "\"class \\\"A\\\"\"") }
+    ensures byte { json_text (told_values (233 ∷ 10 ∷ [])) ≡ words_line (34 ∷ 195 ∷ 169 ∷ 34 ∷ []) }
+    ensures nothing { json_text (told_values []) ≡ [] }
 {}

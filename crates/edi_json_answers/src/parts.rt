@@ -96,7 +96,11 @@ pub(crate) fn write_wrong_pairing(
 }
 
 /// Appends a name and its value, a number where there is one.
-fn put_number_or_null(writer: &mut Writer, name: &str, value: Option<u64>) -> Result<(), AllocError>
+pub(crate) fn put_number_or_null(
+    writer: &mut Writer,
+    name: &str,
+    value: Option<u64>,
+) -> Result<(), AllocError>
     ensures before { writer.new.before ≡ writer.old.before }
     ensures tokens { OnOk result (writer.new.tokens
         ≡ writer.old.tokens ++ member_tokens name.now (number_or_null value)) }

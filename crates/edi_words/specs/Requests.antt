@@ -45,7 +45,7 @@ brief_rule = record (new_rule (codes "brief")) { long = Some (codes "brief"); ac
 abbrev pub records_rule : Rule
 records_rule = record (new_rule (codes "records")) { long = Some (codes "records"); action = Some SetTrue }
 
--- the flag for what differs as lines of JSON
+-- the flag for lines of JSON
 abbrev pub json_rule : Rule
 json_rule = record (new_rule (codes "json")) { long = Some (codes "json"); action = Some SetTrue }
 
@@ -97,9 +97,9 @@ compare_command =
 
 abbrev pub hash_command : App
 hash_command =
-    with_rule
+    with_rule (with_rule
     (with_rule (with_rule (schema_command (codes "hash")) (optional_files_rule (codes "VEC"))) schema_flag_rule)
-    check_rule
+    check_rule) json_rule
 
 -- a rule's number, or the first file of a schema, or neither
 abbrev pub subject_rule : Rule
@@ -112,8 +112,8 @@ all_rule = record (new_rule (codes "all")) { long = Some (codes "all"); action =
 -- the subcommand that lists the rules, or explains a rule or sheets
 abbrev pub explain_command : App
 explain_command =
-    with_rule (with_rule (with_rule (with_rule (with_rule (new_app (codes "explain")) kinds_rule) subject_rule)
-    (new_rule (codes "DIC"))) (optional_files_rule (codes "VEC"))) all_rule
+    with_rule (with_rule (with_rule (with_rule (with_rule (with_rule (new_app (codes "explain")) kinds_rule)
+    subject_rule) (new_rule (codes "DIC"))) (optional_files_rule (codes "VEC"))) all_rule) json_rule
 
 -- the subcommand over two sheets and a pairing's file
 abbrev pub verify_command : App
@@ -273,9 +273,9 @@ AsksForDigests rows = (with_schema : Bool) × IsFlag (one_of (codes "schema") ro
 
 -- The arguments of a subcommand can't be meant: the codes are no codes, standard input is to be read twice, explain is
 -- given two files of three, or no sheet of which all is to be said, or several and not all is to be said, hash is given
--- no sheet and no list and isn't asked for the digest of the schema, or it is given a list and one of these, the pairing
--- of a comparison or the picture of a difference is to go to standard output, or delivery is to make a manifest and to
--- check one, or is to do one of these for several paths.
+-- no sheet and no list and isn't asked for the digest of the schema, or it is given a list and one of these or asked for
+-- JSON, the pairing of a comparison or the picture of a difference is to go to standard output, or delivery is to make a
+-- manifest and to check one, or is to do one of these for several paths.
 abbrev pub IsMisuse : Text → List Row → Misuse → Type 0
 IsMisuse name rows (BadKinds bad) = HasBadKinds rows × AreBadKinds (first_of (codes "kinds") rows) bad
 IsMisuse name rows TwoStandard = 1 < standard_count rows
@@ -289,7 +289,8 @@ IsMisuse name rows NothingHashed =
     (name ≡ codes "hash") × IsFlag (one_of (codes "schema") rows) false × (is_given (codes "VEC") rows ≡ false)
     × (is_given (codes "check") rows ≡ false)
 IsMisuse name rows ListAndMore =
-    (name ≡ codes "hash") × (is_given (codes "check") rows ≡ true) × AsksForDigests rows
+    (name ≡ codes "hash") × (is_given (codes "check") rows ≡ true)
+    × (IsFlag (one_of (codes "json") rows) true ⊎ AsksForDigests rows)
 IsMisuse name rows StandardPairing = (name ≡ codes "compare") × (is_option_standard (codes "pairing") rows ≡ true)
 IsMisuse name rows StandardPicture = (name ≡ codes "diff") × (is_option_standard (codes "picture") rows ≡ true)
 IsMisuse name rows NotOneManifest = (name ≡ codes "delivery")
@@ -327,14 +328,14 @@ Means met (Canon kinds files out) =
 Means met (Pair kinds files (Compare pairing json)) =
     (rows : List Row) × (met ≡ Some (codes "compare", rows)) × GiveKinds rows kinds × ArePairFiles rows files
     × IsOptionFile (codes "pairing") rows pairing × IsFlag (one_of (codes "json") rows) json
-Means met (Hash kinds files with_schema) =
+Means met (Hash kinds files with_schema json) =
     (rows : List Row) × (met ≡ Some (codes "hash", rows)) × GiveKinds rows kinds × AreManyFiles rows files
     × IsFlag (one_of (codes "schema") rows) with_schema × ((with_schema || is_given (codes "VEC") rows) ≡ true)
-    × (is_given (codes "check") rows ≡ false)
+    × (is_given (codes "check") rows ≡ false) × IsFlag (one_of (codes "json") rows) json
 Means met (CheckList kinds files list) =
     (rows : List Row) × (met ≡ Some (codes "hash", rows)) × GiveKinds rows kinds × AreManyFiles rows files
     × (first_of (codes "check") rows ≡ Some list.now) × IsFlag (one_of (codes "schema") rows) false
-    × (is_given (codes "VEC") rows ≡ false)
+    × (is_given (codes "VEC") rows ≡ false) × IsFlag (one_of (codes "json") rows) false
 Means met (Delivery kinds paths) = (rows : List Row) × (met ≡ Some (codes "delivery", rows)) × GiveKinds rows kinds
     × (map (λ p. p.now) paths.items ≡ values_at (codes "PATH") rows)
     × (is_given (codes "manifest") rows ≡ false) × (is_given (codes "check") rows ≡ false)
@@ -345,20 +346,21 @@ Means met (CheckManifest kinds path manifest) =
     (rows : List Row) × (met ≡ Some (codes "delivery", rows)) × GiveKinds rows kinds
     × (values_at (codes "PATH") rows ≡ path.now ∷ []) × (first_of (codes "check") rows ≡ Some manifest.now)
     × (is_given (codes "manifest") rows ≡ false)
-Means met (Explain kinds files) =
+Means met (Explain kinds files json) =
     (rows : List Row) × (met ≡ Some (codes "explain", rows)) × GiveKinds rows kinds × AreSheetFiles rows files
     × (is_given (codes "DIC") rows ≡ true) × (length (values_at (codes "VEC") rows) ≡ 1)
-    × IsFlag (one_of (codes "all") rows) false
-Means met (ExplainAll kinds files) =
+    × IsFlag (one_of (codes "all") rows) false × IsFlag (one_of (codes "json") rows) json
+Means met (ExplainAll kinds files json) =
     (rows : List Row) × (met ≡ Some (codes "explain", rows)) × GiveKinds rows kinds × AreManyFiles rows files
     × (is_given (codes "DIC") rows ≡ true) × (is_given (codes "VEC") rows ≡ true)
-    × IsFlag (one_of (codes "all") rows) true
-Means met (asks.Rule word) =
+    × IsFlag (one_of (codes "all") rows) true × IsFlag (one_of (codes "json") rows) json
+Means met (asks.Rule word json) =
     (rows : List Row) × (met ≡ Some (codes "explain", rows)) × (word.now ≡ value_at (codes "SCD") rows)
     × (is_given (codes "SCD") rows ≡ true) × (is_given (codes "DIC") rows ≡ false)
-    × IsFlag (one_of (codes "all") rows) false
-Means met Rules = (rows : List Row) × (met ≡ Some (codes "explain", rows)) × (is_given (codes "SCD") rows ≡ false)
-    × IsFlag (one_of (codes "all") rows) false
+    × IsFlag (one_of (codes "all") rows) false × IsFlag (one_of (codes "json") rows) json
+Means met (Rules json) =
+    (rows : List Row) × (met ≡ Some (codes "explain", rows)) × (is_given (codes "SCD") rows ≡ false)
+    × IsFlag (one_of (codes "all") rows) false × IsFlag (one_of (codes "json") rows) json
 Means met (Pair kinds files (Verify pairing json)) =
     (rows : List Row) × (met ≡ Some (codes "verify", rows)) × GiveKinds rows kinds × ArePairFiles rows files
     × (pairing.now ≡ value_at (codes "FILE") rows) × IsFlag (one_of (codes "json") rows) json

@@ -139,7 +139,9 @@ fn hash<'a>(alloc: Global) -> Result<Command<'a>, AllocError>
         "LIST",
         "Says which digests of a list are still the same",
     );
-    with_argument(with_schema, check)
+    let with_check = with_argument(with_schema, check);
+    let json = json_flag(alloc, "Gives the digests and refusals as lines of JSON");
+    with_argument(with_check, json)
 }
 
 // The subcommand that gives the digests of the sheets of deliveries.
@@ -186,7 +188,9 @@ fn explain<'a>(alloc: Global) -> Result<Command<'a>, AllocError>
     let with_subject = with_argument(with_kinds, subject(alloc));
     let with_dic = with_argument(with_subject, optional_file(alloc, "DIC", DICTIONARY));
     let with_sheets = with_argument(with_dic, sheets_argument(alloc));
-    with_argument(with_sheets, all_flag(alloc))
+    let with_all = with_argument(with_sheets, all_flag(alloc));
+    let json = json_flag(alloc, "Says the answer and the rest as lines of JSON");
+    with_argument(with_all, json)
 }
 
 // The subcommand that checks a pairing's file.

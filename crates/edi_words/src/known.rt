@@ -76,6 +76,10 @@ pub fn known_words_are_asked()
     ensures check_as_json { json_of (codes "edicad check --json s d v") ≡ Some (Some (codes "true")) }
     ensures check_as_words { json_of (codes "edicad check s d v") ≡ Some (Some (codes "false")) }
     ensures compare_as_json { json_of (codes "edicad compare s d a b --json") ≡ Some (Some (codes "true")) }
+    ensures hash_as_json { json_of (codes "edicad hash --json s d a") ≡ Some (Some (codes "true")) }
+    ensures hash_as_words { json_of (codes "edicad hash --schema s d") ≡ Some (Some (codes "false")) }
+    ensures explain_as_json { json_of (codes "edicad explain s d a --json") ≡ Some (Some (codes "true")) }
+    ensures explain_as_words { json_of (codes "edicad explain 403") ≡ Some (Some (codes "false")) }
     ensures verify_as_json { json_of (codes "edicad verify --json s d a b f") ≡ Some (Some (codes "true")) }
     ensures named_by { named_by_of (codes "edicad diff --name-by X,Y s d a b") ≡ Some (Some (codes "X,Y")) }
     ensures as_text { json_of (codes "edicad diff --records s d a b") ≡ Some (Some (codes "false")) }

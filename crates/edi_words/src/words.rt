@@ -72,6 +72,7 @@ pub enum Request<'a> {
         kinds: GivenKinds<'a>,
         files: ManyFiles<'a>,
         with_schema: bool,
+        json: bool,
     },
     /// Which digests of a list are those that are found now. No sheet is named.
     CheckList {
@@ -88,11 +89,13 @@ pub enum Request<'a> {
     Explain {
         kinds: GivenKinds<'a>,
         files: SheetFiles<'a>,
+        json: bool,
     },
     /// All that the first broken phase of each sheet breaks.
     ExplainAll {
         kinds: GivenKinds<'a>,
         files: ManyFiles<'a>,
+        json: bool,
     },
     /// The manifest of a delivery, and where it goes.
     Manifest {
@@ -109,9 +112,12 @@ pub enum Request<'a> {
     /// What the rule of this number means.
     Rule {
         word: &'a str,
+        json: bool,
     },
     /// Which rules there are.
-    Rules,
+    Rules {
+        json: bool,
+    },
     /// The picture of a sheet.
     Draw {
         kinds: GivenKinds<'a>,
@@ -166,7 +172,7 @@ pub enum Misuse<'a> {
     SeveralSheets,
     /// No sheet and no list is named, nor is the digest of the schema asked for.
     NothingHashed,
-    /// A list is named, and beside it a sheet, or the digest of the schema is asked for.
+    /// A list is named, and beside it a sheet, or the digest of the schema or JSON is asked for.
     ListAndMore,
     /// A pairing is to go to standard output, which gets the answer.
     StandardPairing,
@@ -338,6 +344,7 @@ fn unlisted<'a, R: Eprint + AllocGlobal>(
             kinds,
             files,
             with_schema,
+            json: flag(given, "json"),
         },
         Err(_) => Request::Answered(out_of_memory(rt)),
     }
@@ -354,6 +361,9 @@ fn listed<'a, R: Eprint + AllocGlobal>(
         → GiveKinds (rows_of (found_of given.now)) kinds.entry
         → Means (Some (codes "hash", rows_of (found_of given.now))) result }
 {
+    if flag(given, "json") {
+        return Request::Misused(Misuse::ListAndMore);
+    }
     if asks_for_digests(given, flag(given, "schema")) {
         return Request::Misused(Misuse::ListAndMore);
     }
@@ -465,12 +475,14 @@ fn explained<'a, R: Eprint + AllocGlobal>(
     if flag(given, "all") {
         return all_explained(rt, given, kinds);
     }
+    let json = flag(given, "json");
     if !is_given(given, "SCD") {
-        return Request::Rules;
+        return Request::Rules { json };
     }
     match (is_given(given, "DIC"), is_given(given, "VEC")) {
         (false, _) => Request::Rule {
             word: path(given, "SCD"),
+            json,
         },
         (true, false) => Request::Misused(Misuse::NoSheet),
         (true, true) => sheet_explained(given, kinds),
@@ -489,6 +501,7 @@ fn sheet_explained<'a>(given: &ArgMatches<'a>, kinds: GivenKinds<'a>) -> Request
         Some(_) => Request::Explain {
             kinds,
             files: sheet_files(given),
+            json: flag(given, "json"),
         },
         None => Request::Misused(Misuse::SeveralSheets),
     }
@@ -508,7 +521,11 @@ fn all_explained<'a, R: Eprint + AllocGlobal>(
         return Request::Misused(Misuse::NoSheet);
     }
     match many_files(rt.alloc(), given) {
-        Ok(files) => Request::ExplainAll { kinds, files },
+        Ok(files) => Request::ExplainAll {
+            kinds,
+            files,
+            json: flag(given, "json"),
+        },
         Err(_) => Request::Answered(out_of_memory(rt)),
     }
 }

@@ -61,8 +61,8 @@ IsReplied run listings out err (Check kinds files json) s =
     run.untouched × IsFileStatus run out err kinds files (answer_form_asked json) s
 IsReplied run listings out err (Canon kinds files path) s = IsMadeStatus run out err Canonical kinds files path.now s
 IsReplied run listings out err (Pair kinds files what) s = IsPairReplied run out err kinds files what s
-IsReplied run listings out err (Hash kinds files with_schema) s =
-    run.untouched × IsHashStatus run out err kinds files with_schema [] s
+IsReplied run listings out err (Hash kinds files with_schema json) s =
+    run.untouched × IsHashStatus run out err kinds files (answer_form_asked json) with_schema [] s
 IsReplied run listings out err (CheckList kinds files list) s =
     run.untouched × IsHeldStatus run out err kinds files list.now s
 IsReplied run listings out err (Delivery kinds paths) s =
@@ -71,10 +71,14 @@ IsReplied run listings out err (Manifest kinds path file) s =
     IsManifestStatus run listings kinds path.now file.now out err s
 IsReplied run listings out err (CheckManifest kinds path manifest) s = run.untouched
     × IsCheckStatus run listings kinds manifest.now path.now out err s
-IsReplied run listings out err (Explain kinds files) s = run.untouched × IsExplainStatus run out err kinds files s
-IsReplied run listings out err (ExplainAll kinds files) s = run.untouched × IsCensusStatus run out err kinds files s
-IsReplied run listings out err (Rule word) s = run.untouched × IsRuleStatus out err word.now s
-IsReplied run listings out err Rules s = run.untouched × IsRuleListStatus out err s
+IsReplied run listings out err (Explain kinds files json) s =
+    run.untouched × IsExplainStatus run out err kinds files (answer_form_asked json) s
+IsReplied run listings out err (ExplainAll kinds files json) s =
+    run.untouched × IsCensusStatus run out err kinds files (answer_form_asked json) s
+IsReplied run listings out err (Rule word json) s =
+    run.untouched × IsRuleStatus out err (answer_form_asked json) word.now s
+IsReplied run listings out err (Rules json) s =
+    run.untouched × IsRuleListStatus out err (answer_form_asked json) s
 IsReplied run listings out err (Draw kinds files path) s = IsMadeStatus run out err Picture kinds files path.now s
 IsReplied run listings out err (Changed before after) s =
     run.untouched × IsChangedStatus run out err before.now after.now s

@@ -158,7 +158,21 @@ fn replied<F: Folder + Listing, O: ByteOut, E: ByteOut + Progress>(
             kinds,
             files,
             with_schema,
-        } => hash(alloc, folder, &kinds, &files, with_schema, &[], out, err),
+            json,
+        } => {
+            let form = answer_form_asked(json);
+            hash(
+                alloc,
+                folder,
+                &kinds,
+                &files,
+                form,
+                with_schema,
+                &[],
+                out,
+                err,
+            )
+        }
         Request::CheckList { kinds, files, list } => {
             check_list(alloc, folder, &kinds, &files, list, out, err)
         }
@@ -172,12 +186,19 @@ fn replied<F: Folder + Listing, O: ByteOut, E: ByteOut + Progress>(
             manifest,
         } => check_manifest(alloc, folder, &kinds, manifest, path, out, err),
         Request::Changed { before, after } => changed(alloc, folder, before, after, out, err),
-        Request::Explain { kinds, files } => explain(alloc, folder, &kinds, &files, out, err),
-        Request::ExplainAll { kinds, files } => {
-            explain_all(alloc, folder, &kinds, &files, out, err)
+        Request::Explain { kinds, files, json } => {
+            let form = answer_form_asked(json);
+            explain(alloc, folder, &kinds, &files, form, out, err)
         }
-        Request::Rule { word } => explain_rule(alloc, word, out, err),
-        Request::Rules => explain_rules(alloc, out, err),
+        Request::ExplainAll { kinds, files, json } => {
+            let form = answer_form_asked(json);
+            explain_all(alloc, folder, &kinds, &files, form, out, err)
+        }
+        Request::Rule { word, json } => {
+            let form = answer_form_asked(json);
+            explain_rule(alloc, word, form, out, err)
+        }
+        Request::Rules { json } => explain_rules(alloc, answer_form_asked(json), out, err),
         Request::Draw {
             kinds,
             files,

@@ -15,8 +15,8 @@ loop-path-init g c =
     let why = g.F.Folder.why c.args.folder.now in
     let out = written g.O.ByteOut c.args.out.now c.args.out.now in
     let err = written g.E.ByteOut c.args.err.now c.args.err.now in (
-      subst (AddShares inputs why c.args.schema.now [] out err 0) (sym c.requires)
-          (no_shares inputs why c.args.schema.now o (g.O.ByteOut.has_failed c.args.out.now) e (g.E.ByteOut.has_failed c.args.err.now)),
+      subst (AddShares inputs why c.args.schema.now c.args.form [] out err 0) (sym c.requires)
+          (no_shares inputs why c.args.schema.now c.args.form o (g.O.ByteOut.has_failed c.args.out.now) e (g.E.ByteOut.has_failed c.args.err.now)),
       inl refl,
       λ t. t,
     )
@@ -27,7 +27,7 @@ loop-path-preserved g c =
     let status = c.in-Ok.status in
     let ok = c.in-Ok.ensures.ok in
     let worst : c.max-worst.result ≡ max c.loop-path.worst status = c.max-worst.ensures ∙ ord_max_is c.loop-path.worst status in (
-      shares_next inputs (g.F.Folder.why c.args.folder.now) c.args.schema.now (g.O.ByteOut.contents c.args.out.now) (g.O.ByteOut.contents c.loop-path.out) (g.O.ByteOut.contents c.answer_one.new.out)
+      shares_next inputs (g.F.Folder.why c.args.folder.now) c.args.schema.now c.args.form (g.O.ByteOut.contents c.args.out.now) (g.O.ByteOut.contents c.loop-path.out) (g.O.ByteOut.contents c.answer_one.new.out)
           (g.O.ByteOut.has_failed c.loop-path.out) (g.O.ByteOut.has_failed c.answer_one.new.out)
           (g.E.ByteOut.contents c.args.err.now) (g.E.ByteOut.contents c.loop-path.err) (g.E.ByteOut.contents c.answer_one.new.err)
           (g.E.ByteOut.has_failed c.loop-path.err) (g.E.ByteOut.has_failed c.answer_one.new.err)
@@ -42,7 +42,7 @@ pub returns-in-Err-clause-err : goal.returns-in-Err-clause-err
 returns-in-Err-clause-err g c =
     let inputs = inputs g.F.Folder g.F.Reader.ByteIn c.args.folder.now in
     let err = c.in-Err.ensures.err in
-    stops_more inputs (g.F.Folder.why c.args.folder.now) c.args.schema.now (g.O.ByteOut.contents c.args.out.now) (g.O.ByteOut.contents c.loop-path.out) (g.O.ByteOut.contents c.answer_one.new.out)
+    stops_more inputs (g.F.Folder.why c.args.folder.now) c.args.schema.now c.args.form (g.O.ByteOut.contents c.args.out.now) (g.O.ByteOut.contents c.loop-path.out) (g.O.ByteOut.contents c.answer_one.new.out)
     (g.O.ByteOut.has_failed c.loop-path.out) (g.O.ByteOut.has_failed c.answer_one.new.out)
     (g.E.ByteOut.contents c.args.err.now) (g.E.ByteOut.contents c.loop-path.err) (g.E.ByteOut.contents c.answer_one.new.err)
     (g.E.ByteOut.has_failed c.loop-path.err) (g.E.ByteOut.has_failed c.answer_one.new.err)

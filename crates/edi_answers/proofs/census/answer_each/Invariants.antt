@@ -7,7 +7,7 @@ use Rattle.edi_answers.proofs.census.answer_each.Given as goal
 
 abbrev pub invariant-loop-path : goal.invariant-loop-path
 invariant-loop-path g l =
-    AddShares (inputs g.F.Folder g.F.Reader.ByteIn l.folder) (g.F.Folder.why l.folder) l.schema
+    AddShares (inputs g.F.Folder g.F.Reader.ByteIn l.folder) (g.F.Folder.why l.folder) l.schema l.form
     (paths_of (take l.path-index l.sheets)) (written g.O.ByteOut l.initial.out l.out)
     (written g.E.ByteOut l.initial.err l.err) l.worst l.rules.items
     × IsSheetStatus l.worst

@@ -20,8 +20,8 @@ returns-in-Ok-put_all-clause-ok g c =
     let status : status_of_all told.broken.items ≡ c.status_of.result = sym (c.status_of.ensures ∙ ap status_of_all c.deref-in-Ok-put_all.ensures.value) in (
       own,
       c.in-Ok.ensures.ok.1,
-      subst (λ s. AddsShare inputs why c.args.schema.now c.args.path.now out err s own) status
-          (told_share inputs why c.args.schema.now c.args.path.now out err told.broken.items told.text.items c.in-Ok.ensures.ok.0 text (inl (appends_nothing (g.E.ByteOut.contents c.args.err.now)))),
+      subst (λ s. AddsShare inputs why c.args.schema.now c.args.form c.args.path.now out err s own) status
+          (told_share inputs why c.args.schema.now c.args.form c.args.path.now out err told.broken.items told.text.items c.in-Ok.ensures.ok.0 text (inl (appends_nothing (g.E.ByteOut.contents c.args.err.now)))),
     )
 
 pub returns-clause-ok : goal.returns-clause-ok
@@ -31,6 +31,6 @@ returns-clause-ok g c =
     let err = written g.E.ByteOut c.args.err.now c.tell_fault.new.err in (
       [],
       c.in-Err.ensures.err.1 ∙ sym (append-nil c.args.rules.now.items),
-      fault_share inputs (g.F.Folder.why c.args.folder.now) c.args.schema.now c.args.path.now out err c.in-Err.fault c.tell_fault.result c.in-Err.ensures.err.0
+      fault_share inputs (g.F.Folder.why c.args.folder.now) c.args.schema.now c.args.form c.args.path.now out err c.in-Err.fault c.tell_fault.result c.in-Err.ensures.err.0
           c.tell_fault.ensures.contents (appends_nothing (g.O.ByteOut.contents c.args.out.now)),
     )

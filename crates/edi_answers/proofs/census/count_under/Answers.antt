@@ -1,6 +1,6 @@
-use Rattle.std.proofs.Common.{◌∙◌, inl, refl, ap, subst, take}
+use Rattle.std.proofs.Common.{inl, refl, subst, take}
 use Rattle.std.specs.Io.KnownBytes.{Appends}
-use Rattle.edi_answers.specs.Census.{rule_counts}
+use Rattle.edi_answers.specs.Census.{IsCountedIn}
 use Rattle.edi_answers.specs.Effects.{inputs}
 use Rattle.edi_answers.proofs.Answering.{appends_nothing, paths_of}
 use Rattle.edi_answers.proofs.Shares.{all_counted, counts_cut, not_counted, sheet_cut}
@@ -11,7 +11,7 @@ returns-in_default-clause-answer g c =
     let inputs = inputs g.F.Folder g.F.Reader.ByteIn c.args.folder.now in
     let out = g.O.ByteOut.contents c.answer_each.new.out in
     let failed = g.O.ByteOut.has_failed c.answer_each.new.out in
-    sheet_cut inputs (g.F.Folder.why c.args.folder.now) c.args.schema.now (g.O.ByteOut.contents c.args.out.now) out out failed failed
+    sheet_cut inputs (g.F.Folder.why c.args.folder.now) c.args.schema.now c.args.form (g.O.ByteOut.contents c.args.out.now) out out failed failed
     (g.E.ByteOut.contents c.args.err.now) (g.E.ByteOut.contents c.answer_each.new.err) (g.E.ByteOut.contents c.unwritten.new.err)
     (g.E.ByteOut.has_failed c.answer_each.new.err) (g.E.ByteOut.has_failed c.unwritten.new.err)
     (paths_of c.args.sheets.now) c.unwritten.result c.in_default.ensures.err refl refl c.unwritten.ensures.text c.unwritten.ensures.stays c.unwritten.ensures.status
@@ -21,7 +21,7 @@ returns-in_default-text_of_counts-clause-answer g c =
     let inputs = inputs g.F.Folder g.F.Reader.ByteIn c.args.folder.now in
     let out = g.O.ByteOut.contents c.answer_each.new.out in
     let failed = g.O.ByteOut.has_failed c.answer_each.new.out in
-    not_counted inputs (g.F.Folder.why c.args.folder.now) c.args.schema.now (g.O.ByteOut.contents c.args.out.now) out out failed failed
+    not_counted inputs (g.F.Folder.why c.args.folder.now) c.args.schema.now c.args.form (g.O.ByteOut.contents c.args.out.now) out out failed failed
     (g.E.ByteOut.contents c.args.err.now) (g.E.ByteOut.contents c.answer_each.new.err) (g.E.ByteOut.contents c.out_of_memory.new.err)
     (g.E.ByteOut.has_failed c.answer_each.new.err) (g.E.ByteOut.has_failed c.out_of_memory.new.err)
     (paths_of c.args.sheets.now) c.in-Ok.worst c.out_of_memory.result c.answer_each.new.rules.items c.in-Ok.ensures.ok (appends_nothing out)
@@ -33,12 +33,12 @@ returns-in-Ok-put_all-clause-answer g c =
     let out = g.O.ByteOut.contents c.answer_each.new.out in
     let after = g.O.ByteOut.contents c.put_all.new.writer in
     let err = g.E.ByteOut.contents c.answer_each.new.err in
-    let text = c.deref-2.ensures.value ∙ (c.in-Ok-text_of_counts.ensures ∙ ap rule_counts c.deref.ensures.value) in
-    all_counted inputs (g.F.Folder.why c.args.folder.now) c.args.schema.now (g.O.ByteOut.contents c.args.out.now) out after
+    let counts = subst (λ rules. IsCountedIn c.args.form rules c.in-Ok-text_of_counts.counts.items) c.deref.ensures.value c.in-Ok-text_of_counts.ensures in
+    all_counted inputs (g.F.Folder.why c.args.folder.now) c.args.schema.now c.args.form (g.O.ByteOut.contents c.args.out.now) out after
     (g.O.ByteOut.has_failed c.answer_each.new.out) (g.O.ByteOut.has_failed c.put_all.new.writer)
     (g.E.ByteOut.contents c.args.err.now) err err (g.E.ByteOut.has_failed c.answer_each.new.err) (g.E.ByteOut.has_failed c.answer_each.new.err)
-    (paths_of c.args.sheets.now) c.in-Ok.worst c.in-Ok.worst c.answer_each.new.rules.items c.in-Ok.ensures.ok
-    (subst (Appends out after) text c.in-Ok-put_all.ensures.ok) (inl (appends_nothing err)) (λ t. t) refl
+    (paths_of c.args.sheets.now) c.in-Ok.worst c.in-Ok.worst c.answer_each.new.rules.items c.in-Ok-text_of_counts.counts.items c.in-Ok.ensures.ok
+    counts (subst (Appends out after) c.deref-2.ensures.value c.in-Ok-put_all.ensures.ok) (inl (appends_nothing err)) (λ t. t) refl
 
 pub returns-clause-answer : goal.returns-clause-answer
 returns-clause-answer g c =
@@ -46,11 +46,11 @@ returns-clause-answer g c =
     let out = g.O.ByteOut.contents c.answer_each.new.out in
     let after = g.O.ByteOut.contents c.put_all.new.writer in
     let count = c.in-Err.field-0.count in
-    let text = c.deref-2.ensures.value ∙ (c.in-Ok-text_of_counts.ensures ∙ ap rule_counts c.deref.ensures.value) in
-    counts_cut inputs (g.F.Folder.why c.args.folder.now) c.args.schema.now (g.O.ByteOut.contents c.args.out.now) out after
+    let counts = subst (λ rules. IsCountedIn c.args.form rules c.in-Ok-text_of_counts.counts.items) c.deref.ensures.value c.in-Ok-text_of_counts.ensures in
+    counts_cut inputs (g.F.Folder.why c.args.folder.now) c.args.schema.now c.args.form (g.O.ByteOut.contents c.args.out.now) out after
     (g.O.ByteOut.has_failed c.answer_each.new.out) (g.O.ByteOut.has_failed c.put_all.new.writer)
     (g.E.ByteOut.contents c.args.err.now) (g.E.ByteOut.contents c.answer_each.new.err) (g.E.ByteOut.contents c.unwritten-in-Err.new.err)
     (g.E.ByteOut.has_failed c.answer_each.new.err) (g.E.ByteOut.has_failed c.unwritten-in-Err.new.err)
-    (paths_of c.args.sheets.now) c.in-Ok.worst c.unwritten-in-Err.result count c.answer_each.new.rules.items c.in-Ok.ensures.ok
-    (subst (λ l. Appends out after (take count l)) text c.in-Err.ensures.err.1) c.in-Err.ensures.failed
+    (paths_of c.args.sheets.now) c.in-Ok.worst c.unwritten-in-Err.result count c.answer_each.new.rules.items c.in-Ok-text_of_counts.counts.items c.in-Ok.ensures.ok
+    counts (subst (λ l. Appends out after (take count l)) c.deref-2.ensures.value c.in-Err.ensures.err.1) c.in-Err.ensures.failed
     c.unwritten-in-Err.ensures.text c.unwritten-in-Err.ensures.stays c.unwritten-in-Err.ensures.status

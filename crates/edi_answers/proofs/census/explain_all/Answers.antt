@@ -21,7 +21,7 @@ returns-in-Ok-clause-answer g c =
         g.E.ByteOut.has_failed c.say.new.err,
         c.count_under.ensures.stays,
         subst (Notes first) c.deref.ensures.value c.say.ensures.text,
-        subst (λ (sheets : List (Bor (List ℕ))). AnswersCensus run.inputs run.why c.in-Ok.loaded.schema out rest (map (λ (p : Bor (List ℕ)). p.now) sheets) c.count_under.result)
+        subst (λ (sheets : List (Bor (List ℕ))). AnswersCensus run.inputs run.why c.in-Ok.loaded.schema c.args.form out rest (map (λ (p : Bor (List ℕ)). p.now) sheets) c.count_under.result)
             c.deref-in-Ok.ensures.value c.count_under.ensures.answer,
       ),
     )

@@ -12,7 +12,7 @@ loop-path-init g c =
     let o = g.O.ByteOut.contents c.args.out.now in
     let e = g.E.ByteOut.contents c.args.err.now in
     let inputs = inputs g.F.Folder g.F.Reader.ByteIn c.args.folder.now in
-    (none_answered inputs (g.F.Folder.why c.args.folder.now) c.args.schema.now (paths_of c.args.siblings.now) o (g.O.ByteOut.has_failed c.args.out.now) e (g.E.ByteOut.has_failed c.args.err.now), inl refl, λ t. t, λ t. t)
+    (none_answered inputs (g.F.Folder.why c.args.folder.now) c.args.schema.now (paths_of c.args.siblings.now) c.args.form o (g.O.ByteOut.has_failed c.args.out.now) e (g.E.ByteOut.has_failed c.args.err.now), inl refl, λ t. t, λ t. t)
 
 pub loop-path-preserved : goal.loop-path-preserved
 loop-path-preserved g c =
@@ -22,14 +22,14 @@ loop-path-preserved g c =
     let siblings = paths_of c.args.siblings.now in
     let out = written g.O.ByteOut c.args.out.now c.answer.new.out in
     let err = written g.E.ByteOut c.args.err.now c.answer.new.err in
-    let more = answered_more inputs why s siblings (g.O.ByteOut.contents c.args.out.now) (g.O.ByteOut.contents c.loop-path.out) (g.O.ByteOut.contents c.answer.new.out)
+    let more = answered_more inputs why s siblings c.args.form (g.O.ByteOut.contents c.args.out.now) (g.O.ByteOut.contents c.loop-path.out) (g.O.ByteOut.contents c.answer.new.out)
     (g.O.ByteOut.has_failed c.loop-path.out) (g.O.ByteOut.has_failed c.answer.new.out)
     (g.E.ByteOut.contents c.args.err.now) (g.E.ByteOut.contents c.loop-path.err) (g.E.ByteOut.contents c.answer.new.err)
     (g.E.ByteOut.has_failed c.loop-path.err) (g.E.ByteOut.has_failed c.answer.new.err)
     _ _ c.loop-path.worst c.in-Ok.status c.loop-path.invariant.0 c.in-Ok.ensures.ok c.in-Ok.ensures.stays in
     let worst : c.max-worst.result ≡ max c.loop-path.worst c.in-Ok.status = c.max-worst.ensures ∙ ord_max_is c.loop-path.worst c.in-Ok.status in (
-      subst (λ paths. AreAnswered inputs why s siblings out err paths c.max-worst.result) (sym (one_more_path c.args.sheets.now c.loop-path.path-index _ c.loop-path-test.true))
-          (subst (AreAnswered inputs why s siblings out err _) (sym worst) more),
+      subst (λ paths. AreAnswered inputs why s siblings c.args.form out err paths c.max-worst.result) (sym (one_more_path c.args.sheets.now c.loop-path.path-index _ c.loop-path-test.true))
+          (subst (AreAnswered inputs why s siblings c.args.form out err _) (sym worst) more),
       subst IsSheetStatus (sym worst) (max_status c.loop-path.worst c.in-Ok.status c.loop-path.invariant.1 c.in-Ok.ensures.status),
       λ t. c.in-Ok.ensures.stays (c.loop-path.invariant.2 t),
       λ t. c.in-Ok.ensures.out_stays (c.loop-path.invariant.3 t),
@@ -38,7 +38,7 @@ loop-path-preserved g c =
 pub returns-in-Err-clause-answer : goal.returns-in-Err-clause-answer
 returns-in-Err-clause-answer g c =
     let inputs = inputs g.F.Folder g.F.Reader.ByteIn c.args.folder.now in
-    inr (cut_off inputs (g.F.Folder.why c.args.folder.now) c.args.schema.now (paths_of c.args.siblings.now) (g.O.ByteOut.contents c.args.out.now) (g.O.ByteOut.contents c.loop-path.out) (g.O.ByteOut.contents c.answer.new.out)
+    inr (cut_off inputs (g.F.Folder.why c.args.folder.now) c.args.schema.now (paths_of c.args.siblings.now) c.args.form (g.O.ByteOut.contents c.args.out.now) (g.O.ByteOut.contents c.loop-path.out) (g.O.ByteOut.contents c.answer.new.out)
     (g.O.ByteOut.has_failed c.loop-path.out) (g.O.ByteOut.has_failed c.answer.new.out)
     (g.E.ByteOut.contents c.args.err.now) (g.E.ByteOut.contents c.loop-path.err) (g.E.ByteOut.contents c.unwritten.new.err)
     (g.E.ByteOut.has_failed c.loop-path.err) (g.E.ByteOut.has_failed c.unwritten.new.err)
@@ -54,7 +54,7 @@ returns-clause-answer g c =
     let inputs = inputs g.F.Folder g.F.Reader.ByteIn c.args.folder.now in
     let out = written g.O.ByteOut c.args.out.now c.loop-path.out in
     let err = written g.E.ByteOut c.args.err.now c.loop-path.err in
-    inl (subst (λ paths. AreAnswered inputs (g.F.Folder.why c.args.folder.now) c.args.schema.now (paths_of c.args.siblings.now) out err paths c.loop-path.worst) (all_paths c.args.sheets.now c.loop-path.path-index (omega arith)) c.loop-path.invariant.0)
+    inl (subst (λ paths. AreAnswered inputs (g.F.Folder.why c.args.folder.now) c.args.schema.now (paths_of c.args.siblings.now) c.args.form out err paths c.loop-path.worst) (all_paths c.args.sheets.now c.loop-path.path-index (omega arith)) c.loop-path.invariant.0)
 
 pub returns-in-Err-clause-stays : goal.returns-in-Err-clause-stays
 returns-in-Err-clause-stays g c = λ t. c.unwritten.ensures.stays (c.in-Err.ensures.stays (c.loop-path.invariant.2 t))

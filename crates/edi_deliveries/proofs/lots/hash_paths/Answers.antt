@@ -1,5 +1,6 @@
 use Rattle.std.proofs.Common.{◌≡◌, ◌∙◌, ℕ, List, Bor, false, inl, ap, map, string_bytes, subst, take}
 use Rattle.edi_answers.specs.Effects.{effects, written}
+use Rattle.edi_answers.specs.declared.form.AnswerForm.TheVariants.{Words}
 use Rattle.edi_answers.specs.Hashes.{IsHashStatus}
 use Rattle.edi_words.specs.declared.words.ManyFiles.{ManyFiles}
 use Rattle.edi_deliveries.specs.Deliveries.{most_siblings, siblings_of}
@@ -16,5 +17,5 @@ returns-clause-answer g c =
     inl (
       files,
       record { scd = c.as_str.ensures.value; dic = c.as_str-2.ensures.value; sheets = c.in-Ok.ensures ∙ ap (map string_bytes) c.deref.ensures.value },
-      subst (λ (kin : List (List ℕ)). IsHashStatus run out err c.args.kinds.now files false kin c.hash.result) siblings c.hash.ensures.answer,
+      subst (λ (kin : List (List ℕ)). IsHashStatus run out err c.args.kinds.now files Words false kin c.hash.result) siblings c.hash.ensures.answer,
     )

@@ -9,7 +9,7 @@ use Rattle.edi_explain.specs.ClassCounts.{DescribesSheet}
 use Rattle.edi_explain.specs.Explained.{ExplainsSchema, ExplainsSheet}
 use Rattle.edi_explain.specs.KindClasses.{codes_of}
 use Rattle.edi_answers.proofs.Explaining.{accepted_said, schema_said, sheet_said}
-use Rattle.edi_answers.proofs.explains.said_of.Goals as goal
+use Rattle.edi_answers.proofs.explains.parts_of.Goals as goal
 
 pub returns-in-Ok-examine : goal.returns-in-Ok-examine
 returns-in-Ok-examine c =
@@ -22,10 +22,10 @@ returns-in-Ok-examine c =
     let p = c.in-Ok-examine.sound in
     let accepted = subst (λ (b : List ℕ). IsAccepted s b) c.deref-in-Ok.ensures.value c.in-Ok-examine.ensures.accepted in
     let plan = subst (λ (b : List ℕ). IsPlanOfFile s b p) c.deref-in-Ok.ensures.value c.in-Ok-examine.ensures.plan in
-    IfOk-weaker c.said_of_accepted.result _ _
-    (λ said h. accepted_said kinds c.args.files.now bytes.scd.items bytes.dic.items bytes.vec.items said.is_accepted said.text.items s good p accepted plan
-    (h.0, (h.1.0, subst (λ q. DescribesSheet s q h.1.0) c.plan.ensures.plan h.1.1, h.1.2)))
-    c.said_of_accepted.ensures
+    IfOk-weaker c.parts_of_accepted.result _ _
+    (λ parts h. accepted_said c.args.form kinds c.args.files.now bytes.scd.items bytes.dic.items bytes.vec.items parts.is_accepted parts.answer.items parts.words.items s good p accepted plan
+    (h.0, h.1, subst (λ q. DescribesSheet s q parts.words.items) c.plan.ensures.plan h.2))
+    c.parts_of_accepted.ensures
 
 pub returns-in-Ok : goal.returns-in-Ok
 returns-in-Ok c =
@@ -37,14 +37,14 @@ returns-in-Ok c =
     (subst (λ (k : KindCodes). IsGoodSchema c.deref.result.now c.deref-2.result.now k s) c.kinds.ensures c.in-Ok.ensures.schema)) in
     let f = c.in-Err-examine.found.fault in
     let refusal = subst (λ (b : List ℕ). IsRefusal s b f) c.deref-in-Ok.ensures.value c.in-Err-examine.ensures.found.0 in
-    IfOk-weaker c.said_of_sheet.result _ _
-    (λ said h. sheet_said kinds c.args.files.now bytes.scd.items bytes.dic.items bytes.vec.items said.is_accepted said.text.items s good f c.input_name.result.now
-    c.input_name.ensures refusal
-    (h.0, h.1, (h.2.0, subst (λ (b : List ℕ). ExplainsSheet s b c.input_name.result.now f h.2.0) c.deref-in-Err-examine.ensures.value h.2.1, h.2.2)))
-    c.said_of_sheet.ensures
+    IfOk-weaker c.parts_of_sheet.result _ _
+    (λ parts h. sheet_said c.args.form kinds c.args.files.now bytes.scd.items bytes.dic.items bytes.vec.items parts.is_accepted parts.answer.items parts.words.items s good f
+    c.input_name.result.now c.input_name.ensures refusal
+    (h.0, h.1, h.2, subst (λ (b : List ℕ). ExplainsSheet s b c.input_name.result.now f parts.words.items) c.deref-in-Err-examine.ensures.value h.3))
+    c.parts_of_sheet.ensures
 
-pub said_of_schema-requires : goal.said_of_schema-requires
-said_of_schema-requires c =
+pub parts_of_schema-requires : goal.parts_of_schema-requires
+parts_of_schema-requires c =
     let bytes = c.args.bytes.now in
     let kinds = codes_of c.codes.result.now in
     let f = c.in-Err.fault in
@@ -62,17 +62,14 @@ returns c =
     (subst (λ (k : KindCodes). IsSchemaRefusal c.deref.result.now c.deref-2.result.now k f) c.kinds.ensures c.in-Err.ensures.refusal)) in
     let x = c.input_name-in-Err.result.now in
     let y = c.input_name-in-Err-2.result.now in
-    IfOk-weaker c.said_of_schema.result _ _
-    (λ said h. schema_said kinds c.args.files.now bytes.scd.items bytes.dic.items bytes.vec.items said.is_accepted said.text.items f x y
+    IfOk-weaker c.parts_of_schema.result _ _
+    (λ parts h. schema_said c.args.form kinds c.args.files.now bytes.scd.items bytes.dic.items bytes.vec.items parts.is_accepted parts.answer.items parts.words.items f x y
     c.input_name-in-Err.ensures c.input_name-in-Err-2.ensures refusal (
       h.0,
       h.1,
-      (
-        h.2.0,
-        subst (λ (d : List ℕ). ExplainsSchema kinds bytes.scd.items d x y f h.2.0) c.deref-in-Err-2.ensures.value
-            (subst (λ (e : List ℕ). ExplainsSchema kinds e c.deref-in-Err-2.result.now x y f h.2.0) c.deref-in-Err.ensures.value
-            (subst (λ (k : KindCodes). ExplainsSchema k c.deref-in-Err.result.now c.deref-in-Err-2.result.now x y f h.2.0) c.codes.ensures h.2.1)),
-        h.2.2,
-      ),
+      h.2,
+      subst (λ (d : List ℕ). ExplainsSchema kinds bytes.scd.items d x y f parts.words.items) c.deref-in-Err-2.ensures.value
+          (subst (λ (e : List ℕ). ExplainsSchema kinds e c.deref-in-Err-2.result.now x y f parts.words.items) c.deref-in-Err.ensures.value
+          (subst (λ (k : KindCodes). ExplainsSchema k c.deref-in-Err.result.now c.deref-in-Err-2.result.now x y f parts.words.items) c.codes.ensures h.3)),
     ))
-    c.said_of_schema.ensures
+    c.parts_of_schema.ensures
