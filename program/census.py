@@ -1,4 +1,5 @@
 """What `explain --all` lists: each place and rule of the first broken phase, of one sheet and of several, and how often each rule is broken."""
+from answered import written
 
 SCHEMA = "SCPCP22:EDAB01;SeSD;{0}\n"
 NODE = "RTYSA03:PNO\nRIDSA0{0}:{1}\n" + SCHEMA.format("PGE;NOD_id") + "CORCC0{2}:{3}\n"
@@ -25,6 +26,20 @@ def line_of(text, record):
     """The line in which the record of this number begins, from 1."""
     begins = [number for number, line in enumerate(text.split("\n"), 1) if line.startswith("RTY")]
     return begins[record - 1]
+
+
+def values(name, wanted):
+    """The values of JSON for what is wanted of a sheet."""
+    told = []
+    for place, *_, rule in wanted:
+        at = {"line": place, "record": None} if rule < 200 else {"line": None, "record": place}
+        told.append({"version": 1, "what": "broken", "name": name, "rule": rule, **at})
+    return told
+
+
+def count_values(wanted):
+    rules = [it[-1] for it in wanted]
+    return [{"version": 1, "what": "count", "rule": rule, "count": rules.count(rule)} for rule in sorted(set(rules))]
 
 
 class Census:
@@ -58,6 +73,8 @@ class Census:
         self.room.write("w", text)
         said = self.lines("w", text, wanted) + self.counts(wanted)
         self.room.expect(what, ["explain", "--all", "s", "d", "w"], (2, said.encode(), b""))
+        lines = written(values("w", wanted) + count_values(wanted))
+        self.room.expect(f"{what} as JSON", ["explain", "--json", "--all", "s", "d", "w"], (2, lines, b""))
 
 
 def censuses(room, sheet):
@@ -107,6 +124,12 @@ def of_several(room, census, sheet, lines, references, objects):
     room.expect("several sheets", ["explain", "s", "d", "o", "v", "l", "--all", "r", "o"], (2, (said + counts).encode(), b""))
     room.expect("an accepted sheet", ["explain", "--all", "s", "d", "v"], (0, b"v: accepted\n", b""))
     room.expect("an accepted sheet on standard input", ["explain", "--all", "s", "d", "-"], (0, b"standard input: accepted\n", b""), room.read("v"))
+    accepted = [{"version": 1, "what": "accepted", "name": "v"}]
+    lines = written(values("o", objects[1]) + accepted + values("l", lines[1]) + values("r", references[1]) + values("o", objects[1])
+                    + count_values((*objects[1], *lines[1], *references[1], *objects[1])))
+    room.expect("several sheets as JSON", ["explain", "s", "d", "o", "v", "l", "--all", "r", "o", "--json"], (2, lines, b""))
+    missing = written(values("o", objects[1]) + accepted + count_values(objects[1]))
+    room.expect("a sheet that is missing, as JSON", ["explain", "--json", "--all", "s", "d", "o", "x", "v"], (4, missing, b"x: cannot read\nedicad: x: no such file\n"))
     few = census.lines("o", *objects) + "v: accepted\n" + census.counts(objects[1])
     room.expect("a sheet that is missing", ["explain", "--all", "s", "d", "o", "x", "v"], (4, few.encode(), b"x: cannot read\nedicad: x: no such file\n"))
 
@@ -126,4 +149,5 @@ def bad(room, census, text, wanted):
     said = census.lines("w", text, wanted) + census.counts(wanted)
     room.report.check("a kind without a class", (status, out, err), (2, said.encode(), b"edicad: s: no class for initial node, final node: see --kinds\n"))
     with open("/dev/full", "wb") as full:
-        room.expect("a full output", ["explain", "--all", "s", "d", "w"], (4, None, b"cannot write standard output\n"), stdout=full)
+        for words in (["--all"], ["--all", "--json"]):
+            room.expect(f"{words} to a full output", ["explain", *words, "s", "d", "w"], (4, None, b"cannot write standard output\n"), stdout=full)

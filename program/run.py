@@ -21,7 +21,7 @@ import traceback
 # the modules beside this file leave nothing behind
 sys.dont_write_bytecode = True
 
-from answered import answers, names
+from answered import answers, digests, explanations, names, page
 from cases import all_cases, named, read_cases
 from census import censuses
 from changed import changes
@@ -58,8 +58,11 @@ PARTS = {
     "kinds noted": 31,
     "explains": 81,
     "explains kinds": 16,
-    "censuses": 21,
+    "censuses": 32,
     "answers as JSON": 41,
+    "digests as JSON": 14,
+    "explanations as JSON": 17,
+    "page of JSON": 3,
     "names of objects": 13,
     "pairings": 115,
     "paired": 183,
@@ -107,6 +110,9 @@ def works():
         "explains kinds": lambda room: explains_kinds(room, sheet),
         "censuses": lambda room: censuses(room, sheet),
         "answers as JSON": answers,
+        "digests as JSON": lambda room: digests(room, sheet, canonical),
+        "explanations as JSON": lambda room: explanations(room, sheet),
+        "page of JSON": page,
         "names of objects": names,
         "pairings": lambda room: pairings(room, sheet),
         "paired": paired,
