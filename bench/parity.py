@@ -1,0 +1,149 @@
+#!/usr/bin/env python3
+"""Times the built program against another program that takes the same words, on sheets of each sort.
+
+    cd crates/edicad && rt run -- --version                   builds out/edicad, or `rt ci` leaves it there
+    python3 bench/parity.py OTHER [--records N] [--rounds N] [--instructions] [SORT ..]
+                                                              from the top; OTHER is the path of a program
+
+A sort is one of those that SORTS names; without any, all are tried. Of each sheet: `check`, `canon` to a file, `compare` with its canonical
+file and with a sheet that differs, in turn, best of so many rounds (five). The answers and the canonical files must be equal. Printed: the
+ratio of the seconds of user and system time, and of the peak memory, which is that of this script at least; with --instructions the
+ratio of the instructions that callgrind counts, in one run of each.
+"""
+import argparse
+import filecmp
+import math
+import os
+import re
+import subprocess
+import sys
+import tempfile
+
+HERE = os.path.dirname(os.path.abspath(__file__))
+PROGRAM = os.path.join(HERE, "..", "crates", "edicad", "out", "edicad")
+# lines whose value ends with a name: that of a record, or that of what a pointer points at
+OWN, POINTERS = ("RID",), ("SCP", "ATP", "FTP", "DIP")
+TYPES = ["PNO", "PAR", "PFE", "FEA", "LNK"]
+# of each sort: what generate.py makes, whether in file order, the bytes that a name has at least, and whether lines end with CR LF
+SORTS = {
+    "in file order": ("objects", True, 0, False),
+    "in random order": ("objects", False, 0, False),
+    "names of 25 bytes": ("objects", True, 25, False),
+    "names of 25 bytes, in random order": ("objects", False, 25, False),
+    "CR LF": ("objects", True, 0, True),
+    "without objects": ("parcels", True, 0, False),
+}
+# how many records there are for each parcel
+RECORDS = {"objects": 14, "parcels": 12}
+
+
+def long_name(name, width):
+    return "x" * (width - len(name)) + name
+
+
+def renamed(line, width):
+    """The line with names of so many bytes at least."""
+    head, value = line[:5], line[8:]
+    if line[:3] in OWN:
+        value = long_name(value, width)
+    elif line[:3] in POINTERS:
+        before, _, name = value.rpartition(";")
+        value = f"{before};{long_name(name, width)}"
+    else:
+        return line
+    return f"{head}{len(value):02}:{value}"
+
+
+def in_file_order(lines):
+    """The records by type and by the numbers in their identifiers."""
+    starts = [at for at, line in enumerate(lines) if line.startswith("RTY")]
+    records = [lines[a:b] for a, b in zip(starts, [*starts[1:], len(lines) - 1])]
+    records.sort(key=lambda it: (TYPES.index(it[0][8:]), [int(number) for number in re.findall(r"\d+", it[1][8:])]))
+    return [*lines[: starts[0]], *(line for it in records for line in it), lines[-1]]
+
+
+def files_of(sort, records):
+    """The three files of a sheet of this sort, and a sheet that differs from it in a value or a position."""
+    kind, is_ordered, width, has_returns = SORTS[sort]
+    side = max(2, math.isqrt(records // RECORDS[kind]))
+    made = subprocess.run([sys.executable, os.path.join(HERE, "generate.py"), kind, str(side)], stdout=subprocess.PIPE, check=True).stdout.decode()
+    parts = [it.lstrip("\n").split("\n") + ["EOMT 00:"] for it in made.split("EOMT 00:")[:3]]
+    parts = [[line for line in it if line] for it in parts]
+    if is_ordered:
+        parts[2] = in_file_order(parts[2])
+    parts = [[renamed(line, width) for line in it] for it in parts]
+    last = max(at for at, line in enumerate(parts[2]) if line.startswith("ATV" if kind == "objects" else "TYP"))
+    other = parts[2][:last] + [parts[2][last][:-1] + "7"] + parts[2][last + 1 :]
+    end = "\r\n" if has_returns else "\n"
+    return ["".join(line + end for line in it).encode() for it in (*parts, other)]
+
+
+def timed(program, words):
+    """What a run prints, its seconds of processor time and its peak memory in bytes."""
+    process = subprocess.Popen([program, *words], stdout=subprocess.PIPE)
+    text = process.stdout.read()
+    _, status, usage = os.wait4(process.pid, 0)
+    if os.waitstatus_to_exitcode(status) > 1:
+        sys.exit(f"{program} {' '.join(words)} ends with {os.waitstatus_to_exitcode(status)}")
+    return text, usage.ru_utime + usage.ru_stime, usage.ru_maxrss * 1024
+
+
+def counted(program, words):
+    """How many instructions a run takes."""
+    with tempfile.NamedTemporaryFile() as report:
+        said = subprocess.run(["valgrind", "--tool=callgrind", f"--callgrind-out-file={report.name}", program, *words], capture_output=True, text=True, check=False)
+    return int(re.search(r"Collected : (\d+)", said.stderr)[1])
+
+
+def ratios(other, rounds, words_of):
+    """The ratios of time and of memory of a command, and the first program's seconds."""
+    runs = [[], []]
+    for _ in range(rounds):
+        for k, program in enumerate((PROGRAM, other)):
+            runs[k].append(timed(program, words_of(k)))
+    if runs[0][0][0] != runs[1][0][0]:
+        sys.exit(f"the answers of {words_of(0)[0]} differ")
+    seconds = [min(it[1] for it in run) for run in runs]
+    peaks = [max(it[2] for it in run) for run in runs]
+    return f"{seconds[0] / seconds[1]:.2f} ({seconds[0]:.2f} s), {peaks[0] / peaks[1]:.2f}"
+
+
+def row(other, given, sort, folder):
+    """A line of the table."""
+    texts = files_of(sort, given.records)
+    names = [os.path.join(folder, it) for it in ("s", "d", "v", "w", "mine", "theirs")]
+    for name, text in zip(names, texts):
+        with open(name, "wb") as file:
+            file.write(text)
+    scd, dic, vec, differs, *made = names
+    commands = [lambda k: ["check", scd, dic, vec], lambda k: ["canon", scd, dic, vec, made[k]], lambda k: ["compare", scd, dic, vec, made[0]],
+                lambda k: ["compare", scd, dic, vec, differs]]
+    found = []
+    for words_of in commands:
+        if given.instructions:
+            counts = [counted(program, words_of(k)) for k, program in enumerate((PROGRAM, other))]
+            found.append(f"{counts[0] / counts[1]:.2f} ({counts[0] // 1_000_000} M)")
+        else:
+            found.append(ratios(other, given.rounds, words_of))
+    if not filecmp.cmp(*made, shallow=False):
+        sys.exit("the canonical files differ")
+    print(f"| {sort} | {len(texts[2]) / 1e6:.1f} MB | {' | '.join(found)} |", flush=True)
+
+
+def main():
+    words = argparse.ArgumentParser(usage=__doc__)
+    words.add_argument("other")
+    words.add_argument("sorts", nargs="*", choices=[[], *SORTS])
+    words.add_argument("--records", type=int, default=100_000)
+    words.add_argument("--rounds", type=int, default=5)
+    words.add_argument("--instructions", action="store_true")
+    given = words.parse_args()
+    what = "instructions" if given.instructions else "time (of the first), memory"
+    print(f"{what}, {given.records} records\n\n| | size | `check` | `canon` | `compare`, same | different |\n|---|---|---|---|---|---|")
+    with tempfile.TemporaryDirectory() as folder:
+        for sort in given.sorts or SORTS:
+            row(os.path.abspath(given.other), given, sort, folder)
+
+
+if __name__ == "__main__":
+    main()
