@@ -18,9 +18,14 @@ use std::simd::prelude::*;
 // How many bytes a short text has at most.
 const SHORT: usize = 14;
 
+// How many bytes a text of middling length has at most: an identifier of 25 bytes or a path has fewer. It takes one piece
+// of memory, and not two as a long one.
+const MIDDLING: usize = 40;
+
 /// Where the bytes of a text lie. It has 16 bytes itself, since a sheet's records consist of texts for the most part.
 enum Bytes {
     Short { len: u8, bytes: [u8; SHORT] },
+    Middling { len: u8, bytes: Box<[u8; MIDDLING]> },
     Long(Box<Vec<u8>>),
 }
 
@@ -28,13 +33,14 @@ impl Drop for Bytes {
     fn drop(self) {
         match self {
             Bytes::Short { len: _, bytes: _ } => {}
+            Bytes::Middling { len: _, bytes: _ } => {}
             Bytes::Long(_) => {}
         }
     }
 }
 
 /// A byte string that owns its memory, compared, ordered and hashed as its bytes in their order.
-/// Up to 14 bytes lie in the value itself. Contracts see the list of the bytes alone.
+/// Up to 14 bytes lie in the value itself, and up to 40 in one piece of memory. Contracts see the list of the bytes alone.
 pub struct Text {
     alloc: Global,
     bytes: Bytes,
@@ -68,7 +74,11 @@ impl Text {
         if bytes.len() <= SHORT {
             return Ok(Text::short(alloc, bytes));
         }
-        let bytes = Bytes::Long(Box::new(alloc, Vec::from_slice(alloc, bytes)?)?);
+        let bytes = if bytes.len() <= MIDDLING {
+            middling(alloc, bytes)?
+        } else {
+            Bytes::Long(Box::new(alloc, Vec::from_slice(alloc, bytes)?)?)
+        };
         Ok(Text { alloc, bytes })
     }
 
@@ -89,6 +99,7 @@ impl Text {
     {
         match &self.bytes {
             Bytes::Short { len, bytes } => &bytes[..usize::from(*len)],
+            Bytes::Middling { len, bytes } => &bytes[..usize::from(*len)],
             Bytes::Long(bytes) => bytes.as_slice(),
         }
     }
@@ -112,6 +123,20 @@ fn short(text: &[u8]) -> Bytes
         len: text.len() as u8,
         bytes,
     }
+}
+
+/// The bytes in one piece of memory.
+fn middling(alloc: Global, text: &[u8]) -> Result<Bytes, AllocError>
+    requires { length text.now ≤ 40 }
+    ensures value { IfOk result (λ bytes. bytes_in bytes ≡ text.now) }
+    ensures within { IfOk result IsWithin }
+{
+    let mut bytes = [0; MIDDLING];
+    bytes[..text.len()].copy_from_slice(text);
+    Ok(Bytes::Middling {
+        len: text.len() as u8,
+        bytes: Box::new(alloc, bytes)?,
+    })
 }
 
 /// Copies a text by its first bytes and its last ones, so many, which may overlap. Copies of a known size take no call.
@@ -232,6 +257,10 @@ impl Clone for Text {
             Bytes::Short { len, bytes } => Bytes::Short {
                 len: *len,
                 bytes: *bytes,
+            },
+            Bytes::Middling { len, bytes } => Bytes::Middling {
+                len: *len,
+                bytes: Box::new(self.alloc, **bytes)?,
             },
             Bytes::Long(bytes) => {
                 Bytes::Long(Box::new(self.alloc, Vec::from_slice(self.alloc, bytes)?)?)
