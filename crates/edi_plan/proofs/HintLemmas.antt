@@ -1,5 +1,5 @@
 -- Records that are found by their names.
-use Rattle.std.proofs.Common.{◌≡◌, ℕ, zero, suc, add-one, ◌+◌, ◌<◌, ◌≤◌, ◌⊎◌, inl, inr, Bool, true, false, List, [], ◌∷◌, length, drop, slice_index_or, Option, None, Some, if◌then◌else◌, slice_get, refl, sym, ap, ◌∙◌, subst, arith}
+use Rattle.std.proofs.Common.{◌≡◌, ℕ, zero, suc, add-one, ◌+◌, ◌++◌, ◌<◌, ◌≤◌, ◌⊎◌, inl, inr, Bool, true, false, not, List, [], ◌∷◌, length, drop, slice_index_or, Option, None, Some, is_some, if◌then◌else◌, slice_get, refl, sym, ap, ◌∙◌, subst, arith}
 use Rattle.std.proofs.lemmas.Bool.{cases_lt}
 use Rattle.std.proofs.lemmas.Option.{get_or_from_slice_get, slice_get_within}
 use Rattle.edi_record.specs.Records.{is_link}
@@ -10,13 +10,25 @@ use Rattle.edi_record.specs.declared.record.Kind.TheVariants.{Pno, Par, Pfe, Fea
 use Rattle.edi_record.specs.declared.record.Record.{Record}
 use Rattle.edi_schema.proofs.Names.{same_name}
 use Rattle.edi_plan.specs.PlanOf.{own_name, place_named}
-use Rattle.edi_plan.specs.inner.Hints.{is_named, is_named_at, first_named, found, HasFirst, HasAll}
+use Rattle.edi_plan.specs.inner.Hints.{is_named, is_named_at, first_named, found, HasFirst, HasAll, HasTabled}
 use Rattle.edi_plan.specs.inner.LinkNames.{LinksDiffer}
 use Rattle.edi_plan.specs.inner.Names.{RepeatsAt, is_tabled}
 use Rattle.edi_plan.specs.inner.Targets.{HasNameAt}
 use Rattle.edi_plan.specs.declared.name_slots.NameHints.{NameHints}
 use Rattle.edi_plan.proofs.NameLemmas.{coded_kind, has_name}
 use Rattle.edi_plan.proofs.TargetLemmas.{only_named}
+
+-- links are of one type
+link_kind : (k l : Kind) → is_link k ≡ true → is_link l ≡ true → k ≡ l
+link_kind Lnk Lnk h i = refl
+link_kind Lnk Pno h i = cc
+link_kind Lnk Par h i = cc
+link_kind Lnk Pfe h i = cc
+link_kind Lnk Fea h i = cc
+link_kind Pno l h i = cc
+link_kind Par l h i = cc
+link_kind Pfe l h i = cc
+link_kind Fea l h i = cc
 
 same_some : {X : Type 0} {a b : X} → Some a ≡ Some b → a ≡ b
 same_some h = cc
@@ -97,13 +109,13 @@ module _ (list : List Record) (hints : NameHints) (differ : LinksDiffer list) (a
       go (Some place) e = e ∙ sym (only_named list name None place no_repeats refl (first_there list name _ place e))
       go None e = none e (place_named list name) refl
 
-pub all_found : (list : List Record) (hints : NameHints) (n : ℕ) → length list ≤ n → HasFirst n list hints → HasAll list hints
-all_found list hints n past first k r at other = let within = slice_get_within list k r at in first k r (omega arith) at other
+pub all_found : (rise : Bool) (list : List Record) (hints : NameHints) (n : ℕ) → length list ≤ n → HasFirst n rise list hints → HasTabled rise list hints
+all_found rise list hints n past first k r at other = let within = slice_get_within list k r at in first k r (omega arith) at other
 
 -- one record more is found
-pub first_more_there : (list : List Record) (hints : NameHints) (n : ℕ) → HasFirst n list hints
-    → ((r : Record) → slice_get list n ≡ Some r → is_link r.kind ≡ false → found list hints r.kind r.rid ≡ Some n) → HasFirst (n + 1) list hints
-first_more_there list hints n before one k q less at other = go (cases_lt k n)
+pub first_more_there : (rise : Bool) (list : List Record) (hints : NameHints) (n : ℕ) → HasFirst n rise list hints
+    → ((r : Record) → slice_get list n ≡ Some r → is_tabled rise r.kind ≡ true → found list hints r.kind r.rid ≡ Some n) → HasFirst (n + 1) rise list hints
+first_more_there rise list hints n before one k q less at other = go (cases_lt k n)
   where
     go : (k < n) ⊎ (n ≤ k) → found list hints q.kind q.rid ≡ Some k
     go (inl below) = before k q below at other
@@ -123,10 +135,35 @@ module _ (list : List Record) (n : ℕ) (r : Record) (kind : Kind) (rid : List �
   pub rid_there : rid ≡ r.rid
   rid_there = ap (λ (x : Name). x.rid) named_it
 
--- what isn't tabled is a link
-pub untabled : (kind : Kind) (P : Type 0) → false ≡ is_tabled true kind → is_link kind ≡ false → P
-untabled Pno P h plain = cc
-untabled Par P h plain = cc
-untabled Pfe P h plain = cc
-untabled Fea P h plain = cc
-untabled Lnk P h plain = cc
+-- what is no link is tabled
+plain_tabled : (rise : Bool) (kind : Kind) → is_link kind ≡ false → is_tabled rise kind ≡ true
+plain_tabled true kind plain = ap not plain
+plain_tabled false kind plain = refl
+
+-- where the names that are tabled are found, so are those of all records but links, and the links differ if these are among them
+pub plain_found : (rise : Bool) (list : List Record) (hints : NameHints) → HasTabled rise list hints → HasAll list hints
+plain_found rise list hints has k r at plain = has k r at (plain_tabled rise r.kind plain)
+
+links_found_differ : (list : List Record) (hints : NameHints) → HasTabled false list hints → LinksDiffer list
+links_found_differ list hints has j k q r less at later link too same =
+    let kinds : q.kind ≡ r.kind = link_kind q.kind r.kind link too in
+    let both : found list hints q.kind q.rid ≡ found list hints r.kind r.rid = λ i. found list hints (kinds i) (same i) in
+    let one : j ≡ k = same_some (sym (has j q at refl) ∙ (both ∙ has k r later refl)) in
+    absurd (omega (arith, less, one))
+
+pub finds_all : (rise : Bool) (list : List Record) (hints : NameHints) → (rise ≡ true → LinksDiffer list) → HasTabled rise list hints → LinksDiffer list × HasAll list hints
+finds_all true list hints differ has = (differ refl, plain_found true list hints has)
+finds_all false list hints differ has = (links_found_differ list hints has, plain_found false list hints has)
+
+-- what stands under a name in two lists of places, one after the other
+pub first_of_two : (list : List Record) (name : Name) (places more : List ℕ)
+    → first_named list name (places ++ more) ≡ (if is_some (first_named list name places) then first_named list name places else first_named list name more)
+unfolding first_named
+first_of_two list name [] more = refl
+first_of_two list name (p ∷ ps) more = go (is_named_at list name p) (first_of_two list name ps more)
+  where
+    go : (b : Bool) → first_named list name (ps ++ more) ≡ (if is_some (first_named list name ps) then first_named list name ps else first_named list name more)
+        → (if b then Some p else first_named list name (ps ++ more))
+        ≡ (if is_some (if b then Some p else first_named list name ps) then (if b then Some p else first_named list name ps) else first_named list name more)
+    go true h = refl
+    go false h = h

@@ -4,7 +4,7 @@ ghost use Rattle.std.specs.Prelude.{◌≡◌, ℕ, ◌+◌, ◌%◌, ◌<◌, �
 ghost use Rattle.std.specs.List.{fold};
 ghost use Rattle.edi_line.specs.Bytes.{most_records};
 ghost use Rattle.edi_record.specs.Records.{is_link};
-ghost use Rattle.edi_plan.specs.inner.Hints.{three_bytes as number_at, with_bits as bits_added, last_bytes as number_in, start_of, kind_slot as slot_of_kind, window_of, first_named as first_in, found, HasAll};
+ghost use Rattle.edi_plan.specs.inner.Hints.{three_bytes as number_at, with_bits as bits_added, last_bytes as number_in, near_number, far_number, start_of, kind_slot as slot_of_kind, slots_at, first_named as first_in, found, HasAll, HasTabled};
 ghost use Rattle.edi_plan.specs.inner.LinkNames.{LinksDiffer};
 ghost use Rattle.edi_plan.specs.inner.Names.{named};
 ghost use Rattle.edi_plan.specs.PlanOf.{place_named};
@@ -99,25 +99,41 @@ fn is_at(found: Option<u32>, place: u32) -> bool
     }
 }
 
+/// The number of a name by which its first slots are found.
+#[tactic(auto, unfolding(crate::specs::inner::Hints::near_number))]
+fn near_number(name: &RecordNameRef<'_>) -> u64
+    ensures { result ≡ near_number name.now.kind name.now.rid.now }
+{
+    last_bytes(name.rid.as_slice())
+        .wrapping_mul(WINDOW as u64)
+        .wrapping_add(kind_slot(name.kind))
+}
+
 impl NameHints {
-    /// Where the slots of a name begin.
+    /// The number of a name by which its other slots are found, half of all slots further on. Where links are among the
+    /// names, those of two numbers may begin at one place; the others then lie where fewer names begin.
+    #[tactic(auto, unfolding(crate::specs::inner::Hints::far_number))]
+    fn far_number(&self, name: &RecordNameRef<'_>) -> u64
+        ensures { result ≡ far_number (length self.now.slots.items) name.now.kind name.now.rid.now }
+    {
+        near_number(name).wrapping_add(self.slots.len() as u64 / 2)
+    }
+
+    /// Where the slots of a number begin.
     #[tactic(auto, unfolding(crate::specs::inner::Hints::start_of))]
-    fn start(&self, name: &RecordNameRef<'_>) -> usize
-        ensures start { result ≡ start_of (length self.now.slots.items) name.now.kind name.now.rid.now }
+    fn start(&self, number: u64) -> usize
+        ensures start { result ≡ start_of (length self.now.slots.items) number }
         ensures within { result + 8 ≤ length self.now.slots.items }
     {
         let starts = (self.slots.len() - WINDOW + 1) as u64;
-        let number = last_bytes(name.rid.as_slice())
-            .wrapping_mul(WINDOW as u64)
-            .wrapping_add(kind_slot(name.kind));
         (number % starts) as usize
     }
 
-    /// The slots of a name.
-    fn window(&self, name: &RecordNameRef<'_>) -> &[u32]
-        ensures { result.now ≡ window_of self.now.slots.items name.now.kind name.now.rid.now }
+    /// The slots of a number.
+    fn slots_at(&self, number: u64) -> &[u32]
+        ensures { result.now ≡ slots_at self.now.slots.items number }
     {
-        let start = self.start(name);
+        let start = self.start(number);
         &self.slots[start..start + WINDOW]
     }
 
@@ -125,12 +141,16 @@ impl NameHints {
     fn find(&self, records: &SheetRecords, name: &RecordNameRef<'_>) -> Option<u32>
         ensures { result ≡ found records.now self.now name.now.kind name.now.rid.now }
     {
-        first_named(records, self.window(name), name)
+        let near = first_named(records, self.slots_at(near_number(name)), name);
+        if near.is_some() {
+            return near;
+        }
+        first_named(records, self.slots_at(self.far_number(name)), name)
     }
 
-    /// Puts a place into a free slot of a name, if it has one.
-    fn put(&mut self, name: &RecordNameRef<'_>, place: u32) -> bool {
-        let start = self.start(name);
+    /// Puts a place into a free one of the slots of a number, if there is one.
+    fn put_at(&mut self, number: u64, place: u32) -> bool {
+        let start = self.start(number);
         for at in start..start + WINDOW {
             if self.slots[at] == FREE {
                 self.slots[at] = place;
@@ -140,44 +160,56 @@ impl NameHints {
         false
     }
 
-    /// The places of all records but links, each in a slot of its name; or nothing, if a name has no slot left.
-    fn of_all(alloc: Global, records: &SheetRecords) -> Result<Option<NameHints>, AllocError>
+    /// Puts a place into a free slot of a name, if it has one.
+    fn put(&mut self, name: &RecordNameRef<'_>, place: u32) -> bool {
+        self.put_at(near_number(name), place) || self.put_at(self.far_number(name), place)
+    }
+
+    /// The places of all records, but for links where these rise, each in a slot of its name; or nothing, if a name has no
+    /// slot left.
+    fn of_all(
+        alloc: Global,
+        links_rise: bool,
+        records: &SheetRecords,
+    ) -> Result<Option<NameHints>, AllocError>
         requires { length records.now ≤ most_records }
     {
-        let mut hints = NameHints::with_room(alloc, count_tabled(true, records))?;
+        let mut hints = NameHints::with_room(alloc, count_tabled(links_rise, records))?;
         for place in 0..records.len() {
             let name = name_at(records, place);
-            if is_tabled(true, name.kind) && !hints.put(&name, place as u32) {
+            if is_tabled(links_rise, name.kind) && !hints.put(&name, place as u32) {
                 return Ok(None);
             }
         }
         Ok(Some(hints))
     }
 
-    /// Whether each record but the links is found by its name.
-    fn find_all(&self, records: &SheetRecords) -> bool
+    /// Whether each record is found by its name, but for links where these rise.
+    fn find_all(&self, links_rise: bool, records: &SheetRecords) -> bool
         requires { length records.now ≤ most_records }
-        ensures { result ≡ true → HasAll records.now self.now }
+        ensures { result ≡ true → HasTabled links_rise records.now self.now }
     {
         for place in 0..records.len() {
             let name = name_at(records, place);
-            if is_tabled(true, name.kind) && !is_at(self.find(records, &name), place as u32) {
+            if is_tabled(links_rise, name.kind) && !is_at(self.find(records, &name), place as u32) {
                 return false;
             }
         }
         true
     }
 
-    /// The places of all records but links, if each of these is found by its name. Then no two of them have one name.
+    /// The places of all records, but for links where these rise, if each of these is found by its name. Then no two of
+    /// them have one name.
     pub(crate) fn among(
         alloc: Global,
+        links_rise: bool,
         records: &SheetRecords,
     ) -> Result<Option<NameHints>, AllocError>
         requires { length records.now ≤ most_records }
-        ensures { IfOk result (λ hints. IfSome hints (HasAll records.now)) }
+        ensures { IfOk result (λ hints. IfSome hints (HasTabled links_rise records.now)) }
     {
-        match NameHints::of_all(alloc, records)? {
-            Some(hints) if hints.find_all(records) => Ok(Some(hints)),
+        match NameHints::of_all(alloc, links_rise, records)? {
+            Some(hints) if hints.find_all(links_rise, records) => Ok(Some(hints)),
             _ => Ok(None),
         }
     }

@@ -36,12 +36,10 @@ impl<'a> NamePlaces<'a> {
         requires { length records.now ≤ most_records }
         ensures { IfOk result (FindsAll records.now) }
     {
-        if links_rise(records)
-            && let Some(hints) = NameHints::among(alloc, records)?
-        {
-            return Ok(NamePlaces::Hinted(hints));
+        match NameHints::among(alloc, links_rise(records), records)? {
+            Some(hints) => Ok(NamePlaces::Hinted(hints)),
+            None => Ok(NamePlaces::Tabled(Names::among(alloc, records)?)),
         }
-        Ok(NamePlaces::Tabled(Names::among(alloc, records)?))
     }
 
     /// The place of the first record with the name of an earlier one, if there is one.

@@ -14,9 +14,9 @@ const SLOTS: usize = 4;
 // What a free slot has: the place of no record.
 pub(crate) const FREE: u32 = u32::MAX;
 
-/// Places of records in slots. The last bytes of an identifier, read as a number, say where its eight slots begin, so
-/// identifiers that are numbered stand apart; others may not, and then there are no hints. Whoever chooses names can
-/// do no more than that.
+/// Places of records in slots. The last bytes of an identifier, read as a number, say where its eight slots begin, and
+/// eight more where these are full, so identifiers that are numbered stand apart; others may not, and then there are no
+/// hints. Whoever chooses names can do no more than that.
 #[derive(Drop)]
 pub(crate) struct NameHints {
     pub(crate) slots: Vec<u32>,

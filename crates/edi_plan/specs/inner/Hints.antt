@@ -1,5 +1,5 @@
 -- Where a record of a name can stand.
-use Rattle.std.specs.Prelude.{◌≡◌, ℕ, ◌+◌, ◌-◌, ◌*◌, ◌%◌, ◌^◌, ◌<◌, Bool, false, List, [], ◌∷◌, length, nat_lt, Option, None, Some, slice_get, slice_index, slice_range, if◌then◌else◌}
+use Rattle.std.specs.Prelude.{◌≡◌, ℕ, ◌+◌, ◌++◌, ◌-◌, ◌*◌, ◌/◌, ◌%◌, ◌^◌, ◌<◌, Bool, false, true, List, [], ◌∷◌, length, nat_lt, Option, None, Some, slice_get, slice_index, slice_range, if◌then◌else◌}
 use Rattle.std.specs.List.{fold}
 use Rattle.edi_record.specs.Records.{is_link}
 use Rattle.edi_record.specs.Shapes.{kind_code}
@@ -9,6 +9,7 @@ use Rattle.edi_record.specs.declared.record.Kind.TheVariants.{Pno, Par, Pfe, Fea
 use Rattle.edi_record.specs.declared.record.Record.{Record}
 use Rattle.edi_schema.specs.Classes.{is_name}
 use Rattle.edi_plan.specs.PlanOf.{own_name}
+use Rattle.edi_plan.specs.inner.Names.{is_tabled}
 use Rattle.edi_plan.specs.declared.name_slots.NameHints.{NameHints}
 
 -- three bytes of a text from a place on, each by its last four bits, as digits of a number
@@ -32,13 +33,26 @@ kind_slot Pfe = 4
 kind_slot Fea = 6
 kind_slot Lnk = 6
 
--- where the slots of a name begin among so many
-unfoldable pub start_of : ℕ → Kind → List ℕ → ℕ
-start_of slots kind rid = (((last_bytes rid * 8) % 2 ^ 64 + kind_slot kind) % 2 ^ 64) % (slots - 8 + 1)
+-- the numbers of a name, by which its slots are found: its own, and one that is half of so many slots greater
+unfoldable pub near_number : Kind → List ℕ → ℕ
+near_number kind rid = ((last_bytes rid * 8) % 2 ^ 64 + kind_slot kind) % 2 ^ 64
 
--- the slots of a name
-abbrev pub window_of : List ℕ → Kind → List ℕ → List ℕ
-window_of slots kind rid = slice_range slots (start_of (length slots) kind rid) (start_of (length slots) kind rid + 8)
+unfoldable pub far_number : ℕ → Kind → List ℕ → ℕ
+far_number slots kind rid = (near_number kind rid + slots / 2) % 2 ^ 64
+
+-- where the slots of a number begin among so many
+unfoldable pub start_of : ℕ → ℕ → ℕ
+start_of slots number = number % (slots - 8 + 1)
+
+-- the slots of a number
+abbrev pub slots_at : List ℕ → ℕ → List ℕ
+slots_at slots number =
+    slice_range slots (start_of (length slots) number) (start_of (length slots) number + 8)
+
+-- the slots of a name: those of its own number, and then the others
+abbrev pub slots_of : List ℕ → Kind → List ℕ → List ℕ
+slots_of slots kind rid =
+    slots_at slots (near_number kind rid) ++ slots_at slots (far_number (length slots) kind rid)
 
 -- whether the record at a place has this name
 abbrev pub is_named : Name → Option Record → Bool
@@ -57,14 +71,19 @@ first_named list name (place ∷ places) =
 -- what stands in the slots of a name under this name
 abbrev pub found : List Record → NameHints → Kind → List ℕ → Option ℕ
 found list hints kind rid =
-    first_named list (record { rty = kind_code kind; rid = rid }) (window_of hints.slots.items kind rid)
+    first_named list (record { rty = kind_code kind; rid = rid }) (slots_of hints.slots.items kind rid)
 
--- each of the first so many records that is no link is found by its name
-abbrev pub HasFirst : ℕ → List Record → NameHints → Type 0
-HasFirst n list hints = (k : ℕ) (r : Record) → k < n → slice_get list k ≡ Some r
-    → is_link r.kind ≡ false → found list hints r.kind r.rid ≡ Some k
+-- each of the first so many records is found by its name, but for links where these rise
+abbrev pub HasFirst : ℕ → Bool → List Record → NameHints → Type 0
+HasFirst n links_rise list hints = (k : ℕ) (r : Record) → k < n → slice_get list k ≡ Some r
+    → is_tabled links_rise r.kind ≡ true → found list hints r.kind r.rid ≡ Some k
 
--- and each record that is no link
+-- and each record at all, but for these links
+abbrev pub HasTabled : Bool → List Record → NameHints → Type 0
+HasTabled links_rise list hints = (k : ℕ) (r : Record) → slice_get list k ≡ Some r
+    → is_tabled links_rise r.kind ≡ true → found list hints r.kind r.rid ≡ Some k
+
+-- each record that is no link is found by its name
 abbrev pub HasAll : List Record → NameHints → Type 0
 HasAll list hints = (k : ℕ) (r : Record) → slice_get list k ≡ Some r
     → is_link r.kind ≡ false → found list hints r.kind r.rid ≡ Some k
