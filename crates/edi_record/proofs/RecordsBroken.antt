@@ -1,21 +1,18 @@
 -- The list of all rules that records break, record by record.
-use Rattle.std.proofs.Common.{◌≡◌, ℕ, ◌+◌, ◌<◌, ◌≤◌, true, false, Bool, cond, Some, None, List, [], ◌∷◌, ◌++◌, length, take, drop, ◌-◌, refl, sym, ap, ◌∙◌, subst, inl, inr, arith, length-append, option_to_list}
-use Rattle.std.proofs.lemmas.List.{append_assoc, append-nil, length_push}
+use Rattle.std.proofs.Common.{◌≡◌, ℕ, ◌+◌, ◌<◌, ◌≤◌, Bool, List, [], ◌∷◌, ◌++◌, length, refl, sym, ap, ◌∙◌, subst, inl, inr, arith, length-append}
+use Rattle.std.proofs.lemmas.List.{append_assoc, length_push}
 use Rattle.edi_line.specs.AllBroken.{AreAllBroken}
-use Rattle.edi_line.specs.Entry.{Entry, entry, entries}
-use Rattle.edi_line.specs.declared.zone.Zone.{Zone}
+use Rattle.edi_line.specs.Entry.{Entry}
 use Rattle.edi_line.specs.Refusal.{Test, test, BreaksTest}
-use Rattle.edi_line.specs.Zones.{begins_group, before_end, groups_of}
+use Rattle.edi_line.specs.Zones.{groups_of}
 use Rattle.edi_line.specs.inner.AllBroken.{with_broken}
 use Rattle.edi_line.specs.declared.broken.BrokenRule.{BrokenRule}
 use Rattle.edi_line.proofs.AllBroken.{all_same, all_none, Also, all_with, Put, four_put}
 use Rattle.edi_line.proofs.Rules.{AreApart, two_cuts, no_cut_of_none}
 use Rattle.edi_record.specs.RecordRules.{BreaksRecordRule}
-use Rattle.edi_record.specs.Records.{group_at}
 use Rattle.edi_record.specs.inner.AllBroken.{FailsIn, HoldsGroups}
 use Rattle.edi_record.specs.inner.RecordRules.{record_tests}
 use Rattle.edi_record.specs.declared.broken.BrokenGroups.{BrokenGroups}
-use Rattle.edi_record.proofs.AttributesRead.{cut_first}
 use Rattle.edi_record.proofs.RulesSaid.{rule_said, rule_read}
 
 -- ---- eight rules
@@ -86,39 +83,6 @@ one_held done group old new place grown h few =
           (all_with (record_tests group) (FailsIn done) old.list.items (length done + 1) refl held.list (λ r p broken. inl (within done r p broken))));
     }
 
--- ---- the zones of a file
-
--- the records that begin before these zones have come
-pub record GroupsSoFar (zones left : List Entry) (b : BrokenGroups) : Type 0 where
-  pub done : List (List Entry)
-  pub cut : groups_of zones ≡ done ++ groups_of left
-  pub holds : HoldsGroups done b
-
-pub none_so_far : (zones : List Entry) (b : BrokenGroups) → HoldsGroups [] b → GroupsSoFar zones zones b
-none_so_far zones b h = record { done = []; cut = refl; holds = h }
-
-pub nothing_begins : (done : List (List Entry)) (b : BrokenGroups) → HoldsGroups done b → HoldsGroups (done ++ []) b
-nothing_begins done b h = subst (λ gs. HoldsGroups gs b) (sym (append-nil done)) h
-
-first_apart : (z : Entry) (zs : List Entry) → groups_of (z ∷ zs) ≡ option_to_list (group_at (z ∷ zs)) ++ groups_of zs
-first_apart z zs = go (begins_group z)
-  where
-    go : (b : Bool) → cond b ((z ∷ before_end zs) ∷ groups_of zs) (groups_of zs) ≡ option_to_list (cond b (Some (z ∷ before_end zs)) None) ++ groups_of zs
-    go true = refl
-    go false = refl
-
-pub one_so_far : (zones left : List Entry) (z : Entry) (zs : List Entry) (old new : BrokenGroups) → left ≡ z ∷ zs → GroupsSoFar zones left old
-    → ((groups : List (List Entry)) → HoldsGroups groups old → HoldsGroups (groups ++ option_to_list (group_at left)) new) → GroupsSoFar zones zs new
-one_so_far zones left z zs old new cut h takes = record {
-  done = h.done ++ option_to_list (group_at left);
-  cut = h.cut ∙ ap (λ gs. h.done ++ gs) (ap groups_of cut ∙ first_apart z zs ∙ ap (λ l. option_to_list (group_at l) ++ groups_of zs) (sym cut)) ∙ sym (append_assoc h.done (option_to_list (group_at left)) (groups_of zs));
-  holds = takes h.done h.holds;
-}
-
-pub next_apart : (left : List Zone) → 1 ≤ length left → (z : Entry) × (entries left ≡ z ∷ entries (take (length left - 1) (drop 1 left)))
-next_apart [] some = absurd (omega (arith, some))
-next_apart (x ∷ xs) some = (entry x, cut_first (x ∷ xs) x x some refl)
-
 -- ---- all records
 
 all_said : (zones : List Entry) (list : List BrokenRule) → AreAllBroken (FailsIn (groups_of zones)) list → AreAllBroken (BreaksRecordRule zones) list
@@ -129,8 +93,3 @@ all_said zones list h = all_same (FailsIn (groups_of zones)) (BreaksRecordRule z
 
 pub all_records : (zones : List Entry) (b : BrokenGroups) → HoldsGroups (groups_of zones) b → length (groups_of zones) ≤ 9999999 → AreAllBroken (BreaksRecordRule zones) b.list.items
 all_records zones b h few = all_said zones b.list.items (h few).list
-
-pub all_so_far : (zones left : List Entry) (b : BrokenGroups) → left ≡ [] → GroupsSoFar zones left b → length (groups_of zones) ≤ 9999999 → AreAllBroken (BreaksRecordRule zones) b.list.items
-all_so_far zones left b none h few =
-    let all : groups_of zones ≡ h.done = h.cut ∙ ap (λ l. h.done ++ groups_of l) none ∙ append-nil h.done in
-    all_records zones b (subst (λ gs. HoldsGroups gs b) (sym all) h.holds) few

@@ -1,16 +1,13 @@
 //! All rules that the records of a file break.
 
-ghost use Rattle.std.specs.Prelude.{◌≡◌, ◌≤◌, ◌∷◌, [], ◌++◌, List, length, option_to_list, IfOk, IfErr, OnOk};
+ghost use Rattle.std.specs.Prelude.{◌≡◌, ◌∷◌, [], ◌++◌, List, IfOk, IfErr, OnOk};
 ghost use Rattle.edi_line.specs.AllBroken.{AreAllBroken};
-ghost use Rattle.edi_line.specs.Bytes.{most_records};
 ghost use Rattle.edi_line.specs.Entry.{Entry, entries};
 ghost use Rattle.edi_line.specs.FileBytes.{file_bytes};
 ghost use Rattle.edi_line.specs.LineRules.{BreaksLineRule, IsZonesOf};
 ghost use Rattle.edi_line.specs.Refusal.{IsUnbroken, IsLineRefusal};
-ghost use Rattle.edi_line.specs.Zones.{groups_of};
 ghost use Rattle.edi_line.specs.inner.AllBroken.{with_broken};
 ghost use Rattle.edi_record.specs.RecordRules.{BreaksRecordRule};
-ghost use Rattle.edi_record.specs.Records.{group_at};
 ghost use Rattle.edi_record.specs.inner.AllBroken.{HoldsGroups};
 ghost use Rattle.edi_record.specs.inner.RecordRules.{record_tests};
 
@@ -18,7 +15,7 @@ use crate::group_rules::{
     has_bad_attribute, has_bad_end, has_bad_point, has_unknown_pointer, has_wrong_count,
     lacks_class, lacks_kind,
 };
-use crate::groups::{group_here, lacks_identifier};
+use crate::groups::lacks_identifier;
 use edi_line::{
     BrokenRule, FileBytes, GroupOut, LineFault, Zone, push_if_broken, read_groups_from,
 };
@@ -66,17 +63,6 @@ impl BrokenGroups {
         push_broken(&mut self.list, group, self.place)?;
         Ok(())
     }
-
-    /// Takes the zones of the record that begins with the first of these, if one does.
-    fn take_first(&mut self, zones: &[Zone<'_>]) -> Result<(), AllocError>
-        ensures { OnOk result ((groups : List (List Entry)) → HoldsGroups groups self.old
-            → HoldsGroups (groups ++ option_to_list (group_at (entries zones.now))) self.new) }
-    {
-        match group_here(zones) {
-            Some(group) => self.take_group(group),
-            None => Ok(()),
-        }
-    }
 }
 
 impl GroupOut for BrokenGroups {
@@ -87,25 +73,10 @@ impl GroupOut for BrokenGroups {
     }
 }
 
-/// Each of the rules 201 to 208 that the records of a file's zones break, with the number of its record, from 1, by
-/// records and in one record by rules. A record of no known type (201) may break 202 to 205 as well, and no other
-/// (docs/FORMAT.md, "The order of the rules").
-pub fn broken_records(alloc: Global, zones: &[Zone<'_>]) -> Result<Vec<BrokenRule>, AllocError>
-    requires few { length (groups_of (entries zones.now)) ≤ most_records }
-    ensures { IfOk result (λ list. AreAllBroken (BreaksRecordRule (entries zones.now)) list.items) }
-{
-    let mut broken = BrokenGroups::new(alloc);
-    let mut left = zones;
-    while let [_, behind @ ..] = left {
-        broken.take_first(left)?;
-        left = behind;
-    }
-    let BrokenGroups { list, .. } = broken;
-    Ok(list)
-}
-
-/// What `broken_records` gives of the zones of a file that is let go as it is read, or the first broken rule of lines.
-/// The zones of one record alone are in memory at a time.
+/// Each of the rules 201 to 208 that the records of a file break, with the number of its record, from 1, by records and in
+/// one record by rules; or the first broken rule of lines. A record of no known type (201) may break 202 to 205 as well,
+/// and no other (docs/FORMAT.md, "The order of the rules"). The file is let go as it is read, and the zones of one record
+/// alone are in memory at a time.
 pub fn broken_records_from(alloc: Global, file: FileBytes<'_>) -> Result<Vec<BrokenRule>, LineFault>
     ensures records { IfOk result (λ list. (zones : List Entry) × IsZonesOf (file_bytes file.entry) zones
         × AreAllBroken (BreaksRecordRule zones) list.items) }

@@ -30,7 +30,7 @@ pub mod sheet_records;
 pub mod sheet_rest;
 mod stating;
 
-pub use broken::{broken_records, broken_records_from};
+pub use broken::broken_records_from;
 pub use counts::is_count;
 pub use fault::{RecordFault, SheetFault};
 pub use groups::{first_value, group_here, lacks_identifier};
