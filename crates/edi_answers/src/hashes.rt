@@ -35,11 +35,12 @@ use sha2::{Digest, Sha256};
 use std::alloc::{AllocError, Global};
 
 /// Writes a line for each sheet, in order: the digest of its canonical file and its name to `out`, or its name and why
-/// it has none to `err`; and above these that of the schema, where it is asked for. As JSON `out` also gets a line for a
-/// sheet that is refused, before `err` says why (docs/JSON.md, "Digests"). Gives the greatest of their statuses, or 4 as
-/// soon as `out` fails. The schema is loaded once, before any sheet is opened; where there is none, `err` says why by the
-/// name of its file, and where a kind of link has no class, `err` says so first. Behind the line of a sheet that is
-/// refused by 304, `err` says which of the siblings, VEC files of the same lot, has the record that a link points at.
+/// it has none to `err`; and above these that of the schema, where it is asked for. As JSON `out` also gets a line for
+/// a sheet that is refused, before `err` says why (docs/JSON.md, "Digests"). Gives the greatest of their statuses, or 4
+/// as soon as `out` fails. The schema is loaded once, before any sheet is opened; where there is none, `err` says why
+/// by the name of its file, and where a kind of link has no class, `err` says so first. Behind the line of a sheet that
+/// is refused by 304, `err` says which of the siblings, VEC files of the same lot, has the record that a link points
+/// at.
 pub fn hash<F: Folder, O: ByteOut, E: ByteOut>(
     alloc: Global,
     folder: &F,
@@ -295,7 +296,8 @@ fn tell_answer<F: Folder, E: ByteOut>(
 ) -> u8
     ensures status { IsSheetStatus result }
     ensures contents { (said : List ℕ) × IsAnswerSaid (inputs F.Folder F.Reader.ByteIn folder.now) (F.why folder.now)
-        (map (λ p. p.now) siblings.now) path.now answer.now said result × Warns (written E.ByteOut err.old err.new) said }
+        (map (λ p. p.now) siblings.now) path.now answer.now said result
+        × Warns (written E.ByteOut err.old err.new) said }
     ensures stays { IsTrue (E.has_failed err.old) → IsTrue (E.has_failed err.new) }
 {
     match answer {
