@@ -7,11 +7,12 @@
 
 A sort is one of those that SORTS names; without any, all are tried. Of each sheet: `check`, `canon` to a file, `compare` with its canonical
 file and with a sheet that differs, in turn, best of so many rounds (five). The answers and the canonical files must be equal. Printed: the
-ratio of the seconds of user and system time, and of the peak memory, which is that of this script at least; with --instructions the
-ratio of the instructions that callgrind counts, in one run of each.
+ratio of the seconds of user and system time, and of the peak memory, which is some 12 MB at least; with --instructions the ratio of the
+instructions that callgrind counts, in one run of each.
 """
 import argparse
 import filecmp
+import json
 import math
 import os
 import re
@@ -21,6 +22,7 @@ import tempfile
 
 HERE = os.path.dirname(os.path.abspath(__file__))
 PROGRAM = os.path.join(HERE, "..", "crates", "edicad", "out", "edicad")
+MEASURE = "--measure"
 # lines whose value ends with a name: that of a record, or that of what a pointer points at
 OWN, POINTERS = ("RID",), ("SCP", "ATP", "FTP", "DIP")
 TYPES = ["PNO", "PAR", "PFE", "FEA", "LNK"]
@@ -78,14 +80,21 @@ def files_of(sort, records):
     return ["".join(line + end for line in it).encode() for it in (*parts, other)]
 
 
-def timed(program, words):
-    """What a run prints, its seconds of processor time and its peak memory in bytes."""
+def measure(program, words):
+    """Prints the status of a run, what it prints, its seconds of processor time and its peak memory in bytes."""
     process = subprocess.Popen([program, *words], stdout=subprocess.PIPE)
-    text = process.stdout.read()
+    text = process.stdout.read().decode("latin-1")
     _, status, usage = os.wait4(process.pid, 0)
-    if os.waitstatus_to_exitcode(status) > 1:
-        sys.exit(f"{program} {' '.join(words)} ends with {os.waitstatus_to_exitcode(status)}")
-    return text, usage.ru_utime + usage.ru_stime, usage.ru_maxrss * 1024
+    print(json.dumps([os.waitstatus_to_exitcode(status), text, usage.ru_utime + usage.ru_stime, usage.ru_maxrss * 1024]))
+
+
+def timed(program, words):
+    """What a run prints, its seconds and its peak. A process of its own starts it, since a peak is at least that of what starts the run."""
+    said = subprocess.run([sys.executable, __file__, MEASURE, program, *words], stdout=subprocess.PIPE, check=True).stdout
+    status, *found = json.loads(said)
+    if status > 1:
+        sys.exit(f"{program} {' '.join(words)} ends with {status}")
+    return found
 
 
 def counted(program, words):
@@ -146,4 +155,7 @@ def main():
 
 
 if __name__ == "__main__":
-    main()
+    if sys.argv[1:2] == [MEASURE]:
+        measure(sys.argv[2], sys.argv[3:])
+    else:
+        main()
