@@ -19,6 +19,6 @@ abbrev pub AreReadIn : AnswerForm → List JsonValue → List ℕ → Type 0
 AreReadIn Words values text = ⊤
 AreReadIn Json values text = ReadsAs text values
 
--- the value of the outcome
+-- in a text as JSON a reader finds the value of the outcome
 abbrev pub IsReadIn : AnswerForm → Outcome → List (List ℕ) → List ℕ → Type 0
 IsReadIn form outcome names text = AreReadIn form (outcome_value outcome names ∷ []) text
