@@ -14,19 +14,21 @@ use std::cmp::Ordering;
 use std::hash::{Hash, Hasher};
 use std::marker::Model;
 use std::simd::prelude::*;
+use std::sync::Arc;
 
 // How many bytes a short text has at most.
 const SHORT: usize = 14;
 
-// How many bytes a text of middling length has at most: an identifier of 25 bytes or a path has fewer. It takes one piece
-// of memory, and not two as a long one.
-const MIDDLING: usize = 40;
+// How many bytes a text of middling length has at most: an identifier of 25 bytes has fewer. It takes one piece of memory,
+// and not two as a long one.
+const MIDDLING: usize = 32;
 
 /// Where the bytes of a text lie. It has 16 bytes itself, since a sheet's records consist of texts for the most part.
+/// Copies of a text that isn't short share its memory.
 enum Bytes {
     Short { len: u8, bytes: [u8; SHORT] },
-    Middling { len: u8, bytes: Box<[u8; MIDDLING]> },
-    Long(Box<Vec<u8>>),
+    Middling { len: u8, bytes: Arc<[u8; MIDDLING]> },
+    Long(Arc<Vec<u8>>),
 }
 
 impl Drop for Bytes {
@@ -40,7 +42,8 @@ impl Drop for Bytes {
 }
 
 /// A byte string that owns its memory, compared, ordered and hashed as its bytes in their order.
-/// Up to 14 bytes lie in the value itself, and up to 40 in one piece of memory. Contracts see the list of the bytes alone.
+/// Up to 14 bytes lie in the value itself, and up to 32 in one piece of memory. A copy of a longer one shares its memory,
+/// so it takes none. Contracts see the list of the bytes alone.
 pub struct Text {
     alloc: Global,
     bytes: Bytes,
@@ -77,7 +80,7 @@ impl Text {
         let bytes = if bytes.len() <= MIDDLING {
             middling(alloc, bytes)?
         } else {
-            Bytes::Long(Box::new(alloc, Vec::from_slice(alloc, bytes)?)?)
+            Bytes::Long(Arc::new(alloc, Vec::from_slice(alloc, bytes)?)?)
         };
         Ok(Text { alloc, bytes })
     }
@@ -127,7 +130,7 @@ fn short(text: &[u8]) -> Bytes
 
 /// The bytes in one piece of memory.
 fn middling(alloc: Global, text: &[u8]) -> Result<Bytes, AllocError>
-    requires { length text.now ≤ 40 }
+    requires { length text.now ≤ 32 }
     ensures value { IfOk result (λ bytes. bytes_in bytes ≡ text.now) }
     ensures within { IfOk result IsWithin }
 {
@@ -135,7 +138,7 @@ fn middling(alloc: Global, text: &[u8]) -> Result<Bytes, AllocError>
     bytes[..text.len()].copy_from_slice(text);
     Ok(Bytes::Middling {
         len: text.len() as u8,
-        bytes: Box::new(alloc, bytes)?,
+        bytes: Arc::new(alloc, bytes)?,
     })
 }
 
@@ -260,11 +263,9 @@ impl Clone for Text {
             },
             Bytes::Middling { len, bytes } => Bytes::Middling {
                 len: *len,
-                bytes: Box::new(self.alloc, **bytes)?,
+                bytes: bytes.clone()?,
             },
-            Bytes::Long(bytes) => {
-                Bytes::Long(Box::new(self.alloc, Vec::from_slice(self.alloc, bytes)?)?)
-            }
+            Bytes::Long(bytes) => Bytes::Long(bytes.clone()?),
         };
         Ok(Text {
             alloc: self.alloc,

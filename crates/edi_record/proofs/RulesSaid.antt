@@ -2,27 +2,24 @@
 use Rattle.std.proofs.Common.{◌≡◌, ◌≢◌, ◌⊎◌, ◌≤◌, ℕ, ◌+◌, Bool, true, false, ◌&&◌, ◌||◌, not, cond, eqb, ltb, leb, List, [], ◌∷◌, ◌++◌, length, Option, Some, None, is_none, is_some, codes, bytes_eq, refl, sym, ap, ◌∙◌, subst, inl, inr, arith, Any}
 use Rattle.std.specs.Prelude.{option_and_then}
 use Rattle.std.specs.List.{list_any, before_first}
-use Rattle.std.specs.Str.{all_ascii_digits}
-use Rattle.std.specs.Str.Parse.{digits_value}
 use Rattle.std.proofs.lemmas.Bool.{both_ways, and_parts, and_from, or_cases, or_left, or_right, or_from, not-true, false_from_ne_true, le-leb, leb-true, lt-ltb, ltb-true, eqb-true, eq-eqb}
 use Rattle.std.proofs.lemmas.List.{append_assoc, append-nil}
 use Rattle.std.proofs.lemmas.List.Folds.{Any-from_list_any, list_any-from_Any}
 use Rattle.std.proofs.lemmas.Slice.Eq.{bytes_eq-Decides}
 use Rattle.edi_line.specs.Entry.{Entry, has_code, first}
 use Rattle.edi_line.specs.Refusal.{BreaksTest, IsUnbroken, IsLeastBroken}
-use Rattle.edi_line.proofs.NumberRead.{digits_test, test_digits}
 use Rattle.edi_record.specs.Records.{values, has_points, is_link, IsSince, opens, closes, points_at, IsExtraAt, States}
 use Rattle.edi_record.specs.RecordRefusal.{IsRecordRefusal}
-use Rattle.edi_record.specs.RecordRules.{just_one, is_identifier, has_no_identifier, IsOfKind, IsNoPointer, Counts, LacksKind, LacksClass, HasBadAttribute, CountsWrong, HasWrongCount, HasBadPoint, HasBadEnd, HasUnknownPointer, BreaksGroupRule, BreaksRecordRule}
+use Rattle.edi_record.specs.RecordRules.{just_one, is_identifier, has_no_identifier, IsOfKind, IsNoPointer, LacksKind, LacksClass, HasBadAttribute, CountsWrong, HasWrongCount, HasBadPoint, HasBadEnd, HasUnknownPointer, BreaksGroupRule, BreaksRecordRule}
 use Rattle.edi_record.specs.RecordRules.HasBadAttribute.{no_pointer as no_class_pointer, stray_value, second_set}
 use Rattle.edi_record.specs.RecordRules.HasWrongCount.{of_attributes, of_points, of_ends}
 use Rattle.edi_record.specs.RecordRules.HasBadPoint.{no_position, of_node, of_arc}
 use Rattle.edi_record.specs.RecordRules.HasBadEnd.{no_pointer as no_end_pointer, few as few_ends, stray_sense, second_sense}
 use Rattle.edi_record.specs.RecordRules.BreaksGroupRule.{lacks_kind, lacks_identifier, lacks_class, bad_attribute, wrong_count, bad_point, bad_end, unknown_pointer}
-use Rattle.edi_record.specs.Texts.{PointerText, IsPosition, IsCount}
-use Rattle.edi_record.specs.inner.RecordRules.{kind_named, kind_in, in_kind, is_node, is_arc, has_no_kind, has_no_class, some_no_pointer, count_until, repeats, has_bad_attribute, counts_right, counts_wrong, has_wrong_count, has_bad_point, is_unknown_pointer, has_unknown_pointer, record_tests, FailsTest}
+use Rattle.edi_record.specs.Texts.{PointerText, IsPosition}
+use Rattle.edi_record.specs.inner.RecordRules.{kind_named, kind_in, in_kind, is_node, is_arc, has_no_kind, has_no_class, some_no_pointer, count_until, repeats, has_bad_attribute, counts_wrong, has_wrong_count, has_bad_point, is_unknown_pointer, has_unknown_pointer, record_tests, FailsTest}
 use Rattle.edi_record.specs.inner.Records.{Placed, placed, is_open_after}
-use Rattle.edi_record.specs.inner.Texts.{pointer, point, count}
+use Rattle.edi_record.specs.inner.Texts.{pointer, point}
 use Rattle.edi_record.specs.declared.fault.RecordFault.{RecordFault}
 use Rattle.edi_record.specs.declared.fault.RecordFault.TheVariants as fault
 use Rattle.edi_record.specs.declared.record.Kind.{Kind}

@@ -1,17 +1,17 @@
 -- The zones of records in the order of the canonical file, with whatever identifiers they have: what is read again of
 -- them.
-use Rattle.std.specs.Prelude.{◌≡◌, ℕ, Bool, true, false, List, [], ◌∷◌, ◌++◌, map, length, flat_map, codes, Option, None, option_map, option_to_list, decimal, ◌<◌, ◌≤◌, ◌^◌, not, IfSome, bytes_eq}
+use Rattle.std.specs.Prelude.{◌≡◌, ℕ, Bool, true, false, List, [], ◌∷◌, ◌++◌, map, length, flat_map, codes, Option, None, option_map, option_to_list, ◌<◌, ◌≤◌, ◌^◌, not, IfSome, bytes_eq}
 use Rattle.std.specs.List.{AllByRecursion, AllZip, list_any}
 use Rattle.edi_line.specs.Zones.{IsZonesIn, groups_of, charset_of}
 use Rattle.edi_line.specs.Entry.{Entry}
 use Rattle.edi_line.specs.Spelling.{is_printable, Reading, AreReadings}
 use Rattle.edi_line.specs.Number.{size_of, MOST}
 use Rattle.edi_line.specs.inner.Number.{number}
-use Rattle.edi_line.specs.Printing.{zone_headed, printed, is_code, IsOneLine, IsPrintable}
+use Rattle.edi_line.specs.Printing.{printed, is_code, IsOneLine, IsPrintable}
 use Rattle.edi_record.specs.Texts.{HasNoSemicolon}
 use Rattle.edi_record.specs.Bytes.{letter_p}
 use Rattle.edi_record.specs.RecordRules.{BreaksGroupRule, is_identifier}
-use Rattle.edi_record.specs.Shapes.{kind_code, is_in_shape}
+use Rattle.edi_record.specs.Shapes.{is_in_shape}
 use Rattle.edi_record.specs.Records.{States, has_points, is_link, is_known, may_be_number}
 use Rattle.edi_record.specs.inner.Records.{value_of}
 use Rattle.edi_record.specs.declared.name.Name.{Name}

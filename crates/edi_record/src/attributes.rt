@@ -9,6 +9,7 @@ ghost use Rattle.edi_record.specs.inner.Stored.{Takes, StoresAttributes, LeavesO
 ghost use Rattle.edi_record.specs.declared.record.Attribute.{Attribute as AttributeMade};
 
 use crate::fault::GroupFault;
+use crate::long_texts::LongTexts;
 use crate::pointer::Pointer;
 use crate::record::Attribute;
 use edi_line::Text;
@@ -33,7 +34,7 @@ pub(crate) struct OpenAttribute<'a> {
 
 impl<'a> OpenAttribute<'a> {
     /// The attribute with this value.
-    fn attribute(self, alloc: Global, value: &[u8]) -> Result<Attribute, AllocError>
+    fn attribute(self, texts: &mut LongTexts, value: &[u8]) -> Result<Attribute, AllocError>
         ensures { IfOk result (λ a. a ≡ record {
           atp = record { rty = self.entry.class.rty.now; rid = self.entry.class.rid.now };
           tex = option_map (λ s. s.now) self.entry.set;
@@ -41,9 +42,9 @@ impl<'a> OpenAttribute<'a> {
         }) }
     {
         Ok(Attribute {
-            atp: self.class.name(alloc)?,
-            tex: copied(alloc, self.set)?,
-            atv: Text::from_slice(alloc, value)?,
+            atp: self.class.name(texts)?,
+            tex: copied(texts.alloc, self.set)?,
+            atv: Text::from_slice(texts.alloc, value)?,
         })
     }
 }
@@ -53,13 +54,13 @@ impl<'a> OpenAttribute<'a> {
 #[inline(never)]
 fn push_attribute(
     attributes: &mut Vec<Attribute>,
-    alloc: Global,
+    texts: &mut LongTexts,
     opened: &OpenAttribute<'_>,
     value: &[u8],
 ) -> Result<(), AllocError>
     ensures { OnOk result (attributes.new.items ≡ attributes.old.items ++ closed_with value.now (Some opened.now)) }
 {
-    attributes.push(opened.attribute(alloc, value)?)?;
+    attributes.push(opened.attribute(texts, value)?)?;
     Ok(())
 }
 
@@ -93,7 +94,7 @@ impl<'a> Attributes<'a> {
     /// Closes the attribute that is open, if one is, with this value.
     fn close(
         &mut self,
-        alloc: Global,
+        texts: &mut LongTexts,
         done: &mut Vec<Attribute>,
         value: &[u8],
     ) -> Result<(), AllocError>
@@ -102,7 +103,7 @@ impl<'a> Attributes<'a> {
         ensures done { OnOk result (done.new.items ≡ done.old.items ++ closed_with value.now self.old.opened) }
     {
         if let Some(opened) = &self.opened {
-            push_attribute(done, alloc, opened, value)?;
+            push_attribute(done, texts, opened, value)?;
             self.opened = None;
         }
         Ok(())
@@ -111,7 +112,7 @@ impl<'a> Attributes<'a> {
     /// Takes the class of the next attribute.
     pub(crate) fn take_class(
         &mut self,
-        alloc: Global,
+        texts: &mut LongTexts,
         done: &mut Vec<Attribute>,
         text: &'a [u8],
     ) -> Result<(), AllocError>
@@ -119,7 +120,7 @@ impl<'a> Attributes<'a> {
             (kept_attributes self.old done.old.items) (kept_attributes self.new done.new.items)) }
         ensures opens { OnOk result (LeavesOpen true self.old self.new) }
     {
-        self.close(alloc, done, &[])?;
+        self.close(texts, done, &[])?;
         match Pointer::read(text) {
             Some(class) => self.opened = Some(OpenAttribute { class, set: None }),
             None => self.is_broken = true,
@@ -149,7 +150,7 @@ impl<'a> Attributes<'a> {
     /// Takes a value.
     pub(crate) fn take_value(
         &mut self,
-        alloc: Global,
+        texts: &mut LongTexts,
         done: &mut Vec<Attribute>,
         text: &[u8],
     ) -> Result<(), AllocError>
@@ -161,7 +162,7 @@ impl<'a> Attributes<'a> {
             self.is_broken = true;
             return Ok(());
         }
-        self.close(alloc, done, text)?;
+        self.close(texts, done, text)?;
         Ok(())
     }
 
@@ -169,7 +170,7 @@ impl<'a> Attributes<'a> {
     /// attribute is open, or an open attribute has two character sets.
     pub(crate) fn finish(
         &mut self,
-        alloc: Global,
+        texts: &mut LongTexts,
         done: &mut Vec<Attribute>,
     ) -> Result<(), GroupFault>
         ensures states { OnOk result ((group : List Entry)
@@ -186,7 +187,7 @@ impl<'a> Attributes<'a> {
         if self.is_broken {
             return Err(GroupFault::Broken(204));
         }
-        self.close(alloc, done, &[])?;
+        self.close(texts, done, &[])?;
         Ok(())
     }
 }

@@ -90,13 +90,13 @@ impl<'a> Draft<'a> {
             ZoneRole::AttributeCount => self.attribute_count.take(text),
             ZoneRole::AttributeClass => {
                 self.attributes
-                    .take_class(alloc, &mut parts.attributes, text)?;
+                    .take_class(&mut parts.texts, &mut parts.attributes, text)?;
             }
             ZoneRole::AttributeSet if self.attributes.is_open() => self.attributes.take_set(text),
             ZoneRole::AttributeSet => self.extras.take(alloc, &mut parts.extras, zone)?,
             ZoneRole::AttributeValue => {
                 self.attributes
-                    .take_value(alloc, &mut parts.attributes, text)?;
+                    .take_value(&mut parts.texts, &mut parts.attributes, text)?;
             }
             ZoneRole::BodyCount => self.body_count.take(text),
             ZoneRole::Position => {
@@ -105,7 +105,8 @@ impl<'a> Draft<'a> {
             }
             ZoneRole::EndPointer => {
                 self.counted += 1;
-                self.ends.take_pointer(alloc, &mut parts.ends, text)?;
+                self.ends
+                    .take_pointer(&mut parts.texts, &mut parts.ends, text)?;
             }
             ZoneRole::EndSense => self.ends.take_sense(text),
             ZoneRole::Skipped => {}
@@ -137,19 +138,21 @@ impl<'a> Draft<'a> {
         let Some(class) = class_pointer(self.class) else {
             return Err(GroupFault::Broken(203));
         };
-        self.attributes.finish(alloc, &mut parts.attributes)?;
+        self.attributes
+            .finish(&mut parts.texts, &mut parts.attributes)?;
         if is_wrong(self.attribute_count, parts.attributes.len())
             || is_body_wrong(self.kind, self.body_count, self.counted)
         {
             return Err(GroupFault::Broken(205));
         }
         self.points.finish(self.kind, &mut parts.points)?;
-        self.ends.finish(alloc, self.kind, &mut parts.ends)?;
+        self.ends
+            .finish(&mut parts.texts, self.kind, &mut parts.ends)?;
         self.extras.finish()?;
         Ok(RecordHead {
             kind: self.kind,
             rid: Text::from_slice(alloc, rid)?,
-            scp: class.name(alloc)?,
+            scp: class.name(&mut parts.texts)?,
         })
     }
 }

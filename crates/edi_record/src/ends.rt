@@ -13,6 +13,7 @@ ghost use Rattle.edi_record.specs.declared.record.End.{End as EndMade};
 
 use crate::attributes::copied;
 use crate::fault::GroupFault;
+use crate::long_texts::LongTexts;
 use crate::name::Name;
 use crate::pointer::Pointer;
 use crate::record::{End, Kind};
@@ -28,7 +29,7 @@ pub(crate) struct OpenEnd<'a> {
 
 impl<'a> OpenEnd<'a> {
     /// The end, whatever its texts are.
-    fn end(self, alloc: Global) -> Result<End, AllocError>
+    fn end(self, texts: &mut LongTexts) -> Result<End, AllocError>
         ensures { IfOk result (λ e. e ≡ record {
           lot = self.entry.pointer.lot.now;
           subset = self.entry.pointer.subset.now;
@@ -37,10 +38,10 @@ impl<'a> OpenEnd<'a> {
         }) }
     {
         Ok(End {
-            lot: Text::from_slice(alloc, self.pointer.lot)?,
-            subset: Text::from_slice(alloc, self.pointer.subset)?,
-            target: self.pointer.name(alloc)?,
-            sns: copied(alloc, self.sense)?,
+            lot: texts.text(self.pointer.lot)?,
+            subset: texts.text(self.pointer.subset)?,
+            target: self.pointer.name(texts)?,
+            sns: copied(texts.alloc, self.sense)?,
         })
     }
 }
@@ -74,10 +75,14 @@ impl<'a> Pointer<'a> {
 
 /// Puts an end behind others, whatever its texts are.
 #[inline(never)]
-fn push_long(ends: &mut Vec<End>, alloc: Global, opened: &OpenEnd<'_>) -> Result<(), AllocError>
+fn push_long(
+    ends: &mut Vec<End>,
+    texts: &mut LongTexts,
+    opened: &OpenEnd<'_>,
+) -> Result<(), AllocError>
     ensures { OnOk result (ends.new.items ≡ ends.old.items ++ ended_with (Some opened.now)) }
 {
-    ends.push(opened.end(alloc)?)?;
+    ends.push(opened.end(texts)?)?;
     Ok(())
 }
 
@@ -97,15 +102,19 @@ fn push_short(ends: &mut Vec<End>, alloc: Global, pointer: Pointer<'_>)
 /// Puts an end behind others. A short one has a way of its own, since what other ends need would have to be made ready
 /// for each. It stands apart, so that where no end is open nothing is made ready.
 #[inline(never)]
-fn push_end(ends: &mut Vec<End>, alloc: Global, opened: &OpenEnd<'_>) -> Result<(), AllocError>
+fn push_end(
+    ends: &mut Vec<End>,
+    texts: &mut LongTexts,
+    opened: &OpenEnd<'_>,
+) -> Result<(), AllocError>
     ensures { OnOk result (ends.new.items ≡ ends.old.items ++ ended_with (Some opened.now)) }
 {
     if opened.sense.is_none() && opened.pointer.is_short() {
         ends.reserve(1)?;
-        push_short(ends, alloc, opened.pointer);
+        push_short(ends, texts.alloc, opened.pointer);
         return Ok(());
     }
-    push_long(ends, alloc, opened)
+    push_long(ends, texts, opened)
 }
 
 /// The end that is open among the zones that have come. It is closed by the next or by the end of the zones, and then
@@ -128,13 +137,13 @@ impl<'a> Ends<'a> {
     }
 
     /// Closes the end that is open, if one is.
-    fn close(&mut self, alloc: Global, done: &mut Vec<End>) -> Result<(), AllocError>
+    fn close(&mut self, texts: &mut LongTexts, done: &mut Vec<End>) -> Result<(), AllocError>
         ensures broken { OnOk result (self.new.is_broken ≡ self.old.is_broken) }
         ensures opened { OnOk result (self.new.opened ≡ None) }
         ensures done { OnOk result (done.new.items ≡ done.old.items ++ ended_with self.old.opened) }
     {
         if let Some(opened) = &self.opened {
-            push_end(done, alloc, opened)?;
+            push_end(done, texts, opened)?;
             self.opened = None;
         }
         Ok(())
@@ -143,14 +152,14 @@ impl<'a> Ends<'a> {
     /// Takes the pointer of the next end.
     pub(crate) fn take_pointer(
         &mut self,
-        alloc: Global,
+        texts: &mut LongTexts,
         done: &mut Vec<End>,
         text: &'a [u8],
     ) -> Result<(), AllocError>
         ensures { OnOk result (Takes StoresEnds (codes "FTP") text.entry.now (kept_ends self.old done.old.items)
             (kept_ends self.new done.new.items)) }
     {
-        self.close(alloc, done)?;
+        self.close(texts, done)?;
         match Pointer::read(text) {
             Some(pointer) => {
                 self.opened = Some(OpenEnd {
@@ -188,7 +197,7 @@ impl<'a> Ends<'a> {
     #[inline(always)]
     pub(crate) fn finish(
         &mut self,
-        alloc: Global,
+        texts: &mut LongTexts,
         kind: Kind,
         done: &mut Vec<End>,
     ) -> Result<(), GroupFault>
@@ -207,7 +216,7 @@ impl<'a> Ends<'a> {
             done.clear();
             return Ok(());
         }
-        self.close(alloc, done)?;
+        self.close(texts, done)?;
         if self.is_broken || done.len() < 2 {
             return Err(GroupFault::Broken(207));
         }

@@ -13,6 +13,7 @@ mod group_rules;
 pub mod groups;
 pub mod laws;
 pub mod list;
+mod long_texts;
 mod marked;
 pub mod name;
 mod only;

@@ -4,10 +4,11 @@ ghost use Rattle.std.specs.Prelude.{◌≡◌, ◌≤◌, IfOk, ℕ, List, Match
 ghost use Rattle.edi_record.specs.Texts.{PointerText, shown, IsPointer, IsPosition, IsCount};
 ghost use Rattle.edi_record.specs.declared.record.Point.{Point};
 
+use crate::long_texts::LongTexts;
 use crate::marked::cut;
 use crate::name::Name;
 use edi_line::Text;
-use std::alloc::{AllocError, Global};
+use std::alloc::AllocError;
 
 /// The four parts of a pointer.
 #[derive(Clone, Copy)]
@@ -52,26 +53,26 @@ impl<'a> Pointer<'a> {
     }
 
     /// The name of what it points at. One of short texts takes no memory, and is made without a way out.
-    pub(crate) fn name(self, alloc: Global) -> Result<Name, AllocError>
+    pub(crate) fn name(self, texts: &mut LongTexts) -> Result<Name, AllocError>
         ensures { IfOk result (λ n. n ≡ record { rty = self.entry.rty.now; rid = self.entry.rid.now }) }
     {
         if self.rty.len() <= Text::SHORT && self.rid.len() <= Text::SHORT {
             return Ok(Name {
-                rty: Text::short(alloc, self.rty),
-                rid: Text::short(alloc, self.rid),
+                rty: Text::short(texts.alloc, self.rty),
+                rid: Text::short(texts.alloc, self.rid),
             });
         }
-        self.long_name(alloc)
+        self.long_name(texts)
     }
 
     /// The name of what it points at, whatever its texts are.
     #[inline(never)]
-    fn long_name(self, alloc: Global) -> Result<Name, AllocError>
+    fn long_name(self, texts: &mut LongTexts) -> Result<Name, AllocError>
         ensures { IfOk result (λ n. n ≡ record { rty = self.entry.rty.now; rid = self.entry.rid.now }) }
     {
         Ok(Name {
-            rty: Text::from_slice(alloc, self.rty)?,
-            rid: Text::from_slice(alloc, self.rid)?,
+            rty: texts.text(self.rty)?,
+            rid: texts.text(self.rid)?,
         })
     }
 }

@@ -3,6 +3,7 @@
 ghost use Rattle.edi_record.specs.inner.RecordParts.{AreEmpty};
 
 use crate::flat_lists::empty;
+use crate::long_texts::LongTexts;
 use crate::name::Name;
 use crate::record::{Attribute, End, Extra, Kind, Point};
 use edi_line::Text;
@@ -16,14 +17,15 @@ pub(crate) struct RecordHead {
     pub(crate) scp: Name,
 }
 
-/// The parts of a record. They are written into these lists as its zones come, and move from here into those of a block,
-/// so a record is never moved whole.
+/// The parts of a record, and the long texts that came last. The parts are written into these lists as the record's zones
+/// come, and move from here into those of a block, so a record is never moved whole.
 #[derive(Drop)]
 pub(crate) struct RecordParts {
     pub(crate) points: Vec<Point>,
     pub(crate) ends: Vec<End>,
     pub(crate) attributes: Vec<Attribute>,
     pub(crate) extras: Vec<Extra>,
+    pub(crate) texts: LongTexts,
 }
 
 impl RecordParts {
@@ -36,6 +38,7 @@ impl RecordParts {
             ends: Vec::new(alloc),
             attributes: Vec::new(alloc),
             extras: Vec::new(alloc),
+            texts: LongTexts::new(alloc),
         }
     }
 

@@ -12,5 +12,5 @@ bytes_in (Long bytes) = bytes.value.items
 -- the length of a text that isn't long is within its room
 abbrev pub IsWithin : Bytes → Type 0
 IsWithin (Short len bytes) = len ≤ 14
-IsWithin (Middling len bytes) = len ≤ 40
+IsWithin (Middling len bytes) = len ≤ 32
 IsWithin (Long bytes) = Unit {0}

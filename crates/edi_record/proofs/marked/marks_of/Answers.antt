@@ -1,4 +1,4 @@
-use Rattle.std.proofs.Common.{sym, ap₂, subst, ◌+◌, ◌-◌, ◌*◌, ◌/◌, ◌%◌, ◌^◌, ◌∙◌, length, arith, Fits, w64}
+use Rattle.std.proofs.Common.{sym, ap₂, subst, ◌+◌, ◌-◌, ◌*◌, ◌/◌, ◌%◌, ◌^◌, ◌∙◌, length, Fits, w64}
 use lib.Lanes.{chunk}
 use Rattle.edi_record.specs.inner.Texts.{semicolon_marks}
 use Rattle.edi_record.proofs.TextMarks.{marks_joined, marks_fit}

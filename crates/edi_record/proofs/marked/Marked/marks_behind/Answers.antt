@@ -1,6 +1,5 @@
-use Rattle.std.proofs.Common.{◌≡◌, ◌/◌, ◌^◌, ◌+◌, ap, sym, ◌∙◌, drop, arith}
+use Rattle.std.proofs.Common.{◌≡◌, ◌/◌, ◌^◌, ◌+◌, ap, sym, ◌∙◌, arith}
 use Rattle.std.proofs.lemmas.List.{length-drop}
-use Rattle.edi_record.specs.inner.Texts.{semicolon_marks}
 use Rattle.edi_record.proofs.TextMarks.{marks_behind}
 use Rattle.edi_record.proofs.marked.Marked.marks_behind.Goals as goal
 

@@ -1,4 +1,4 @@
-use Rattle.std.proofs.Common.{Some, ap, sym, ◌∙◌, arith}
+use Rattle.std.proofs.Common.{Some, ap, ◌∙◌, arith}
 use lib.Count.{count_trailing_zeros}
 use Rattle.edi_record.proofs.TextMarks.{first_mark, no_mark}
 use Rattle.edi_record.proofs.marked.Marked.semicolon.Goals as goal

@@ -1,0 +1,88 @@
+//! Long texts that come again.
+
+ghost use Rattle.std.specs.Prelude.{◌≡◌, ◌<◌, ◌≤◌, length, IfOk, OnOk};
+
+use edi_line::Text;
+use std::alloc::{AllocError, Global};
+
+// How many long texts are kept.
+const SLOTS: usize = 1024;
+
+// How many bytes at the end of a text choose its slot.
+const LAST: usize = 8;
+
+// An odd number of 64 bits, by which the bytes that choose a slot are spread.
+const SPREAD: u64 = 0x9E37_79B9_7F4A_7C15;
+
+// How far the spread bytes are shifted, so that the number of a slot is left.
+const SHIFT: u32 = 54;
+
+/// The last long texts that came, each in the slot that its last bytes choose. The name of a class comes with each record of
+/// the class, and that of an arc with each link that joins it: such a text is made once, and its copies share its
+/// memory. Which texts are kept decides how much memory is taken, and nothing else.
+#[derive(Drop)]
+pub(crate) struct LongTexts {
+    pub(crate) alloc: Global,
+    /// None before the first long text has come.
+    slots: Vec<Text>,
+}
+
+/// The slot of a text.
+fn slot_of(text: &[u8]) -> usize
+    requires { 8 ≤ length text.now }
+    ensures { result < 1024 }
+{
+    let (_, last) = text.split_at(text.len() - LAST);
+    let [a, b, c, d, e, f, g, h] = last else {
+        return 0;
+    };
+    let number = u64::from_le_bytes([*a, *b, *c, *d, *e, *f, *g, *h]);
+    (number.wrapping_mul(SPREAD) >> SHIFT) as usize
+}
+
+impl LongTexts {
+    /// None has come.
+    pub(crate) fn new(alloc: Global) -> LongTexts {
+        LongTexts {
+            alloc,
+            slots: Vec::new(alloc),
+        }
+    }
+
+    /// Makes empty slots.
+    #[inline(never)]
+    fn make_slots(&mut self) -> Result<(), AllocError> {
+        for _ in 0..SLOTS {
+            self.slots.push(Text::short(self.alloc, &[]))?;
+        }
+        Ok(())
+    }
+
+    /// A text of these bytes. A short one takes no memory.
+    pub(crate) fn text(&mut self, bytes: &[u8]) -> Result<Text, AllocError>
+        ensures { IfOk result (λ text. text ≡ bytes.now) }
+    {
+        if bytes.len() <= Text::SHORT {
+            return Ok(Text::short(self.alloc, bytes));
+        }
+        self.long_text(bytes)
+    }
+
+    /// A text of these bytes, which shares the memory of the one in its slot where that has the same.
+    #[inline(never)]
+    fn long_text(&mut self, bytes: &[u8]) -> Result<Text, AllocError>
+        requires { 14 < length bytes.now }
+        ensures { IfOk result (λ text. text ≡ bytes.now) }
+    {
+        if self.slots.is_empty() {
+            self.make_slots()?;
+        }
+        let Some(known) = self.slots.get_mut(slot_of(bytes)) else {
+            return Text::from_slice(self.alloc, bytes);
+        };
+        if known.as_slice() != bytes {
+            *known = Text::from_slice(self.alloc, bytes)?;
+        }
+        known.clone()
+    }
+}
