@@ -17,7 +17,9 @@ ROOT = os.path.dirname(os.path.dirname(os.path.abspath(__file__)))
 
 # What is claimed, and the definitions that the contract of its call cites.
 CLAIMS = [
-    ("canon", "the canonical file of a sheet, or its refusal",
+    ("forms_decide_sameness", "the form of a sheet decides sameness; and the refusal of a sheet",
+     [("edi_compare", "Sameness", "DecidesSameness"), ("edi_compare", "Refused", "IsRefusal")]),
+    ("canon", "which file the form of a sheet is",
      [("edi_compare", "Headline", "IsFormOf"), ("edi_compare", "Refused", "IsRefusal")]),
     ("compare", "a pairing of two sheets, or the first line that differs",
      [("edi_compare", "Verdicts", "IsVerdict"), ("edi_compare", "Refused", "IsPairRefusal")]),
@@ -179,7 +181,7 @@ def count(items):
 
 def page(base):
     out = ["# What the claims rest on", "",
-           "Every definition that the contracts of six calls reach, file by file, from the claim down. Made by",
+           "Every definition that the contracts of seven functions reach, file by file, from the claim down. Made by",
            "`checks/reach.py`; the gate checks that it is current. [AUDIT.md](AUDIT.md) says how to read it.", ""]
     listed = set()
     for call, what, roots in CLAIMS:
