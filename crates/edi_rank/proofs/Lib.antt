@@ -15,6 +15,8 @@ pub mod LabelsMade
 pub mod LinksApart
 pub mod FacesApart
 pub mod Rankings
+pub mod RankingsThere
+pub mod LabelsThere
 pub mod OthersSorted
 pub mod KindNumbers
 pub mod LeastSides

@@ -109,10 +109,10 @@ pair_cmp a b = ordering_then (end_cmp a.0 b.0) (nat_cmp a.1 b.1)
 abbrev pub derived_pair_cmp : NumberedEnd × ℕ → NumberedEnd × ℕ → Ordering
 derived_pair_cmp a b = ordering_then (numbered_ends.cmp a.0 b.0) (nat_cmp a.1 b.1)
 
-pair_order : (a b : NumberedEnd × ℕ) → derived_pair_cmp a b ≡ pair_cmp a b
+pub pair_order : (a b : NumberedEnd × ℕ) → derived_pair_cmp a b ≡ pair_cmp a b
 pair_order a b = ap (λ o. ordering_then o (nat_cmp a.1 b.1)) (end_order a.0 b.0)
 
-pair_total : IsTotalOrder pair_cmp
+pub pair_total : IsTotalOrder pair_cmp
 pair_total = then_total (on_total (λ (a : NumberedEnd × ℕ). a.0) end_total) (on_total (λ (a : NumberedEnd × ℕ). a.1) nat_cmp_total)
 
 first_not_greater : (o q : Ordering) → is_gt (ordering_then o q) ≡ false → is_gt o ≡ false

@@ -2,7 +2,6 @@
 use Rattle.std.specs.Prelude.{ℕ, List, [], map, slice_index, unwrap_or}
 use Rattle.edi_record.specs.declared.record.Kind.{Kind}
 use Rattle.edi_record.specs.declared.record.Kind.TheVariants.{Pno, Par, Pfe, Fea, Lnk}
-use Rattle.edi_schema.specs.Classes.{Classes}
 use Rattle.edi_schema.specs.declared.role.Role.TheVariants.{Plain}
 use Rattle.edi_plan.specs.Places.{places_of, member_of}
 use Rattle.edi_plan.specs.Plans.{Drawing, record_at}
