@@ -1,4 +1,5 @@
 pub mod Counts
+pub mod KindZones
 pub mod ThreeBytes
 pub mod Putting
 pub mod Breaking

@@ -15,7 +15,7 @@ use itoa::Buffer;
 use std::alloc::AllocError;
 
 /// The zone of a record's type.
-#[tactic(auto, unfolding(edi_line::specs::Printing::printed_zone, edi_line::specs::Printing::broken_into, edi_line::specs::Printing::line_text, edi_line::specs::Printing::content_text))]
+#[tactic(auto, using(crate::proofs::KindZones::type_printed))]
 pub(crate) fn type_zone(kind: Kind) -> &'static [u8]
     ensures { result.now ≡ printed_zone (zone_headed (codes "RTYSA") (code_of_kind kind)) }
 {
