@@ -4,11 +4,16 @@
     cd crates/edicad && rt run -- --version                   builds out/edicad, or `rt ci` leaves it there
     python3 bench/parity.py OTHER [--records N] [--rounds N] [--instructions] [SORT ..]
                                                               from the top; OTHER is the path of a program
+    python3 bench/parity.py OTHER --phases [--keep]           instructions and allocations by phase, in file order
 
 A sort is one of those that SORTS names; without any, all are tried. Of each sheet: `check`, `canon` to a file, `compare` with its canonical
 file and with a sheet that differs, in turn, best of so many rounds (five). The answers and the canonical files must be equal. Printed: the
 ratio of the seconds of user and system time, and of the peak memory, which is some 12 MB at least; with --instructions the ratio of the
 instructions that callgrind counts, in one run of each.
+
+--phases puts a fault at the end of the sheet, for each phase one that this phase alone finds: what the phases up to it take is what a run
+takes to its refusal. It compares the built program with what phases.json says, and fails where a phase takes a tenth more instructions or
+allocations; --keep writes phases.json anew. All counts are those of callgrind, so they don't depend on what else the machine does.
 """
 import argparse
 import filecmp
@@ -37,6 +42,18 @@ SORTS = {
 }
 # how many records there are for each parcel
 RECORDS = {"objects": 14, "parcels": 12}
+# what each phase alone finds: the lines that are put before the last, and the rule
+NODE = ["RTYSA03:PNO", "RIDSA05:again", "SCPCP22:EDAB01;SeSD;PGE;NOD_id", "CORCC12:+0.00;+0.00;"]
+PHASES = [
+    ("lines and zones", ["?"], "101"),
+    ("records", ["RTYSA03:XYZ", "RIDSA01:a"], "201"),
+    ("names and plan", ["RTYSA03:PNO", "RIDSA05:wrong", "SCPCP22:EDAB01;SeSD;PGE;NON_id", "CORCC12:+0.00;+0.00;"], "302"),
+    ("topology", NODE, "403"),
+    ("objects", [line for k in "12" for line in ("RTYSA03:FEA", f"RIDSA05:alik{k}", "SCPCP27:EDAB01;SeSD;OBJ;PARCELLE_id")], "501"),
+]
+KEPT = os.path.join(HERE, "phases.json")
+# how much more a phase may take than was kept
+MORE = 1.1
 
 
 def long_name(name, width):
@@ -97,11 +114,31 @@ def timed(program, words):
     return found
 
 
-def counted(program, words):
-    """How many instructions a run takes."""
+def profiled(program, words):
+    """How many instructions and allocations a run takes, and what it prints."""
     with tempfile.NamedTemporaryFile() as report:
         said = subprocess.run(["valgrind", "--tool=callgrind", f"--callgrind-out-file={report.name}", program, *words], capture_output=True, text=True, check=False)
-    return int(re.search(r"Collected : (\d+)", said.stderr)[1])
+        calls = allocations(report.read().decode(errors="replace").split("\n"))
+    return int(re.search(r"Collected : (\d+)", said.stderr)[1]), calls, said.stdout
+
+
+def allocations(lines):
+    """How many calls of `malloc` and its kin a report of callgrind has."""
+    names, total, called = {}, 0, ""
+    for line in lines:
+        name = re.match(r"c?fn=\((\d+)\)(?: (.*))?$", line)
+        if name:
+            if name[2]:
+                names[name[1]] = name[2]
+            called = names.get(name[1], "") if line.startswith("c") else ""
+        elif line.startswith("calls=") and re.match(r"(malloc|calloc|realloc|posix_memalign|aligned_alloc)\b", called):
+            total += int(line[6:].split()[0])
+    return total
+
+
+def counted(program, words):
+    """How many instructions a run takes."""
+    return profiled(program, words)[0]
 
 
 def ratios(other, rounds, words_of):
@@ -139,6 +176,49 @@ def row(other, given, sort, folder):
     print(f"| {sort} | {len(texts[2]) / 1e6:.1f} MB | {' | '.join(found)} |", flush=True)
 
 
+def phases_of(program, names, vec, out):
+    """What each phase takes of a program, by name: instructions and allocations."""
+    found, before = {}, (0, 0)
+    lines = vec.decode().split("\n")
+    for phase, fault, rule in PHASES:
+        with open(names[2], "wb") as file:
+            file.write("\n".join([*lines[:-2], *fault, *lines[-2:]]).encode())
+        *counts, text = profiled(program, ["check", *names[:3]])
+        if f" {rule} " not in text:
+            sys.exit(f"{program} answers {text!r}, and not {rule}")
+        found[phase] = [now - then for now, then in zip(counts, before)]
+        before = counts
+    with open(names[2], "wb") as file:
+        file.write(vec)
+    *counts, _ = profiled(program, ["canon", *names[:3], out])
+    found["labels and writing"] = [now - then for now, then in zip(counts, before)]
+    return found
+
+
+def phases(other, given, folder):
+    """Prints the table of the phases, and ends with 1 where one takes a tenth more than was kept."""
+    texts = files_of("in file order", given.records)
+    names = [os.path.join(folder, it) for it in ("s", "d", "v")]
+    for name, text in zip(names, texts):
+        with open(name, "wb") as file:
+            file.write(text)
+    mine, theirs = (phases_of(program, names, texts[2], os.path.join(folder, "out")) for program in (PROGRAM, other))
+    print("| phase | instructions | ratio | allocations | the other's |\n|---|---|---|---|---|")
+    for phase, (count, calls) in mine.items():
+        print(f"| {phase} | {count / 1e6:.1f} M | {count / max(1, theirs[phase][0]):.2f} | {calls} | {theirs[phase][1]} |")
+    if given.keep:
+        with open(KEPT, "w", encoding="utf-8") as file:
+            file.write(json.dumps({"records": given.records, "phases": mine}, indent=1) + "\n")
+        return
+    with open(KEPT, encoding="utf-8") as file:
+        kept = json.load(file)
+    if kept["records"] != given.records:
+        sys.exit(f"{KEPT} has what {kept['records']} records take")
+    slower = [phase for phase, counts in mine.items() if any(now > MORE * then + 1000 for now, then in zip(counts, kept["phases"][phase]))]
+    if slower:
+        sys.exit(f"a tenth more than was kept: {', '.join(slower)}")
+
+
 def main():
     words = argparse.ArgumentParser(usage=__doc__)
     words.add_argument("other")
@@ -146,7 +226,14 @@ def main():
     words.add_argument("--records", type=int, default=100_000)
     words.add_argument("--rounds", type=int, default=5)
     words.add_argument("--instructions", action="store_true")
+    words.add_argument("--phases", action="store_true")
+    words.add_argument("--keep", action="store_true")
     given = words.parse_args()
+    if given.phases:
+        given.records = min(given.records, 30_000)
+        with tempfile.TemporaryDirectory() as folder:
+            phases(os.path.abspath(given.other), given, folder)
+        return
     what = "instructions" if given.instructions else "time (of the first), memory"
     print(f"{what}, {given.records} records\n\n| | size | `check` | `canon` | `compare`, same | different |\n|---|---|---|---|---|---|")
     with tempfile.TemporaryDirectory() as folder:
