@@ -88,3 +88,23 @@ pub marks_fit : (text : List ℕ) → 16 ≤ length text → length text ≤ 32
 marks_fit text long short =
     let joined = marks_joined text long short in
     subst (Fits w64) (sym joined) (omega (arith, marks-lt text, pow_mono {i = length text} {j = 32} short))
+
+-- what four vectors show of a text that they cover
+pub far_joined : (text : List ℕ) → 32 ≤ length text → length text < 64
+    → semicolon_marks (take 32 text) + (semicolon_marks (drop (length text - 32) text) / 2 ^ (64 - length text) * 2 ^ 32) % 2 ^ 64 ≡ semicolon_marks text
+far_joined text long short =
+    let last = drop (length text - 32) text in
+    let lasting : length last ≡ 32 = omega (arith, length-drop (length text - 32) text) in
+    let behind : (length text - 32) + (64 - length text) ≡ 32 = omega arith in
+    let others : semicolon_marks last / 2 ^ (64 - length text) ≡ semicolon_marks (drop 32 text)
+    = marks_behind last (64 - length text) (omega (arith, lasting)) ∙ ap semicolon_marks (drop-drop (64 - length text) (length text - 32) text ∙ ap (λ n. drop n text) behind) in
+    let left : length (drop 32 text) ≤ 32 = omega (arith, length-drop 32 text) in
+    let few : semicolon_marks (drop 32 text) < 2 ^ 32 = omega (arith, marks-lt (drop 32 text), pow_mono {i = length (drop 32 text)} {j = 32} left) in
+    let split : semicolon_marks text ≡ semicolon_marks (drop 32 text) * 2 ^ 32 + semicolon_marks (take 32 text) = marks_split text 32 long in
+    ap (λ m. semicolon_marks (take 32 text) + (m * 2 ^ 32) % 2 ^ 64) others ∙ omega (arith, few, split)
+
+pub far_fit : (text : List ℕ) → 32 ≤ length text → length text < 64
+    → Fits w64 (semicolon_marks (take 32 text) + (semicolon_marks (drop (length text - 32) text) / 2 ^ (64 - length text) * 2 ^ 32) % 2 ^ 64)
+far_fit text long short =
+    let joined = far_joined text long short in
+    subst (Fits w64) (sym joined) (omega (arith, marks-lt text, pow_mono {i = length text} {j = 63} (omega (arith, short))))

@@ -10,8 +10,9 @@ use std::simd::prelude::*;
 // How many bytes are looked at at once.
 const LANES: usize = 16;
 
-/// A text, and its semicolons, a bit each, if it has 16 to 32 bytes, as nearly each text of a pointer or a position
-/// has. Two vectors cover so many; then a cut takes some instructions where a search takes some for each byte.
+/// A text, and its semicolons, a bit each, if it has 16 to 63 bytes, as nearly each text of a pointer or a position
+/// has. Two vectors cover 32, and four as many as there are bits; then a cut takes some instructions where a search takes
+/// some for each byte.
 #[derive(Clone, Copy)]
 pub(crate) struct Marked<'a> {
     pub(crate) text: &'a [u8],
@@ -38,6 +39,18 @@ fn marks_of(text: &[u8]) -> u64
     first + (others << LANES)
 }
 
+/// The semicolons of a text that four vectors cover: two have its first bytes, and two its last.
+fn marks_of_long(text: &[u8]) -> u64
+    requires long { 32 ≤ length text.now }
+    requires short { length text.now < 64 }
+    ensures { result ≡ semicolon_marks text.now }
+{
+    let (first, _) = text.split_at(2 * LANES);
+    let (_, last) = text.split_at(text.len() - 2 * LANES);
+    let others = marks_of(last) >> (4 * LANES - text.len());
+    marks_of(first) + (others << (2 * LANES))
+}
+
 /// The bytes before the first semicolon of a text, and those after it.
 pub(crate) fn cut(text: &[u8]) -> Option<(&[u8], Marked<'_>)>
     ensures { AreCut text.now (option_map (λ p. (p.0.now, p.1.text.now)) result) }
@@ -45,17 +58,28 @@ pub(crate) fn cut(text: &[u8]) -> Option<(&[u8], Marked<'_>)>
     Marked::of(text).cut()
 }
 
+/// The semicolons of a text, if vectors cover it.
+fn marks_if_covered(text: &[u8]) -> Option<u64>
+    ensures { ForSome result (AreMarks text.now) }
+{
+    if text.len() < LANES || text.len() >= 4 * LANES {
+        return None;
+    }
+    if text.len() <= 2 * LANES {
+        return Some(marks_of(text));
+    }
+    Some(marks_of_long(text))
+}
+
 impl<'a> Marked<'a> {
     /// A text, of which nothing has been cut yet.
     fn of(text: &'a [u8]) -> Marked<'a>
         ensures { result.text.now ≡ text.entry.now }
     {
-        let marks = if LANES <= text.len() && text.len() <= 2 * LANES {
-            Some(marks_of(text))
-        } else {
-            None
-        };
-        Marked { text, marks }
+        Marked {
+            text,
+            marks: marks_if_covered(text),
+        }
     }
 
     /// The bytes before the first semicolon, and those after it.

@@ -1,5 +1,5 @@
 -- Texts of pointers, of places and of counts, part by part: what reading finds.
-use Rattle.std.specs.Prelude.{◌≡◌, ℕ, ◌≤◌, ◌&&◌, nat_lt, List, [], ◌∷◌, length, map, if◌then◌else◌, Option, Some, None, option_map, ℤ}
+use Rattle.std.specs.Prelude.{◌≡◌, ℕ, ◌<◌, ◌&&◌, nat_lt, List, [], ◌∷◌, length, map, if◌then◌else◌, Option, Some, None, option_map, ℤ}
 use Rattle.std.specs.Simd.Lanes.{mask_l}
 use Rattle.std.specs.List.{slice_split}
 use Rattle.std.specs.Str.{all_ascii_digits}
@@ -61,9 +61,9 @@ count text = if nat_lt 0 (length text) && all_ascii_digits text then Some (digit
 abbrev pub semicolon_marks : List ℕ → ℕ
 semicolon_marks text = mask_l (map is_semicolon text)
 
--- these are the semicolons of a text, which has 32 bytes at most
+-- these are the semicolons of a text, which has fewer bytes than a number has bits
 abbrev pub AreMarks : List ℕ → ℕ → Type 0
-AreMarks text marks = (length text ≤ 32) × (marks ≡ semicolon_marks text)
+AreMarks text marks = (length text < 64) × (marks ≡ semicolon_marks text)
 
 -- the text is cut at its first semicolon, or has none
 abbrev pub AreCut : List ℕ → Option (List ℕ × List ℕ) → Type 0
