@@ -1,5 +1,4 @@
 pub mod Built
-pub mod RecordBlocks
 pub mod RecordLists
 pub mod Orders
 pub mod DerivedOrders

@@ -1,4 +1,3 @@
-pub mod RecordBlocks
 pub mod RecordLists
 pub mod Done
 pub mod LinkNames

@@ -15,8 +15,6 @@ mod places;
 pub mod plan;
 mod planned;
 pub mod record;
-mod record_block;
-mod record_list;
 mod records;
 pub mod reference_findings;
 mod references;

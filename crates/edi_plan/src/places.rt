@@ -5,9 +5,9 @@ ghost use Rattle.edi_line.specs.Bytes.{most_records};
 ghost use Rattle.edi_record.specs.declared.record.Kind.{Kind as Kinds};
 ghost use Rattle.edi_plan.specs.inner.Places.{listed, ArePlacesOf};
 ghost use Rattle.edi_plan.specs.Plans.{same_kind};
-ghost use Rattle.edi_plan.specs.inner.RecordLists.{records_of, AreWithin};
+ghost use Rattle.edi_plan.specs.inner.RecordLists.{records_of};
 
-use crate::record_list::RecordList;
+use crate::planned::RecordList;
 use edi_record::Kind;
 use std::alloc::{AllocError, Global};
 
@@ -69,13 +69,12 @@ impl Places {
 
     /// The types of these records, and their places, from 0.
     pub(crate) fn among(alloc: Global, list: &RecordList) -> Result<Places, AllocError>
-        requires few { length (records_of list.now) ≤ most_records }
-        requires within { AreWithin list.now }
+        requires { length list.now ≤ most_records }
         ensures { IfOk result (ArePlacesOf (records_of list.now)) }
     {
         let mut places = Places::none(alloc);
         for place in 0..list.len() {
-            places.add(list.kind(place), place as u32)?;
+            places.add(list.record(place).head.kind, place as u32)?;
         }
         Ok(places)
     }

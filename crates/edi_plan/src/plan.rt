@@ -3,8 +3,8 @@ ghost use Rattle.edi_line.specs.Refusal.{IsUnbroken};
 
 use crate::fault::RefFault;
 use crate::places::Places;
+use crate::planned::RecordList;
 use crate::record::{PlanAttribute, PlanEnd};
-use crate::record_list::RecordList;
 use crate::records::plan_records;
 use crate::references::References;
 use edi_line::{Sequence, Text};
@@ -36,14 +36,14 @@ impl Model for Plan {
     ghost use Rattle.edi_plan.specs.Plans.{Drawing};
     ghost use Rattle.edi_plan.specs.inner.Places.{ArePlacesOf};
     ghost use Rattle.edi_plan.specs.inner.SideTable.{HoldsSides};
-    ghost use Rattle.edi_plan.specs.inner.RecordLists.{records_of, AreWithin};
+    ghost use Rattle.edi_plan.specs.inner.RecordLists.{records_of};
 
     ghost Value = { Drawing };
 
     ghost view = { λ p. record { cse = p.cse; list = records_of p.list } };
 
     ghost invariant = { λ p. HoldsSides (record { cse = p.cse; list = records_of p.list }) p.sides
-        × ArePlacesOf (records_of p.list) p.places × AreWithin p.list };
+        × ArePlacesOf (records_of p.list) p.places };
 }
 
 impl Plan {
@@ -107,7 +107,7 @@ impl Plan {
         requires { IsPlace self.now place }
         ensures { result ≡ (record_at self.now place).class }
     {
-        self.list.class(place as usize)
+        self.list.record(place as usize).head.class
     }
 
     /// The kind of link that the class of a record has. It says something of links alone, though records of other types
@@ -116,7 +116,7 @@ impl Plan {
         requires { IsPlace self.now place }
         ensures { result ≡ (record_at self.now place).role }
     {
-        self.list.role(place as usize)
+        self.list.record(place as usize).head.role
     }
 
     /// The points of a node or an arc, in file order; their coordinates are whole millionths of the file's unit.
@@ -124,7 +124,7 @@ impl Plan {
         requires { IsPlace self.now place }
         ensures { result.now ≡ (record_at self.now place).points }
     {
-        self.list.points(place as usize)
+        self.list.record(place as usize).points
     }
 
     /// The attributes of a record, in file order.
@@ -132,7 +132,7 @@ impl Plan {
         requires { IsPlace self.now place }
         ensures { result.now ≡ (record_at self.now place).attributes }
     {
-        self.list.attributes(place as usize)
+        self.list.record(place as usize).attributes
     }
 
     /// The extra zones of a record, in file order.
@@ -140,7 +140,7 @@ impl Plan {
         requires { IsPlace self.now place }
         ensures { result.now ≡ (record_at self.now place).extras }
     {
-        self.list.extras(place as usize)
+        self.list.record(place as usize).extras
     }
 
     /// The ends of a link, the origin first.
@@ -148,7 +148,7 @@ impl Plan {
         requires { IsPlace self.now place }
         ensures { result.now ≡ (record_at self.now place).ends }
     {
-        self.list.ends(place as usize)
+        self.list.record(place as usize).ends
     }
 
     /// The node or the face that an arc has by its link of a role, or `None` where it has no such link.

@@ -1,9 +1,25 @@
-//! A record on its way into a plan.
+//! The records of a plan, and one on its way there.
+
+ghost use Rattle.std.specs.Prelude.{◌≡◌, ◌∷◌, ◌++◌, [], OnOk};
+ghost use Rattle.edi_plan.specs.inner.RecordLists.{records_of};
 
 use crate::record::{PlanAttribute, PlanEnd};
-use edi_record::{Extra, Kind, Point};
+use crate::spare_parts::SpareParts;
+use edi_record::{Blocks, Extra, Kind, Point};
 use edi_schema::{ClassRef, Role};
+use std::alloc::AllocError;
 use std::marker::Model;
+
+/// A record of a plan but for its parts.
+#[derive(Clone, Copy)]
+pub(crate) struct PlanHead {
+    pub(crate) kind: Kind,
+    pub(crate) class: ClassRef,
+    pub(crate) role: Role,
+}
+
+/// The records of a plan, by their places.
+pub(crate) type RecordList = Blocks<PlanHead, PlanAttribute, PlanEnd>;
 
 /// A record of a plan, whose points are still those of the sheet. Contracts see the record.
 #[derive(Drop)]
@@ -31,4 +47,28 @@ impl<'a> Model for PlannedRecord<'a> {
       extras = r.extras.items;
       ends = r.ends.items;
     } };
+}
+
+impl<'a> PlannedRecord<'a> {
+    /// Puts the record behind those of a list. Its lists, emptied, are the answer.
+    pub(crate) fn put_behind(self, list: &mut RecordList) -> Result<SpareParts, AllocError>
+        ensures { OnOk result (records_of list.new ≡ records_of list.old ++ self.entry ∷ []) }
+    {
+        let PlannedRecord {
+            kind,
+            class,
+            role,
+            points,
+            mut attributes,
+            mut extras,
+            mut ends,
+        } = self;
+        let head = PlanHead { kind, class, role };
+        list.push_beside(head, points, &mut ends, &mut attributes, &mut extras)?;
+        Ok(SpareParts {
+            attributes,
+            extras,
+            ends,
+        })
+    }
 }

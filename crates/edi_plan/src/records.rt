@@ -13,13 +13,12 @@ ghost use Rattle.edi_plan.specs.ReferenceRules.{BreaksReferenceRule};
 ghost use Rattle.edi_plan.specs.inner.Finders.{AreOf};
 ghost use Rattle.edi_plan.specs.inner.Resolving.{is_elsewhere, leaves, reference_tests, role_of_link, AreGiven, Gives, AreReferences, IsPlanned, IsUnresolved, LacksClass, Resolves};
 ghost use Rattle.edi_plan.specs.inner.SideTable.{link_join, HaveEntries, IsNoted};
-ghost use Rattle.edi_plan.specs.inner.RecordLists.{records_of, AreWithin};
+ghost use Rattle.edi_plan.specs.inner.RecordLists.{records_of};
 
 use crate::class_finders::ClassFinders;
 use crate::fault::{RefFault, Unresolved};
-use crate::planned::PlannedRecord;
+use crate::planned::{PlannedRecord, RecordList};
 use crate::record::{PlanAttribute, PlanEnd};
-use crate::record_list::RecordList;
 use crate::references::{References, Subset};
 use crate::sides::{note_link, without_links};
 use crate::spare_parts::SpareParts;
@@ -279,7 +278,6 @@ pub(crate) fn plan_records(
 ) -> Result<Planned, RefFault>
     requires few { length records ≤ most_records }
     requires references { AreReferences records references.now }
-    ensures within { IfOk result (λ p. AreWithin p.list) }
     ensures each { IfOk result (λ p. AllZip (StatesPlanRecord schema.now records) records (records_of p.list)) }
     ensures sides { IfOk result (λ p. IsDone schema.now records (length records) p.sides.items) }
     ensures least { IfErr result (IsRecordRefusal (BreaksReferenceRule schema.now records)) }
@@ -308,7 +306,7 @@ pub(crate) fn plan_records(
             &record,
             spare,
         ) {
-            Ok(planned) => spare = list.push(planned)?,
+            Ok(planned) => spare = planned.put_behind(&mut list)?,
             Err(Unresolved::Memory(error)) => return Err(RefFault::Memory(error)),
             Err(Unresolved::Broken(rule)) => return Err(broken(rule, place)),
         }

@@ -1,7 +1,14 @@
 -- One record less of a list in two parts, of which the first is gone through from a place on.
-use Rattle.std.proofs.Common.{◌≡◌, ℕ, zero, suc, ◌+◌, ◌<◌, ◌≤◌, List, [], ◌∷◌, ◌++◌, length, drop, refl, sym, ap, ◌∙◌, arith}
+use Rattle.std.proofs.Common.{◌≡◌, ℕ, zero, suc, ◌+◌, ◌<◌, ◌≤◌, List, [], ◌∷◌, ◌++◌}
+use Rattle.std.proofs.Common.{length, drop, slice_get, Some, refl, sym, ap, ◌∙◌, arith}
 
 module _ {X : Type 0} where
+  -- the first that is left
+  pub first_left : (xs ys : List X) (k : ℕ) (x : X) → slice_get xs k ≡ Some x → slice_get (drop k xs ++ ys) 0 ≡ Some x
+  first_left [] ys k x here = absurd (cc)
+  first_left (y ∷ xs) ys zero x here = here
+  first_left (y ∷ xs) ys (suc k) x here = first_left xs ys k x here
+
   -- within the first part
   pub one_further : (xs ys : List X) (k n : ℕ) → n ≡ suc k → n < length xs → drop n xs ++ ys ≡ drop 1 (drop k xs ++ ys)
   one_further xs ys k n is less = ap (λ m. drop m xs ++ ys) is ∙ go xs k (omega (arith, is, less))

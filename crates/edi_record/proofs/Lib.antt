@@ -30,8 +30,8 @@ pub mod Unnumbered
 pub mod Sound
 pub mod ValueOrder
 pub mod KindOrder
-pub mod SheetBlocks
-pub mod BlockLists
+pub mod FlatRecords
+pub mod InBlocks
 pub mod GoneThrough
 pub mod StatedAt
 pub mod GroupRules

@@ -3,6 +3,7 @@ pub mod Bytes
 pub mod Texts
 pub mod Shapes
 pub mod Records
+pub mod AnyRecords
 pub mod RecordRules
 pub mod RecordRefusal
 pub mod CanonicalZones

@@ -7,7 +7,8 @@ pub mod RecordParts
 pub mod RecordRefusal
 pub mod Lists
 pub mod Shapes
-pub mod SheetBlocks
+pub mod PartLists
+pub mod FlatRecords
 pub mod BlockLists
 pub mod SheetRest
 pub mod GroupRules

@@ -1,12 +1,10 @@
 //! Parts of flat lists, in which the parts of records lie one behind the other.
 
-ghost use Rattle.std.specs.Prelude.{◌≡◌, ◌+◌, ◌≤◌, ◌<◌, ◌∷◌, ◌++◌, [], length, slice_range, IfOk, OnOk};
+ghost use Rattle.std.specs.Prelude.{◌≡◌, ◌+◌, ◌≤◌, ◌<◌, ◌∷◌, ◌++◌, [], length, slice_range, IfOk, OnOk, OnErr};
 ghost use Rattle.std.specs.Vec.{vec_len, vec_capacity};
-ghost use Rattle.std.specs.Vec.Iter.{into_iter_items};
 
 use std::alloc::{AllocError, Global};
 use std::mem;
-use std::vec::IntoIter;
 
 /// How many elements a list may have room for and still be kept for later ones.
 const MOST_KEPT: usize = 65_536;
@@ -66,6 +64,17 @@ pub(crate) fn append<T: Drop>(list: &mut Vec<T>, items: &mut Vec<T>)
         return;
     }
     move_behind(list, items);
+}
+
+/// Copies elements behind those of a list.
+pub(crate) fn copy_behind<T: Copy>(list: &mut Vec<T>, items: &[T]) -> Result<(), AllocError>
+    ensures copied { OnOk result (list.new.items ≡ list.old.items ++ items.now) }
+    ensures unchanged { OnErr result (list.new.items ≡ list.old.items) }
+{
+    if items.is_empty() {
+        return Ok(());
+    }
+    list.extend_from_slice(items)
 }
 
 /// Empties a list. It is kept for later elements unless it has room for very many.

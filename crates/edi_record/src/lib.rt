@@ -1,7 +1,10 @@
 //! Pointers, and the records that the zones of a file state.
 #![tactic(auto)]
 
+pub mod any_record;
 mod attributes;
+mod block;
+pub mod blocks;
 pub mod broken;
 mod counts;
 mod draft;
@@ -17,6 +20,7 @@ mod long_texts;
 mod marked;
 pub mod name;
 mod only;
+mod part_lists;
 pub mod pointer;
 mod points;
 pub mod reading;
@@ -25,12 +29,12 @@ mod record_parts;
 pub mod record_ref;
 mod role;
 pub mod sheet;
-pub mod sheet_block;
-mod sheet_blocks;
 pub mod sheet_records;
 pub mod sheet_rest;
 mod stating;
 
+pub use any_record::AnyRecordRef;
+pub use blocks::Blocks;
 pub use broken::broken_records_from;
 pub use counts::is_count;
 pub use fault::{RecordFault, SheetFault};
@@ -47,6 +51,5 @@ pub use reading::{
 pub use record::{Attribute, End, Extra, Kind, Point, Record, Value};
 pub use record_ref::RecordRef;
 pub use sheet::Sheet;
-pub use sheet_block::Stops;
 pub use sheet_records::SheetRecords;
 pub use sheet_rest::SheetRest;

@@ -10,11 +10,22 @@ use edi_line::Text;
 use std::alloc::Global;
 
 /// A record but for its parts.
-#[derive(Drop)]
 pub(crate) struct RecordHead {
     pub(crate) kind: Kind,
     pub(crate) rid: Text,
     pub(crate) scp: Name,
+}
+
+impl Drop for RecordHead {
+    // As for ends, a call for each would take more than to let it go.
+    #[inline(always)]
+    fn drop(self) {
+        let RecordHead {
+            kind: _,
+            rid: _,
+            scp: _,
+        } = self;
+    }
 }
 
 /// The parts of a record, and the long texts that came last. The parts are written into these lists as the record's zones

@@ -1,9 +1,13 @@
 //! A record whose parts lie elsewhere.
 
 ghost use Rattle.std.specs.Prelude.{◌≡◌};
+ghost use Rattle.edi_record.specs.AnyRecords.{record_lent};
+ghost use Rattle.edi_record.specs.inner.RecordParts.{record_of};
 
+use crate::any_record::AnyRecordRef;
 use crate::name::Name;
 use crate::record::{Attribute, End, Extra, Kind, Point, Record};
+use crate::record_parts::RecordHead;
 use edi_line::Text;
 use std::marker::Model;
 
@@ -36,6 +40,21 @@ impl<'a> Model for RecordRef<'a> {
 }
 
 impl<'a> RecordRef<'a> {
+    /// The record with this head and these parts.
+    pub(crate) fn of(found: AnyRecordRef<'a, RecordHead, Attribute, End>) -> RecordRef<'a>
+        ensures { result ≡ record_of (record_lent found.entry) }
+    {
+        RecordRef {
+            kind: found.head.kind,
+            rid: &found.head.rid,
+            scp: &found.head.scp,
+            points: found.points,
+            ends: found.ends,
+            attributes: found.attributes,
+            extras: found.extras,
+        }
+    }
+
     /// The type of the record.
     pub fn kind(&self) -> Kind
         ensures { result ≡ self.now.kind }

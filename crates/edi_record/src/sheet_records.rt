@@ -4,10 +4,10 @@ ghost use Rattle.std.specs.Prelude.{◌≡◌, ◌↔◌, ◌<◌, ◌^◌, ◌�
 ghost use Rattle.edi_record.specs.Shapes.{stated_at};
 ghost use Rattle.edi_record.specs.inner.RecordParts.{whole};
 
-use crate::record::{End, Kind};
+use crate::blocks::Blocks;
+use crate::record::{Attribute, End, Kind};
 use crate::record_parts::{RecordHead, RecordParts};
 use crate::record_ref::RecordRef;
-use crate::sheet_blocks::SheetBlocks;
 use crate::sheet_rest::SheetRest;
 use edi_line::Text;
 use std::alloc::{AllocError, Global};
@@ -15,7 +15,7 @@ use std::marker::Model;
 
 /// The records of a sheet, in file order. Contracts see the list of records alone.
 pub struct SheetRecords {
-    blocks: SheetBlocks,
+    blocks: Blocks<RecordHead, Attribute, End>,
 }
 
 impl Drop for SheetRecords {
@@ -30,11 +30,9 @@ impl Model for SheetRecords {
 
     ghost Value = { List Record };
 
-    ghost use Rattle.edi_record.specs.inner.BlockLists.{records_of, AreWithin};
+    ghost use Rattle.edi_record.specs.inner.RecordParts.{records_of};
 
     ghost view = { λ records. records_of records.blocks };
-
-    ghost invariant = { λ records. AreWithin records.blocks };
 }
 
 impl SheetRecords {
@@ -43,7 +41,7 @@ impl SheetRecords {
         ensures { result ≡ [] }
     {
         SheetRecords {
-            blocks: SheetBlocks::new(alloc),
+            blocks: Blocks::new(alloc),
         }
     }
 
@@ -56,7 +54,13 @@ impl SheetRecords {
         ensures records { OnOk result (self.new ≡ self.old ++ whole head parts.old ∷ []) }
         ensures unchanged { OnErr result (self.new ≡ self.old) }
     {
-        self.blocks.push(head, parts)
+        self.blocks.push(
+            head,
+            &mut parts.points,
+            &mut parts.ends,
+            &mut parts.attributes,
+            &mut parts.extras,
+        )
     }
 
     /// How many records there are.
@@ -79,7 +83,7 @@ impl SheetRecords {
         requires { place < length self.now }
         ensures { slice_get self.now place ≡ Some result }
     {
-        self.blocks.record(place)
+        RecordRef::of(self.blocks.record(place))
     }
 
     /// The type of a record, by its place from 0.
@@ -87,7 +91,7 @@ impl SheetRecords {
         requires { place < length self.now }
         ensures { result ≡ (stated_at self.now place).kind }
     {
-        self.blocks.kind(place)
+        self.blocks.record(place).head.kind
     }
 
     /// The identifier of a record, by its place from 0.
@@ -95,7 +99,7 @@ impl SheetRecords {
         requires { place < length self.now }
         ensures { result.now ≡ (stated_at self.now place).rid }
     {
-        self.blocks.rid(place)
+        &self.blocks.record(place).head.rid
     }
 
     /// The ends of a record, by its place from 0: none if it is no link.
@@ -103,7 +107,7 @@ impl SheetRecords {
         requires { place < length self.now }
         ensures { result.now ≡ (stated_at self.now place).ends }
     {
-        self.blocks.ends(place)
+        self.blocks.record(place).ends
     }
 
     /// The records, to be gone through once and let go on the way.

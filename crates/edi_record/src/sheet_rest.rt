@@ -1,13 +1,14 @@
 //! The records of a sheet, as they are gone through.
 
 ghost use Rattle.std.specs.Prelude.{◌≡◌, ◌++◌, [], Some, drop, slice_get, MatchOption};
-ghost use Rattle.edi_record.specs.inner.SheetBlocks.{no_stops, records_in, AreParts};
-ghost use Rattle.edi_record.specs.inner.BlockLists.{records_of, AreWithin};
-ghost use Rattle.edi_record.specs.inner.SheetRest.{records_ahead, AreAhead};
+ghost use Rattle.edi_record.specs.inner.RecordParts.{records_of};
+ghost use Rattle.edi_record.specs.inner.SheetRest.{all_ahead, AreAhead};
 
+use crate::block::Block;
+use crate::blocks::Blocks;
+use crate::record::{Attribute, End};
+use crate::record_parts::RecordHead;
 use crate::record_ref::RecordRef;
-use crate::sheet_block::SheetBlock;
-use crate::sheet_blocks::SheetBlocks;
 use std::alloc::Global;
 use std::marker::Model;
 use std::mem;
@@ -16,8 +17,8 @@ use std::vec::IntoIter;
 /// The blocks ahead: closed ones, and the last, which has no records once it has been taken.
 pub(crate) struct BlocksAhead {
     pub(crate) alloc: Global,
-    pub(crate) closed: IntoIter<SheetBlock>,
-    pub(crate) last: SheetBlock,
+    pub(crate) closed: IntoIter<Block<RecordHead, Attribute, End>>,
+    pub(crate) last: Block<RecordHead, Attribute, End>,
 }
 
 impl Drop for BlocksAhead {
@@ -32,17 +33,16 @@ impl Drop for BlocksAhead {
 
 impl BlocksAhead {
     /// The next block; or one of no records, if there is none.
-    #[tactic(auto, unfolding(crate::specs::inner::SheetRest::records_ahead))]
-    fn next(&mut self) -> SheetBlock
+    #[tactic(auto, unfolding(crate::specs::inner::BlockLists::joined))]
+    fn next(&mut self) -> Block<RecordHead, Attribute, End>
         requires { AreAhead self.old }
-        ensures records { records_in result ++ records_ahead self.new ≡ records_ahead self.old }
-        ensures parts { AreParts result no_stops result.heads.items }
+        ensures records { result ++ all_ahead self.new ≡ all_ahead self.old }
         ensures ahead { AreAhead self.new }
-        ensures none { records_in result ≡ [] → records_ahead self.new ≡ [] }
+        ensures none { result ≡ [] → all_ahead self.new ≡ [] }
     {
         match self.closed.next() {
             Some(block) => block,
-            None => mem::replace(&mut self.last, SheetBlock::new(self.alloc)),
+            None => mem::replace(&mut self.last, Block::new(self.alloc)),
         }
     }
 }
@@ -50,7 +50,7 @@ impl BlocksAhead {
 /// The records of a sheet that are left, in file order. Contracts see the list of them alone.
 pub struct SheetRest {
     ahead: BlocksAhead,
-    block: SheetBlock,
+    block: Block<RecordHead, Attribute, End>,
     place: usize,
 }
 
@@ -70,19 +70,17 @@ impl Model for SheetRest {
 
     ghost Value = { List Record };
 
-    ghost use Rattle.edi_record.specs.inner.SheetBlocks.{records_in};
-    ghost use Rattle.edi_record.specs.inner.SheetRest.{records_ahead, IsUnderWay};
+    ghost use Rattle.edi_record.specs.inner.RecordParts.{records_of};
+    ghost use Rattle.edi_record.specs.inner.SheetRest.{all_ahead, IsUnderWay};
 
-    ghost view = { λ rest. drop rest.place (records_in rest.block) ++ records_ahead rest.ahead };
+    ghost view = { λ rest. records_of (drop rest.place rest.block ++ all_ahead rest.ahead) };
 
     ghost invariant = { λ rest. IsUnderWay rest.ahead rest.block rest.place };
 }
 
 impl SheetRest {
     /// All the records of these blocks.
-    #[tactic(auto, unfolding(crate::specs::inner::BlockLists::records_of, crate::specs::inner::SheetRest::records_ahead))]
-    pub(crate) fn new(blocks: SheetBlocks) -> SheetRest
-        requires { AreWithin blocks }
+    pub(crate) fn new(blocks: Blocks<RecordHead, Attribute, End>) -> SheetRest
         ensures { result ≡ records_of blocks }
     {
         let mut ahead = BlocksAhead {
@@ -103,7 +101,7 @@ impl SheetRest {
         ensures { MatchOption result (self.now ≡ []) (λ r. slice_get self.now 0 ≡ Some r) }
     {
         if self.place < self.block.len() {
-            Some(self.block.record(self.place))
+            Some(RecordRef::of(self.block.record(self.place)))
         } else {
             None
         }
@@ -113,8 +111,9 @@ impl SheetRest {
     pub fn advance(&mut self)
         ensures { self.new ≡ drop 1 self.old }
     {
-        self.place += 1;
-        if self.place >= self.block.len() {
+        if self.block.len() - self.place > 1 {
+            self.place += 1;
+        } else {
             self.block = self.ahead.next();
             self.place = 0;
         }

@@ -1,20 +1,23 @@
--- The records of a plan, in blocks.
-use Rattle.std.specs.Prelude.{◌<◌, ◌++◌, List, length, flat_map}
-use Rattle.std.specs.List.{AllByRecursion}
+-- The records of a plan, each as its head and its parts.
+use Rattle.std.specs.Prelude.{List, map}
+use Rattle.edi_record.specs.AnyRecords.{AnyRecord}
+use Rattle.edi_plan.specs.declared.planned.PlanHead.{PlanHead}
+use Rattle.edi_plan.specs.declared.record.PlanAttribute.{PlanAttribute}
+use Rattle.edi_plan.specs.declared.record.PlanEnd.{PlanEnd}
 use Rattle.edi_plan.specs.declared.record.PlanRecord.{PlanRecord}
-use Rattle.edi_plan.specs.declared.record_block.RecordBlock.{RecordBlock}
-use Rattle.edi_plan.specs.declared.record_list.RecordList.{RecordList}
-use Rattle.edi_plan.specs.inner.RecordBlocks.{records_in, ArePartsWithin, IsFull}
 
--- the records of all blocks in their order
-unfoldable pub records_of : RecordList → List PlanRecord
-records_of list = flat_map records_in list.closed.items ++ records_in list.last
+-- the record with a head and parts
+abbrev pub record_of : AnyRecord PlanHead PlanAttribute PlanEnd → PlanRecord
+record_of e = record {
+  kind = e.head.kind;
+  class = e.head.class;
+  role = e.head.role;
+  points = e.parts.points;
+  attributes = e.parts.attributes;
+  extras = e.parts.extras;
+  ends = e.parts.ends;
+}
 
-abbrev pub AreFull : List RecordBlock → Type 0
-AreFull blocks = AllByRecursion IsFull blocks
-
--- each block but the last is full, and the last isn't
-pub record AreWithin (list : RecordList) : Type 0 where
-  pub closed : AreFull list.closed.items
-  pub last : ArePartsWithin list.last
-  pub short : length (records_in list.last) < 256
+-- these records in their order
+abbrev pub records_of : List (AnyRecord PlanHead PlanAttribute PlanEnd) → List PlanRecord
+records_of es = map record_of es

@@ -1,27 +1,18 @@
--- The records of a sheet, in blocks of as many records each, but for the last.
+-- PartLists in blocks of as many elements each, but for the last.
 use Rattle.std.specs.Prelude.{◌≡◌, ◌≤◌, ◌++◌, List, length, flat_map}
 use Rattle.std.specs.List.{AllByRecursion}
-use Rattle.edi_record.specs.declared.record.Record.{Record}
-use Rattle.edi_record.specs.declared.sheet_block.SheetBlock.{SheetBlock}
-use Rattle.edi_record.specs.declared.sheet_blocks.SheetBlocks.{SheetBlocks}
-use Rattle.edi_record.specs.inner.SheetBlocks.{no_stops, records_in, AreParts}
 
--- the records of all blocks in their order
-unfoldable pub records_of : SheetBlocks → List Record
-records_of list = flat_map records_in list.closed.items ++ records_in list.last
+module _ {X : Type 0} where
+  -- the elements of all blocks in their order
+  unfoldable pub joined : List (List X) → List X → List X
+  joined closed last = flat_map (λ xs. xs) closed ++ last
 
--- a closed block
-pub record IsFull (block : SheetBlock) : Type 0 where
-  pub long : length (records_in block) ≡ 256
-  pub parts : AreParts block no_stops block.heads.items
+  abbrev pub IsFull : List X → Type 0
+  IsFull xs = length xs ≡ 256
 
--- closed blocks, of which there are so few that their records can be counted
-pub record AreClosed (blocks : List SheetBlock) : Type 0 where
-  pub full : AllByRecursion IsFull blocks
-  pub few : length blocks ≤ 4294967295
-
--- all blocks but the last are closed, and the last has no more records than they
-pub record AreWithin (list : SheetBlocks) : Type 0 where
-  pub closed : AreClosed list.closed.items
-  pub parts : AreParts list.last no_stops list.last.heads.items
-  pub short : length (records_in list.last) ≤ 256
+-- all blocks but the last are full, and they are so few that their elements can be counted; the last has no more
+-- elements than they
+pub record AreBlocks {X : Type 0} (closed : List (List X)) (last : List X) : Type 0 where
+  pub full : AllByRecursion IsFull closed
+  pub few : length closed ≤ 4294967295
+  pub short : length last ≤ 256

@@ -1,5 +1,8 @@
 -- The parts of the record whose zones are coming.
-use Rattle.std.specs.Prelude.{◌≡◌, []}
+use Rattle.std.specs.Prelude.{◌≡◌, List, [], map}
+use Rattle.edi_record.specs.AnyRecords.{AnyRecord, any_record}
+use Rattle.edi_record.specs.declared.record.Attribute.{Attribute}
+use Rattle.edi_record.specs.declared.record.End.{End}
 use Rattle.edi_record.specs.declared.record.Record.{Record}
 use Rattle.edi_record.specs.declared.record_parts.RecordHead.{RecordHead}
 use Rattle.edi_record.specs.declared.record_parts.RecordParts.{RecordParts}
@@ -11,14 +14,22 @@ pub record AreEmpty (p : RecordParts) : Type 0 where
   pub attributes : p.attributes.items ≡ []
   pub extras : p.extras.items ≡ []
 
+-- the record with a head and parts
+abbrev pub record_of : AnyRecord RecordHead Attribute End → Record
+record_of e = record {
+  kind = e.head.kind;
+  rid = e.head.rid;
+  scp = e.head.scp;
+  points = e.parts.points;
+  ends = e.parts.ends;
+  attributes = e.parts.attributes;
+  extras = e.parts.extras;
+}
+
+-- these records in their order
+abbrev pub records_of : List (AnyRecord RecordHead Attribute End) → List Record
+records_of es = map record_of es
+
 -- the record with this head and these parts
 abbrev pub whole : RecordHead → RecordParts → Record
-whole h p = record {
-  kind = h.kind;
-  rid = h.rid;
-  scp = h.scp;
-  points = p.points.items;
-  ends = p.ends.items;
-  attributes = p.attributes.items;
-  extras = p.extras.items;
-}
+whole h p = record_of (any_record h p.points.items p.ends.items p.attributes.items p.extras.items)

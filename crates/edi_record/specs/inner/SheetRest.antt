@@ -1,26 +1,25 @@
 -- The records of a sheet that are left, as they are gone through: those of a block from a place on, and those of the
 -- blocks ahead.
-use Rattle.std.specs.Prelude.{◌≡◌, ℕ, ◌≤◌, List, [], ◌++◌, length, flat_map}
+use Rattle.std.specs.Prelude.{◌≡◌, ℕ, ◌≤◌, List, [], length}
 use Rattle.std.specs.List.{AllByRecursion}
 use Rattle.std.specs.Vec.Iter.{into_iter_items}
-use Rattle.edi_record.specs.declared.record.Record.{Record}
-use Rattle.edi_record.specs.declared.sheet_block.SheetBlock.{SheetBlock}
+use Rattle.edi_record.specs.AnyRecords.{AnyRecord}
+use Rattle.edi_record.specs.declared.record.Attribute.{Attribute}
+use Rattle.edi_record.specs.declared.record.End.{End}
+use Rattle.edi_record.specs.declared.record_parts.RecordHead.{RecordHead}
 use Rattle.edi_record.specs.declared.sheet_rest.BlocksAhead.{BlocksAhead}
-use Rattle.edi_record.specs.inner.SheetBlocks.{no_stops, records_in, AreParts}
-use Rattle.edi_record.specs.inner.BlockLists.{IsFull}
+use Rattle.edi_record.specs.inner.BlockLists.{joined, IsFull}
 
 -- the records of the blocks ahead, in their order
-unfoldable pub records_ahead : BlocksAhead → List Record
-records_ahead ahead = flat_map records_in (into_iter_items ahead.closed) ++ records_in ahead.last
+abbrev pub all_ahead : BlocksAhead → List (AnyRecord RecordHead Attribute End)
+all_ahead ahead = joined (into_iter_items ahead.closed) ahead.last
 
--- all blocks ahead but the last are closed
-pub record AreAhead (ahead : BlocksAhead) : Type 0 where
-  pub closed : AllByRecursion IsFull (into_iter_items ahead.closed)
-  pub parts : AreParts ahead.last no_stops ahead.last.heads.items
+-- all blocks ahead but the last are full
+abbrev pub AreAhead : BlocksAhead → Type 0
+AreAhead ahead = AllByRecursion IsFull (into_iter_items ahead.closed)
 
 -- the place is that of a record of the block, unless no records are left
-pub record IsUnderWay (ahead : BlocksAhead) (block : SheetBlock) (place : ℕ) : Type 0 where
+pub record IsUnderWay (ahead : BlocksAhead) (block : List (AnyRecord RecordHead Attribute End)) (place : ℕ) : Type 0 where
   pub blocks : AreAhead ahead
-  pub parts : AreParts block no_stops block.heads.items
-  pub within : place ≤ length (records_in block)
-  pub none : length (records_in block) ≤ place → records_ahead ahead ≡ []
+  pub within : place ≤ length block
+  pub none : length block ≤ place → all_ahead ahead ≡ []

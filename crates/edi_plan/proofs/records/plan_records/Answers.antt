@@ -85,12 +85,11 @@ loop-record-preserved c =
     record {
       same = c.class-class.ensures.same ∙ i.same;
       finders = c.in-Ok.ensures.same;
-      within = c.in_ok-spare-in-Ok.ensures.within;
       there = let there = slice_get_within list place r here in omega (arith, there);
       rest = one_left_less list c.loop-record.rest _ place i.rest c.advance.ensures;
       zipped =
-          zip_taken (StatesPlanRecord s list) [] list place r (records_of c.loop-record.list) c.in-Ok.planned (records_of c.push.new.self) (slice_get_within list place r here) (got_there list place r here)
-          c.in_ok-spare-in-Ok.ensures.records i.zipped states;
+          zip_taken (StatesPlanRecord s list) [] list place r (records_of c.loop-record.list) c.in-Ok.planned (records_of c.put_behind.new.list) (slice_get_within list place r here) (got_there list place r here)
+          c.in_ok-spare-in-Ok.ensures i.zipped states;
       ahead = ahead_more place c.args.references.now.repeat i.ahead elsewhere;
       left = subst (AreTargets list (drop (c.loop-record.place + 1) c.args.records)) (sym (c.split_at.ensures.back ∙ ap (λ (es : List End). drop (length es) c.loop-record.targets.now) c.ends.ensures))
           (later_targets list (drop c.loop-record.place c.args.records) (drop (c.loop-record.place + 1) c.args.records) r next c.loop-record.targets.now i.left);
@@ -101,10 +100,9 @@ pub loop-record-init : goal.loop-record-init
 loop-record-init c = record {
   same = c.new-classes.ensures;
   finders = c.in_ok-attribute_classes.ensures;
-  within = c.in_ok-list.ensures.within;
   there = omega arith;
   rest = c.into_rest-rest.ensures;
-  zipped = subst (AllZip (StatesPlanRecord c.args.schema.now c.args.records) []) (sym c.in_ok-list.ensures.none) tt;
+  zipped = subst (AllZip (StatesPlanRecord c.args.schema.now c.args.records) []) (sym (ap records_of c.in_ok-list.ensures)) tt;
   ahead = search rules;
   left = search rules;
   done = record {

@@ -1,7 +1,8 @@
 use Rattle.std.proofs.Common.{length, sym, subst, refl, arith}
 use Rattle.edi_plan.specs.inner.Done.{IsDone}
 use Rattle.edi_plan.specs.PlanOf.{IsPlanOf, StatesPlanRecord}
-use Rattle.edi_plan.specs.inner.RecordLists.{records_of}
+use Rattle.std.proofs.lemmas.List.{length-map}
+use Rattle.edi_plan.specs.inner.RecordLists.{record_of, records_of}
 use Rattle.edi_plan.proofs.Built.{plans_agreeing, plans_whole, zip_length}
 use Rattle.edi_plan.proofs.JoinedLemmas.{plans_joined}
 use Rattle.edi_plan.proofs.PlanLemmas.{all_unbroken, sides_of}
@@ -34,11 +35,10 @@ invariant_of-result c =
         sides = sides_of s sheet _ plan c.from_vec.result (subst (IsDone s sheet.list (length sheet.list)) (sym c.from_vec.ensures) done);
       },
       c.in_ok-places.ensures,
-      c.in_ok-planned.ensures.within,
     )
 
-pub among-requires-2-clause-few : goal.among-requires-2-clause-few
-among-requires-2-clause-few c =
+pub among-requires-2 : goal.among-requires-2
+among-requires-2 c =
     let long = zip_length (StatesPlanRecord c.args.schema.now c.args.sheet.list) c.args.sheet.list (records_of c.in_ok-planned.planned.list) c.in_ok-planned.ensures.each in
     let few = c.args.sheet.few in
-    omega (arith, long, few)
+    omega (arith, long, few, length-map c.in_ok-planned.planned.list record_of)

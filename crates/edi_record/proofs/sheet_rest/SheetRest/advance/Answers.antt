@@ -1,22 +1,22 @@
-use Rattle.std.proofs.Common.{◌∙◌, ◌+◌, ap, drop, arith}
-use Rattle.edi_record.specs.inner.SheetBlocks.{no_stops, records_in}
-use Rattle.edi_record.specs.inner.SheetRest.{records_ahead}
-use Rattle.edi_record.proofs.SheetBlocks.{records_long}
+use Rattle.std.proofs.Common.{◌∙◌, ◌++◌, ◌+◌, sym, ap, drop, arith}
+use Rattle.std.proofs.lemmas.List.{drop-map}
+use Rattle.edi_record.specs.inner.RecordParts.{record_of, records_of}
+use Rattle.edi_record.specs.inner.SheetRest.{all_ahead}
 use Rattle.edi_record.proofs.GoneThrough.{one_further, part_gone}
 use Rattle.edi_record.proofs.sheet_rest.SheetRest.advance.Goals as goal
 
-pub overflow_add-self : goal.overflow_add-self
-overflow_add-self c =
-    let long = records_long c.self.inside.block no_stops c.self.inside.block.heads.items in
-    omega (arith, c.self.invariant.within, long, c.self.inside.block.heads.ok.0)
+pub returns-then-len-self-gt1 : goal.returns-then-len-self-gt1
+returns-then-len-self-gt1 c =
+    let rest = c.self.inside in
+    ap records_of
+    (one_further rest.block (all_ahead rest.ahead) rest.place (rest.place + 1) (omega arith)
+    (omega (arith, c.if-len-self-gt1.true, c.len.ensures)))
+    ∙ (sym (drop-map record_of 1 (drop rest.place rest.block ++ all_ahead rest.ahead)) ∙ ap (drop 1) c.self.view_is)
 
-pub returns-then-self-len : goal.returns-then-self-len
-returns-then-self-len c =
-    c.next.ensures.records
-    ∙ (part_gone (records_in c.self.inside.block) (records_ahead c.self.inside.ahead) c.self.inside.place (omega (arith, c.if-self-len.true, c.len.ensures)) c.self.invariant.none
-    ∙ ap (drop 1) c.self.view_is)
-
-pub returns-else-self-len : goal.returns-else-self-len
-returns-else-self-len c =
-    one_further (records_in c.self.inside.block) (records_ahead c.self.inside.ahead) c.self.inside.place (c.self.inside.place + 1) (omega arith) (omega (arith, c.if-self-len.false, c.len.ensures))
-    ∙ ap (drop 1) c.self.view_is
+pub returns-else-len-self-gt1 : goal.returns-else-len-self-gt1
+returns-else-len-self-gt1 c =
+    let rest = c.self.inside in
+    ap records_of
+    (c.next.ensures.records ∙ part_gone rest.block (all_ahead rest.ahead) rest.place
+    (omega (arith, c.if-len-self-gt1.false, c.len.ensures)) c.self.invariant.none)
+    ∙ (sym (drop-map record_of 1 (drop rest.place rest.block ++ all_ahead rest.ahead)) ∙ ap (drop 1) c.self.view_is)

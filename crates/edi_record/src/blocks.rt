@@ -1,0 +1,157 @@
+//! Records in blocks of as many records each, but for the last.
+
+ghost use Rattle.std.specs.Prelude.{◌≡◌, ◌<◌, ◌%◌, ◌^◌, ◌∷◌, ◌++◌, [], length, slice_get, Some, IfOk, OnOk, OnErr};
+ghost use Rattle.edi_record.specs.AnyRecords.{any_record, record_lent};
+ghost use Rattle.edi_record.specs.inner.BlockLists.{joined, AreBlocks};
+
+use crate::any_record::AnyRecordRef;
+use crate::block::Block;
+use crate::record::{Extra, Point};
+use std::alloc::{AllocError, Global};
+use std::marker::Model;
+
+// How many records a closed block has.
+const BLOCK: usize = 256;
+
+// How many closed blocks there may be, so that the number of records is no overflow.
+const MOST_BLOCKS: usize = u32::MAX as usize;
+
+/// Records by their places: those of closed blocks, and the last. Contracts see the list of records alone.
+#[derive(Drop)]
+pub struct Blocks<H, A, E> {
+    pub(crate) alloc: Global,
+    pub(crate) closed: Vec<Block<H, A, E>>,
+    pub(crate) last: Block<H, A, E>,
+}
+
+impl<H, A, E> Model for Blocks<H, A, E> {
+    ghost use Rattle.std.specs.Prelude.{List};
+    ghost use Rattle.edi_record.specs.AnyRecords.{AnyRecord};
+    ghost use Rattle.edi_record.specs.inner.BlockLists.{joined, AreBlocks};
+
+    ghost Value = { List (AnyRecord H A E) };
+
+    ghost view = { λ blocks. joined blocks.closed.items blocks.last };
+
+    ghost invariant = { λ blocks. AreBlocks blocks.closed.items blocks.last };
+}
+
+/// Puts the records of the last block into a closed one, if it is full.
+#[tactic(auto, unfolding(crate::specs::inner::BlockLists::joined))]
+fn close_if_full<H: Drop, A: Drop, E: Drop>(
+    alloc: Global,
+    closed: &mut Vec<Block<H, A, E>>,
+    last: &mut Block<H, A, E>,
+) -> Result<(), AllocError>
+    requires { AreBlocks closed.old.items last.old }
+    ensures same { joined closed.new.items last.new ≡ joined closed.old.items last.old }
+    ensures blocks { AreBlocks closed.new.items last.new }
+    ensures short { OnOk result (length last.new < 256) }
+{
+    if last.len() < BLOCK {
+        return Ok(());
+    }
+    if closed.len() >= MOST_BLOCKS {
+        return Err(AllocError);
+    }
+    closed.reserve(1)?;
+    let block = last.close(alloc)?;
+    let _never_fails = closed.push(block);
+    Ok(())
+}
+
+impl<H: Drop, A: Drop, E: Drop> Blocks<H, A, E> {
+    /// No records.
+    #[tactic(auto, unfolding(crate::specs::inner::BlockLists::joined))]
+    pub(crate) fn new(alloc: Global) -> Blocks<H, A, E>
+        ensures { result ≡ [] }
+    {
+        Blocks {
+            alloc,
+            closed: Vec::new(alloc),
+            last: Block::new(alloc),
+        }
+    }
+
+    /// No records, with room for so many.
+    #[tactic(auto, unfolding(crate::specs::inner::BlockLists::joined))]
+    pub fn with_capacity(alloc: Global, records: usize) -> Result<Blocks<H, A, E>, AllocError>
+        ensures { IfOk result (λ blocks. blocks ≡ []) }
+    {
+        Ok(Blocks {
+            alloc,
+            closed: Vec::with_capacity(alloc, records / BLOCK)?,
+            last: Block::with_capacity(alloc, records.min(BLOCK))?,
+        })
+    }
+
+    /// Adds a record. Its parts leave the lists that they are in.
+    #[tactic(auto, unfolding(crate::specs::inner::BlockLists::joined))]
+    pub(crate) fn push(
+        &mut self,
+        head: H,
+        points: &mut Vec<Point>,
+        ends: &mut Vec<E>,
+        attributes: &mut Vec<A>,
+        extras: &mut Vec<Extra>,
+    ) -> Result<(), AllocError>
+        ensures added { OnOk result (self.new ≡ self.old
+            ++ any_record head points.old.items ends.old.items attributes.old.items extras.old.items ∷ []) }
+        ensures unchanged { OnErr result (self.new ≡ self.old) }
+    {
+        close_if_full(self.alloc, &mut self.closed, &mut self.last)?;
+        self.last.push(head, points, ends, attributes, extras)
+    }
+
+    /// Adds a record whose points are copied. Its other parts leave the lists that they are in.
+    #[tactic(auto, unfolding(crate::specs::inner::BlockLists::joined))]
+    pub fn push_beside(
+        &mut self,
+        head: H,
+        points: &[Point],
+        ends: &mut Vec<E>,
+        attributes: &mut Vec<A>,
+        extras: &mut Vec<Extra>,
+    ) -> Result<(), AllocError>
+        ensures added { OnOk result (self.new ≡ self.old
+            ++ any_record head points.now ends.old.items attributes.old.items extras.old.items ∷ []) }
+        ensures no_ends { OnOk result (ends.new.items ≡ []) }
+        ensures no_attributes { OnOk result (attributes.new.items ≡ []) }
+        ensures no_extras { OnOk result (extras.new.items ≡ []) }
+        ensures unchanged { OnErr result (self.new ≡ self.old) }
+    {
+        close_if_full(self.alloc, &mut self.closed, &mut self.last)?;
+        self.last
+            .push_beside(head, points, ends, attributes, extras)
+    }
+
+    /// How many records there are.
+    pub fn len(&self) -> usize
+        ensures len { result ≡ length self.now }
+        ensures few { result < 2 ^ 63 }
+    {
+        self.closed.len() * BLOCK + self.last.len()
+    }
+
+    /// The block of the record at a place, from 0.
+    fn block(&self, place: usize) -> &Block<H, A, E>
+        requires { place < length self.now }
+        ensures there { place % 256 < length result.now }
+        ensures same { slice_get self.now place ≡ slice_get result.now (place % 256) }
+    {
+        let at = place / BLOCK;
+        if at < self.closed.len() {
+            &self.closed[at]
+        } else {
+            &self.last
+        }
+    }
+
+    /// A record, by its place from 0.
+    pub fn record(&self, place: usize) -> AnyRecordRef<'_, H, A, E>
+        requires { place < length self.now }
+        ensures { slice_get self.now place ≡ Some (record_lent result) }
+    {
+        self.block(place).record(place % BLOCK)
+    }
+}
