@@ -8,7 +8,7 @@ pub mod RuleWords
 pub mod InTurn
 pub mod OneArc
 pub mod Equal
-pub mod Sought
+pub mod Numbered
 pub mod ZoneFound
 pub mod ExtraZonesOf
 pub mod Quality

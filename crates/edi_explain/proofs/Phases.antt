@@ -3,16 +3,24 @@ use Rattle.std.proofs.Common.{◌<◌, ◌≤◌, ℕ, List, arith}
 use Rattle.edi_line.specs.Entry.{Entry}
 use Rattle.edi_line.specs.LineRules.{BreaksLineRule}
 use Rattle.edi_line.specs.Refusal.{IsLeastBroken}
-use Rattle.edi_record.specs.RecordRules.{BreaksGroupRule}
+use Rattle.edi_line.specs.declared.fault.LineFault.TheVariants as line
+use Rattle.edi_record.specs.RecordRefusal.{IsRecordRefusal, IsSheetRefusal}
+use Rattle.edi_record.specs.RecordRules.{BreaksGroupRule, BreaksRecordRule}
 use Rattle.edi_record.specs.RecordRules.BreaksGroupRule.{lacks_kind, lacks_identifier, lacks_class as lacks_record_class, bad_attribute, wrong_count, bad_point, bad_end, unknown_pointer}
+use Rattle.edi_record.specs.declared.fault.RecordFault.{RecordFault}
+use Rattle.edi_record.specs.declared.fault.RecordFault.TheVariants as record_
+use Rattle.edi_record.specs.declared.fault.SheetFault.{SheetFault}
+use Rattle.edi_record.specs.declared.fault.SheetFault.TheVariants as file
 use Rattle.edi_record.specs.declared.record.Record.{Record}
 use Rattle.edi_schema.specs.Classes.{Classes}
 use Rattle.edi_plan.specs.ReferenceRules.{BreaksReferenceRule}
 use Rattle.edi_plan.specs.ReferenceRules.BreaksReferenceRule.{repeats_name, lacks_class, lacks_attribute_class, leaves_subset, names_nothing, joins_wrong, repeats_side}
+use Rattle.edi_compare.specs.Faults.{of_record, of_sheet}
 use Rattle.edi_compare.specs.Refused.{IsRefusal}
-use Rattle.edi_compare.specs.Rules.{Breaks, LinesHold, RecordsHold, ReferencesHold}
+use Rattle.edi_compare.specs.Rules.{Breaks, LinesHold, RecordsHold}
 use Rattle.edi_compare.specs.Rules.Breaks.{of_lines, of_records, of_references, of_topology, of_objects}
 use Rattle.edi_compare.specs.declared.fault.Fault.TheVariants.{Entry as AtRecord, Line as AtLine}
+use Rattle.edi_explain.specs.inner.Found.{IsEarly}
 use Rattle.edi_compare.proofs.Phases.{line_refusal, object_refusal, record_refusal, reference_refusal, topology_refusal}
 
 group_below : (group : List Entry) (rule : ℕ) → BreaksGroupRule group rule → rule < 300
@@ -34,6 +42,20 @@ reference_below s list rule place (names_nothing e h) = omega (arith, e)
 reference_below s list rule place (joins_wrong e h) = omega (arith, e)
 reference_below s list rule place (repeats_side e h) = omega (arith, e)
 
+early_record : (broken : ℕ → ℕ → Type 0) → ((rule at : ℕ) → broken rule at → rule < 400) → (f : RecordFault) → IsRecordRefusal broken f → IsEarly (of_record f)
+early_record broken below (record_.Memory e) h = tt
+early_record broken below (record_.Broken rule at) h = below rule at h.is
+
+-- the fault of a file that breaks a rule of lines or of records
+pub early_sheet : (b : List ℕ) (f : SheetFault) → IsSheetRefusal b f → IsEarly (of_sheet f)
+early_sheet b (file.Line (line.Memory e)) h = tt
+early_sheet b (file.Line (line.Broken rule at)) h = tt
+early_sheet b (file.Record f) h = early_record (BreaksRecordRule h.1.0) (λ rule at g. omega (arith, group_below g.group rule g.breaks)) f h.1.2
+
+-- the fault of one that breaks a rule of references
+pub early_reference : (s : Classes) (list : List Record) (f : RecordFault) → IsRecordRefusal (BreaksReferenceRule s list) f → IsEarly (of_record f)
+early_reference s list f h = early_record (BreaksReferenceRule s list) (reference_below s list) f h
+
 module _ (s : Classes) (b : List ℕ) (rule at : ℕ) (is : IsRefusal s b (AtRecord rule at)) where
   no_line : BreaksLineRule b rule at → ⊥
   no_line g =
@@ -54,13 +76,6 @@ module _ (s : Classes) (b : List ℕ) (rule at : ℕ) (is : IsRefusal s b (AtRec
   records_of big (of_topology plan held z g) = held.0
   records_of big (of_objects plan held z g) = held.0.0
 
-  references_of : 400 ≤ rule → Breaks s b rule at → ReferencesHold s b
-  references_of big (of_lines g) = absurd (no_line g)
-  references_of big (of_records zones held z g) = absurd (omega (arith, big, group_below g.group rule g.breaks))
-  references_of big (of_references sheet held z g) = absurd (omega (arith, big, reference_below s sheet.list rule at g))
-  references_of big (of_topology plan held z g) = held
-  references_of big (of_objects plan held z g) = held.0
-
   -- no rule of lines is broken
   pub lines_hold : LinesHold s b
   lines_hold = lines_of is.1.is
@@ -68,10 +83,6 @@ module _ (s : Classes) (b : List ℕ) (rule at : ℕ) (is : IsRefusal s b (AtRec
   -- for a rule of references or a later one, no rule of records
   pub records_hold : 300 ≤ rule → RecordsHold s b
   records_hold big = records_of big is.1.is
-
-  -- for a rule of topology or a later one, no rule of references
-  pub references_hold : 400 ≤ rule → ReferencesHold s b
-  references_hold big = references_of big is.1.is
 
 -- the least broken rule of lines
 pub line_least : (s : Classes) (b : List ℕ) (rule at : ℕ) → IsRefusal s b (AtLine rule at) → IsLeastBroken (BreaksLineRule b) rule at

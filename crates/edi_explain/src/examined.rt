@@ -1,27 +1,27 @@
-//! A sheet that is accepted; or refused, with the earlier record that the rule speaks of.
+//! A sheet that is accepted; or refused, with the earlier record or the node that the rule speaks of.
 
-ghost use Rattle.std.specs.Prelude.{◌≡◌, ◌-◌, ℕ, suc, List, OnOk, IfOk, IfErr};
-ghost use Rattle.edi_line.specs.Refusal.{IsLeastBroken};
+ghost use Rattle.std.specs.Prelude.{◌-◌, ◌<◌, ℕ, List, OnOk, IfOk, IfErr};
 ghost use Rattle.edi_plan.specs.Plans.{Drawing};
-ghost use Rattle.edi_rank.specs.EqualObjects.{BreaksObjectRule};
+ghost use Rattle.edi_record.specs.RecordRefusal.{IsRecordRefusal};
 ghost use Rattle.edi_topo.specs.TopologyRules.{BreaksTopologyRule};
 ghost use Rattle.edi_compare.specs.PlanOfFile.{IsPlanOfFile};
 ghost use Rattle.edi_compare.specs.Refused.{IsRefusal};
 ghost use Rattle.edi_compare.specs.Rules.{IsAccepted, ReferencesHold, TopologyHolds};
 ghost use Rattle.edi_compare.specs.declared.fault.Fault.TheVariants.{Entry as AtRecord};
 ghost use Rattle.edi_schema.specs.Classes.{Classes};
+ghost use Rattle.edi_explain.specs.EndNodes.{IsEndNodeIfAny};
 ghost use Rattle.edi_explain.specs.Found.{IsFound};
 ghost use Rattle.edi_explain.specs.Refusals.{IsEarlierIfAny};
-ghost use Rattle.edi_explain.specs.inner.Repeats.{IsOfFirstArc, IsOfFirstNode};
+ghost use Rattle.edi_explain.specs.inner.Found.{IsEarly};
 
-use crate::refused::{earlier_record, object_before};
-use crate::repeats::{arc_repeated, node_repeated};
+use crate::end_nodes::end_node;
+use crate::refused::{arc_before, earlier_record, node_before, object_before};
 use edi_compare::Fault;
 use edi_plan::Plan;
 use edi_rank::{RankFault, tell_objects_apart};
 use edi_record::read_sheet;
 use edi_schema::Schema;
-use edi_topo::{Sound, TopoFault};
+use edi_topo::{Sound, TopoFault, Unsound};
 use std::alloc::{AllocError, Global};
 
 /// Why a sheet is refused.
@@ -30,13 +30,8 @@ pub struct Found {
     pub fault: Fault,
     /// The place of the earlier record that the rule speaks of, counted from 0.
     pub earlier: Option<u64>,
-}
-
-/// The earlier records that the first repeated node and the first repeated arc repeat.
-#[derive(Drop)]
-struct Repeated {
-    node: Option<u32>,
-    arc: Option<u32>,
+    /// The place of the node that the rule speaks of beside an arc, counted from 0.
+    pub node: Option<u64>,
 }
 
 /// Want of memory.
@@ -46,26 +41,36 @@ fn no_memory(error: AllocError) -> Found
     Found {
         fault: Fault::Memory(error),
         earlier: None,
+        node: None,
     }
 }
 
-/// The refusal at a record, with the earlier one if it was found.
-fn found_at(rule: u16, at: u64, earlier: Result<Option<u64>, AllocError>) -> Found
+/// The refusal at a record, with the node, and with the earlier record if it was found.
+fn found_at(
+    rule: u16,
+    at: u64,
+    earlier: Result<Option<u64>, AllocError>,
+    node: Option<u64>,
+) -> Found
     ensures { (s : Classes) (b : List ℕ) → IsRefusal s b (AtRecord rule at)
-        → IfOk earlier (IsEarlierIfAny s b rule (at - 1)) → IsFound s b result }
+        → IfOk earlier (IsEarlierIfAny s b rule (at - 1)) → IsEndNodeIfAny s b rule (at - 1) node
+        → IsFound s b result }
 {
     match earlier {
         Ok(earlier) => Found {
             fault: Fault::Entry { rule, at },
             earlier,
+            node,
         },
         Err(error) => no_memory(error),
     }
 }
 
-/// A refusal with the earlier record that its rule speaks of, for which the file is read once more.
+/// A refusal by a rule of lines, of records or of references with the earlier record that the rule speaks of, for which
+/// the file is read once more.
 fn found_anew(alloc: Global, schema: &Schema, bytes: &[u8], fault: Fault) -> Found
-    requires { IsRefusal schema.now bytes.now fault }
+    requires refusal { IsRefusal schema.now bytes.now fault }
+    requires early { IsEarly fault }
     ensures { IsFound schema.now bytes.now result }
 {
     match fault {
@@ -73,10 +78,11 @@ fn found_anew(alloc: Global, schema: &Schema, bytes: &[u8], fault: Fault) -> Fou
         Fault::Line { rule, at } => Found {
             fault: Fault::Line { rule, at },
             earlier: None,
+            node: None,
         },
         Fault::Entry { rule, at } => {
             let earlier = earlier_record(alloc, schema, bytes, rule, at);
-            found_at(rule, at, earlier)
+            found_at(rule, at, earlier, None)
         }
     }
 }
@@ -86,47 +92,16 @@ fn plan_or_fault(alloc: Global, schema: &Schema, bytes: &[u8]) -> Result<Plan, F
     ensures held { OnOk result (ReferencesHold schema.now bytes.now) }
     ensures plan { IfOk result (IsPlanOfFile schema.now bytes.now) }
     ensures refusal { IfErr result (IsRefusal schema.now bytes.now) }
+    ensures early { IfErr result IsEarly }
 {
     let sheet = read_sheet(alloc, bytes)?;
     let plan = Plan::build(alloc, schema, sheet)?;
     Ok(plan)
 }
 
-/// What the first repeats of a plan repeat.
-fn repeated_in(alloc: Global, plan: &Plan) -> Result<Repeated, AllocError>
-    ensures { IfOk result (λ r. IsOfFirstNode plan.now r.node × IsOfFirstArc plan.now r.arc) }
-{
-    Ok(Repeated {
-        node: node_repeated(alloc, plan)?,
-        arc: arc_repeated(alloc, plan)?,
-    })
-}
-
-/// The earlier record that a rule of topology speaks of.
-fn earlier_of(rule: u16, repeated: &Repeated) -> Option<u64>
-    ensures { (s : Classes) (b : List ℕ) (p : Drawing) (place : ℕ) → IsPlanOfFile s b p
-        → IsLeastBroken (BreaksTopologyRule p) rule (suc place)
-        → IsOfFirstNode p «repeated».now.node → IsOfFirstArc p «repeated».now.arc
-        → IsEarlierIfAny s b rule place result }
-{
-    match rule {
-        403 => wide(repeated.node),
-        405 => wide(repeated.arc),
-        _ => None,
-    }
-}
-
-fn wide(place: Option<u32>) -> Option<u64>
-    ensures { result ≡ place }
-{
-    match place {
-        Some(place) => Some(u64::from(place)),
-        None => None,
-    }
-}
-
-/// The plan of a sheet, if no rule is broken; or why it is refused, with the earlier record that the rule speaks of. It
-/// answers as `accept` does. The file is read once; only for 301, 304 and 307, of which no plan is left, once more.
+/// The plan of a sheet, if no rule is broken; or why it is refused, with the earlier record or the node that the rule
+/// speaks of. It answers as `accept` does. The file is read once; only for 301, 304 and 307, of which no plan is left,
+/// once more.
 pub fn examine(alloc: Global, schema: &Schema, bytes: &[u8]) -> Result<Sound, Found>
     ensures accepted { OnOk result (IsAccepted schema.now bytes.now) }
     ensures plan { IfOk result (IsPlanOfFile schema.now bytes.now) }
@@ -146,34 +121,50 @@ fn plan_examined(alloc: Global, schema: &Schema, bytes: &[u8], plan: Plan) -> Re
     ensures plan { IfOk result (IsPlanOfFile schema.now bytes.now) }
     ensures found { IfErr result (IsFound schema.now bytes.now) }
 {
-    match repeated_in(alloc, &plan) {
-        Ok(repeated) => topology_examined(alloc, schema, bytes, plan, &repeated),
-        Err(error) => Err(no_memory(error)),
+    match Sound::check_or_return(alloc, plan) {
+        Ok(sound) => objects_examined(alloc, schema, bytes, sound),
+        Err(Unsound { plan, fault }) => Err(found_in_plan(alloc, schema, bytes, &plan, fault)),
     }
 }
 
-/// The same of a plan of which it is known what the first repeats repeat.
-fn topology_examined(
+/// The earlier record that a rule of topology speaks of.
+fn earlier_in_plan(
+    alloc: Global,
+    plan: &Plan,
+    rule: u16,
+    place: u64,
+) -> Result<Option<u64>, AllocError>
+    ensures { IfOk result (λ earlier. (s : Classes) (b : List ℕ) (at : ℕ) → IsPlanOfFile s b plan.now
+        → BreaksTopologyRule plan.now rule at → IsEarlierIfAny s b rule place earlier) }
+{
+    match rule {
+        403 => node_before(alloc, plan, place),
+        405 => Ok(arc_before(plan, place)),
+        _ => Ok(None),
+    }
+}
+
+/// The refusal of a sheet by a fault of its plan, with the earlier record or the node that the rule speaks of.
+fn found_in_plan(
     alloc: Global,
     schema: &Schema,
     bytes: &[u8],
-    plan: Plan,
-    repeated: &Repeated,
-) -> Result<Sound, Found>
+    plan: &Plan,
+    fault: TopoFault,
+) -> Found
     requires held { ReferencesHold schema.now bytes.now }
-    requires plan { IsPlanOfFile schema.now bytes.now plan }
-    requires node { IsOfFirstNode plan repeated.now.node }
-    requires arc { IsOfFirstArc plan repeated.now.arc }
-    ensures accepted { OnOk result (IsAccepted schema.now bytes.now) }
-    ensures plan { IfOk result (IsPlanOfFile schema.now bytes.now) }
-    ensures found { IfErr result (IsFound schema.now bytes.now) }
+    requires plan { IsPlanOfFile schema.now bytes.now plan.now }
+    requires least { IsRecordRefusal (BreaksTopologyRule plan.now) fault }
+    ensures { IsFound schema.now bytes.now result }
 {
-    match Sound::check(alloc, plan) {
-        Ok(sound) => objects_examined(alloc, schema, bytes, sound),
-        Err(TopoFault::Memory(error)) => Err(no_memory(error)),
-        Err(TopoFault::Broken { rule, at }) => {
-            let earlier = earlier_of(rule, repeated);
-            Err(found_at(rule, at, Ok(earlier)))
+    let _ = schema;
+    let _ = bytes;
+    match fault {
+        TopoFault::Memory(error) => no_memory(error),
+        TopoFault::Broken { rule, at } => {
+            let place = at.saturating_sub(1);
+            let earlier = earlier_in_plan(alloc, plan, rule, place);
+            found_at(rule, at, earlier, end_node(plan, rule, place))
         }
     }
 }
@@ -197,10 +188,8 @@ fn objects_examined(
         Ok(()) => Ok(sound),
         Err(RankFault::Memory(error)) => Err(no_memory(error)),
         Err(RankFault::Broken { rule, at }) => {
-            let plan = sound.plan();
-            let place = at.saturating_sub(1);
-            let earlier = object_before(alloc, plan, place);
-            Err(found_at(rule, at, earlier))
+            let earlier = object_before(alloc, sound.plan(), at.saturating_sub(1));
+            Err(found_at(rule, at, earlier, None))
         }
     }
 }

@@ -1,28 +1,35 @@
-use Rattle.std.proofs.Common.{◌∙◌, ◌++◌, List, ℕ, ap, ap₂}
+use Rattle.std.proofs.Common.{◌∙◌, ◌++◌, List, ℕ, ap, ap₂, subst, sym}
+use Rattle.edi_line.specs.Entry.{entries}
+use Rattle.edi_line.specs.LineRules.{IsZonesOf}
+use Rattle.edi_line.specs.declared.zone.Zone.{Zone}
+use Rattle.edi_explain.specs.inner.Found.{AreFound}
 use Rattle.edi_explain.proofs.Phases.{lines_hold}
 use Rattle.edi_explain.proofs.explained.explain_record.Goals as goal
 
-pub records_of-requires : goal.records_of-requires
-records_of-requires c = lines_hold c.args.schema.now c.args.file.now.bytes.now c.args.rule c.args.at c.requires.refusal
+pub zones_of-requires : goal.zones_of-requires
+zones_of-requires c = lines_hold c.args.schema.now c.args.file.now.bytes.now c.args.rule c.args.at c.requires.refusal
 
 pub explain_zone_of_sheet-requires : goal.explain_zone_of_sheet-requires
 explain_zone_of_sheet-requires c = lines_hold c.args.schema.now c.args.file.now.bytes.now c.args.rule c.args.at c.requires.refusal
 
 pub returns : goal.returns
 returns c =
-    let found = c.in_ok-records.ensures in
-    let zones = found.0 in
+    let b = c.args.file.now.bytes.now in
+    let zones = entries c.in_ok-zones.zones.items in
+    let read = c.in_ok-zones.ensures in
     let at = c.args.at in
-    let earlier = c.args.earlier in
-    let place = c.in_ok-lines.ensures zones at earlier found.2 in
-    let zone = c.in_ok-zone.ensures zones at found.1 found.2 in
+    let earlier = c.args.found.now.earlier in
+    let found = subst (λ (zs : List Zone). AreFound (entries zs) at earlier c.records_in-records.result) c.deref.ensures.value c.records_in-records.ensures in
+    let place = c.in_ok-lines.ensures zones at earlier found in
+    let zone = c.in_ok-zone.ensures zones at read found in
+    let node = c.in_ok-node.ensures b (subst (λ (zs : List Zone). IsZonesOf b (entries zs)) (sym c.deref-2.ensures.value) read) in
     let lines = c.in_ok-lines.lines.items in (
       lines,
       c.in_ok-zone.zone.items,
       c.in_ok-node.node.items,
-      (place.0, place.1, place.2, (zones, earlier, found.1, c.requires.earlier, place.3), place.4),
-      (zones, earlier, found.1, c.requires.earlier, zone),
-      c.in_ok-node.ensures,
+      (place.0, place.1, place.2, (zones, earlier, read, c.requires.earlier, place.3), place.4),
+      (zones, earlier, read, c.requires.earlier, zone),
+      (c.args.found.now.node, c.requires.node, node),
       c.in_ok-extend_from_slice-2.ensures.items ∙ ap₂ (λ (xs ys : List ℕ). xs ++ ys)
-          (c.in_ok-extend_from_slice.ensures.items ∙ ap (λ (xs : List ℕ). lines ++ xs) c.deref.ensures.value) c.deref-2.ensures.value,
+          (c.in_ok-extend_from_slice.ensures.items ∙ ap (λ (xs : List ℕ). lines ++ xs) c.deref-3.ensures.value) c.deref-4.ensures.value,
     )

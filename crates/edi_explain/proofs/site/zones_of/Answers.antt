@@ -1,7 +1,7 @@
 use Rattle.std.proofs.Common.{subst}
 use Rattle.edi_line.specs.LineRules.{BreaksLineRule}
 use Rattle.edi_line.specs.Refusal.{IsLineRefusal}
-use Rattle.edi_explain.proofs.refused.records_of.Goals as goal
+use Rattle.edi_explain.proofs.site.zones_of.Goals as goal
 
 pub unreachable-requires : goal.unreachable-requires
 unreachable-requires c =

@@ -1,58 +1,19 @@
--- What was found when all groups have come.
-use Rattle.std.proofs.Common.{◌≡◌, ◌+◌, ◌-◌, ◌≤◌, ◌∙◌, ℕ, suc, zero, List, [], ◌∷◌, length, replicate, Option, Some, None, MatchOption, option_map, ap, subst, sym, arith, refl, slice_get}
-use Rattle.std.proofs.lemmas.Option.{slice_get_past}
-use Rattle.std.specs.Global.{Vec}
+-- The records of a file by their numbers.
+use Rattle.std.proofs.Common.{◌≡◌, ◌-◌, ◌≤◌, ◌∙◌, ℕ, suc, zero, List, [], ◌∷◌, Option, Some, None, ap, sym, arith, refl, slice_get}
 use Rattle.std.specs.Option.{SomeIff}
-use Rattle.edi_line.specs.Entry.{Entry, entries}
+use Rattle.edi_line.specs.Entry.{Entry}
 use Rattle.edi_line.specs.Zones.{groups_of}
-use Rattle.edi_line.specs.declared.zone.Zone.{Zone}
 use Rattle.edi_explain.specs.Refusals.{IsSiteAtIfAny}
 use Rattle.edi_explain.specs.Sites.{IsSiteIfAny}
-use Rattle.edi_explain.specs.declared.seeking.SoughtRecord.{SoughtRecord}
-use Rattle.edi_explain.specs.declared.seeking.SoughtRecords.{SoughtRecords}
 use Rattle.edi_explain.specs.declared.site.RecordSite.{RecordSite}
-use Rattle.edi_explain.specs.inner.Seeking.{AreFound, AreSought, IsSought, IsGroupAmong, group_numbered, number_of}
+use Rattle.edi_explain.specs.inner.Found.{group_numbered, number_of}
 use Rattle.edi_explain.specs.inner.Sites.{IsGroupSite}
-
-abbrev blank_zone : Entry
-blank_zone = record { line = 0; code = []; nature = 0; format = 0; value = [] }
-
--- a group of so many zones
-abbrev pub so_many : ℕ → List Entry
-so_many number = replicate number blank_zone
-
-pub so_long : (n : ℕ) → length (so_many n) ≡ n
-so_long zero = refl
-so_long (suc n) = ap suc (so_long n)
 
 -- a place from a number
 pub numbered_back : (n : ℕ) (o : Option ℕ) → SomeIff o (1 ≤ n) (n - 1) → number_of o ≡ n
 numbered_back n (Some k) h = omega (arith, h.0, h.1)
 numbered_back zero None h = refl
 numbered_back (suc n) None h = absurd (h (omega arith))
-
--- behind the last group there is none
-past_groups : (groups : List (List Entry)) (number left : ℕ) → left + suc (length groups) ≡ number → None ≡ group_numbered groups number
-past_groups groups zero left e = refl
-past_groups groups (suc place) left e = sym (slice_get_past groups place (omega (arith, e)))
-
-pub found_group : (groups : List (List Entry)) (number : ℕ) (s : SoughtRecord) → IsSought number groups s → option_map (λ v. entries v.items) s.found ≡ group_numbered groups number
-found_group groups number s h = go s.found s.left h
-  where
-    go : (found : Option (Vec Zone)) (left : Option ℕ) → MatchOption found (MatchOption left (number ≡ 0) (λ l. l + suc (length groups) ≡ number)) (λ v. (left ≡ None) × IsGroupAmong groups number v.items)
-        → option_map (λ v. entries v.items) found ≡ group_numbered groups number
-    go (Some v) left k = let d = k.1 in sym (ap (group_numbered groups) d.number_is ∙ d.there)
-    go None None k = sym (ap (group_numbered groups) k)
-    go None (Some l) k = past_groups groups number l k
-
-pub found_groups : (zones : List Entry) (number : ℕ) (earlier : Option ℕ) (s : SoughtRecords) → AreSought s (so_many number ∷ so_many (number_of earlier) ∷ groups_of zones)
-    → AreFound zones number earlier (record { here = s.here.found; earlier = s.earlier.found })
-found_groups zones number earlier s h = record {
-  here = found_group (groups_of zones) number s.here (subst (λ n. IsSought n (groups_of zones) s.here) (so_long number) h.0);
-  earlier_one = found_group (groups_of zones) (number_of earlier) s.earlier (subst (λ n. IsSought n (groups_of zones) s.earlier) (so_long (number_of earlier)) h.1);
-}
-
--- ---- sites
 
 -- the place of a group that has a number
 pub numbered_group : (groups : List (List Entry)) (number : ℕ) (group : List Entry) → Some group ≡ group_numbered groups number
