@@ -4,6 +4,7 @@ pub mod Phases
 pub mod PlaceCounts
 pub mod RuleTexts
 pub mod RowGroups
+pub mod HandedOn
 pub mod RuleWords
 pub mod InTurn
 pub mod OneArc

@@ -114,9 +114,7 @@ fn explain_record(
     let earlier = found.earlier;
     let records = records_in(&zones, at, earlier);
     let mut lines = explain_place(alloc, &records, file.name, rule)?;
-    let zone = explain_zone_of_sheet(
-        alloc, schema, file.bytes, &records, file.name, earlier, rule,
-    )?;
+    let zone = explain_zone_of_sheet(alloc, schema, &zones, &records, file.name, earlier, rule)?;
     let node = line_of_node(alloc, &zones, file.name, rule, found.node)?;
     lines.extend_from_slice(&zone)?;
     lines.extend_from_slice(&node)?;

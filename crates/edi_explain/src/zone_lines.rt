@@ -2,7 +2,7 @@
 
 ghost use Rattle.std.specs.Prelude.{◌≡◌, ◌≢◌, ◌++◌, ℕ, List, Option, suc, IfOk, OnOk, codes, option_and_then, option_map, unwrap_or};
 ghost use Rattle.edi_line.specs.Entry.{Entry, entries, entry, first};
-ghost use Rattle.edi_line.specs.LineRules.{BreaksLineRule, IsZonesOf};
+ghost use Rattle.edi_line.specs.LineRules.{BreaksLineRule};
 ghost use Rattle.edi_line.specs.Refusal.{IsUnbroken};
 ghost use Rattle.edi_line.specs.Zones.{groups_of};
 ghost use Rattle.edi_record.specs.Records.{values};
@@ -202,20 +202,18 @@ pub(crate) fn explain_zone(
     }
 }
 
-/// The line on the end with which a record breaks rule 305, if there is such an end, in a file that breaks no rule of
-/// lines.
+/// The line on the end with which a record of these zones breaks rule 305, if there is such an end.
 fn line_of_lost_end(
     alloc: Global,
-    bytes: &[u8],
+    zones: &[Zone<'_>],
     group: &[Zone<'_>],
     name: &[u8],
 ) -> Result<Vec<u8>, AllocError>
-    requires { IsUnbroken (BreaksLineRule bytes.now) }
-    ensures { IfOk result (λ lines. (zones : List Entry) → IsZonesOf bytes.now zones
-        → IsZoneLine (IsLostEndOf (groups_of zones) (entries group.now)) name.now 305 lines.items) }
+    ensures { IfOk result (λ lines.
+        IsZoneLine (IsLostEndOf (groups_of (entries zones.now)) (entries group.now)) name.now 305 lines.items) }
 {
     let mut text = Vec::new(alloc);
-    let names = names_of_records(alloc, bytes)?;
+    let names = names_of_records(alloc, zones)?;
     let Some(zone) = first_lost_end(alloc, &names, group)? else {
         return Ok(text);
     };
@@ -226,39 +224,36 @@ fn line_of_lost_end(
 /// The same of a record of a sheet whose zones may have been found.
 fn explain_lost_end(
     alloc: Global,
-    bytes: &[u8],
+    zones: &[Zone<'_>],
     records: &FoundRecords<'_, '_>,
     name: &[u8],
 ) -> Result<Vec<u8>, AllocError>
-    requires { IsUnbroken (BreaksLineRule bytes.now) }
-    ensures { IfOk result (λ lines. (s : Classes) (zones : List Entry) (number : ℕ) (earlier : Option ℕ)
-        → IsZonesOf bytes.now zones → AreFound zones number earlier records.now
-        → IsZoneLine (IsZoneOfSheet s zones earlier 305 number) name.now 305 lines.items) }
+    ensures { IfOk result (λ lines. (s : Classes) (number : ℕ) (earlier : Option ℕ)
+        → AreFound (entries zones.now) number earlier records.now
+        → IsZoneLine (IsZoneOfSheet s (entries zones.now) earlier 305 number) name.now 305 lines.items) }
 {
     match records.here {
-        Some(group) => line_of_lost_end(alloc, bytes, group, name),
+        Some(group) => line_of_lost_end(alloc, zones, group, name),
         None => Ok(Vec::new(alloc)),
     }
 }
 
-/// The line on the zone with which a record of a sheet breaks a rule, if there is such a zone, in a file that breaks no
-/// rule of lines. The zones of the record may have been found, with those of the earlier one that the rule speaks of.
+/// The line on the zone with which a record of a sheet breaks a rule, if there is such a zone. The zones of the record
+/// may have been found among those of the sheet, with those of the earlier one that the rule speaks of.
 pub(crate) fn explain_zone_of_sheet(
     alloc: Global,
     schema: &Schema,
-    bytes: &[u8],
+    zones: &[Zone<'_>],
     records: &FoundRecords<'_, '_>,
     name: &[u8],
     earlier: Option<u64>,
     rule: u16,
 ) -> Result<Vec<u8>, AllocError>
-    requires { IsUnbroken (BreaksLineRule bytes.now) }
-    ensures { IfOk result (λ lines. (zones : List Entry) (number : ℕ) → IsZonesOf bytes.now zones
-        → AreFound zones number earlier records.now
-        → IsZoneLine (IsZoneOfSheet schema.now zones earlier rule number) name.now rule lines.items) }
+    ensures { IfOk result (λ lines. (number : ℕ) → AreFound (entries zones.now) number earlier records.now
+        → IsZoneLine (IsZoneOfSheet schema.now (entries zones.now) earlier rule number) name.now rule lines.items) }
 {
     if rule == 305 {
-        explain_lost_end(alloc, bytes, records, name)
+        explain_lost_end(alloc, zones, records, name)
     } else {
         explain_zone_of_record(alloc, schema, records, name, earlier, rule)
     }
