@@ -15,7 +15,9 @@ ghost use Rattle.edi_explain.specs.Refusals.{IsEarlierIfAny};
 ghost use Rattle.edi_explain.specs.inner.Found.{IsEarly};
 
 use crate::end_nodes::end_node;
-use crate::refused::{arc_before, earlier_record, node_before, object_before};
+use crate::objects::equal_object;
+use crate::partner::{equal_node, same_arc};
+use crate::refused::earlier_record;
 use edi_compare::Fault;
 use edi_plan::Plan;
 use edi_rank::{RankFault, tell_objects_apart};
@@ -138,8 +140,8 @@ fn earlier_in_plan(
         → BreaksTopologyRule plan.now rule at → IsEarlierIfAny s b rule place earlier) }
 {
     match rule {
-        403 => node_before(alloc, plan, place),
-        405 => Ok(arc_before(plan, place)),
+        403 => equal_node(alloc, plan, place),
+        405 => Ok(same_arc(plan, place)),
         _ => Ok(None),
     }
 }
@@ -188,7 +190,7 @@ fn objects_examined(
         Ok(()) => Ok(sound),
         Err(RankFault::Memory(error)) => Err(no_memory(error)),
         Err(RankFault::Broken { rule, at }) => {
-            let earlier = object_before(alloc, sound.plan(), at.saturating_sub(1));
+            let earlier = equal_object(alloc, sound.plan(), at.saturating_sub(1));
             Err(found_at(rule, at, earlier, None))
         }
     }

@@ -23,13 +23,15 @@ fn have_one_name(record: &RecordRef<'_>, other: &RecordRef<'_>) -> bool
 
 /// The first record with the type and the identifier of the one at a place, if it comes before that
 /// one: rule 301. Places are counted from 0, in file order.
-pub fn namesake(records: &SheetRecords, place: usize) -> Option<usize>
-    requires { place < length records.now }
+pub fn namesake(records: &SheetRecords, place: u64) -> Option<u64>
     ensures { IsLeastIfAny (SharesName records.now place) result }
 {
-    let own = records.record(place);
+    if place >= records.len() as u64 {
+        return None;
+    }
+    let own = records.record(place as usize);
     for earlier in 0..place {
-        if have_one_name(&records.record(earlier), &own) {
+        if have_one_name(&records.record(earlier as usize), &own) {
             return Some(earlier);
         }
     }
@@ -44,12 +46,14 @@ fn has_end(record: &RecordRef<'_>) -> bool
 
 /// The record with the first end of all links, if it comes before the one at a place: rule 304.
 /// Places are counted from 0, in file order.
-pub fn first_link(records: &SheetRecords, place: usize) -> Option<usize>
-    requires { place < length records.now }
+pub fn first_link(records: &SheetRecords, place: u64) -> Option<u64>
     ensures { IsLeastIfAny (HasEnd records.now place) result }
 {
+    if place >= records.len() as u64 {
+        return None;
+    }
     for earlier in 0..place {
-        if has_end(&records.record(earlier)) {
+        if has_end(&records.record(earlier as usize)) {
             return Some(earlier);
         }
     }
@@ -80,17 +84,20 @@ fn is_equal_node(
 
 /// The first node with the position, the class, the attributes and the extras of the node at a place,
 /// if it comes before that one: rule 403. `None` also where the record isn't a node.
-pub fn equal_node(alloc: Global, plan: &Plan, place: u32) -> Result<Option<u32>, AllocError>
-    requires { IsPlace plan.now place }
+pub fn equal_node(alloc: Global, plan: &Plan, place: u64) -> Result<Option<u64>, AllocError>
     ensures { IfOk result (IsLeastIfAny (IsEqualNode plan.now place)) }
 {
-    if plan.kind(place) != Kind::Pno {
+    if place >= u64::from(plan.len()) {
         return Ok(None);
     }
-    let key = node_key_at(alloc, plan, place)?;
-    for earlier in 0..place {
-        if is_equal_node(alloc, plan, &key, place, earlier)? {
-            return Ok(Some(earlier));
+    let own = place as u32;
+    if plan.kind(own) != Kind::Pno {
+        return Ok(None);
+    }
+    let key = node_key_at(alloc, plan, own)?;
+    for earlier in 0..own {
+        if is_equal_node(alloc, plan, &key, own, earlier)? {
+            return Ok(Some(u64::from(earlier)));
         }
     }
     Ok(None)
@@ -111,13 +118,16 @@ fn share_points(plan: &Plan, place: u32, earlier: u32) -> bool
 
 /// The first arc with the points of the arc at a place, in either direction, if it comes before that
 /// one: rule 405. `None` also where the record isn't an arc.
-pub fn same_arc(plan: &Plan, place: u32) -> Option<u32>
-    requires { IsPlace plan.now place }
+pub fn same_arc(plan: &Plan, place: u64) -> Option<u64>
     ensures { IsLeastIfAny (SharesPoints plan.now place) result }
 {
-    for earlier in 0..place {
-        if share_points(plan, place, earlier) {
-            return Some(earlier);
+    if place >= u64::from(plan.len()) {
+        return None;
+    }
+    let own = place as u32;
+    for earlier in 0..own {
+        if share_points(plan, own, earlier) {
+            return Some(u64::from(earlier));
         }
     }
     None

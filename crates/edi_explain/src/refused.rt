@@ -9,17 +9,14 @@ ghost use Rattle.edi_compare.specs.PlanOfFile.{IsSheetOf};
 ghost use Rattle.edi_compare.specs.Refused.{IsRefusal};
 ghost use Rattle.edi_compare.specs.Rules.{RecordsHold};
 ghost use Rattle.edi_compare.specs.declared.fault.Fault.TheVariants.{Entry as AtRecord};
-ghost use Rattle.edi_explain.specs.Partners.{HasEnd, IsEqualNode, IsEqualObject, IsLeastIfAny, SharesName, SharesPoints, SharesSide};
 ghost use Rattle.edi_explain.specs.Refusals.{AreSites, IsEarlierIfAny, IsEarlierRowIfAny, IsRowRefusedAt};
 ghost use Rattle.edi_explain.specs.inner.Found.{AreFound};
 
 use crate::links::same_side;
-use crate::objects::equal_object;
-use crate::partner::{equal_node, first_link, namesake, same_arc};
+use crate::partner::{first_link, namesake};
 use crate::rows::row_namesake;
 use crate::site::{RecordSite, record_at, site_if_found, zones_of};
 use edi_line::{LineFault, Zone};
-use edi_plan::Plan;
 use edi_record::{RecordFault, Sheet, SheetFault, SheetRecords, read_sheet};
 use edi_schema::Schema;
 use std::alloc::{AllocError, Global};
@@ -53,88 +50,6 @@ fn sheet_of(alloc: Global, schema: &Schema, bytes: &[u8]) -> Result<Sheet, Alloc
     }
 }
 
-/// The first record with the name of the one at a place, if it comes before that one.
-fn namesake_before(records: &SheetRecords, place: u64) -> Option<u64>
-    ensures { IsLeastIfAny (SharesName records.now place) result }
-{
-    if place >= records.len() as u64 {
-        return None;
-    }
-    match namesake(records, place as usize) {
-        Some(earlier) => Some(earlier as u64),
-        None => None,
-    }
-}
-
-/// The record with the first end of all links, if it comes before the one at a place.
-fn link_before(records: &SheetRecords, place: u64) -> Option<u64>
-    ensures { IsLeastIfAny (HasEnd records.now place) result }
-{
-    if place >= records.len() as u64 {
-        return None;
-    }
-    match first_link(records, place as usize) {
-        Some(earlier) => Some(earlier as u64),
-        None => None,
-    }
-}
-
-/// The first link of the kind and of an arc of the one at a place, if it comes before that one.
-fn side_before(schema: &Schema, records: &SheetRecords, place: u64) -> Option<u64>
-    ensures { IsLeastIfAny (SharesSide schema.now records.now place) result }
-{
-    if place >= records.len() as u64 {
-        return None;
-    }
-    match same_side(schema, records, place as usize) {
-        Some(earlier) => Some(earlier as u64),
-        None => None,
-    }
-}
-
-/// The first node equal to the one at a place, if it comes before that one.
-pub(crate) fn node_before(alloc: Global, plan: &Plan, place: u64) -> Result<Option<u64>, AllocError>
-    ensures { IfOk result (IsLeastIfAny (IsEqualNode plan.now place)) }
-{
-    if place >= u64::from(plan.len()) {
-        return Ok(None);
-    }
-    match equal_node(alloc, plan, place as u32)? {
-        Some(earlier) => Ok(Some(u64::from(earlier))),
-        None => Ok(None),
-    }
-}
-
-/// The first arc with the points of the one at a place, if it comes before that one.
-pub(crate) fn arc_before(plan: &Plan, place: u64) -> Option<u64>
-    ensures { IsLeastIfAny (SharesPoints plan.now place) result }
-{
-    if place >= u64::from(plan.len()) {
-        return None;
-    }
-    match same_arc(plan, place as u32) {
-        Some(earlier) => Some(u64::from(earlier)),
-        None => None,
-    }
-}
-
-/// The first object equal to the one at a place, if it comes before that one.
-pub(crate) fn object_before(
-    alloc: Global,
-    plan: &Plan,
-    place: u64,
-) -> Result<Option<u64>, AllocError>
-    ensures { IfOk result (IsLeastIfAny (IsEqualObject plan.now place)) }
-{
-    if place >= u64::from(plan.len()) {
-        return Ok(None);
-    }
-    match equal_object(alloc, plan, place as u32)? {
-        Some(earlier) => Ok(Some(u64::from(earlier))),
-        None => Ok(None),
-    }
-}
-
 /// The earlier record that a rule of references speaks of: by its name, by its subset, or by the side of an arc.
 fn earlier_among(schema: &Schema, records: &SheetRecords, rule: u16, place: u64) -> Option<u64>
     requires { (rule ≡ 301) ⊎ ((rule ≡ 304) ⊎ (rule ≡ 307)) }
@@ -142,11 +57,11 @@ fn earlier_among(schema: &Schema, records: &SheetRecords, rule: u16, place: u64)
         → IsEarlierIfAny schema.now b rule place result }
 {
     if rule == 301 {
-        namesake_before(records, place)
+        namesake(records, place)
     } else if rule == 304 {
-        link_before(records, place)
+        first_link(records, place)
     } else {
-        side_before(schema, records, place)
+        same_side(schema, records, place)
     }
 }
 

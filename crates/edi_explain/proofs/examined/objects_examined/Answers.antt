@@ -24,7 +24,7 @@ returns-clause-found c =
     let least = subst (IsRecordRefusal (BreaksObjectRule p)) c.in-Err-Broken.field-0-is c.in-Err-Broken.ensures.least in
     let is = object_rule p rule at least.is in
     c.found_at.ensures s b (object_refusal s b rule at c.requires.held p c.requires.plan least)
-    (IfOk-weaker c.object_before-earlier.result _ _ (λ earlier found. object_earlier s b p c.requires.plan rule (at - 1) earlier is
+    (IfOk-weaker c.equal_object-earlier.result _ _ (λ earlier found. object_earlier s b p c.requires.plan rule (at - 1) earlier is
     (subst (λ (q : Drawing). IsLeastIfAny (IsEqualObject q (at - 1)) earlier) c.plan.ensures.plan
-    (subst (λ (n : ℕ). IsLeastIfAny (IsEqualObject c.plan.result.now n) earlier) c.saturating_sub.ensures found))) c.object_before-earlier.ensures)
+    (subst (λ (n : ℕ). IsLeastIfAny (IsEqualObject c.plan.result.now n) earlier) c.saturating_sub.ensures found))) c.equal_object-earlier.ensures)
     (no_end_node s b rule (at - 1) (λ e. omega (arith, e, is)) (λ e. omega (arith, e, is)))

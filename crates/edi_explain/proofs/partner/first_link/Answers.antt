@@ -9,7 +9,7 @@ pub returns-then-has_end : goal.returns-then-has_end
 returns-then-has_end c =
     let less : c.loop-earlier.earlier < c.args.place = omega arith in
     least_here (HasEnd c.args.records.now c.args.place) c.loop-earlier.earlier c.loop-earlier.invariant
-    (c.record.result, less, c.record.ensures, c.has_end.ensures.0 c.if-has_end.true, c.requires)
+    (c.record.result, less, c.record.ensures, c.has_end.ensures.0 c.if-has_end.true, omega arith)
 
 pub loop-earlier-preserved : goal.loop-earlier-preserved
 loop-earlier-preserved c =
