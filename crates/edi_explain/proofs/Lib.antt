@@ -5,6 +5,7 @@ pub mod PlaceCounts
 pub mod RuleTexts
 pub mod RowGroups
 pub mod HandedOn
+pub mod RowRecords
 pub mod RuleWords
 pub mod InTurn
 pub mod OneArc

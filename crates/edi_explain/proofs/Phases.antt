@@ -1,26 +1,28 @@
 -- What holds of a sheet that is refused at a record: no rule of an earlier phase is broken.
-use Rattle.std.proofs.Common.{◌<◌, ◌≤◌, ℕ, List, arith}
+use Rattle.std.proofs.Common.{◌<◌, ◌≤◌, inl, inr, ℕ, List, arith}
 use Rattle.edi_line.specs.Entry.{Entry}
 use Rattle.edi_line.specs.LineRules.{BreaksLineRule}
 use Rattle.edi_line.specs.Refusal.{IsLeastBroken}
 use Rattle.edi_line.specs.declared.fault.LineFault.TheVariants as line
 use Rattle.edi_record.specs.RecordRefusal.{IsRecordRefusal, IsSheetRefusal}
-use Rattle.edi_record.specs.RecordRules.{BreaksGroupRule, BreaksRecordRule}
+use Rattle.edi_record.specs.RecordRules.{BreaksGroupRule}
 use Rattle.edi_record.specs.RecordRules.BreaksGroupRule.{lacks_kind, lacks_identifier, lacks_class as lacks_record_class, bad_attribute, wrong_count, bad_point, bad_end, unknown_pointer}
 use Rattle.edi_record.specs.declared.fault.RecordFault.{RecordFault}
 use Rattle.edi_record.specs.declared.fault.RecordFault.TheVariants as record_
 use Rattle.edi_record.specs.declared.fault.SheetFault.{SheetFault}
 use Rattle.edi_record.specs.declared.fault.SheetFault.TheVariants as file
 use Rattle.edi_record.specs.declared.record.Record.{Record}
+use Rattle.edi_record.specs.declared.sheet.Sheet.{Sheet}
 use Rattle.edi_schema.specs.Classes.{Classes}
 use Rattle.edi_plan.specs.ReferenceRules.{BreaksReferenceRule}
 use Rattle.edi_plan.specs.ReferenceRules.BreaksReferenceRule.{repeats_name, lacks_class, lacks_attribute_class, leaves_subset, names_nothing, joins_wrong, repeats_side}
 use Rattle.edi_compare.specs.Faults.{of_record, of_sheet}
+use Rattle.edi_compare.specs.PlanOfFile.{IsSheetOf}
 use Rattle.edi_compare.specs.Refused.{IsRefusal}
 use Rattle.edi_compare.specs.Rules.{Breaks, LinesHold, RecordsHold}
 use Rattle.edi_compare.specs.Rules.Breaks.{of_lines, of_records, of_references, of_topology, of_objects}
 use Rattle.edi_compare.specs.declared.fault.Fault.TheVariants.{Entry as AtRecord, Line as AtLine}
-use Rattle.edi_explain.specs.inner.Found.{IsEarly}
+use Rattle.edi_explain.specs.inner.Found.{IsEarly, IsEarlyRule}
 use Rattle.edi_compare.proofs.Phases.{line_refusal, object_refusal, record_refusal, reference_refusal, topology_refusal}
 
 group_below : (group : List Entry) (rule : ℕ) → BreaksGroupRule group rule → rule < 300
@@ -42,19 +44,26 @@ reference_below s list rule place (names_nothing e h) = omega (arith, e)
 reference_below s list rule place (joins_wrong e h) = omega (arith, e)
 reference_below s list rule place (repeats_side e h) = omega (arith, e)
 
-early_record : (broken : ℕ → ℕ → Type 0) → ((rule at : ℕ) → broken rule at → rule < 400) → (f : RecordFault) → IsRecordRefusal broken f → IsEarly (of_record f)
-early_record broken below (record_.Memory e) h = tt
-early_record broken below (record_.Broken rule at) h = below rule at h.is
-
 -- the fault of a file that breaks a rule of lines or of records
-pub early_sheet : (b : List ℕ) (f : SheetFault) → IsSheetRefusal b f → IsEarly (of_sheet f)
+pub early_sheet : (b : List ℕ) (f : SheetFault) → IsSheetRefusal b f → IsEarly b (of_sheet f)
 early_sheet b (file.Line (line.Memory e)) h = tt
 early_sheet b (file.Line (line.Broken rule at)) h = tt
-early_sheet b (file.Record f) h = early_record (BreaksRecordRule h.1.0) (λ rule at g. omega (arith, group_below g.group rule g.breaks)) f h.1.2
+early_sheet b (file.Record (record_.Memory e)) h = tt
+early_sheet b (file.Record (record_.Broken rule at)) h = let g = h.1.2.is in inl (group_below g.group rule g.breaks)
 
 -- the fault of one that breaks a rule of references
-pub early_reference : (s : Classes) (list : List Record) (f : RecordFault) → IsRecordRefusal (BreaksReferenceRule s list) f → IsEarly (of_record f)
-early_reference s list f h = early_record (BreaksReferenceRule s list) (reference_below s list) f h
+pub early_reference : (s : Classes) (b : List ℕ) (sheet : Sheet) → IsSheetOf b sheet → (f : RecordFault) → IsRecordRefusal (BreaksReferenceRule s sheet.list) f → IsEarly b (of_record f)
+early_reference s b sheet states (record_.Memory e) h = tt
+early_reference s b sheet states (record_.Broken rule at) h = inr (reference_below s sheet.list rule at h.is, (sheet, states))
+
+pub early_below : (b : List ℕ) (rule : ℕ) → IsEarlyRule b rule → rule < 400
+early_below b rule (inl less) = omega (arith, less)
+early_below b rule (inr h) = h.0
+
+-- by a rule of references only a sheet is refused
+pub sheet_there : (b : List ℕ) (rule : ℕ) → 300 ≤ rule → IsEarlyRule b rule → (sheet : Sheet) × IsSheetOf b sheet
+sheet_there b rule big (inl less) = absurd (omega (arith, big, less))
+sheet_there b rule big (inr h) = h.1
 
 module _ (s : Classes) (b : List ℕ) (rule at : ℕ) (is : IsRefusal s b (AtRecord rule at)) where
   no_line : BreaksLineRule b rule at → ⊥

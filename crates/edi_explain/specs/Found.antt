@@ -1,5 +1,7 @@
 -- A refusal with the earlier record and the node that its rule speaks of.
-use Rattle.std.specs.Prelude.{◌≡◌, ◌-◌, ℕ, List, Option, None}
+use Rattle.std.specs.Prelude.{◌≡◌, ◌-◌, ℕ, List, Option, None, IfSome}
+use Rattle.edi_line.specs.Entry.{entries}
+use Rattle.edi_line.specs.LineRules.{IsZonesOf}
 use Rattle.edi_schema.specs.Classes.{Classes}
 use Rattle.edi_compare.specs.Refused.{IsRefusal}
 use Rattle.edi_compare.specs.declared.fault.Fault.{Fault}
@@ -20,7 +22,8 @@ IsEndNodeOf s b (Memory e) node = node ≡ None
 IsEndNodeOf s b (Line rule at) node = node ≡ None
 IsEndNodeOf s b (Entry rule at) node = IsEndNodeIfAny s b rule (at - 1) node
 
--- the refusal of the sheet b, and the earlier record and the node that its rule speaks of
+-- the refusal of the sheet b, the earlier record and the node that its rule speaks of, and the zones of the file, if they
+-- were read
 abbrev pub IsFound : Classes → List ℕ → Found → Type 0
 IsFound s b found = IsRefusal s b found.fault × IsEarlierOf s b found.fault found.earlier
-    × IsEndNodeOf s b found.fault found.node
+    × IsEndNodeOf s b found.fault found.node × IfSome found.zones (λ zones. IsZonesOf b (entries zones.items))

@@ -1,10 +1,13 @@
 //! A sheet that is accepted; or refused, with the earlier record or the node that the rule speaks of.
 
-ghost use Rattle.std.specs.Prelude.{◌-◌, ◌<◌, ℕ, List, OnOk, IfOk, IfErr};
+ghost use Rattle.std.specs.Prelude.{◌≡◌, ◌⊎◌, ◌-◌, ℕ, List, OnOk, IfOk, IfErr};
+ghost use Rattle.edi_line.specs.LineRules.{BreaksLineRule};
+ghost use Rattle.edi_line.specs.Refusal.{IsUnbroken};
 ghost use Rattle.edi_plan.specs.Plans.{Drawing};
 ghost use Rattle.edi_record.specs.RecordRefusal.{IsRecordRefusal};
+ghost use Rattle.edi_record.specs.declared.sheet.Sheet.{Sheet as Sheets};
 ghost use Rattle.edi_topo.specs.TopologyRules.{BreaksTopologyRule};
-ghost use Rattle.edi_compare.specs.PlanOfFile.{IsPlanOfFile};
+ghost use Rattle.edi_compare.specs.PlanOfFile.{IsPlanOfFile, IsSheetOf};
 ghost use Rattle.edi_compare.specs.Refused.{IsRefusal};
 ghost use Rattle.edi_compare.specs.Rules.{IsAccepted, ReferencesHold, TopologyHolds};
 ghost use Rattle.edi_compare.specs.declared.fault.Fault.TheVariants.{Entry as AtRecord};
@@ -12,13 +15,15 @@ ghost use Rattle.edi_schema.specs.Classes.{Classes};
 ghost use Rattle.edi_explain.specs.EndNodes.{IsEndNodeIfAny};
 ghost use Rattle.edi_explain.specs.Found.{IsFound};
 ghost use Rattle.edi_explain.specs.Refusals.{IsEarlierIfAny};
-ghost use Rattle.edi_explain.specs.inner.Found.{IsEarly};
+ghost use Rattle.edi_explain.specs.inner.Found.{IsEarly, IsEarlyRule};
 
 use crate::end_nodes::end_node;
 use crate::objects::equal_object;
 use crate::partner::{equal_node, same_arc};
-use crate::refused::earlier_record;
+use crate::refused::{earlier_in_zones, earlier_record};
+use crate::site::zones_of;
 use edi_compare::Fault;
+use edi_line::Zone;
 use edi_plan::Plan;
 use edi_rank::{RankFault, tell_objects_apart};
 use edi_record::read_sheet;
@@ -28,32 +33,35 @@ use std::alloc::{AllocError, Global};
 
 /// Why a sheet is refused.
 #[derive(Drop)]
-pub struct Found {
+pub struct Found<'a> {
     pub fault: Fault,
     /// The place of the earlier record that the rule speaks of, counted from 0.
     pub earlier: Option<u64>,
     /// The place of the node that the rule speaks of beside an arc, counted from 0.
     pub node: Option<u64>,
+    /// The zones of the file, if they were read for the earlier record.
+    pub(crate) zones: Option<Vec<Zone<'a>>>,
 }
 
 /// Want of memory.
-fn no_memory(error: AllocError) -> Found
+fn no_memory<'a>(error: AllocError) -> Found<'a>
     ensures { (s : Classes) (b : List ℕ) → IsFound s b result }
 {
     Found {
         fault: Fault::Memory(error),
         earlier: None,
         node: None,
+        zones: None,
     }
 }
 
 /// The refusal at a record, with the node, and with the earlier record if it was found.
-fn found_at(
+fn found_at<'a>(
     rule: u16,
     at: u64,
     earlier: Result<Option<u64>, AllocError>,
     node: Option<u64>,
-) -> Found
+) -> Found<'a>
     ensures { (s : Classes) (b : List ℕ) → IsRefusal s b (AtRecord rule at)
         → IfOk earlier (IsEarlierIfAny s b rule (at - 1)) → IsEndNodeIfAny s b rule (at - 1) node
         → IsFound s b result }
@@ -63,16 +71,49 @@ fn found_at(
             fault: Fault::Entry { rule, at },
             earlier,
             node,
+            zones: None,
         },
         Err(error) => no_memory(error),
     }
 }
 
-/// A refusal by a rule of lines, of records or of references with the earlier record that the rule speaks of, for which
-/// the file is read once more.
-fn found_anew(alloc: Global, schema: &Schema, bytes: &[u8], fault: Fault) -> Found
+/// The refusal at a record by 301 or 304, with the earlier one and the zones of the file.
+fn found_in_zones<'a>(alloc: Global, bytes: &'a [u8], rule: u16, at: u64) -> Found<'a>
+    requires lines { IsUnbroken (BreaksLineRule bytes.now) }
+    requires rule { (rule ≡ 301) ⊎ (rule ≡ 304) }
+    ensures { (s : Classes) (sheet : Sheets) → IsSheetOf bytes.now sheet → IsRefusal s bytes.now (AtRecord rule at)
+        → IsFound s bytes.now result }
+{
+    match zones_of(alloc, bytes) {
+        Ok(zones) => Found {
+            fault: Fault::Entry { rule, at },
+            earlier: earlier_in_zones(&zones, rule, at.saturating_sub(1)),
+            node: None,
+            zones: Some(zones),
+        },
+        Err(error) => no_memory(error),
+    }
+}
+
+/// The refusal at a record by a rule of records or of references, with the earlier record that the rule speaks of.
+fn found_early<'a>(alloc: Global, schema: &Schema, bytes: &'a [u8], rule: u16, at: u64) -> Found<'a>
+    requires refusal { IsRefusal schema.now bytes.now (AtRecord rule at) }
+    requires early { IsEarlyRule bytes.now rule }
+    ensures { IsFound schema.now bytes.now result }
+{
+    match rule {
+        301 | 304 => found_in_zones(alloc, bytes, rule, at),
+        _ => {
+            let earlier = earlier_record(alloc, schema, bytes, rule, at);
+            found_at(rule, at, earlier, None)
+        }
+    }
+}
+
+/// A refusal by a rule of lines, of records or of references with the earlier record that the rule speaks of.
+fn found_anew<'a>(alloc: Global, schema: &Schema, bytes: &'a [u8], fault: Fault) -> Found<'a>
     requires refusal { IsRefusal schema.now bytes.now fault }
-    requires early { IsEarly fault }
+    requires early { IsEarly bytes.now fault }
     ensures { IsFound schema.now bytes.now result }
 {
     match fault {
@@ -81,11 +122,9 @@ fn found_anew(alloc: Global, schema: &Schema, bytes: &[u8], fault: Fault) -> Fou
             fault: Fault::Line { rule, at },
             earlier: None,
             node: None,
+            zones: None,
         },
-        Fault::Entry { rule, at } => {
-            let earlier = earlier_record(alloc, schema, bytes, rule, at);
-            found_at(rule, at, earlier, None)
-        }
+        Fault::Entry { rule, at } => found_early(alloc, schema, bytes, rule, at),
     }
 }
 
@@ -94,7 +133,7 @@ fn plan_or_fault(alloc: Global, schema: &Schema, bytes: &[u8]) -> Result<Plan, F
     ensures held { OnOk result (ReferencesHold schema.now bytes.now) }
     ensures plan { IfOk result (IsPlanOfFile schema.now bytes.now) }
     ensures refusal { IfErr result (IsRefusal schema.now bytes.now) }
-    ensures early { IfErr result IsEarly }
+    ensures early { IfErr result (IsEarly bytes.now) }
 {
     let sheet = read_sheet(alloc, bytes)?;
     let plan = Plan::build(alloc, schema, sheet)?;
@@ -102,9 +141,9 @@ fn plan_or_fault(alloc: Global, schema: &Schema, bytes: &[u8]) -> Result<Plan, F
 }
 
 /// The plan of a sheet, if no rule is broken; or why it is refused, with the earlier record or the node that the rule
-/// speaks of. It answers as `accept` does. The file is read once; only for 301, 304 and 307, of which no plan is left,
-/// once more.
-pub fn examine(alloc: Global, schema: &Schema, bytes: &[u8]) -> Result<Sound, Found>
+/// speaks of. It answers as `accept` does. The file is read once; for 307, of which no plan is left, once more; and for
+/// 301 and 304 its zones are.
+pub fn examine<'a>(alloc: Global, schema: &Schema, bytes: &'a [u8]) -> Result<Sound, Found<'a>>
     ensures accepted { OnOk result (IsAccepted schema.now bytes.now) }
     ensures plan { IfOk result (IsPlanOfFile schema.now bytes.now) }
     ensures found { IfErr result (IsFound schema.now bytes.now) }
@@ -116,7 +155,12 @@ pub fn examine(alloc: Global, schema: &Schema, bytes: &[u8]) -> Result<Sound, Fo
 }
 
 /// The same of a plan that breaks no rule of references.
-fn plan_examined(alloc: Global, schema: &Schema, bytes: &[u8], plan: Plan) -> Result<Sound, Found>
+fn plan_examined<'a>(
+    alloc: Global,
+    schema: &Schema,
+    bytes: &'a [u8],
+    plan: Plan,
+) -> Result<Sound, Found<'a>>
     requires held { ReferencesHold schema.now bytes.now }
     requires plan { IsPlanOfFile schema.now bytes.now plan }
     ensures accepted { OnOk result (IsAccepted schema.now bytes.now) }
@@ -147,13 +191,13 @@ fn earlier_in_plan(
 }
 
 /// The refusal of a sheet by a fault of its plan, with the earlier record or the node that the rule speaks of.
-fn found_in_plan(
+fn found_in_plan<'a>(
     alloc: Global,
     schema: &Schema,
-    bytes: &[u8],
+    bytes: &'a [u8],
     plan: &Plan,
     fault: TopoFault,
-) -> Found
+) -> Found<'a>
     requires held { ReferencesHold schema.now bytes.now }
     requires plan { IsPlanOfFile schema.now bytes.now plan.now }
     requires least { IsRecordRefusal (BreaksTopologyRule plan.now) fault }
@@ -172,12 +216,12 @@ fn found_in_plan(
 }
 
 /// The same of a plan that breaks no rule of topology.
-fn objects_examined(
+fn objects_examined<'a>(
     alloc: Global,
     schema: &Schema,
-    bytes: &[u8],
+    bytes: &'a [u8],
     sound: Sound,
-) -> Result<Sound, Found>
+) -> Result<Sound, Found<'a>>
     requires held { TopologyHolds schema.now bytes.now }
     requires plan { IsPlanOfFile schema.now bytes.now sound }
     ensures accepted { OnOk result (IsAccepted schema.now bytes.now) }

@@ -1,8 +1,8 @@
 //! What is said of a refusal, of a plan and of a rule.
 
-ghost use Rattle.std.specs.Prelude.{◌≡◌, ◌↔◌, ◌++◌, ◌-◌, ◌∷◌, [], ℕ, List, Option, IsTrue, IfOk, MatchOption, OnOk, codes, decimal, option_copied};
-ghost use Rattle.edi_line.specs.Entry.{Entry};
-ghost use Rattle.edi_line.specs.LineRules.{BreaksLineRule};
+ghost use Rattle.std.specs.Prelude.{◌≡◌, ◌↔◌, ◌++◌, ◌-◌, ◌∷◌, [], ℕ, List, Option, IsTrue, IfOk, IfSome, MatchOption, OnOk, codes, decimal, option_copied};
+ghost use Rattle.edi_line.specs.Entry.{Entry, entries};
+ghost use Rattle.edi_line.specs.LineRules.{BreaksLineRule, IsZonesOf};
 ghost use Rattle.edi_line.specs.Refusal.{IsLeastBroken};
 ghost use Rattle.edi_schema.specs.SchemaRefusal.{IsSchemaRefusal};
 ghost use Rattle.edi_compare.specs.Refused.{IsRefusal};
@@ -32,7 +32,7 @@ use crate::site::zones_of;
 use crate::text::{RuleText, rule_text};
 use crate::zone_lines::{explain_zone, explain_zone_of_sheet};
 use edi_compare::Fault;
-use edi_line::push_number;
+use edi_line::{Zone, push_number};
 use edi_plan::{Extent, Plan, Span, extent_of};
 use edi_record::Kind;
 use edi_schema::{ByRole, Schema, SchemaFault, Source};
@@ -100,22 +100,47 @@ fn explain_record(
     alloc: Global,
     schema: &Schema,
     file: &NamedFile<'_>,
-    found: &Found,
+    found: &Found<'_>,
     rule: u16,
     at: u64,
 ) -> Result<Vec<u8>, AllocError>
     requires refusal { IsRefusal schema.now file.now.bytes.now (AtRecord rule at) }
     requires earlier { IsEarlierIfAny schema.now file.now.bytes.now rule (at - 1) found.now.earlier }
     requires node { IsEndNodeIfAny schema.now file.now.bytes.now rule (at - 1) found.now.node }
+    requires zones { IfSome found.now.zones (λ zones. IsZonesOf file.now.bytes.now (entries zones.items)) }
     ensures { IfOk result (λ lines.
         ExplainsSheet schema.now file.now.bytes.now file.now.name.now (AtRecord rule at) lines.items) }
 {
-    let zones = zones_of(alloc, file.bytes)?;
+    match &found.zones {
+        Some(zones) => explain_among(alloc, schema, file, zones, found, rule, at),
+        None => {
+            let zones = zones_of(alloc, file.bytes)?;
+            explain_among(alloc, schema, file, &zones, found, rule, at)
+        }
+    }
+}
+
+/// The same with the zones of the file.
+fn explain_among(
+    alloc: Global,
+    schema: &Schema,
+    file: &NamedFile<'_>,
+    zones: &[Zone<'_>],
+    found: &Found<'_>,
+    rule: u16,
+    at: u64,
+) -> Result<Vec<u8>, AllocError>
+    requires earlier { IsEarlierIfAny schema.now file.now.bytes.now rule (at - 1) found.now.earlier }
+    requires node { IsEndNodeIfAny schema.now file.now.bytes.now rule (at - 1) found.now.node }
+    requires zones { IsZonesOf file.now.bytes.now (entries zones.now) }
+    ensures { IfOk result (λ lines.
+        ExplainsSheet schema.now file.now.bytes.now file.now.name.now (AtRecord rule at) lines.items) }
+{
     let earlier = found.earlier;
-    let records = records_in(&zones, at, earlier);
+    let records = records_in(zones, at, earlier);
     let mut lines = explain_place(alloc, &records, file.name, rule)?;
-    let zone = explain_zone_of_sheet(alloc, schema, &zones, &records, file.name, earlier, rule)?;
-    let node = line_of_node(alloc, &zones, file.name, rule, found.node)?;
+    let zone = explain_zone_of_sheet(alloc, schema, zones, &records, file.name, earlier, rule)?;
+    let node = line_of_node(alloc, zones, file.name, rule, found.node)?;
     lines.extend_from_slice(&zone)?;
     lines.extend_from_slice(&node)?;
     Ok(lines)
@@ -130,7 +155,7 @@ pub fn explain_sheet(
     schema: &Schema,
     bytes: &[u8],
     name: &[u8],
-    found: &Found,
+    found: &Found<'_>,
 ) -> Result<Vec<u8>, AllocError>
     requires { IsFound schema.now bytes.now found.now }
     ensures { IfOk result (λ lines. ExplainsSheet schema.now bytes.now name.now found.now.fault lines.items) }

@@ -52,7 +52,7 @@ pub use kind_lines::{describe_kinds, lacking_kinds};
 pub use links::same_side;
 pub use listing::{push_line_rule, push_record_rule, sites_of_all};
 pub use objects::equal_object;
-pub use partner::{equal_node, first_link, namesake, same_arc};
+pub use partner::{equal_node, same_arc};
 pub use refusal_hints::hints_on_refused;
 pub use refused::{Refused, refused_row};
 pub use rows::row_namesake;

@@ -1,64 +1,17 @@
-//! The earlier records that rules speak of.
+//! The earlier records that rules of topology speak of.
 
-ghost use Rattle.std.specs.Prelude.{◌≡◌, ◌↔◌, ◌<◌, IsTrue, IfOk, length, slice_get, Some};
+ghost use Rattle.std.specs.Prelude.{◌≡◌, ◌↔◌, ◌<◌, IsTrue, IfOk};
 ghost use Rattle.edi_record.specs.declared.record.Kind.TheVariants.{Pno};
-ghost use Rattle.edi_plan.specs.PlanOf.{own_name};
 ghost use Rattle.edi_plan.specs.Plans.{IsPlace, record_at};
 ghost use Rattle.edi_topo.specs.NodeKeys.{node_key};
 ghost use Rattle.edi_topo.specs.TopologyRules.{AreEqualNodes};
-ghost use Rattle.edi_explain.specs.Partners.{HasEnd, IsEqualNode, IsLeastIfAny, SharesName, SharesPoints};
+ghost use Rattle.edi_explain.specs.Partners.{IsEqualNode, IsLeastIfAny, SharesPoints};
 
 use edi_plan::Plan;
-use edi_record::{Kind, RecordRef, SheetRecords};
+use edi_record::Kind;
 use edi_topo::node_key::compare_nodes;
 use edi_topo::{ForwardPoints, NodeKey, node_key_at};
 use std::alloc::{AllocError, Global};
-
-/// Whether two records have one type and identifier.
-fn have_one_name(record: &RecordRef<'_>, other: &RecordRef<'_>) -> bool
-    ensures { IsTrue result ↔ (own_name record.now ≡ own_name other.now) }
-{
-    record.kind() == other.kind() && record.rid() == other.rid()
-}
-
-/// The first record with the type and the identifier of the one at a place, if it comes before that
-/// one: rule 301. Places are counted from 0, in file order.
-pub fn namesake(records: &SheetRecords, place: u64) -> Option<u64>
-    ensures { IsLeastIfAny (SharesName records.now place) result }
-{
-    if place >= records.len() as u64 {
-        return None;
-    }
-    let own = records.record(place as usize);
-    for earlier in 0..place {
-        if have_one_name(&records.record(earlier as usize), &own) {
-            return Some(earlier);
-        }
-    }
-    None
-}
-
-fn has_end(record: &RecordRef<'_>) -> bool
-    ensures { IsTrue result ↔ (0 < length record.now.ends) }
-{
-    !record.ends().is_empty()
-}
-
-/// The record with the first end of all links, if it comes before the one at a place: rule 304.
-/// Places are counted from 0, in file order.
-pub fn first_link(records: &SheetRecords, place: u64) -> Option<u64>
-    ensures { IsLeastIfAny (HasEnd records.now place) result }
-{
-    if place >= records.len() as u64 {
-        return None;
-    }
-    for earlier in 0..place {
-        if has_end(&records.record(earlier as usize)) {
-            return Some(earlier);
-        }
-    }
-    None
-}
 
 /// Whether the record at a place is a node equal to the one with this key.
 fn is_equal_node(

@@ -1,23 +1,23 @@
 //! The record that a refusal names, and the earlier one that its rule speaks of.
 
-ghost use Rattle.std.specs.Prelude.{◌≡◌, ◌⊎◌, ◌-◌, ◌<◌, ℕ, List, Option, IfOk};
+ghost use Rattle.std.specs.Prelude.{◌≡◌, ◌≢◌, ◌⊎◌, ◌-◌, ◌<◌, ℕ, List, Option, IfOk};
 ghost use Rattle.edi_line.specs.Entry.{Entry, entries};
-ghost use Rattle.edi_line.specs.LineRules.{BreaksLineRule};
+ghost use Rattle.edi_line.specs.LineRules.{BreaksLineRule, IsZonesOf};
 ghost use Rattle.edi_line.specs.Refusal.{IsUnbroken};
 ghost use Rattle.edi_record.specs.declared.sheet.Sheet.{Sheet as Sheets};
 ghost use Rattle.edi_compare.specs.PlanOfFile.{IsSheetOf};
 ghost use Rattle.edi_compare.specs.Refused.{IsRefusal};
 ghost use Rattle.edi_compare.specs.Rules.{RecordsHold};
 ghost use Rattle.edi_compare.specs.declared.fault.Fault.TheVariants.{Entry as AtRecord};
+ghost use Rattle.edi_schema.specs.Classes.{Classes};
 ghost use Rattle.edi_explain.specs.Refusals.{AreSites, IsEarlierIfAny, IsEarlierRowIfAny, IsRowRefusedAt};
 ghost use Rattle.edi_explain.specs.inner.Found.{AreFound};
 
 use crate::links::same_side;
-use crate::partner::{first_link, namesake};
-use crate::rows::row_namesake;
+use crate::rows::{first_link, row_namesake};
 use crate::site::{RecordSite, record_at, site_if_found, zones_of};
 use edi_line::{LineFault, Zone};
-use edi_record::{RecordFault, Sheet, SheetFault, SheetRecords, read_sheet};
+use edi_record::{RecordFault, Sheet, SheetFault, read_sheet};
 use edi_schema::Schema;
 use std::alloc::{AllocError, Global};
 
@@ -50,39 +50,21 @@ fn sheet_of(alloc: Global, schema: &Schema, bytes: &[u8]) -> Result<Sheet, Alloc
     }
 }
 
-/// The earlier record that a rule of references speaks of: by its name, by its subset, or by the side of an arc.
-fn earlier_among(schema: &Schema, records: &SheetRecords, rule: u16, place: u64) -> Option<u64>
-    requires { (rule ≡ 301) ⊎ ((rule ≡ 304) ⊎ (rule ≡ 307)) }
-    ensures { (b : List ℕ) (sheet : Sheets) → IsSheetOf b sheet → sheet.list ≡ records.now
-        → IsEarlierIfAny schema.now b rule place result }
+/// The earlier record that a rule of references speaks of among the zones of a sheet: by its name, or by its subset.
+pub(crate) fn earlier_in_zones(zones: &[Zone<'_>], rule: u16, place: u64) -> Option<u64>
+    requires { (rule ≡ 301) ⊎ (rule ≡ 304) }
+    ensures { (s : Classes) (b : List ℕ) (sheet : Sheets) → IsZonesOf b (entries zones.now) → IsSheetOf b sheet
+        → IsEarlierIfAny s b rule place result }
 {
     if rule == 301 {
-        namesake(records, place)
-    } else if rule == 304 {
-        first_link(records, place)
+        row_namesake(zones, place)
     } else {
-        same_side(schema, records, place)
+        first_link(zones, place)
     }
 }
 
-/// The earlier record that a rule of references speaks of.
-fn earlier_in_sheet(
-    alloc: Global,
-    schema: &Schema,
-    bytes: &[u8],
-    rule: u16,
-    place: u64,
-) -> Result<Option<u64>, AllocError>
-    requires holds { RecordsHold schema.now bytes.now }
-    requires rule { (rule ≡ 301) ⊎ ((rule ≡ 304) ⊎ (rule ≡ 307)) }
-    ensures { IfOk result (IsEarlierIfAny schema.now bytes.now rule place) }
-{
-    let sheet = sheet_of(alloc, schema, bytes)?;
-    Ok(earlier_among(schema, &sheet.list, rule, place))
-}
-
-/// The place of the earlier record that a rule of lines, of records or of references speaks of, counted from 0; `None`
-/// where the rule speaks of none. It is the least that breaks the rule with the refused record: 301, 304, 307.
+/// The earlier record that another rule of lines, of records or of references speaks of, for which the file is read once
+/// more: by the side of an arc, for 307; `None` where the rule speaks of none.
 pub(crate) fn earlier_record(
     alloc: Global,
     schema: &Schema,
@@ -92,11 +74,15 @@ pub(crate) fn earlier_record(
 ) -> Result<Option<u64>, AllocError>
     requires refusal { IsRefusal schema.now bytes.now (AtRecord rule number) }
     requires early { rule < 400 }
+    requires name { rule ≢ 301 }
+    requires subset { rule ≢ 304 }
     ensures { IfOk result (IsEarlierIfAny schema.now bytes.now rule (number - 1)) }
 {
-    let place = number.saturating_sub(1);
     match rule {
-        301 | 304 | 307 => earlier_in_sheet(alloc, schema, bytes, rule, place),
+        307 => {
+            let sheet = sheet_of(alloc, schema, bytes)?;
+            Ok(same_side(schema, &sheet.list, number.saturating_sub(1)))
+        }
         _ => Ok(None),
     }
 }

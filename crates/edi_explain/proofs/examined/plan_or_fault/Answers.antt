@@ -24,9 +24,9 @@ returns-clause-held c =
 pub returns-in_err-sheet-clause-early : goal.returns-in_err-sheet-clause-early
 returns-in_err-sheet-clause-early c =
     let f = c.in_err-sheet.field-0.0 in
-    err_kept _ (of_sheet f) IsEarly c.from_residual.ensures.1 (early_sheet c.args.bytes.now f c.in_err-sheet.ensures.refusal)
+    err_kept _ (of_sheet f) (IsEarly c.args.bytes.now) c.from_residual.ensures.1 (early_sheet c.args.bytes.now f c.in_err-sheet.ensures.refusal)
 
 pub returns-in_err-plan-clause-early : goal.returns-in_err-plan-clause-early
 returns-in_err-plan-clause-early c =
     let f = c.in_err-plan.field-0.0 in
-    err_kept _ (of_record f) IsEarly c.from_residual-in_err-plan.ensures.1 (early_reference c.args.schema.now c.in_ok-sheet.sheet.list f c.in_err-plan.ensures.least)
+    err_kept _ (of_record f) (IsEarly c.args.bytes.now) c.from_residual-in_err-plan.ensures.1 (early_reference c.args.schema.now c.args.bytes.now c.in_ok-sheet.sheet c.in_ok-sheet.ensures.sheet f c.in_err-plan.ensures.least)

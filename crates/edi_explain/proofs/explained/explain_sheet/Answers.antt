@@ -20,6 +20,7 @@ explain_record-requires c =
       refusal = subst (IsRefusal s b) c.in-Entry.is c.requires.0;
       earlier = subst (λ (f : Fault). IsEarlierOf s b f c.args.found.now.earlier) c.in-Entry.is c.requires.1;
       node = subst (λ (f : Fault). IsEndNodeOf s b f c.args.found.now.node) c.in-Entry.is c.requires.2;
+      zones = c.requires.3;
     }
 
 pub returns-in-Entry : goal.returns-in-Entry
