@@ -4,11 +4,13 @@ pub mod Phases
 pub mod PlaceCounts
 pub mod RuleTexts
 pub mod RowGroups
+pub mod HandedOn
+pub mod RowRecords
 pub mod RuleWords
 pub mod InTurn
 pub mod OneArc
 pub mod Equal
-pub mod Sought
+pub mod Numbered
 pub mod ZoneFound
 pub mod ExtraZonesOf
 pub mod Quality

@@ -61,7 +61,7 @@ module _ (s : Classes) (name : Name) where
 
 -- ---- names
 
-one_code : (a b : Kind) → kind_code a ≡ kind_code b → a ≡ b
+pub one_code : (a b : Kind) → kind_code a ≡ kind_code b → a ≡ b
 one_code a b e = same_some (sym (kind_again a) ∙ (ap kind_named e ∙ kind_again b))
 
 within_named : (name : Name) (r : Record) → is_name name (own_name r) ≡ true → (rs : List Record) (j : ℕ) → slice_get rs j ≡ Some r → position_or_len (λ q. is_name name (own_name q)) rs < length rs

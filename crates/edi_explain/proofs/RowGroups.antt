@@ -9,6 +9,7 @@ use Rattle.edi_record.specs.Records.{group_at}
 use Rattle.edi_record.specs.declared.name.Name.{Name}
 use Rattle.edi_schema.specs.SchemaOf.{IsNamed}
 use Rattle.edi_explain.specs.RowPartners.{SharesRowName}
+use Rattle.edi_explain.specs.inner.RowPartners.{IsEarlierRow}
 use Rattle.edi_explain.proofs.Names.{same_some}
 
 pub some_group : (z : Entry) (zs g : List Entry) → Some g ≡ group_at (z ∷ zs) → groups_of (z ∷ zs) ≡ g ∷ groups_of zs
@@ -18,15 +19,22 @@ some_group z zs g e = go (begins_group z) refl e
     go true t h = let same : g ≡ z ∷ before_end zs = cc in rw (t, same) refl
     go false t h = absurd cc
 
-module _ (groups : List (List Entry)) (place m : ℕ) (q r : List Entry) (name : Name) (less : m < place) (there : slice_get groups m ≡ Some q) (here : slice_get groups place ≡ Some r) (named : IsNamed r name) where
-  pub row_shared : IsNamed q name → SharesRowName groups place m
-  row_shared e = (q, r, less, there, here, (name, e, named))
+module _ (P : List Entry → Type 0) (groups : List (List Entry)) (place m : ℕ) (q r : List Entry) (less : m < place) (there : slice_get groups m ≡ Some q) (here : slice_get groups place ≡ Some r) where
+  pub earlier_row : P q → IsEarlierRow P groups place m
+  earlier_row h = (q, r, less, there, here, h)
 
-  pub share_rows : SharesRowName groups place m → IsNamed q name
-  share_rows h =
-      let own = subst (λ g. IsNamed g h.5.0) (sym (same_some (sym here ∙ h.4))) h.5.2 in
-      let earlier = subst (λ g. IsNamed g h.5.0) (sym (same_some (sym there ∙ h.3))) h.5.1 in
-      record { rty = earlier.rty ∙ (sym own.rty ∙ named.rty); rid = earlier.rid ∙ (sym own.rid ∙ named.rid) }
+  pub row_passes : IsEarlierRow P groups place m → P q
+  row_passes h = subst P (same_some (sym h.3 ∙ there)) h.5
+
+-- earlier records with the name of this one
+module _ (groups : List (List Entry)) (place : ℕ) (r : List Entry) (name : Name) (here : slice_get groups place ≡ Some r) (named : IsNamed r name) (m : ℕ) where
+  pub name_shared : IsEarlierRow (λ g. IsNamed g name) groups place m → SharesRowName groups place m
+  name_shared h = (h.0, h.1, h.2, h.3, h.4, (name, h.5, subst (λ g. IsNamed g name) (same_some (sym here ∙ h.4)) named))
+
+  pub share_name : SharesRowName groups place m → IsEarlierRow (λ g. IsNamed g name) groups place m
+  share_name h =
+      let own = subst (λ g. IsNamed g h.5.0) (same_some (sym h.4 ∙ here)) h.5.2 in
+      (h.0, h.1, h.2, h.3, h.4, record { rty = h.5.1.rty ∙ (sym own.rty ∙ named.rty); rid = h.5.1.rid ∙ (sym own.rid ∙ named.rid) })
 
 -- behind a place the groups are those of what is left
 abbrev pub IsLeftAt : List (List Entry) → ℕ → List Zone → Type 0

@@ -8,8 +8,8 @@ use Rattle.edi_explain.specs.AstrayZones.{IsAstray, IsFirstAstray, IsFirstLostEn
 use Rattle.edi_explain.specs.BreakingZones.{IsBreakingZone, IsBreakingZoneOf}
 use Rattle.edi_explain.specs.ZoneLines.{IsZoneLine}
 use Rattle.edi_explain.specs.inner.LostEnds.{IsLostEndOf}
-use Rattle.edi_explain.specs.inner.Seeking.{group_numbered, number_of}
-use Rattle.edi_explain.proofs.Sought.{none_numbered, numbered_group}
+use Rattle.edi_explain.specs.inner.Found.{group_numbered, number_of}
+use Rattle.edi_explain.proofs.Numbered.{none_numbered, numbered_group}
 
 abbrev ends_in : List Entry → Option (List ℕ)
 ends_in group = first (values (codes "FTP") group)

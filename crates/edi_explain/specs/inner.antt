@@ -2,12 +2,11 @@
 pub mod Arcs
 pub mod Barring
 pub mod Elsewhere
+pub mod Found
 pub mod KindClasses
 pub mod Lengths
 pub mod LostEnds
 pub mod Objects
 pub mod OpenAttributes
-pub mod Repeats
 pub mod RowPartners
-pub mod Seeking
 pub mod Sites

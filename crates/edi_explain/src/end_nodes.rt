@@ -1,23 +1,19 @@
-//! The node that a rule of topology speaks of beside an arc: that of its first point, or that of its last.
+//! The node that a rule of topology speaks of beside an arc: the initial one for 401, the final one for 402.
 
-ghost use Rattle.std.specs.Prelude.{◌≡◌, ◌-◌, ℕ, List, Option, Some, IfOk};
-ghost use Rattle.edi_line.specs.Entry.{Entry};
-ghost use Rattle.edi_line.specs.LineRules.{BreaksLineRule, IsZonesOf};
-ghost use Rattle.edi_line.specs.Refusal.{IsUnbroken};
+ghost use Rattle.std.specs.Prelude.{◌≡◌, ℕ, List, IfOk};
+ghost use Rattle.edi_line.specs.Entry.{entries};
+ghost use Rattle.edi_line.specs.LineRules.{IsZonesOf};
 ghost use Rattle.edi_plan.specs.Plans.{Drawing};
 ghost use Rattle.edi_plan.specs.Sides.{IsSideIfAny};
+ghost use Rattle.edi_schema.specs.Classes.{Classes};
 ghost use Rattle.edi_compare.specs.PlanOfFile.{IsPlanOfFile};
-ghost use Rattle.edi_compare.specs.Refused.{IsRefusal};
-ghost use Rattle.edi_compare.specs.Rules.{ReferencesHold};
-ghost use Rattle.edi_compare.specs.declared.fault.Fault.TheVariants.{Entry as AtRecord};
-ghost use Rattle.edi_explain.specs.EndNodes.{ExplainsEndNode, IsEndNodeIfAny, IsEndNodeLine, end_node_sentence};
-ghost use Rattle.edi_explain.specs.Refusals.{IsSiteAtIfAny};
+ghost use Rattle.edi_explain.specs.EndNodes.{IsEndNodeIfAny, IsEndNodeLine, end_node_sentence};
 
 use crate::lines::line_of_place;
-use crate::refused::{plan_of, sites_of};
-use crate::site::RecordSite;
+use crate::site::site_at;
+use edi_line::Zone;
 use edi_plan::Plan;
-use edi_schema::{Role, Schema};
+use edi_schema::Role;
 use std::alloc::{AllocError, Global};
 
 /// The node or the face that the arc at a place has by a role, if there is an arc and it has one.
@@ -33,49 +29,15 @@ fn side_of(plan: &Plan, place: u64, role: Role) -> Option<u64>
     }
 }
 
-/// The same in a file that breaks no rule of lines, records or references.
-fn side_in_file(
-    alloc: Global,
-    schema: &Schema,
-    bytes: &[u8],
-    place: u64,
-    role: Role,
-) -> Result<Option<u64>, AllocError>
-    requires { ReferencesHold schema.now bytes.now }
-    ensures { IfOk result (λ found. (p : Drawing) × IsPlanOfFile schema.now bytes.now p
-        × IsSideIfAny p place role found) }
+/// The place of the node that a rule speaks of beside the arc at a place; `None` where the rule speaks of none.
+pub(crate) fn end_node(plan: &Plan, rule: u16, place: u64) -> Option<u64>
+    ensures { (s : Classes) (b : List ℕ) → IsPlanOfFile s b plan.now → IsEndNodeIfAny s b rule place result }
 {
-    let plan = plan_of(alloc, schema, bytes)?;
-    Ok(side_of(&plan, place, role))
-}
-
-/// The place of the node that the rule of a refusal speaks of, counted from 0; `None` where the rule speaks of none.
-fn end_node(
-    alloc: Global,
-    schema: &Schema,
-    bytes: &[u8],
-    rule: u16,
-    number: u64,
-) -> Result<Option<u64>, AllocError>
-    requires { IsRefusal schema.now bytes.now (AtRecord rule number) }
-    ensures { IfOk result (IsEndNodeIfAny schema.now bytes.now rule (number - 1)) }
-{
-    let place = number.saturating_sub(1);
     match rule {
-        401 => side_in_file(alloc, schema, bytes, place, Role::Initial),
-        402 => side_in_file(alloc, schema, bytes, place, Role::Final),
-        _ => Ok(None),
+        401 => side_of(plan, place, Role::Initial),
+        402 => side_of(plan, place, Role::Final),
+        _ => None,
     }
-}
-
-/// Where the record at a place begins, if there is one, in a file that breaks no rule of lines.
-fn site_at(alloc: Global, bytes: &[u8], place: u64) -> Result<Option<RecordSite>, AllocError>
-    requires { IsUnbroken (BreaksLineRule bytes.now) }
-    ensures { IfOk result (λ site. (zones : List Entry) × IsZonesOf bytes.now zones
-        × IsSiteAtIfAny zones (Some place) site) }
-{
-    let sites = sites_of(alloc, bytes, 0, Some(place))?;
-    Ok(sites.earlier)
 }
 
 /// What is said of the node that a rule speaks of.
@@ -88,36 +50,20 @@ fn sentence_of_node(rule: u16) -> &'static [u8]
     }
 }
 
-/// The line on the node at a place, if there is one, in a file that breaks no rule of lines.
-fn line_of_node(
+/// The line on the node at a place, if there is one.
+pub(crate) fn line_of_node(
     alloc: Global,
-    bytes: &[u8],
+    zones: &[Zone<'_>],
     name: &[u8],
     rule: u16,
     node: Option<u64>,
 ) -> Result<Vec<u8>, AllocError>
-    requires { IsUnbroken (BreaksLineRule bytes.now) }
-    ensures { IfOk result (λ lines. IsEndNodeLine bytes.now name.now rule node lines.items) }
+    ensures { IfOk result (λ lines. (b : List ℕ) → IsZonesOf b (entries zones.now)
+        → IsEndNodeLine b name.now rule node lines.items) }
 {
     let Some(place) = node else {
         return Ok(Vec::new(alloc));
     };
-    let site = site_at(alloc, bytes, place)?;
+    let site = site_at(alloc, zones, Some(place))?;
     line_of_place(alloc, name, &site, sentence_of_node(rule), rule)
-}
-
-/// The line on the node that the rule of a refusal speaks of, if it speaks of one.
-pub(crate) fn explain_end_node(
-    alloc: Global,
-    schema: &Schema,
-    bytes: &[u8],
-    name: &[u8],
-    rule: u16,
-    number: u64,
-) -> Result<Vec<u8>, AllocError>
-    requires { IsRefusal schema.now bytes.now (AtRecord rule number) }
-    ensures { IfOk result (λ lines. ExplainsEndNode schema.now bytes.now name.now rule number lines.items) }
-{
-    let node = end_node(alloc, schema, bytes, rule, number)?;
-    line_of_node(alloc, bytes, name, rule, node)
 }

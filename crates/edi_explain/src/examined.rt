@@ -1,71 +1,119 @@
-//! A sheet that is accepted; or refused, with the earlier record that the rule speaks of.
+//! A sheet that is accepted; or refused, with the earlier record or the node that the rule speaks of.
 
-ghost use Rattle.std.specs.Prelude.{◌≡◌, ◌-◌, ℕ, suc, List, OnOk, IfOk, IfErr};
-ghost use Rattle.edi_line.specs.Refusal.{IsLeastBroken};
+ghost use Rattle.std.specs.Prelude.{◌≡◌, ◌⊎◌, ◌-◌, ℕ, List, OnOk, IfOk, IfErr};
+ghost use Rattle.edi_line.specs.LineRules.{BreaksLineRule};
+ghost use Rattle.edi_line.specs.Refusal.{IsUnbroken};
 ghost use Rattle.edi_plan.specs.Plans.{Drawing};
-ghost use Rattle.edi_rank.specs.EqualObjects.{BreaksObjectRule};
+ghost use Rattle.edi_record.specs.RecordRefusal.{IsRecordRefusal};
+ghost use Rattle.edi_record.specs.declared.sheet.Sheet.{Sheet as Sheets};
 ghost use Rattle.edi_topo.specs.TopologyRules.{BreaksTopologyRule};
-ghost use Rattle.edi_compare.specs.PlanOfFile.{IsPlanOfFile};
+ghost use Rattle.edi_compare.specs.PlanOfFile.{IsPlanOfFile, IsSheetOf};
 ghost use Rattle.edi_compare.specs.Refused.{IsRefusal};
 ghost use Rattle.edi_compare.specs.Rules.{IsAccepted, ReferencesHold, TopologyHolds};
 ghost use Rattle.edi_compare.specs.declared.fault.Fault.TheVariants.{Entry as AtRecord};
 ghost use Rattle.edi_schema.specs.Classes.{Classes};
+ghost use Rattle.edi_explain.specs.EndNodes.{IsEndNodeIfAny};
 ghost use Rattle.edi_explain.specs.Found.{IsFound};
 ghost use Rattle.edi_explain.specs.Refusals.{IsEarlierIfAny};
-ghost use Rattle.edi_explain.specs.inner.Repeats.{IsOfFirstArc, IsOfFirstNode};
+ghost use Rattle.edi_explain.specs.inner.Found.{IsEarly, IsEarlyRule};
 
-use crate::refused::{earlier_record, object_before};
-use crate::repeats::{arc_repeated, node_repeated};
+use crate::end_nodes::end_node;
+use crate::objects::equal_object;
+use crate::partner::{equal_node, same_arc};
+use crate::refused::{earlier_in_zones, earlier_record};
+use crate::site::zones_of;
 use edi_compare::Fault;
+use edi_line::Zone;
 use edi_plan::Plan;
 use edi_rank::{RankFault, tell_objects_apart};
 use edi_record::read_sheet;
 use edi_schema::Schema;
-use edi_topo::{Sound, TopoFault};
+use edi_topo::{Sound, TopoFault, Unsound};
 use std::alloc::{AllocError, Global};
 
 /// Why a sheet is refused.
 #[derive(Drop)]
-pub struct Found {
+pub struct Found<'a> {
     pub fault: Fault,
     /// The place of the earlier record that the rule speaks of, counted from 0.
     pub earlier: Option<u64>,
-}
-
-/// The earlier records that the first repeated node and the first repeated arc repeat.
-#[derive(Drop)]
-struct Repeated {
-    node: Option<u32>,
-    arc: Option<u32>,
+    /// The place of the node that the rule speaks of beside an arc, counted from 0.
+    pub node: Option<u64>,
+    /// The zones of the file, if they were read for the earlier record.
+    pub(crate) zones: Option<Vec<Zone<'a>>>,
 }
 
 /// Want of memory.
-fn no_memory(error: AllocError) -> Found
+fn no_memory<'a>(error: AllocError) -> Found<'a>
     ensures { (s : Classes) (b : List ℕ) → IsFound s b result }
 {
     Found {
         fault: Fault::Memory(error),
         earlier: None,
+        node: None,
+        zones: None,
     }
 }
 
-/// The refusal at a record, with the earlier one if it was found.
-fn found_at(rule: u16, at: u64, earlier: Result<Option<u64>, AllocError>) -> Found
+/// The refusal at a record, with the node, and with the earlier record if it was found.
+fn found_at<'a>(
+    rule: u16,
+    at: u64,
+    earlier: Result<Option<u64>, AllocError>,
+    node: Option<u64>,
+) -> Found<'a>
     ensures { (s : Classes) (b : List ℕ) → IsRefusal s b (AtRecord rule at)
-        → IfOk earlier (IsEarlierIfAny s b rule (at - 1)) → IsFound s b result }
+        → IfOk earlier (IsEarlierIfAny s b rule (at - 1)) → IsEndNodeIfAny s b rule (at - 1) node
+        → IsFound s b result }
 {
     match earlier {
         Ok(earlier) => Found {
             fault: Fault::Entry { rule, at },
             earlier,
+            node,
+            zones: None,
         },
         Err(error) => no_memory(error),
     }
 }
 
-/// A refusal with the earlier record that its rule speaks of, for which the file is read once more.
-fn found_anew(alloc: Global, schema: &Schema, bytes: &[u8], fault: Fault) -> Found
-    requires { IsRefusal schema.now bytes.now fault }
+/// The refusal at a record by 301 or 304, with the earlier one and the zones of the file.
+fn found_in_zones<'a>(alloc: Global, bytes: &'a [u8], rule: u16, at: u64) -> Found<'a>
+    requires lines { IsUnbroken (BreaksLineRule bytes.now) }
+    requires rule { (rule ≡ 301) ⊎ (rule ≡ 304) }
+    ensures { (s : Classes) (sheet : Sheets) → IsSheetOf bytes.now sheet → IsRefusal s bytes.now (AtRecord rule at)
+        → IsFound s bytes.now result }
+{
+    match zones_of(alloc, bytes) {
+        Ok(zones) => Found {
+            fault: Fault::Entry { rule, at },
+            earlier: earlier_in_zones(&zones, rule, at.saturating_sub(1)),
+            node: None,
+            zones: Some(zones),
+        },
+        Err(error) => no_memory(error),
+    }
+}
+
+/// The refusal at a record by a rule of records or of references, with the earlier record that the rule speaks of.
+fn found_early<'a>(alloc: Global, schema: &Schema, bytes: &'a [u8], rule: u16, at: u64) -> Found<'a>
+    requires refusal { IsRefusal schema.now bytes.now (AtRecord rule at) }
+    requires early { IsEarlyRule bytes.now rule }
+    ensures { IsFound schema.now bytes.now result }
+{
+    match rule {
+        301 | 304 => found_in_zones(alloc, bytes, rule, at),
+        _ => {
+            let earlier = earlier_record(alloc, schema, bytes, rule, at);
+            found_at(rule, at, earlier, None)
+        }
+    }
+}
+
+/// A refusal by a rule of lines, of records or of references with the earlier record that the rule speaks of.
+fn found_anew<'a>(alloc: Global, schema: &Schema, bytes: &'a [u8], fault: Fault) -> Found<'a>
+    requires refusal { IsRefusal schema.now bytes.now fault }
+    requires early { IsEarly bytes.now fault }
     ensures { IsFound schema.now bytes.now result }
 {
     match fault {
@@ -73,11 +121,10 @@ fn found_anew(alloc: Global, schema: &Schema, bytes: &[u8], fault: Fault) -> Fou
         Fault::Line { rule, at } => Found {
             fault: Fault::Line { rule, at },
             earlier: None,
+            node: None,
+            zones: None,
         },
-        Fault::Entry { rule, at } => {
-            let earlier = earlier_record(alloc, schema, bytes, rule, at);
-            found_at(rule, at, earlier)
-        }
+        Fault::Entry { rule, at } => found_early(alloc, schema, bytes, rule, at),
     }
 }
 
@@ -86,48 +133,17 @@ fn plan_or_fault(alloc: Global, schema: &Schema, bytes: &[u8]) -> Result<Plan, F
     ensures held { OnOk result (ReferencesHold schema.now bytes.now) }
     ensures plan { IfOk result (IsPlanOfFile schema.now bytes.now) }
     ensures refusal { IfErr result (IsRefusal schema.now bytes.now) }
+    ensures early { IfErr result (IsEarly bytes.now) }
 {
     let sheet = read_sheet(alloc, bytes)?;
     let plan = Plan::build(alloc, schema, sheet)?;
     Ok(plan)
 }
 
-/// What the first repeats of a plan repeat.
-fn repeated_in(alloc: Global, plan: &Plan) -> Result<Repeated, AllocError>
-    ensures { IfOk result (λ r. IsOfFirstNode plan.now r.node × IsOfFirstArc plan.now r.arc) }
-{
-    Ok(Repeated {
-        node: node_repeated(alloc, plan)?,
-        arc: arc_repeated(alloc, plan)?,
-    })
-}
-
-/// The earlier record that a rule of topology speaks of.
-fn earlier_of(rule: u16, repeated: &Repeated) -> Option<u64>
-    ensures { (s : Classes) (b : List ℕ) (p : Drawing) (place : ℕ) → IsPlanOfFile s b p
-        → IsLeastBroken (BreaksTopologyRule p) rule (suc place)
-        → IsOfFirstNode p «repeated».now.node → IsOfFirstArc p «repeated».now.arc
-        → IsEarlierIfAny s b rule place result }
-{
-    match rule {
-        403 => wide(repeated.node),
-        405 => wide(repeated.arc),
-        _ => None,
-    }
-}
-
-fn wide(place: Option<u32>) -> Option<u64>
-    ensures { result ≡ place }
-{
-    match place {
-        Some(place) => Some(u64::from(place)),
-        None => None,
-    }
-}
-
-/// The plan of a sheet, if no rule is broken; or why it is refused, with the earlier record that the rule speaks of. It
-/// answers as `accept` does. The file is read once; only for 301, 304 and 307, of which no plan is left, once more.
-pub fn examine(alloc: Global, schema: &Schema, bytes: &[u8]) -> Result<Sound, Found>
+/// The plan of a sheet, if no rule is broken; or why it is refused, with the earlier record or the node that the rule
+/// speaks of. It answers as `accept` does. The file is read once; for 307, of which no plan is left, once more; and for
+/// 301 and 304 its zones are.
+pub fn examine<'a>(alloc: Global, schema: &Schema, bytes: &'a [u8]) -> Result<Sound, Found<'a>>
     ensures accepted { OnOk result (IsAccepted schema.now bytes.now) }
     ensures plan { IfOk result (IsPlanOfFile schema.now bytes.now) }
     ensures found { IfErr result (IsFound schema.now bytes.now) }
@@ -139,52 +155,73 @@ pub fn examine(alloc: Global, schema: &Schema, bytes: &[u8]) -> Result<Sound, Fo
 }
 
 /// The same of a plan that breaks no rule of references.
-fn plan_examined(alloc: Global, schema: &Schema, bytes: &[u8], plan: Plan) -> Result<Sound, Found>
+fn plan_examined<'a>(
+    alloc: Global,
+    schema: &Schema,
+    bytes: &'a [u8],
+    plan: Plan,
+) -> Result<Sound, Found<'a>>
     requires held { ReferencesHold schema.now bytes.now }
     requires plan { IsPlanOfFile schema.now bytes.now plan }
     ensures accepted { OnOk result (IsAccepted schema.now bytes.now) }
     ensures plan { IfOk result (IsPlanOfFile schema.now bytes.now) }
     ensures found { IfErr result (IsFound schema.now bytes.now) }
 {
-    match repeated_in(alloc, &plan) {
-        Ok(repeated) => topology_examined(alloc, schema, bytes, plan, &repeated),
-        Err(error) => Err(no_memory(error)),
+    match Sound::check_or_return(alloc, plan) {
+        Ok(sound) => objects_examined(alloc, schema, bytes, sound),
+        Err(Unsound { plan, fault }) => Err(found_in_plan(alloc, schema, bytes, &plan, fault)),
     }
 }
 
-/// The same of a plan of which it is known what the first repeats repeat.
-fn topology_examined(
+/// The earlier record that a rule of topology speaks of.
+fn earlier_in_plan(
+    alloc: Global,
+    plan: &Plan,
+    rule: u16,
+    place: u64,
+) -> Result<Option<u64>, AllocError>
+    ensures { IfOk result (λ earlier. (s : Classes) (b : List ℕ) (at : ℕ) → IsPlanOfFile s b plan.now
+        → BreaksTopologyRule plan.now rule at → IsEarlierIfAny s b rule place earlier) }
+{
+    match rule {
+        403 => equal_node(alloc, plan, place),
+        405 => Ok(same_arc(plan, place)),
+        _ => Ok(None),
+    }
+}
+
+/// The refusal of a sheet by a fault of its plan, with the earlier record or the node that the rule speaks of.
+fn found_in_plan<'a>(
     alloc: Global,
     schema: &Schema,
-    bytes: &[u8],
-    plan: Plan,
-    repeated: &Repeated,
-) -> Result<Sound, Found>
+    bytes: &'a [u8],
+    plan: &Plan,
+    fault: TopoFault,
+) -> Found<'a>
     requires held { ReferencesHold schema.now bytes.now }
-    requires plan { IsPlanOfFile schema.now bytes.now plan }
-    requires node { IsOfFirstNode plan repeated.now.node }
-    requires arc { IsOfFirstArc plan repeated.now.arc }
-    ensures accepted { OnOk result (IsAccepted schema.now bytes.now) }
-    ensures plan { IfOk result (IsPlanOfFile schema.now bytes.now) }
-    ensures found { IfErr result (IsFound schema.now bytes.now) }
+    requires plan { IsPlanOfFile schema.now bytes.now plan.now }
+    requires least { IsRecordRefusal (BreaksTopologyRule plan.now) fault }
+    ensures { IsFound schema.now bytes.now result }
 {
-    match Sound::check(alloc, plan) {
-        Ok(sound) => objects_examined(alloc, schema, bytes, sound),
-        Err(TopoFault::Memory(error)) => Err(no_memory(error)),
-        Err(TopoFault::Broken { rule, at }) => {
-            let earlier = earlier_of(rule, repeated);
-            Err(found_at(rule, at, Ok(earlier)))
+    let _ = schema;
+    let _ = bytes;
+    match fault {
+        TopoFault::Memory(error) => no_memory(error),
+        TopoFault::Broken { rule, at } => {
+            let place = at.saturating_sub(1);
+            let earlier = earlier_in_plan(alloc, plan, rule, place);
+            found_at(rule, at, earlier, end_node(plan, rule, place))
         }
     }
 }
 
 /// The same of a plan that breaks no rule of topology.
-fn objects_examined(
+fn objects_examined<'a>(
     alloc: Global,
     schema: &Schema,
-    bytes: &[u8],
+    bytes: &'a [u8],
     sound: Sound,
-) -> Result<Sound, Found>
+) -> Result<Sound, Found<'a>>
     requires held { TopologyHolds schema.now bytes.now }
     requires plan { IsPlanOfFile schema.now bytes.now sound }
     ensures accepted { OnOk result (IsAccepted schema.now bytes.now) }
@@ -197,10 +234,8 @@ fn objects_examined(
         Ok(()) => Ok(sound),
         Err(RankFault::Memory(error)) => Err(no_memory(error)),
         Err(RankFault::Broken { rule, at }) => {
-            let plan = sound.plan();
-            let place = at.saturating_sub(1);
-            let earlier = object_before(alloc, plan, place);
-            Err(found_at(rule, at, earlier))
+            let earlier = equal_object(alloc, sound.plan(), at.saturating_sub(1));
+            Err(found_at(rule, at, earlier, None))
         }
     }
 }

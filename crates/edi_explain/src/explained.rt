@@ -1,18 +1,19 @@
 //! What is said of a refusal, of a plan and of a rule.
 
-ghost use Rattle.std.specs.Prelude.{◌≡◌, ◌↔◌, ◌++◌, ◌-◌, ◌∷◌, [], ℕ, List, Option, IsTrue, IfOk, MatchOption, OnOk, codes, decimal, option_copied};
-ghost use Rattle.edi_line.specs.Entry.{Entry};
-ghost use Rattle.edi_line.specs.LineRules.{BreaksLineRule};
+ghost use Rattle.std.specs.Prelude.{◌≡◌, ◌↔◌, ◌++◌, ◌-◌, ◌∷◌, [], ℕ, List, Option, IsTrue, IfOk, IfSome, MatchOption, OnOk, codes, decimal, option_copied};
+ghost use Rattle.edi_line.specs.Entry.{Entry, entries};
+ghost use Rattle.edi_line.specs.LineRules.{BreaksLineRule, IsZonesOf};
 ghost use Rattle.edi_line.specs.Refusal.{IsLeastBroken};
 ghost use Rattle.edi_schema.specs.SchemaRefusal.{IsSchemaRefusal};
 ghost use Rattle.edi_compare.specs.Refused.{IsRefusal};
 ghost use Rattle.edi_compare.specs.declared.fault.Fault.TheVariants.{Entry as AtRecord};
 ghost use Rattle.edi_explain.specs.Explained.{DescribesPlan, ExplainsLine, ExplainsSchema, ExplainsSchemaPlace, ExplainsSchemaZone, ExplainsSheet, IsRuleWord, IsTextOfWord, charset_line, count_line, count_lines, extent_lines, of_source, reason_lines, rule_page, span_line, worded_line};
+ghost use Rattle.edi_explain.specs.EndNodes.{IsEndNodeIfAny};
 ghost use Rattle.edi_explain.specs.Found.{IsFound};
 ghost use Rattle.edi_explain.specs.KindClasses.{codes_of};
 ghost use Rattle.edi_explain.specs.Lines.{lines_of_sites, sentence_of};
 ghost use Rattle.edi_explain.specs.Refusals.{AreSites, IsEarlierIfAny};
-ghost use Rattle.edi_explain.specs.inner.Seeking.{AreFound};
+ghost use Rattle.edi_explain.specs.inner.Found.{AreFound};
 ghost use Rattle.edi_explain.specs.declared.refused.Refused.{Refused as Sites};
 ghost use Rattle.edi_explain.specs.Texts.{IsRuleText};
 ghost use Rattle.edi_explain.specs.declared.text.RuleText.{RuleText as Texts};
@@ -21,17 +22,17 @@ ghost use Rattle.edi_shown.specs.Shown.{shown_bytes};
 use crate::barring::barring_line;
 use crate::counts::count_of;
 use crate::cuts::{push_cut_hint, shows_cut};
-use crate::end_nodes::explain_end_node;
+use crate::end_nodes::line_of_node;
 use crate::examined::Found;
 use crate::kind_lines::explain_kinds;
 use crate::lengths::{counts_characters, push_length_hint};
 use crate::lines::{lines_of_broken, lines_of_refused};
-use crate::refused::{records_of, refused_row, sites_of_records};
-use crate::seeking::FoundRecords;
+use crate::refused::{FoundRecords, records_in, refused_row, sites_of_records};
+use crate::site::zones_of;
 use crate::text::{RuleText, rule_text};
 use crate::zone_lines::{explain_zone, explain_zone_of_sheet};
 use edi_compare::Fault;
-use edi_line::push_number;
+use edi_line::{Zone, push_number};
 use edi_plan::{Extent, Plan, Span, extent_of};
 use edi_record::Kind;
 use edi_schema::{ByRole, Schema, SchemaFault, Source};
@@ -80,7 +81,7 @@ fn explain_line(
 /// Where a refused record and the earlier one begin, with the sentence of the rule.
 fn explain_place(
     alloc: Global,
-    records: &FoundRecords,
+    records: &FoundRecords<'_, '_>,
     name: &[u8],
     rule: u16,
 ) -> Result<Vec<u8>, AllocError>
@@ -99,21 +100,47 @@ fn explain_record(
     alloc: Global,
     schema: &Schema,
     file: &NamedFile<'_>,
-    earlier: Option<u64>,
+    found: &Found<'_>,
     rule: u16,
     at: u64,
 ) -> Result<Vec<u8>, AllocError>
     requires refusal { IsRefusal schema.now file.now.bytes.now (AtRecord rule at) }
-    requires earlier { IsEarlierIfAny schema.now file.now.bytes.now rule (at - 1) earlier }
+    requires earlier { IsEarlierIfAny schema.now file.now.bytes.now rule (at - 1) found.now.earlier }
+    requires node { IsEndNodeIfAny schema.now file.now.bytes.now rule (at - 1) found.now.node }
+    requires zones { IfSome found.now.zones (λ zones. IsZonesOf file.now.bytes.now (entries zones.items)) }
     ensures { IfOk result (λ lines.
         ExplainsSheet schema.now file.now.bytes.now file.now.name.now (AtRecord rule at) lines.items) }
 {
-    let records = records_of(alloc, file.bytes, at, earlier)?;
+    match &found.zones {
+        Some(zones) => explain_among(alloc, schema, file, zones, found, rule, at),
+        None => {
+            let zones = zones_of(alloc, file.bytes)?;
+            explain_among(alloc, schema, file, &zones, found, rule, at)
+        }
+    }
+}
+
+/// The same with the zones of the file.
+fn explain_among(
+    alloc: Global,
+    schema: &Schema,
+    file: &NamedFile<'_>,
+    zones: &[Zone<'_>],
+    found: &Found<'_>,
+    rule: u16,
+    at: u64,
+) -> Result<Vec<u8>, AllocError>
+    requires earlier { IsEarlierIfAny schema.now file.now.bytes.now rule (at - 1) found.now.earlier }
+    requires node { IsEndNodeIfAny schema.now file.now.bytes.now rule (at - 1) found.now.node }
+    requires zones { IsZonesOf file.now.bytes.now (entries zones.now) }
+    ensures { IfOk result (λ lines.
+        ExplainsSheet schema.now file.now.bytes.now file.now.name.now (AtRecord rule at) lines.items) }
+{
+    let earlier = found.earlier;
+    let records = records_in(zones, at, earlier);
     let mut lines = explain_place(alloc, &records, file.name, rule)?;
-    let zone = explain_zone_of_sheet(
-        alloc, schema, file.bytes, &records, file.name, earlier, rule,
-    )?;
-    let node = explain_end_node(alloc, schema, file.bytes, file.name, rule, at)?;
+    let zone = explain_zone_of_sheet(alloc, schema, zones, &records, file.name, earlier, rule)?;
+    let node = line_of_node(alloc, zones, file.name, rule, found.node)?;
     lines.extend_from_slice(&zone)?;
     lines.extend_from_slice(&node)?;
     Ok(lines)
@@ -128,7 +155,7 @@ pub fn explain_sheet(
     schema: &Schema,
     bytes: &[u8],
     name: &[u8],
-    found: &Found,
+    found: &Found<'_>,
 ) -> Result<Vec<u8>, AllocError>
     requires { IsFound schema.now bytes.now found.now }
     ensures { IfOk result (λ lines. ExplainsSheet schema.now bytes.now name.now found.now.fault lines.items) }
@@ -137,9 +164,7 @@ pub fn explain_sheet(
     match &found.fault {
         Fault::Memory(error) => Err(*error),
         Fault::Line { rule, at } => explain_line(alloc, &file, *rule, *at),
-        Fault::Entry { rule, at } => {
-            explain_record(alloc, schema, &file, found.earlier, *rule, *at)
-        }
+        Fault::Entry { rule, at } => explain_record(alloc, schema, &file, found, *rule, *at),
     }
 }
 

@@ -16,8 +16,7 @@ use crate::kind_causes::{KindsCase, KindsCause, kinds_cause};
 use crate::kind_classes::class_behind;
 use crate::lines::{lines_of_refused, push_site_name};
 use crate::refused::sites_of;
-use crate::site::{RecordSite, group_of, site_of};
-use crate::zone_lines::zones_of;
+use crate::site::{RecordSite, site_at, zones_of};
 use edi_line::{LineFault, Zone, zones};
 use edi_schema::{ByRole, Role};
 use std::alloc::{AllocError, Global};
@@ -77,25 +76,8 @@ pub(crate) fn explain_kinds(
         unreachable!()
     };
     let words = words_of_cause(alloc, cause.case, cause.role)?;
-    let sites = sites_of(alloc, scd.bytes, cause.number, cause.earlier)?;
+    let sites = sites_of(alloc, &zones, cause.number, cause.earlier)?;
     lines_of_refused(alloc, scd.name, &sites, &words, 604)
-}
-
-/// Where the record with a number stands, if there is one.
-fn site_numbered(
-    alloc: Global,
-    zones: &[Zone<'_>],
-    number: u64,
-) -> Result<Option<RecordSite>, AllocError>
-    ensures { IfOk result (IsSiteIfAny (entries zones.now) number) }
-{
-    let Some(place) = number.checked_sub(1) else {
-        return Ok(None);
-    };
-    match group_of(zones, place) {
-        Some(group) => site_of(alloc, group),
-        None => Ok(None),
-    }
 }
 
 /// Where the first class of a kind stands, if the kind has one.
@@ -108,7 +90,7 @@ fn class_site(
     ensures { IfOk result (IsClassSite (entries zones.now) (codes_of codes.now) role) }
 {
     match class_behind(codes, zones, role, 0) {
-        Some(number) => site_numbered(alloc, zones, number),
+        Some(number) => site_at(alloc, zones, number.checked_sub(1)),
         None => Ok(None),
     }
 }

@@ -111,14 +111,22 @@ fn is_of_side(
 
 /// The first link of the kind of the one at a place and of an arc of that one, if it comes before that one: rule 307.
 /// Places are counted from 0, in file order. `None` also where the record isn't a link of one of the four kinds.
-pub fn same_side(schema: &Schema, records: &SheetRecords, place: usize) -> Option<usize>
-    requires { place < length records.now }
+pub fn same_side(schema: &Schema, records: &SheetRecords, place: u64) -> Option<u64>
     ensures { IsLeastIfAny (SharesSide schema.now records.now place) result }
 {
-    let own = records.record(place);
+    if place >= records.len() as u64 {
+        return None;
+    }
+    let own = records.record(place as usize);
     let role = kind_of_link(schema, &own)?;
     for earlier in 0..place {
-        if is_of_side(schema, records, role, &records.record(earlier), &own) {
+        if is_of_side(
+            schema,
+            records,
+            role,
+            &records.record(earlier as usize),
+            &own,
+        ) {
             return Some(earlier);
         }
     }

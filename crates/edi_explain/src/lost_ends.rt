@@ -1,10 +1,8 @@
 //! The end with which a link breaks rule 305: it names no node, arc, face or object.
 
-ghost use Rattle.std.specs.Prelude.{◌≡◌, ◌↔◌, ◌⊎◌, ℕ, List, Contains, IfOk, IsTrue, MatchOption, Some, codes, true};
+ghost use Rattle.std.specs.Prelude.{◌≡◌, ◌↔◌, ◌++◌, List, Contains, IfOk, IsTrue, MatchOption, OnOk, Some, codes, true};
 ghost use Rattle.edi_hash.specs.Keys.{Holds};
 ghost use Rattle.edi_line.specs.Entry.{Entry, entries, entry, has_code};
-ghost use Rattle.edi_line.specs.LineRules.{BreaksLineRule, IsZonesOf};
-ghost use Rattle.edi_line.specs.Refusal.{IsUnbroken};
 ghost use Rattle.edi_line.specs.Zones.{groups_of};
 ghost use Rattle.edi_record.specs.Texts.{PointerText};
 ghost use Rattle.edi_explain.specs.AstrayZones.{IsFirstLostEnd, IsNamedBy, NamesNoElement};
@@ -13,8 +11,8 @@ ghost use Rattle.edi_explain.specs.inner.LostEnds.{AreNamesOf, identifiers, poin
 use crate::breaking::is_same;
 use edi_hash::{KeyNames, NameHash};
 use edi_line::codes::RID;
-use edi_line::{GroupOut, LineFault, Text, Zone, read_groups};
-use edi_record::{Name, Pointer, first_value};
+use edi_line::{GroupOut, Text, Zone};
+use edi_record::{Name, Pointer, first_value, group_here};
 use indexmap::IndexSet;
 use std::alloc::{AllocError, Global};
 
@@ -80,40 +78,45 @@ impl GroupOut for GatheredNames {
     }
 }
 
-/// The key of a hash for the names of the records of a file that breaks no rule of lines.
-fn key_of_names(alloc: Global, bytes: &[u8]) -> Result<KeyNames, AllocError>
-    requires { IsUnbroken (BreaksLineRule bytes.now) }
-    ensures { IfOk result (λ key. (zones : List Entry) → IsZonesOf bytes.now zones
-        → Holds key (identifiers (groups_of zones))) }
+/// Hands the zones of each record on, in the order of the records.
+fn hand_on<O: GroupOut>(alloc: Global, zones: &[Zone<'_>], out: &mut O) -> Result<(), AllocError>
+    ensures { OnOk result ((groups : List (List Entry)) → O.Holds out.old groups
+        → O.Holds out.new (groups ++ groups_of (entries zones.now))) }
+{
+    let mut rest = zones;
+    while let [_, behind @ ..] = rest {
+        if let Some(group) = group_here(rest) {
+            out.take(alloc, group)?;
+        }
+        rest = behind;
+    }
+    Ok(())
+}
+
+/// The key of a hash for the names of the records of these zones.
+fn key_of_names(alloc: Global, zones: &[Zone<'_>]) -> Result<KeyNames, AllocError>
+    ensures { IfOk result (λ key. Holds key (identifiers (groups_of (entries zones.now)))) }
 {
     let mut key = NamesKey {
         identifiers: KeyNames::new(),
     };
-    match read_groups(alloc, bytes, &mut key) {
-        Ok(_) => Ok(key.identifiers),
-        Err(LineFault::Memory(error)) => Err(error),
-        Err(LineFault::Broken { .. }) => unreachable!(),
-    }
+    hand_on(alloc, zones, &mut key)?;
+    Ok(key.identifiers)
 }
 
-/// The names of the records of a file that breaks no rule of lines.
+/// The names of the records of these zones.
 pub(crate) fn names_of_records(
     alloc: Global,
-    bytes: &[u8],
+    zones: &[Zone<'_>],
 ) -> Result<IndexSet<Name, NameHash>, AllocError>
-    requires { IsUnbroken (BreaksLineRule bytes.now) }
-    ensures { IfOk result (λ names. (zones : List Entry) → IsZonesOf bytes.now zones
-        → AreNamesOf (groups_of zones) names.keys) }
+    ensures { IfOk result (λ names. AreNamesOf (groups_of (entries zones.now)) names.keys) }
 {
-    let hash = key_of_names(alloc, bytes)?.hash();
+    let hash = key_of_names(alloc, zones)?.hash();
     let mut out = GatheredNames {
         names: IndexSet::with_hasher(alloc, hash),
     };
-    match read_groups(alloc, bytes, &mut out) {
-        Ok(_) => Ok(out.names),
-        Err(LineFault::Memory(error)) => Err(error),
-        Err(LineFault::Broken { .. }) => unreachable!(),
-    }
+    hand_on(alloc, zones, &mut out)?;
+    Ok(out.names)
 }
 
 /// Whether a name is among these.

@@ -3,7 +3,6 @@
 ghost use Rattle.std.specs.Prelude.{◌≡◌, ◌<◌, ◌^◌, ◌↔◌, IsTrue, IfOk, MatchOption, Contains, length, slice_index};
 ghost use Rattle.edi_record.specs.declared.record.Kind.TheVariants.{Fea};
 ghost use Rattle.edi_plan.specs.Places.{places_of};
-ghost use Rattle.edi_plan.specs.Plans.{IsPlace};
 ghost use Rattle.edi_rank.specs.Labelling.{NumbersEach};
 ghost use Rattle.edi_rank.specs.Pieces.{object_key_at};
 ghost use Rattle.edi_explain.specs.inner.Objects.{AreKeyed};
@@ -92,7 +91,7 @@ fn first_equal(
     plan: &Plan,
     objects: &ObjectLayer<'_>,
     member: u32,
-) -> Result<Option<u32>, AllocError>
+) -> Result<Option<u64>, AllocError>
     requires keys { AreKeyed plan.now objects.now }
     requires member { member < length (places_of Fea plan.now) }
     ensures { IfOk result (IsLeastIfAny (IsEqualObject plan.now (slice_index (places_of Fea plan.now) member))) }
@@ -102,7 +101,7 @@ fn first_equal(
     let key = objects.key(alloc, member)?;
     for earlier in 0..member {
         if has_key(alloc, objects, &key, earlier)? {
-            return Ok(Some(places[earlier as usize]));
+            return Ok(Some(u64::from(places[earlier as usize])));
         }
     }
     Ok(None)
@@ -110,12 +109,14 @@ fn first_equal(
 
 /// The first object equal to the one at a place, if it comes before that one: rule 501. `None` also where the record
 /// isn't an object.
-pub fn equal_object(alloc: Global, plan: &Plan, place: u32) -> Result<Option<u32>, AllocError>
-    requires { IsPlace plan.now place }
+pub fn equal_object(alloc: Global, plan: &Plan, place: u64) -> Result<Option<u64>, AllocError>
     ensures { IfOk result (IsLeastIfAny (IsEqualObject plan.now place)) }
 {
     plan.keeps();
-    let Some(member) = member_at(plan.places(Kind::Fea), place) else {
+    if place >= u64::from(plan.len()) {
+        return Ok(None);
+    }
+    let Some(member) = member_at(plan.places(Kind::Fea), place as u32) else {
         return Ok(None);
     };
     let objects = keyed_objects(alloc, plan)?;

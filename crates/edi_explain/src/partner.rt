@@ -1,60 +1,17 @@
-//! The earlier records that rules speak of.
+//! The earlier records that rules of topology speak of.
 
-ghost use Rattle.std.specs.Prelude.{◌≡◌, ◌↔◌, ◌<◌, IsTrue, IfOk, length, slice_get, Some};
+ghost use Rattle.std.specs.Prelude.{◌≡◌, ◌↔◌, ◌<◌, IsTrue, IfOk};
 ghost use Rattle.edi_record.specs.declared.record.Kind.TheVariants.{Pno};
-ghost use Rattle.edi_plan.specs.PlanOf.{own_name};
 ghost use Rattle.edi_plan.specs.Plans.{IsPlace, record_at};
 ghost use Rattle.edi_topo.specs.NodeKeys.{node_key};
 ghost use Rattle.edi_topo.specs.TopologyRules.{AreEqualNodes};
-ghost use Rattle.edi_explain.specs.Partners.{HasEnd, IsEqualNode, IsLeastIfAny, SharesName, SharesPoints};
+ghost use Rattle.edi_explain.specs.Partners.{IsEqualNode, IsLeastIfAny, SharesPoints};
 
 use edi_plan::Plan;
-use edi_record::{Kind, RecordRef, SheetRecords};
+use edi_record::Kind;
 use edi_topo::node_key::compare_nodes;
 use edi_topo::{ForwardPoints, NodeKey, node_key_at};
 use std::alloc::{AllocError, Global};
-
-/// Whether two records have one type and identifier.
-fn have_one_name(record: &RecordRef<'_>, other: &RecordRef<'_>) -> bool
-    ensures { IsTrue result ↔ (own_name record.now ≡ own_name other.now) }
-{
-    record.kind() == other.kind() && record.rid() == other.rid()
-}
-
-/// The first record with the type and the identifier of the one at a place, if it comes before that
-/// one: rule 301. Places are counted from 0, in file order.
-pub fn namesake(records: &SheetRecords, place: usize) -> Option<usize>
-    requires { place < length records.now }
-    ensures { IsLeastIfAny (SharesName records.now place) result }
-{
-    let own = records.record(place);
-    for earlier in 0..place {
-        if have_one_name(&records.record(earlier), &own) {
-            return Some(earlier);
-        }
-    }
-    None
-}
-
-fn has_end(record: &RecordRef<'_>) -> bool
-    ensures { IsTrue result ↔ (0 < length record.now.ends) }
-{
-    !record.ends().is_empty()
-}
-
-/// The record with the first end of all links, if it comes before the one at a place: rule 304.
-/// Places are counted from 0, in file order.
-pub fn first_link(records: &SheetRecords, place: usize) -> Option<usize>
-    requires { place < length records.now }
-    ensures { IsLeastIfAny (HasEnd records.now place) result }
-{
-    for earlier in 0..place {
-        if has_end(&records.record(earlier)) {
-            return Some(earlier);
-        }
-    }
-    None
-}
 
 /// Whether the record at a place is a node equal to the one with this key.
 fn is_equal_node(
@@ -80,17 +37,20 @@ fn is_equal_node(
 
 /// The first node with the position, the class, the attributes and the extras of the node at a place,
 /// if it comes before that one: rule 403. `None` also where the record isn't a node.
-pub fn equal_node(alloc: Global, plan: &Plan, place: u32) -> Result<Option<u32>, AllocError>
-    requires { IsPlace plan.now place }
+pub fn equal_node(alloc: Global, plan: &Plan, place: u64) -> Result<Option<u64>, AllocError>
     ensures { IfOk result (IsLeastIfAny (IsEqualNode plan.now place)) }
 {
-    if plan.kind(place) != Kind::Pno {
+    if place >= u64::from(plan.len()) {
         return Ok(None);
     }
-    let key = node_key_at(alloc, plan, place)?;
-    for earlier in 0..place {
-        if is_equal_node(alloc, plan, &key, place, earlier)? {
-            return Ok(Some(earlier));
+    let own = place as u32;
+    if plan.kind(own) != Kind::Pno {
+        return Ok(None);
+    }
+    let key = node_key_at(alloc, plan, own)?;
+    for earlier in 0..own {
+        if is_equal_node(alloc, plan, &key, own, earlier)? {
+            return Ok(Some(u64::from(earlier)));
         }
     }
     Ok(None)
@@ -111,13 +71,16 @@ fn share_points(plan: &Plan, place: u32, earlier: u32) -> bool
 
 /// The first arc with the points of the arc at a place, in either direction, if it comes before that
 /// one: rule 405. `None` also where the record isn't an arc.
-pub fn same_arc(plan: &Plan, place: u32) -> Option<u32>
-    requires { IsPlace plan.now place }
+pub fn same_arc(plan: &Plan, place: u64) -> Option<u64>
     ensures { IsLeastIfAny (SharesPoints plan.now place) result }
 {
-    for earlier in 0..place {
-        if share_points(plan, place, earlier) {
-            return Some(earlier);
+    if place >= u64::from(plan.len()) {
+        return None;
+    }
+    let own = place as u32;
+    for earlier in 0..own {
+        if share_points(plan, own, earlier) {
+            return Some(u64::from(earlier));
         }
     }
     None

@@ -1,4 +1,4 @@
-//! Records of a schema's files.
+//! Records of a file, looked for among their zones.
 
 ghost use Rattle.std.specs.Prelude.{◌≡◌, ◌↔◌, IsTrue, MatchOption, Some};
 ghost use Rattle.edi_line.specs.Entry.{entries};
@@ -8,12 +8,14 @@ ghost use Rattle.edi_record.specs.declared.name.Name.{Name};
 ghost use Rattle.edi_schema.specs.SchemaOf.{IsNamed};
 ghost use Rattle.edi_explain.specs.Partners.{IsLeastIfAny};
 ghost use Rattle.edi_explain.specs.RowPartners.{SharesRowName};
-ghost use Rattle.edi_explain.specs.inner.RowPartners.{name_in};
+ghost use Rattle.edi_explain.specs.inner.RowPartners.{IsEarlierRow, IsLinked, PassesRow, name_in};
 
 use crate::site::group_of;
 use edi_line::Zone;
 use edi_line::codes::{RID, RTY};
 use edi_record::{first_value, group_here};
+
+const FTP: [u8; 3] = *b"FTP";
 
 /// The first RTY and the first RID of a record.
 struct RowName<'a> {
@@ -25,6 +27,13 @@ impl Drop for RowName<'_> {
     fn drop(self) {
         let RowName { rty: _, rid: _ } = self;
     }
+}
+
+/// What an earlier record is looked for by: a name, or that it is a link with an end.
+#[derive(Drop)]
+enum RowTest<'a> {
+    Named(RowName<'a>),
+    Linked,
 }
 
 /// The name of a record, if it has both parts of one.
@@ -55,12 +64,31 @@ fn is_named(group: &[Zone<'_>], name: &RowName<'_>) -> bool
     states(group, RTY, name.rty) && states(group, RID, name.rid)
 }
 
-/// The first record with the type and the identifier of the one at a place, if it comes before that
-/// one: rule 602. Places are counted from 0, in file order.
-pub fn row_namesake(zones: &[Zone<'_>], place: u64) -> Option<u64>
-    ensures { IsLeastIfAny (SharesRowName (groups_of (entries zones.now)) place) result }
+/// Whether a record is a link with an end.
+fn is_linked(group: &[Zone<'_>]) -> bool
+    ensures { IsTrue result ↔ IsLinked (entries group.now) }
 {
-    let name = name_of(group_of(zones, place)?)?;
+    let Some(_) = first_value(group, FTP) else {
+        return false;
+    };
+    states(group, RTY, b"LNK")
+}
+
+/// Whether a record is as is looked for.
+fn passes(group: &[Zone<'_>], test: &RowTest<'_>) -> bool
+    ensures { IsTrue result ↔ PassesRow test.now (entries group.now) }
+{
+    match test {
+        RowTest::Named(name) => is_named(group, name),
+        RowTest::Linked => is_linked(group),
+    }
+}
+
+/// The first record that is as is looked for, if it comes before the one at a place.
+fn first_row(zones: &[Zone<'_>], place: u64, test: &RowTest<'_>) -> Option<u64>
+    ensures { IsLeastIfAny (IsEarlierRow (PassesRow test.now) (groups_of (entries zones.now)) place) result }
+{
+    let _ = group_of(zones, place)?;
     let mut at = 0;
     let mut rest = zones;
     while let [_, behind @ ..] = rest {
@@ -68,7 +96,7 @@ pub fn row_namesake(zones: &[Zone<'_>], place: u64) -> Option<u64>
             if at == place {
                 return None;
             }
-            if is_named(earlier, &name) {
+            if passes(earlier, test) {
                 return Some(at);
             }
             at += 1;
@@ -76,4 +104,20 @@ pub fn row_namesake(zones: &[Zone<'_>], place: u64) -> Option<u64>
         rest = behind;
     }
     None
+}
+
+/// The first record with the type and the identifier of the one at a place, if it comes before that
+/// one: rules 301 and 602. Places are counted from 0, in file order.
+pub fn row_namesake(zones: &[Zone<'_>], place: u64) -> Option<u64>
+    ensures { IsLeastIfAny (SharesRowName (groups_of (entries zones.now)) place) result }
+{
+    let name = name_of(group_of(zones, place)?)?;
+    first_row(zones, place, &RowTest::Named(name))
+}
+
+/// The first link with an end, if it comes before the record at a place: rule 304.
+pub(crate) fn first_link(zones: &[Zone<'_>], place: u64) -> Option<u64>
+    ensures { IsLeastIfAny (IsEarlierRow IsLinked (groups_of (entries zones.now)) place) result }
+{
+    first_row(zones, place, &RowTest::Linked)
 }

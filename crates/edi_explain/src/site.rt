@@ -1,15 +1,16 @@
 //! Where the records of a file stand.
 
-ghost use Rattle.std.specs.Prelude.{List, ◌≡◌, IfOk, IfErr, OnOk, option_map, slice_get};
+ghost use Rattle.std.specs.Prelude.{List, ℕ, ◌≡◌, IfOk, option_map, slice_get};
 ghost use Rattle.edi_line.specs.Entry.{Entry, entries};
 ghost use Rattle.edi_line.specs.LineRules.{BreaksLineRule, IsZonesOf};
-ghost use Rattle.edi_line.specs.Refusal.{IsLineRefusal, IsUnbroken};
+ghost use Rattle.edi_line.specs.Refusal.{IsUnbroken};
 ghost use Rattle.edi_line.specs.Zones.{groups_of};
 ghost use Rattle.edi_explain.specs.Sites.{IsSiteIfAny};
+ghost use Rattle.edi_explain.specs.inner.Found.{group_numbered, number_of};
 ghost use Rattle.edi_explain.specs.inner.Sites.{IsGroupSite};
 
 use edi_line::codes::{RID, RTY};
-use edi_line::{LineFault, Text, Zone};
+use edi_line::{LineFault, Text, Zone, zones};
 use edi_record::{first_value, group_here};
 use std::alloc::{AllocError, Global};
 
@@ -33,6 +34,18 @@ impl Drop for RecordSite {
     }
 }
 
+/// The zones of a file that breaks no rule of lines.
+pub(crate) fn zones_of<'a>(alloc: Global, bytes: &'a [u8]) -> Result<Vec<Zone<'a>>, AllocError>
+    requires { IsUnbroken (BreaksLineRule bytes.now) }
+    ensures { IfOk result (λ zones. IsZonesOf bytes.now (entries zones.items)) }
+{
+    match zones(alloc, bytes) {
+        Ok(zones) => Ok(zones),
+        Err(LineFault::Memory(error)) => Err(error),
+        Err(LineFault::Broken { .. }) => unreachable!(),
+    }
+}
+
 /// The zones of the record at this place, counted from 0.
 pub(crate) fn group_of<'a, 'b>(zones: &'b [Zone<'a>], place: u64) -> Option<&'b [Zone<'a>]>
     ensures { option_map (λ g. entries g.now) result ≡ slice_get (groups_of (entries zones.now)) place }
@@ -51,6 +64,14 @@ pub(crate) fn group_of<'a, 'b>(zones: &'b [Zone<'a>], place: u64) -> Option<&'b 
     None
 }
 
+/// The zones of the record at this place, if there is a place and a record.
+pub(crate) fn record_at<'a, 'b>(zones: &'b [Zone<'a>], place: Option<u64>) -> Option<&'b [Zone<'a>]>
+    ensures { option_map (λ g. entries g.now) result
+        ≡ group_numbered (groups_of (entries zones.now)) (number_of place) }
+{
+    group_of(zones, place?)
+}
+
 /// The site of the record of these zones, if one begins with the first.
 pub(crate) fn site_of(alloc: Global, group: &[Zone<'_>]) -> Result<Option<RecordSite>, AllocError>
     ensures { IfOk result (λ found. IsGroupSite (entries group.now) found) }
@@ -67,4 +88,30 @@ pub(crate) fn site_of(alloc: Global, group: &[Zone<'_>]) -> Result<Option<Record
         rty: Text::from_slice(alloc, head.value.as_slice())?,
         rid,
     }))
+}
+
+/// Where a record begins whose zones may have been found.
+pub(crate) fn site_if_found(
+    alloc: Global,
+    found: Option<&[Zone<'_>]>,
+) -> Result<Option<RecordSite>, AllocError>
+    ensures { IfOk result (λ site. (zones : List Entry) (number : ℕ)
+        → option_map (λ g. entries g.now) found.entry ≡ group_numbered (groups_of zones) number
+        → IsSiteIfAny zones number site) }
+{
+    match found {
+        Some(group) => site_of(alloc, group),
+        None => Ok(None),
+    }
+}
+
+/// Where the record at this place begins, if there is a place and a record.
+pub(crate) fn site_at(
+    alloc: Global,
+    zones: &[Zone<'_>],
+    place: Option<u64>,
+) -> Result<Option<RecordSite>, AllocError>
+    ensures { IfOk result (IsSiteIfAny (entries zones.now) (number_of place)) }
+{
+    site_if_found(alloc, record_at(zones, place))
 }

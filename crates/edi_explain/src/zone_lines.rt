@@ -2,7 +2,7 @@
 
 ghost use Rattle.std.specs.Prelude.{◌≡◌, ◌≢◌, ◌++◌, ℕ, List, Option, suc, IfOk, OnOk, codes, option_and_then, option_map, unwrap_or};
 ghost use Rattle.edi_line.specs.Entry.{Entry, entries, entry, first};
-ghost use Rattle.edi_line.specs.LineRules.{BreaksLineRule, IsZonesOf};
+ghost use Rattle.edi_line.specs.LineRules.{BreaksLineRule};
 ghost use Rattle.edi_line.specs.Refusal.{IsUnbroken};
 ghost use Rattle.edi_line.specs.Zones.{groups_of};
 ghost use Rattle.edi_record.specs.Records.{values};
@@ -11,7 +11,7 @@ ghost use Rattle.edi_explain.specs.AstrayZones.{IsZoneOfRecord, IsZoneOfSheet, f
 ghost use Rattle.edi_explain.specs.BreakingZones.{IsBreakingZoneOf};
 ghost use Rattle.edi_explain.specs.Lines.{position_text, rule_mark};
 ghost use Rattle.edi_explain.specs.inner.LostEnds.{IsLostEndOf};
-ghost use Rattle.edi_explain.specs.inner.Seeking.{AreFound};
+ghost use Rattle.edi_explain.specs.inner.Found.{AreFound};
 ghost use Rattle.edi_explain.specs.ZoneLines.{ExplainsZone, IsSaidOfZone, IsZoneLine, count_text, second_sentence, zone_line, zone_sentence};
 ghost use Rattle.edi_shown.specs.Shown.{shown_bytes};
 
@@ -19,10 +19,10 @@ use crate::astray::zone_of_record;
 use crate::breaking::breaking_zone;
 use crate::lines::{push_position, push_sentence};
 use crate::lost_ends::{first_lost_end, names_of_records};
-use crate::refused::records_of;
+use crate::refused::FoundRecords;
 use crate::right_texts::is_right_text;
-use crate::seeking::FoundRecords;
-use edi_line::{LineFault, Zone, push_number, zones};
+use crate::site::{record_at, zones_of};
+use edi_line::{Zone, push_number};
 use edi_record::first_value;
 use edi_schema::Schema;
 use edi_shown::push_shown;
@@ -124,18 +124,6 @@ fn push_line(
     push_sentence(text, b"", rule)
 }
 
-/// The zones of a file that breaks no rule of lines.
-pub(crate) fn zones_of<'a>(alloc: Global, bytes: &'a [u8]) -> Result<Vec<Zone<'a>>, AllocError>
-    requires { IsUnbroken (BreaksLineRule bytes.now) }
-    ensures { IfOk result (λ zones. IsZonesOf bytes.now (entries zones.items)) }
-{
-    match zones(alloc, bytes) {
-        Ok(zones) => Ok(zones),
-        Err(LineFault::Memory(error)) => Err(error),
-        Err(LineFault::Broken { .. }) => unreachable!(),
-    }
-}
-
 /// The line on the zone with which a record breaks a rule of schemas, if there is such a zone.
 fn line_of_row(
     alloc: Global,
@@ -174,9 +162,9 @@ fn line_of_record(
 }
 
 /// The first end of a record whose zones may have been found, if it has one.
-fn end_of<'b>(found: &'b Option<Vec<Zone<'static>>>) -> Option<&'b [u8]>
+fn end_of<'b>(found: Option<&'b [Zone<'_>]>) -> Option<&'b [u8]>
     ensures { option_map (λ e. e.now) result ≡ option_and_then (λ group. first (values (codes "FTP") group))
-        (option_map (λ v. entries v.items) found.now) }
+        (option_map (λ g. entries g.now) found.entry) }
 {
     match found {
         Some(group) => first_value(group, FTP),
@@ -185,13 +173,13 @@ fn end_of<'b>(found: &'b Option<Vec<Zone<'static>>>) -> Option<&'b [u8]>
 }
 
 /// The first end of all links: that of the earlier record that rule 304 speaks of, or else of the refused one.
-fn first_end<'b>(records: &'b FoundRecords, earlier: Option<u64>) -> Option<&'b [u8]>
+fn first_end<'b>(records: &FoundRecords<'_, 'b>, earlier: Option<u64>) -> Option<&'b [u8]>
     ensures { (zones : List Entry) (place : ℕ) → AreFound zones (suc place) earlier records.now
         → option_map (λ e. e.now) result ≡ first_end_at zones (unwrap_or earlier place) }
 {
     match earlier {
-        Some(_) => end_of(&records.earlier),
-        None => end_of(&records.here),
+        Some(_) => end_of(records.earlier),
+        None => end_of(records.here),
     }
 }
 
@@ -207,27 +195,25 @@ pub(crate) fn explain_zone(
     requires { IsUnbroken (BreaksLineRule bytes.now) }
     ensures { IfOk result (λ lines. ExplainsZone bytes.now name.now rule number lines.items) }
 {
-    let records = records_of(alloc, bytes, number, None)?;
-    match &records.here {
+    let zones = zones_of(alloc, bytes)?;
+    match record_at(&zones, number.checked_sub(1)) {
         Some(group) => line_of_row(alloc, group, name, rule),
         None => Ok(Vec::new(alloc)),
     }
 }
 
-/// The line on the end with which a record breaks rule 305, if there is such an end, in a file that breaks no rule of
-/// lines.
+/// The line on the end with which a record of these zones breaks rule 305, if there is such an end.
 fn line_of_lost_end(
     alloc: Global,
-    bytes: &[u8],
+    zones: &[Zone<'_>],
     group: &[Zone<'_>],
     name: &[u8],
 ) -> Result<Vec<u8>, AllocError>
-    requires { IsUnbroken (BreaksLineRule bytes.now) }
-    ensures { IfOk result (λ lines. (zones : List Entry) → IsZonesOf bytes.now zones
-        → IsZoneLine (IsLostEndOf (groups_of zones) (entries group.now)) name.now 305 lines.items) }
+    ensures { IfOk result (λ lines.
+        IsZoneLine (IsLostEndOf (groups_of (entries zones.now)) (entries group.now)) name.now 305 lines.items) }
 {
     let mut text = Vec::new(alloc);
-    let names = names_of_records(alloc, bytes)?;
+    let names = names_of_records(alloc, zones)?;
     let Some(zone) = first_lost_end(alloc, &names, group)? else {
         return Ok(text);
     };
@@ -238,39 +224,36 @@ fn line_of_lost_end(
 /// The same of a record of a sheet whose zones may have been found.
 fn explain_lost_end(
     alloc: Global,
-    bytes: &[u8],
-    records: &FoundRecords,
+    zones: &[Zone<'_>],
+    records: &FoundRecords<'_, '_>,
     name: &[u8],
 ) -> Result<Vec<u8>, AllocError>
-    requires { IsUnbroken (BreaksLineRule bytes.now) }
-    ensures { IfOk result (λ lines. (s : Classes) (zones : List Entry) (number : ℕ) (earlier : Option ℕ)
-        → IsZonesOf bytes.now zones → AreFound zones number earlier records.now
-        → IsZoneLine (IsZoneOfSheet s zones earlier 305 number) name.now 305 lines.items) }
+    ensures { IfOk result (λ lines. (s : Classes) (number : ℕ) (earlier : Option ℕ)
+        → AreFound (entries zones.now) number earlier records.now
+        → IsZoneLine (IsZoneOfSheet s (entries zones.now) earlier 305 number) name.now 305 lines.items) }
 {
-    match &records.here {
-        Some(group) => line_of_lost_end(alloc, bytes, group, name),
+    match records.here {
+        Some(group) => line_of_lost_end(alloc, zones, group, name),
         None => Ok(Vec::new(alloc)),
     }
 }
 
-/// The line on the zone with which a record of a sheet breaks a rule, if there is such a zone, in a file that breaks no
-/// rule of lines. The zones of the record may have been found, with those of the earlier one that the rule speaks of.
+/// The line on the zone with which a record of a sheet breaks a rule, if there is such a zone. The zones of the record
+/// may have been found among those of the sheet, with those of the earlier one that the rule speaks of.
 pub(crate) fn explain_zone_of_sheet(
     alloc: Global,
     schema: &Schema,
-    bytes: &[u8],
-    records: &FoundRecords,
+    zones: &[Zone<'_>],
+    records: &FoundRecords<'_, '_>,
     name: &[u8],
     earlier: Option<u64>,
     rule: u16,
 ) -> Result<Vec<u8>, AllocError>
-    requires { IsUnbroken (BreaksLineRule bytes.now) }
-    ensures { IfOk result (λ lines. (zones : List Entry) (number : ℕ) → IsZonesOf bytes.now zones
-        → AreFound zones number earlier records.now
-        → IsZoneLine (IsZoneOfSheet schema.now zones earlier rule number) name.now rule lines.items) }
+    ensures { IfOk result (λ lines. (number : ℕ) → AreFound (entries zones.now) number earlier records.now
+        → IsZoneLine (IsZoneOfSheet schema.now (entries zones.now) earlier rule number) name.now rule lines.items) }
 {
     if rule == 305 {
-        explain_lost_end(alloc, bytes, records, name)
+        explain_lost_end(alloc, zones, records, name)
     } else {
         explain_zone_of_record(alloc, schema, records, name, earlier, rule)
     }
@@ -280,7 +263,7 @@ pub(crate) fn explain_zone_of_sheet(
 fn explain_zone_of_record(
     alloc: Global,
     schema: &Schema,
-    records: &FoundRecords,
+    records: &FoundRecords<'_, '_>,
     name: &[u8],
     earlier: Option<u64>,
     rule: u16,
@@ -290,7 +273,7 @@ fn explain_zone_of_record(
         → IsZoneLine (IsZoneOfSheet schema.now zones earlier rule number) name.now rule lines.items) }
 {
     let end = first_end(records, earlier);
-    match &records.here {
+    match records.here {
         Some(group) => line_of_record(alloc, schema, group, name, end, rule),
         None => Ok(Vec::new(alloc)),
     }

@@ -29,5 +29,5 @@ pub use node_key::{NodeKey, node_key_at};
 pub use nodes::NodeLayer;
 pub use numbers::Ranks;
 pub use ranking::ranks;
-pub use sound::Sound;
+pub use sound::{Sound, Unsound};
 pub use tie_marks::ties;

@@ -28,6 +28,13 @@ impl Drop for Sound {
     }
 }
 
+/// A plan that breaks a rule of topology, with the fault; or one for which there was no memory.
+#[derive(Drop)]
+pub struct Unsound {
+    pub plan: Plan,
+    pub fault: TopoFault,
+}
+
 impl Model for Sound {
     ghost use Rattle.edi_plan.specs.Plans.{Drawing};
 
@@ -57,13 +64,35 @@ impl Sound {
         ensures sound { OnOk result (IsUnbroken (BreaksTopologyRule plan)) }
         ensures least { IfErr result (IsRecordRefusal (BreaksTopologyRule plan)) }
     {
+        match Sound::check_or_return(alloc, plan) {
+            Ok(sound) => Ok(sound),
+            Err(Unsound { plan: _, fault }) => Err(fault),
+        }
+    }
+
+    /// What `check` gives, and beside a fault the plan.
+    pub fn check_or_return(alloc: Global, plan: Plan) -> Result<Sound, Unsound>
+        ensures plan { IfOk result (λ s. s ≡ plan) }
+        ensures sound { OnOk result (IsUnbroken (BreaksTopologyRule plan)) }
+        ensures least { IfErr result (λ u. IsRecordRefusal (BreaksTopologyRule plan) u.fault) }
+        ensures returned { IfErr result (λ u. u.plan ≡ plan) }
+    {
         plan.keeps();
-        let findings = RecordFindings::of(alloc, &plan)?;
+        let findings = match RecordFindings::of(alloc, &plan) {
+            Ok(findings) => findings,
+            Err(error) => {
+                let fault = TopoFault::Memory(error);
+                return Err(Unsound { plan, fault });
+            }
+        };
         match first_broken(&plan, &findings) {
-            Some((rule, place)) => Err(TopoFault::Broken {
-                rule,
-                at: u64::from(place) + 1,
-            }),
+            Some((rule, place)) => {
+                let fault = TopoFault::Broken {
+                    rule,
+                    at: u64::from(place) + 1,
+                };
+                Err(Unsound { plan, fault })
+            }
             None => Ok(Sound::of(plan, findings)),
         }
     }

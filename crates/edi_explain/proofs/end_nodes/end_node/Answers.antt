@@ -1,30 +1,20 @@
-use Rattle.std.proofs.Common.{arith, subst}
-use Rattle.std.proofs.lemmas.Result.{IfOk-weaker}
-use Rattle.edi_plan.specs.Sides.{IsSideIfAny}
-use Rattle.edi_schema.specs.declared.role.Role.TheVariants.{Initial, Final}
-use Rattle.edi_explain.proofs.Phases.{references_hold}
+use Rattle.std.proofs.Common.{arith}
 use Rattle.edi_explain.proofs.end_nodes.end_node.Goals as goal
 
-pub side_in_file-requires : goal.side_in_file-requires
-side_in_file-requires c = references_hold c.args.schema.now c.args.bytes.now c.args.rule c.args.number c.requires (omega (arith, c.in-401.is))
-
-pub side_in_file-requires-in-402 : goal.side_in_file-requires-in-402
-side_in_file-requires-in-402 c = references_hold c.args.schema.now c.args.bytes.now c.args.rule c.args.number c.requires (omega (arith, c.in-402.is))
-
 pub returns-in-401 : goal.returns-in-401
-returns-in-401 c =
+returns-in-401 c s b states =
     let is = c.in-401.is in
-    IfOk-weaker c.side_in_file.result _ _ (λ found h. record {
-      initial = λ e. (h.0, h.1, subst (λ n. IsSideIfAny h.0 n Initial found) c.saturating_sub-place.ensures h.2);
+    record {
+      initial = λ e. (c.args.plan.now, states, c.side_of.ensures);
       final = λ e. absurd (omega (arith, e, is));
       others = λ no more. absurd (no is);
-    }) c.side_in_file.ensures
+    }
 
 pub returns-in-402 : goal.returns-in-402
-returns-in-402 c =
+returns-in-402 c s b states =
     let is = c.in-402.is in
-    IfOk-weaker c.side_in_file-in-402.result _ _ (λ found h. record {
+    record {
       initial = λ e. absurd (omega (arith, e, is));
-      final = λ e. (h.0, h.1, subst (λ n. IsSideIfAny h.0 n Final found) c.saturating_sub-place.ensures h.2);
+      final = λ e. (c.args.plan.now, states, c.side_of-in-402.ensures);
       others = λ no more. absurd (more is);
-    }) c.side_in_file-in-402.ensures
+    }

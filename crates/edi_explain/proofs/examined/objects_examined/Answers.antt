@@ -1,11 +1,11 @@
-use Rattle.std.proofs.Common.{◌-◌, ℕ, subst}
+use Rattle.std.proofs.Common.{◌-◌, ℕ, arith, subst}
 use Rattle.std.proofs.lemmas.Result.{IfOk-weaker}
 use Rattle.edi_plan.specs.Plans.{Drawing}
 use Rattle.edi_rank.specs.EqualObjects.{BreaksObjectRule}
 use Rattle.edi_record.specs.RecordRefusal.{IsRecordRefusal}
 use Rattle.edi_compare.proofs.Phases.{all_held, object_refusal}
 use Rattle.edi_explain.specs.Partners.{IsEqualObject, IsLeastIfAny}
-use Rattle.edi_explain.proofs.Earlier.{object_earlier, object_rule}
+use Rattle.edi_explain.proofs.Earlier.{no_end_node, object_earlier, object_rule}
 use Rattle.edi_explain.proofs.examined.objects_examined.Goals as goal
 
 pub returns-in-Ok-clause-accepted : goal.returns-in-Ok-clause-accepted
@@ -22,7 +22,9 @@ returns-clause-found c =
     let rule = c.in-Err-Broken.rule in
     let at = c.in-Err-Broken.at in
     let least = subst (IsRecordRefusal (BreaksObjectRule p)) c.in-Err-Broken.field-0-is c.in-Err-Broken.ensures.least in
+    let is = object_rule p rule at least.is in
     c.found_at.ensures s b (object_refusal s b rule at c.requires.held p c.requires.plan least)
-    (IfOk-weaker c.object_before-earlier.result _ _ (λ earlier found. object_earlier s b p c.requires.plan rule (at - 1) earlier (object_rule p rule at least.is)
-    (subst (λ (q : Drawing). IsLeastIfAny (IsEqualObject q (at - 1)) earlier) c.plan-plan.ensures.plan
-    (subst (λ (n : ℕ). IsLeastIfAny (IsEqualObject c.plan-plan.result.now n) earlier) c.saturating_sub-place.ensures found))) c.object_before-earlier.ensures)
+    (IfOk-weaker c.equal_object-earlier.result _ _ (λ earlier found. object_earlier s b p c.requires.plan rule (at - 1) earlier is
+    (subst (λ (q : Drawing). IsLeastIfAny (IsEqualObject q (at - 1)) earlier) c.plan.ensures.plan
+    (subst (λ (n : ℕ). IsLeastIfAny (IsEqualObject c.plan.result.now n) earlier) c.saturating_sub.ensures found))) c.equal_object-earlier.ensures)
+    (no_end_node s b rule (at - 1) (λ e. omega (arith, e, is)) (λ e. omega (arith, e, is)))

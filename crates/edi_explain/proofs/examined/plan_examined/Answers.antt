@@ -1,4 +1,13 @@
+use Rattle.std.proofs.Common.{subst, sym}
+use Rattle.edi_compare.specs.PlanOfFile.{IsPlanOfFile}
+use Rattle.edi_compare.proofs.Phases.{topology_held}
 use Rattle.edi_explain.proofs.examined.plan_examined.Goals as goal
 
-pub returns-in-Err-clause-found : goal.returns-in-Err-clause-found
-returns-in-Err-clause-found c = c.no_memory.ensures c.args.schema.now c.args.bytes.now
+pub objects_examined-requires-clause-held : goal.objects_examined-requires-clause-held
+objects_examined-requires-clause-held c = topology_held c.args.schema.now c.args.bytes.now c.requires.held c.args.plan c.requires.plan c.in-Ok.ensures.sound
+
+pub objects_examined-requires-clause-plan : goal.objects_examined-requires-clause-plan
+objects_examined-requires-clause-plan c = subst (IsPlanOfFile c.args.schema.now c.args.bytes.now) (sym c.in-Ok.ensures.plan) c.requires.plan
+
+pub found_in_plan-requires-clause-plan : goal.found_in_plan-requires-clause-plan
+found_in_plan-requires-clause-plan c = subst (IsPlanOfFile c.args.schema.now c.args.bytes.now) (sym c.in-Err.ensures.returned) c.requires.plan

@@ -2,7 +2,7 @@ use Rattle.std.proofs.Common.{◌∙◌, ◌++◌, [], refl, subst, sym, append-
 use Rattle.std.proofs.lemmas.Result.{IfOk-weaker}
 use Rattle.edi_compare.specs.Refused.{IsRefusal}
 use Rattle.edi_compare.specs.declared.fault.Fault.{Fault}
-use Rattle.edi_explain.specs.Found.{IsEarlierOf}
+use Rattle.edi_explain.specs.Found.{IsEarlierOf, IsEndNodeOf}
 use Rattle.edi_explain.proofs.Phases.{line_least}
 use Rattle.edi_explain.proofs.explained.explain_sheet.Goals as goal
 
@@ -19,6 +19,8 @@ explain_record-requires c =
     let b = c.args.bytes.now in record {
       refusal = subst (IsRefusal s b) c.in-Entry.is c.requires.0;
       earlier = subst (λ (f : Fault). IsEarlierOf s b f c.args.found.now.earlier) c.in-Entry.is c.requires.1;
+      node = subst (λ (f : Fault). IsEndNodeOf s b f c.args.found.now.node) c.in-Entry.is c.requires.2;
+      zones = c.requires.3;
     }
 
 pub returns-in-Entry : goal.returns-in-Entry

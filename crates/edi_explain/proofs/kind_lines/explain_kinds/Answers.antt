@@ -1,9 +1,8 @@
 use Rattle.std.proofs.Common.{◌∙◌, List, [], ℕ, ap, subst}
 use Rattle.std.proofs.lemmas.Result.{IfOk-weaker}
-use Rattle.edi_line.specs.Entry.{Entry, entries}
+use Rattle.edi_line.specs.Entry.{entries}
 use Rattle.edi_line.specs.Zones.{groups_of}
 use Rattle.edi_line.specs.declared.zone.Zone.{Zone}
-use Rattle.edi_line.proofs.ZonesSaid.{zones_of_one}
 use Rattle.edi_schema.specs.SchemaRules.{BreaksKinds}
 use Rattle.edi_explain.specs.KindClasses.{IsKindsCause, codes_of}
 use Rattle.edi_explain.specs.Lines.{lines_of_sites}
@@ -17,17 +16,15 @@ unreachable-requires c =
 
 pub returns : goal.returns
 returns c =
-    let b = c.args.scd.now.bytes.now in
     let zones = entries c.in_ok-zones.zones.items in
     let cause = c.in-Some.cause in
     let sites = c.in_ok-sites.sites in
-    let there = c.in_ok-sites.ensures in
     IfOk-weaker c.lines_of_refused.result _ _ (λ lines is. (
       zones,
       cause,
       sites,
       c.in_ok-zones.ensures,
       subst (λ (zs : List Zone). IsKindsCause (groups_of (entries zs)) (codes_of c.args.codes.now) cause) c.deref.ensures.value c.in-Some.ensures,
-      subst (λ (zs : List Entry). AreSites zs cause.number cause.earlier sites) (zones_of_one b there.0 zones there.1 c.in_ok-zones.ensures) there.2,
-      is ∙ ap (λ (words : List ℕ). lines_of_sites c.args.scd.now.name.now sites words 604) (c.deref-2.ensures.value ∙ c.in_ok-words.ensures),
+      subst (λ (zs : List Zone). AreSites (entries zs) cause.number cause.earlier sites) c.deref-2.ensures.value c.in_ok-sites.ensures,
+      is ∙ ap (λ (words : List ℕ). lines_of_sites c.args.scd.now.name.now sites words 604) (c.deref-3.ensures.value ∙ c.in_ok-words.ensures),
     )) c.lines_of_refused.ensures

@@ -20,7 +20,8 @@ returns-then-branch c =
     let same : c.places-places.result.now ≡ places_of Fea p = c.places-places.ensures in
     let less : i < m = omega arith in
     let keys = sym (of_plan l p i c.requires.keys.plan) ∙ (c.in_ok-has_key.ensures.0 c.if-branch.true ∙ (c.in_ok-key.ensures ∙ of_plan l p m c.requires.keys.plan)) in
-    subst (λ (ps : List ℕ). IsLeast (IsEqualObject p (object_place p m)) (get_or ps i 0)) (sym same)
+    let place : c.from.result ≡ object_place p i = c.from.ensures ∙ ap (λ (ps : List ℕ). get_or ps i 0) same in
+    subst (IsLeast (IsEqualObject p (object_place p m))) (sym place)
     (least_equal p c.keeps.ensures.whole l c.requires.keys m c.requires.member i less c.loop-earlier.invariant
     (equal_by_key p c.keeps.ensures.whole l c.requires.keys m c.requires.member i less keys))
 

@@ -1,5 +1,5 @@
-use Rattle.edi_explain.proofs.Sought.{site_of_earlier}
-use Rattle.edi_explain.specs.inner.Seeking.{number_of}
+use Rattle.edi_explain.proofs.Numbered.{site_of_earlier}
+use Rattle.edi_explain.specs.inner.Found.{number_of}
 use Rattle.edi_explain.proofs.refused.sites_of_records.Goals as goal
 
 pub returns : goal.returns

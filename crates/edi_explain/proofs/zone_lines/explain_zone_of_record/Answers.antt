@@ -1,12 +1,10 @@
-use Rattle.std.proofs.Common.{◌≡◌, ℕ, suc, List, Option, option_map, subst, inr}
+use Rattle.std.proofs.Common.{◌≡◌, Bor, ℕ, suc, List, Option, option_map, subst, inr}
 use Rattle.std.proofs.lemmas.Result.{IfOk-weaker}
-use Rattle.std.specs.Global.{Vec}
 use Rattle.edi_line.specs.Entry.{entries}
 use Rattle.edi_line.specs.Zones.{groups_of}
 use Rattle.edi_line.specs.declared.zone.Zone.{Zone}
 use Rattle.edi_explain.specs.AstrayZones.{IsZoneOfRecord, IsZoneOfSheet}
-use Rattle.edi_explain.specs.ZoneLines.{IsZoneLine}
-use Rattle.edi_explain.specs.inner.Seeking.{AreFound, group_numbered}
+use Rattle.edi_explain.specs.inner.Found.{AreFound, group_numbered}
 use Rattle.edi_explain.proofs.ZoneFound.{line_as, no_sheet_zone, sheet_zone, zone_sheet}
 use Rattle.edi_explain.proofs.zone_lines.explain_zone_of_record.Goals as goal
 
@@ -16,16 +14,15 @@ returns-in-Some c =
     let rule = c.args.rule in
     let earlier = c.args.earlier in
     let records = c.args.records.now in
-    let group = entries c.in-Some.group.items in
+    let group = entries c.in-Some.group.now in
     let end : Option (List ℕ) = option_map (λ e. e.now) c.first_end-end.result in
     IfOk-weaker c.line_of_record.result _ _ (λ lines h zones number found.
-    let e = subst (λ (r : Option (Vec Zone)). option_map (λ v. entries v.items) r ≡ group_numbered (groups_of zones) number) c.in-Some.is found.here in
+    let e = subst (λ (r : Option (Bor (List Zone))). option_map (λ g. entries g.now) r ≡ group_numbered (groups_of zones) number) c.in-Some.is found.here in
     let ends = λ (place : ℕ) (n : number ≡ suc place). c.first_end-end.ensures zones place (subst (λ (m : ℕ). AreFound zones m earlier records) n found) in
     line_as (IsZoneOfRecord s group end rule) (IsZoneOfSheet s zones earlier rule number) c.args.name.now rule lines.items
-    (sheet_zone zones rule number group e c.requires s earlier end ends) (zone_sheet zones rule number group e c.requires s earlier end ends)
-    (subst (λ (zs : List Zone). IsZoneLine (IsZoneOfRecord s (entries zs) end rule) c.args.name.now rule lines.items) c.deref.ensures.value h)) c.line_of_record.ensures
+    (sheet_zone zones rule number group e c.requires s earlier end ends) (zone_sheet zones rule number group e c.requires s earlier end ends) h) c.line_of_record.ensures
 
 pub returns-in-None : goal.returns-in-None
 returns-in-None c = λ zones number found.
-    let e = subst (λ (r : Option (Vec Zone)). option_map (λ v. entries v.items) r ≡ group_numbered (groups_of zones) number) c.in-None.is found.here in
+    let e = subst (λ (r : Option (Bor (List Zone))). option_map (λ g. entries g.now) r ≡ group_numbered (groups_of zones) number) c.in-None.is found.here in
     inr (no_sheet_zone zones c.args.rule number e c.args.schema.now c.args.earlier, c.new.ensures.items)

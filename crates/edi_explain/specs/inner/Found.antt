@@ -1,0 +1,35 @@
+-- What is found of a refusal before it is explained: which rules may be broken, and the zones of its records.
+use Rattle.std.specs.Prelude.{◌≡◌, ◌<◌, ◌⊎◌, ⊤, ℕ, zero, suc, List, Option, Some, None, option_map, slice_get}
+use Rattle.edi_line.specs.Entry.{Entry, entries}
+use Rattle.edi_line.specs.Zones.{groups_of}
+use Rattle.edi_record.specs.declared.sheet.Sheet.{Sheet}
+use Rattle.edi_compare.specs.PlanOfFile.{IsSheetOf}
+use Rattle.edi_compare.specs.declared.fault.Fault.{Fault}
+use Rattle.edi_compare.specs.declared.fault.Fault.TheVariants.{Memory, Line, Entry as AtRecord}
+use Rattle.edi_explain.specs.declared.refused.FoundRecords.{FoundRecords}
+
+-- a rule of records; or one of references, and the file states a sheet
+abbrev pub IsEarlyRule : List ℕ → ℕ → Type 0
+IsEarlyRule b rule = (rule < 300) ⊎ ((rule < 400) × ((sheet : Sheet) × IsSheetOf b sheet))
+
+-- a fault by a rule of lines, or by such a rule
+abbrev pub IsEarly : List ℕ → Fault → Type 0
+IsEarly b (Memory e) = ⊤
+IsEarly b (Line rule at) = ⊤
+IsEarly b (AtRecord rule at) = IsEarlyRule b rule
+
+-- the zones of the record with this number, from 1, if it is one of these
+abbrev pub group_numbered : List (List Entry) → ℕ → Option (List Entry)
+group_numbered groups zero = None
+group_numbered groups (suc place) = slice_get groups place
+
+-- a place from 0 as a number from 1, or 0 for none
+abbrev pub number_of : Option ℕ → ℕ
+number_of (Some place) = suc place
+number_of None = 0
+
+-- the zones of the record with this number and of the one at an earlier place, of each that the file has
+pub record AreFound (zones : List Entry) (number : ℕ) (earlier : Option ℕ) (found : FoundRecords) : Type 0 where
+  pub here : option_map (λ g. entries g.now) found.here ≡ group_numbered (groups_of zones) number
+  pub earlier_one : option_map (λ g. entries g.now) found.earlier
+      ≡ group_numbered (groups_of zones) (number_of earlier)
