@@ -1,6 +1,6 @@
 //! A byte string that owns its memory.
 
-ghost use Rattle.std.specs.Prelude.{◌≡◌, ◌+◌, ◌≤◌, ℕ, nat_le, nat_eq, refl, length, take, IfOk, Some};
+ghost use Rattle.std.specs.Prelude.{◌≡◌, ◌+◌, ◌≤◌, ◌<◌, ℕ, nat_le, nat_eq, refl, length, take, IfOk, Some};
 ghost use Rattle.std.specs.Ordering.{nat_cmp};
 ghost use Rattle.std.specs.Cmp.{partial_equiv_from_equiv};
 ghost use Rattle.std.specs.Cmp.Lexicographic.{pointwise, slice_cmp, nat_list_eq_equiv, nat_list_cmp_total, texts_ties, texts_po};
@@ -130,12 +130,17 @@ fn short(text: &[u8]) -> Bytes
 
 /// The bytes in one piece of memory.
 fn middling(alloc: Global, text: &[u8]) -> Result<Bytes, AllocError>
-    requires { length text.now ≤ 32 }
+    requires long { 14 < length text.now }
+    requires short { length text.now ≤ 32 }
     ensures value { IfOk result (λ bytes. bytes_in bytes ≡ text.now) }
     ensures within { IfOk result IsWithin }
 {
     let mut bytes = [0; MIDDLING];
-    bytes[..text.len()].copy_from_slice(text);
+    if text.len() < 16 {
+        copy_both_ends(&mut bytes, text, 8);
+    } else {
+        copy_both_ends(&mut bytes, text, 16);
+    }
     Ok(Bytes::Middling {
         len: text.len() as u8,
         bytes: Arc::new(alloc, bytes)?,
@@ -143,10 +148,11 @@ fn middling(alloc: Global, text: &[u8]) -> Result<Bytes, AllocError>
 }
 
 /// Copies a text by its first bytes and its last ones, so many, which may overlap. Copies of a known size take no call.
-fn copy_both_ends(bytes: &mut [u8; SHORT], text: &[u8], size: usize)
+#[inline(always)]
+fn copy_both_ends(bytes: &mut [u8], text: &[u8], size: usize)
     requires enough { size ≤ length text.now }
     requires all { length text.now ≤ size + size }
-    requires room { length text.now ≤ 14 }
+    requires room { length text.now ≤ length bytes.old }
     ensures { take (length text.now) bytes.new ≡ text.now }
 {
     let len = text.len();
