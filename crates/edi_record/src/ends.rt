@@ -99,8 +99,35 @@ fn push_short(ends: &mut Vec<End>, alloc: Global, pointer: Pointer<'_>)
     ends.push_reserved(pointer.short_end(alloc));
 }
 
+/// Puts the end with this pointer and without SNS behind others. Of its texts the identifier alone may be long.
+#[inline(never)]
+fn push_named(
+    ends: &mut Vec<End>,
+    texts: &mut LongTexts,
+    pointer: Pointer<'_>,
+) -> Result<(), AllocError>
+    requires lot { length pointer.lot.now ≤ 14 }
+    requires subset { length pointer.subset.now ≤ 14 }
+    requires rty { length pointer.rty.now ≤ 14 }
+    ensures { OnOk result (ends.new.items
+        ≡ ends.old.items ++ ended_with (Some (record { pointer = pointer.entry; sense = None }))) }
+{
+    let rid = texts.text(pointer.rid)?;
+    ends.reserve(1)?;
+    ends.push_reserved(End {
+        lot: Text::short(texts.alloc, pointer.lot),
+        subset: Text::short(texts.alloc, pointer.subset),
+        target: Name {
+            rty: Text::short(texts.alloc, pointer.rty),
+            rid,
+        },
+        sns: None,
+    });
+    Ok(())
+}
+
 /// Puts an end behind others. A short one has a way of its own, since what other ends need would have to be made ready
-/// for each. It stands apart, so that where no end is open nothing is made ready.
+/// for each, and so has one of a long identifier. It stands apart, so that where no end is open nothing is made ready.
 #[inline(never)]
 fn push_end(
     ends: &mut Vec<End>,
@@ -109,12 +136,15 @@ fn push_end(
 ) -> Result<(), AllocError>
     ensures { OnOk result (ends.new.items ≡ ends.old.items ++ ended_with (Some opened.now)) }
 {
-    if opened.sense.is_none() && opened.pointer.is_short() {
-        ends.reserve(1)?;
-        push_short(ends, texts.alloc, opened.pointer);
-        return Ok(());
+    if opened.sense.is_some() || !opened.pointer.is_short_before_identifier() {
+        return push_long(ends, texts, opened);
     }
-    push_long(ends, texts, opened)
+    if opened.pointer.rid.len() > Text::SHORT {
+        return push_named(ends, texts, opened.pointer);
+    }
+    ends.reserve(1)?;
+    push_short(ends, texts.alloc, opened.pointer);
+    Ok(())
 }
 
 /// The end that is open among the zones that have come. It is closed by the next or by the end of the zones, and then
