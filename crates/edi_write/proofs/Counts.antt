@@ -1,5 +1,5 @@
 -- The zones of the counts that nearly all records have.
-use Rattle.std.proofs.Common.{◌≡◌, refl, ap, ◌∙◌, ℕ, List, codes, decimal, lit<}
+use Rattle.std.proofs.Common.{◌≡◌, refl, ap, ◌∙◌, codes, decimal, lit<}
 use Rattle.std.proofs.lemmas.Fmt.{decimal_digit}
 use Rattle.edi_line.specs.Printing.{printed_zone, broken_into, line_text, content_text}
 use Rattle.edi_write.specs.declared.heads.TheConstants.{ATTRIBUTE_COUNT, END_COUNT}

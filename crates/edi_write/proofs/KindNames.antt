@@ -1,18 +1,16 @@
 -- Where the name of a class of a kind can be printed, so can that of its partner.
-use Rattle.std.proofs.Common.{◌≡◌, ℕ, false, Some, unwrap_or, slice_get, refl, sym, ap, subst, ◌∙◌}
-use Rattle.std.specs.Map.{keys_of}
+use Rattle.std.proofs.Common.{◌≡◌, ℕ, Some, slice_get, refl, sym, subst}
 use Rattle.std.proofs.lemmas.List.Folds.{list_any_none}
 use Rattle.std.proofs.lemmas.Option.{slice_get-map}
 use Rattle.edi_record.specs.Texts.{is_semicolon}
 use Rattle.edi_record.specs.declared.name.Name.{Name}
-use Rattle.edi_schema.specs.Classes.{Classes, IsSchema, IsReadName, partner_of, role_of}
-use Rattle.edi_schema.specs.Roles.{is_plain}
+use Rattle.edi_schema.specs.Classes.{Classes, IsSchema, IsReadName, partner_of}
 use Rattle.edi_schema.specs.declared.class.Class.{Class}
 use Rattle.edi_schema.proofs.Ordered.{all_at}
 use Rattle.edi_schema.proofs.Paired.{there}
 use Rattle.edi_schema.proofs.Pointable.{partner_named}
 use Rattle.edi_schema.proofs.ReadNames.{whole_text}
-use Rattle.edi_write.specs.Layout.{class_name_of, no_name}
+use Rattle.edi_write.specs.Layout.{class_name_of}
 use Rattle.edi_write.specs.Written.{HasPrintableKinds, IsPrintableName}
 
 name_there : (s : Classes) (c : ℕ) (e : Name × Class) → slice_get s c ≡ Some e → class_name_of s c ≡ e.0

@@ -1,5 +1,5 @@
 -- A list of three bytes.
-use Rattle.std.proofs.Common.{◌≡◌, refl, ℕ, ◌+◌, List, [], ◌∷◌, ◌++◌, length, get_or, arith}
+use Rattle.std.proofs.Common.{◌≡◌, refl, ℕ, List, [], ◌∷◌, ◌++◌, length, get_or, arith}
 
 pub three_bytes : (xs ys : List ℕ) → length xs ≡ 3 → xs ++ ys ≡ get_or xs 0 0 ∷ get_or xs 1 0 ∷ get_or xs 2 0 ∷ ys
 three_bytes (a ∷ b ∷ c ∷ []) ys e = refl

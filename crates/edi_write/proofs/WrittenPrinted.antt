@@ -45,7 +45,6 @@ use Rattle.edi_record.specs.declared.record.Value.TheVariants.{Number, Bytes}
 use Rattle.edi_record.specs.declared.sheet.Sheet.{Sheet}
 use Rattle.edi_schema.specs.Classes.{IsLetter, Classes, IsSchema, is_name, partner_of, place_of, role_of}
 use Rattle.edi_schema.specs.Roles.{is_plain}
-use Rattle.edi_schema.specs.declared.role.Role.{Role}
 use Rattle.edi_schema.proofs.Names.{same_name}
 use Rattle.edi_record.proofs.Printable.{sheet_printable}
 use Rattle.edi_record.proofs.SheetStated.{sheet_again}
@@ -57,7 +56,6 @@ use Rattle.edi_plan.specs.Agreeing.{Agrees}
 use Rattle.edi_plan.specs.ReferenceRules.{BreaksReferenceRule}
 use Rattle.edi_plan.specs.ReferenceRules.BreaksReferenceRule.{lacks_attribute_class}
 use Rattle.edi_plan.specs.PlanOf.{IsPlanOf, StatesPlanAttribute, StatesPlanEnd, StatesPlanRecord}
-use Rattle.edi_plan.specs.Joined.{IsJoined}
 use Rattle.edi_plan.specs.Plans.{Drawing, IsPlace, record_at, blank}
 use Rattle.edi_plan.specs.Whole.{IsWholePlan}
 use Rattle.edi_plan.specs.declared.record.PlanRecord.{PlanRecord}

@@ -19,7 +19,6 @@ use Rattle.edi_record.specs.RecordLayout.{Letters, settled, settled_record, sett
 use Rattle.edi_record.specs.RecordLayout as records
 use Rattle.edi_record.specs.inner.Records.{value_of}
 use Rattle.edi_record.specs.Shapes.{may_have_points, may_have_ends, kind_code}
-use Rattle.edi_record.specs.declared.name.Name.{Name}
 use Rattle.edi_record.specs.declared.record.Kind.{Kind}
 use Rattle.edi_record.specs.declared.record.Kind.TheVariants.{Pno, Par, Pfe, Fea, Lnk}
 use Rattle.edi_record.specs.declared.record.Record.{Record}

@@ -9,8 +9,8 @@ ghost use Rattle.edi_rank.specs.Labelling.{AreLabels};
 ghost use Rattle.edi_write.specs.Layout.{layout};
 
 use crate::heads::{BEGIN, CHARACTER_SET, END};
+use crate::labelled_plan::LabelledPlan;
 use crate::page::Page;
-use crate::records::write_records;
 use edi_rank::Labels;
 use edi_schema::Schema;
 use edi_topo::Sound;
@@ -29,9 +29,14 @@ pub fn write_canon(
     ensures { IfOk result (λ c. c.items ≡ layout schema.now (arranged schema.now labels.now sound.now)) }
 {
     let plan = sound.plan();
+    let labelled = LabelledPlan {
+        schema,
+        plan,
+        labels,
+    };
     let mut page = Page::new(alloc);
     write_begin(&mut page, plan.cse())?;
-    write_records(alloc, &mut page, schema, plan, labels)?;
+    labelled.write_records(alloc, &mut page)?;
     page.write(END, b"")?;
     Ok(page.file)
 }

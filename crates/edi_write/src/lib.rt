@@ -4,6 +4,7 @@
 pub mod canon;
 mod class_line;
 mod heads;
+mod labelled_plan;
 pub mod laws;
 mod links;
 mod names;

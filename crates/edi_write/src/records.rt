@@ -16,12 +16,13 @@ ghost use Rattle.edi_write.specs.inner.Numbered.{arc_body, link_body, numbered_b
 
 use crate::class_line::ClassLine;
 use crate::heads::{ATTRIBUTE_COUNT, END_COUNT, POINT_COUNT, ZoneHead};
+use crate::labelled_plan::LabelledPlan;
 use crate::links::write_ends;
 use crate::names::{type_zone, write_identifier};
 use crate::page::Page;
 use crate::parts::{write_attribute, write_extra, write_point};
-use edi_plan::{Plan, PlanAttribute, sorted_attributes};
-use edi_rank::{Labels, class_turned};
+use edi_plan::{PlanAttribute, sorted_attributes};
+use edi_rank::class_turned;
 use edi_record::{Extra, Kind, Point};
 use edi_schema::Schema;
 use itoa::Buffer;
@@ -114,31 +115,6 @@ fn write_extras(page: &mut Page, extras: &[Extra]) -> Result<(), AllocError>
     Ok(())
 }
 
-/// Writes the type, the identifier and the class of a record.
-fn write_head(
-    page: &mut Page,
-    line: &mut ClassLine,
-    schema: &Schema,
-    plan: &Plan,
-    labels: &Labels,
-    place: u32,
-) -> Result<(), AllocError>
-    requires agrees { Agrees schema.now plan.now }
-    requires labels { AreLabels schema.now plan.now labels.now }
-    requires place { IsPlace plan.now place }
-    requires line { IsLineOf schema.now line.old }
-    ensures line { OnOk result (IsLineOf schema.now line.new) }
-    ensures written { OnOk result (page.new.file.items ≡ page.old.file.items
-        ++ printed (head_zones schema.now (number_of labels.now place)
-        (arranged_record schema.now labels.now plan.now place))) }
-{
-    let kind = plan.kind(place);
-    page.file.extend_from_slice(type_zone(kind))?;
-    write_identifier(page, kind, labels.number(place))?;
-    let class = class_turned(schema, plan, labels.turned_arcs(), place);
-    line.write(page, schema, class)
-}
-
 /// Writes the count of an arc's points, and these in its direction.
 fn write_arc(page: &mut Page, points: &[Point], turned: bool) -> Result<(), AllocError>
     ensures { OnOk result (page.new.file.items ≡ page.old.file.items ++ printed (arc_body turned points.now)) }
@@ -151,117 +127,107 @@ fn write_arc(page: &mut Page, points: &[Point], turned: bool) -> Result<(), Allo
     }
 }
 
-/// Writes the count of a link's ends, and these in their order.
-fn write_link(page: &mut Page, plan: &Plan, labels: &Labels, place: u32) -> Result<(), AllocError>
-    requires numbered { length labels.now.numbers ≡ length plan.now.list }
-    requires ordered { length labels.now.others ≡ length plan.now.list }
-    requires place { IsPlace plan.now place }
-    requires order { OthersInOrder plan.now (number_of labels.now) labels.now.others place }
-    ensures { OnOk result (page.new.file.items
-        ≡ page.old.file.items ++ printed (link_body labels.now plan.now (record_at plan.now place).ends)) }
-{
-    write_end_count(page, plan.ends(place).len())?;
-    write_ends(page, plan, labels, place)
-}
-
-/// Writes what stands between the class and the attributes: points or ends.
-fn write_body(page: &mut Page, plan: &Plan, labels: &Labels, place: u32) -> Result<(), AllocError>
-    requires numbered { length labels.now.numbers ≡ length plan.now.list }
-    requires directed { length labels.now.turned ≡ length plan.now.list }
-    requires ordered { length labels.now.others ≡ length plan.now.list }
-    requires place { IsPlace plan.now place }
-    requires order { OthersInOrder plan.now (number_of labels.now) labels.now.others place }
-    ensures { OnOk result (page.new.file.items
-        ≡ page.old.file.items ++ printed (numbered_body labels.now plan.now place (record_at plan.now place).kind)) }
-{
-    match plan.kind(place) {
-        Kind::Pno => write_forward(page, plan.points(place)),
-        Kind::Par => write_arc(page, plan.points(place), labels.turned(place)),
-        Kind::Pfe | Kind::Fea => Ok(()),
-        Kind::Lnk => write_link(page, plan, labels, place),
+impl<'a> LabelledPlan<'a> {
+    /// Writes the type, the identifier and the class of a record.
+    fn write_head(
+        &self,
+        page: &mut Page,
+        line: &mut ClassLine,
+        place: u32,
+    ) -> Result<(), AllocError>
+        requires place { IsPlace self.now.plan place }
+        requires line { IsLineOf self.now.classes line.old }
+        ensures line { OnOk result (IsLineOf self.now.classes line.new) }
+        ensures written { OnOk result (page.new.file.items ≡ page.old.file.items
+            ++ printed (head_zones self.now.classes (number_of self.now.labels place)
+            (arranged_record self.now.classes self.now.labels self.now.plan place))) }
+    {
+        let kind = self.plan.kind(place);
+        page.file.extend_from_slice(type_zone(kind))?;
+        write_identifier(page, kind, self.labels.number(place))?;
+        let class = class_turned(self.schema, self.plan, self.labels.turned_arcs(), place);
+        line.write(page, self.schema, class)
     }
-}
 
-/// Writes the count of a record's attributes, these in their order, and its extra zones.
-fn write_tail(
-    alloc: Global,
-    page: &mut Page,
-    schema: &Schema,
-    plan: &Plan,
-    place: u32,
-) -> Result<(), AllocError>
-    requires agrees { Agrees schema.now plan.now }
-    requires place { IsPlace plan.now place }
-    ensures { OnOk result (page.new.file.items
-        ≡ page.old.file.items ++ printed (ordered_tail schema.now (record_at plan.now place))) }
-{
-    let attributes = sorted_attributes(alloc, plan.attributes(place))?;
-    write_attribute_count(page, attributes.len())?;
-    write_attributes(page, schema, &attributes)?;
-    write_extras(page, plan.extras(place))
-}
-
-/// Writes the record at a place.
-fn write_record(
-    alloc: Global,
-    page: &mut Page,
-    line: &mut ClassLine,
-    schema: &Schema,
-    plan: &Plan,
-    labels: &Labels,
-    place: u32,
-) -> Result<(), AllocError>
-    requires agrees { Agrees schema.now plan.now }
-    requires labels { AreLabels schema.now plan.now labels.now }
-    requires place { IsPlace plan.now place }
-    requires line { IsLineOf schema.now line.old }
-    ensures line { OnOk result (IsLineOf schema.now line.new) }
-    ensures written { OnOk result (page.new.file.items
-        ≡ page.old.file.items ++ printed (numbered_zones schema.now labels.now plan.now place)) }
-{
-    write_head(page, line, schema, plan, labels, place)?;
-    write_body(page, plan, labels, place)?;
-    write_tail(alloc, page, schema, plan, place)
-}
-
-/// Writes the records of a kind, by their numbers.
-fn write_kind(
-    alloc: Global,
-    page: &mut Page,
-    schema: &Schema,
-    plan: &Plan,
-    labels: &Labels,
-    kind: Kind,
-) -> Result<(), AllocError>
-    requires agrees { Agrees schema.now plan.now }
-    requires labels { AreLabels schema.now plan.now labels.now }
-    ensures { OnOk result (page.new.file.items ≡ page.old.file.items
-        ++ printed (flat_map (numbered_zones schema.now labels.now plan.now) (order_of labels.now kind))) }
-{
-    let places = labels.order(kind);
-    let mut line = ClassLine::new(alloc);
-    for place in places {
-        write_record(alloc, page, &mut line, schema, plan, labels, *place)?;
+    /// Writes the count of a link's ends, and these in their order.
+    fn write_link(&self, page: &mut Page, place: u32) -> Result<(), AllocError>
+        requires { IsPlace self.now.plan place }
+        ensures { OnOk result (page.new.file.items ≡ page.old.file.items
+            ++ printed (link_body self.now.labels self.now.plan (record_at self.now.plan place).ends)) }
+    {
+        write_end_count(page, self.plan.ends(place).len())?;
+        write_ends(page, self.plan, self.labels, place)
     }
-    Ok(())
-}
 
-/// Writes the records of a plan: nodes, arcs, faces, objects and links, each by their numbers.
-pub(crate) fn write_records(
-    alloc: Global,
-    page: &mut Page,
-    schema: &Schema,
-    plan: &Plan,
-    labels: &Labels,
-) -> Result<(), AllocError>
-    requires agrees { Agrees schema.now plan.now }
-    requires labels { AreLabels schema.now plan.now labels.now }
-    ensures { OnOk result (page.new.file.items ≡ page.old.file.items
-        ++ printed (flat_map (numbered_zones schema.now labels.now plan.now) (old_places labels.now))) }
-{
-    write_kind(alloc, page, schema, plan, labels, Kind::Pno)?;
-    write_kind(alloc, page, schema, plan, labels, Kind::Par)?;
-    write_kind(alloc, page, schema, plan, labels, Kind::Pfe)?;
-    write_kind(alloc, page, schema, plan, labels, Kind::Fea)?;
-    write_kind(alloc, page, schema, plan, labels, Kind::Lnk)
+    /// Writes what stands between the class and the attributes: points or ends.
+    fn write_body(&self, page: &mut Page, place: u32) -> Result<(), AllocError>
+        requires { IsPlace self.now.plan place }
+        ensures { OnOk result (page.new.file.items ≡ page.old.file.items ++ printed
+            (numbered_body self.now.labels self.now.plan place (record_at self.now.plan place).kind)) }
+    {
+        match self.plan.kind(place) {
+            Kind::Pno => write_forward(page, self.plan.points(place)),
+            Kind::Par => write_arc(page, self.plan.points(place), self.labels.turned(place)),
+            Kind::Pfe | Kind::Fea => Ok(()),
+            Kind::Lnk => self.write_link(page, place),
+        }
+    }
+
+    /// Writes the count of a record's attributes, these in their order, and its extra zones.
+    fn write_tail(&self, alloc: Global, page: &mut Page, place: u32) -> Result<(), AllocError>
+        requires { IsPlace self.now.plan place }
+        ensures { OnOk result (page.new.file.items
+            ≡ page.old.file.items ++ printed (ordered_tail self.now.classes (record_at self.now.plan place))) }
+    {
+        let attributes = sorted_attributes(alloc, self.plan.attributes(place))?;
+        write_attribute_count(page, attributes.len())?;
+        write_attributes(page, self.schema, &attributes)?;
+        write_extras(page, self.plan.extras(place))
+    }
+
+    /// Writes the record at a place.
+    fn write_record(
+        &self,
+        alloc: Global,
+        page: &mut Page,
+        line: &mut ClassLine,
+        place: u32,
+    ) -> Result<(), AllocError>
+        requires place { IsPlace self.now.plan place }
+        requires line { IsLineOf self.now.classes line.old }
+        ensures line { OnOk result (IsLineOf self.now.classes line.new) }
+        ensures written { OnOk result (page.new.file.items ≡ page.old.file.items
+            ++ printed (numbered_zones self.now.classes self.now.labels self.now.plan place)) }
+    {
+        self.write_head(page, line, place)?;
+        self.write_body(page, place)?;
+        self.write_tail(alloc, page, place)
+    }
+
+    /// Writes the records of a kind, by their numbers.
+    fn write_kind(&self, alloc: Global, page: &mut Page, kind: Kind) -> Result<(), AllocError>
+        ensures { OnOk result (page.new.file.items ≡ page.old.file.items
+            ++ printed (flat_map (numbered_zones self.now.classes self.now.labels self.now.plan)
+            (order_of self.now.labels kind))) }
+    {
+        let places = self.labels.order(kind);
+        let mut line = ClassLine::new(alloc);
+        for place in places {
+            self.write_record(alloc, page, &mut line, *place)?;
+        }
+        Ok(())
+    }
+
+    /// Writes the records: nodes, arcs, faces, objects and links, each by their numbers.
+    pub(crate) fn write_records(&self, alloc: Global, page: &mut Page) -> Result<(), AllocError>
+        ensures { OnOk result (page.new.file.items ≡ page.old.file.items
+            ++ printed (flat_map (numbered_zones self.now.classes self.now.labels self.now.plan)
+            (old_places self.now.labels))) }
+    {
+        self.write_kind(alloc, page, Kind::Pno)?;
+        self.write_kind(alloc, page, Kind::Par)?;
+        self.write_kind(alloc, page, Kind::Pfe)?;
+        self.write_kind(alloc, page, Kind::Fea)?;
+        self.write_kind(alloc, page, Kind::Lnk)
+    }
 }

@@ -5,7 +5,7 @@ use Rattle.std.proofs.lemmas.Result.{on_ok_weaker}
 use Rattle.edi_line.specs.Entry.{Entry}
 use Rattle.edi_line.specs.Printing.{printed, printed_zone}
 use Rattle.edi_write.specs.inner.Numbered.{numbered_zones}
-use Rattle.edi_write.proofs.records.write_records.Goals as goal
+use Rattle.edi_write.proofs.labelled_plan.LabelledPlan.write_records.Goals as goal
 
 -- two parts that were written one after the other
 both : (f : ℕ → List Entry) (xs ys : List ℕ) (before between after : List ℕ) → between ≡ before ++ printed (flat_map f xs) → after ≡ between ++ printed (flat_map f ys)
@@ -16,8 +16,8 @@ both f xs ys before between after first second =
 
 pub returns : goal.returns
 returns c =
-    let l = c.args.labels.now in
-    let f = numbered_zones c.args.schema.now l c.args.plan.now in
+    let l = c.args.self.now.labels in
+    let f = numbered_zones c.args.self.now.classes l c.args.self.now.plan in
     let begin = c.args.page.now.file.items in
     let nodes = c.write_kind.new.page.file.items in
     let arcs = c.write_kind-2.new.page.file.items in
