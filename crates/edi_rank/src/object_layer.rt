@@ -258,28 +258,6 @@ fn no_links(alloc: Global, count: u32) -> Result<Vec<Vec<u32>>, AllocError>
     Ok(links)
 }
 
-fn piece_keys<'a>(
-    alloc: Global,
-    plan: &'a Plan,
-    numbers: &[u32],
-    orders: &[Sequence<usize>],
-    links: &[u32],
-) -> Result<Vec<LinkKey<'a>>, AllocError>
-    requires links { AllByRecursion (IsPlace plan.now) links.now }
-    requires numbers { length numbers.now ≡ length plan.now.list }
-    requires ordered { length orders.now ≡ length plan.now.list }
-    requires orders { AllByRecursion (OthersInOrder plan.now (slice_index numbers.now) orders.now) links.now }
-    ensures { IfOk result (λ keys. keys.items
-        ≡ map (λ k. link_key plan.now (slice_index numbers.now) (record_at plan.now k)) links.now) }
-{
-    let mut keys = Vec::with_capacity(alloc, links.len())?;
-    for link in links {
-        let order = orders[*link as usize].as_slice();
-        keys.push(link_key_at(alloc, plan, numbers, order, plan.scp(*link), *link)?)?;
-    }
-    Ok(keys)
-}
-
 /// The keys of an object's pieces in their order.
 fn sorted_pieces<'a>(
     alloc: Global,
@@ -296,7 +274,11 @@ fn sorted_pieces<'a>(
         ≡ sort_by link_key_cmp
         (map (λ k. link_key plan.now (slice_index numbers.now) (record_at plan.now k)) links.now)) }
 {
-    let mut keys = piece_keys(alloc, plan, numbers, orders, links)?;
+    let mut keys = Vec::with_capacity(alloc, links.len())?;
+    for link in links {
+        let order = orders[*link as usize].as_slice();
+        keys.push(link_key_at(alloc, plan, numbers, order, plan.scp(*link), *link)?)?;
+    }
     keys.sort_unstable();
     Ok(keys)
 }

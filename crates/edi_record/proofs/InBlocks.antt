@@ -23,17 +23,6 @@ module _ {X : Type 0} where
       let both = length-append b (flat_map (λ xs. xs) bs) in
       omega (arith, all.0, more, both)
 
-  pub full_at : (blocks : List (List X)) (k : ℕ) (b : List X) → AllByRecursion IsFull blocks → k < length blocks
-      → b ≡ get_or blocks k b → IsFull b
-  full_at [] k b all less is = absurd (omega (arith, less))
-  full_at (x ∷ bs) zero b all less is = ap length is ∙ all.0
-  full_at (x ∷ bs) (suc k) b all less is = full_at bs k b all.1 (omega (arith, less)) is
-
-  pub full_added : (blocks : List (List X)) (b : List X) → AllByRecursion IsFull blocks → IsFull b
-      → AllByRecursion IsFull (blocks ++ b ∷ [])
-  full_added [] b all one = (one, tt)
-  full_added (x ∷ bs) b all one = (all.0, full_added bs b all.1 one)
-
   -- the element at a place in a full block
   in_full : (blocks : List (List X)) (rest : List X) (k : ℕ) (d : List X) → AllByRecursion IsFull blocks
       → k / 256 < length blocks

@@ -7,8 +7,3 @@ pub stated_there : (list : List Record) (k : ℕ) → k < length list → slice_
 stated_there [] k less = absurd (omega (arith, less))
 stated_there (r ∷ rs) zero less = refl
 stated_there (r ∷ rs) (suc k) less = stated_there rs k (omega (arith, less))
-
-pub stated_is : (list : List Record) (k : ℕ) (r : Record) → slice_get list k ≡ Some r → r ≡ stated_at list k
-stated_is [] k r here = absurd (cc)
-stated_is (q ∷ qs) zero r here = cc
-stated_is (q ∷ qs) (suc k) r here = stated_is qs k r here
