@@ -21,12 +21,11 @@ ghost use Rattle.edi_shown.specs.Shown.{shown_bytes};
 
 use crate::barring::barring_line;
 use crate::counts::count_of;
-use crate::cuts::{push_cut_hint, shows_cut};
 use crate::end_nodes::line_of_node;
 use crate::examined::Found;
 use crate::kind_lines::explain_kinds;
-use crate::lengths::{counts_characters, push_length_hint};
 use crate::lines::{lines_of_broken, lines_of_refused};
+use crate::refusal_hints::hints_at_line;
 use crate::refused::{FoundRecords, records_in, refused_row, sites_of_records};
 use crate::site::zones_of;
 use crate::text::{RuleText, rule_text};
@@ -70,11 +69,9 @@ fn explain_line(
     ensures { IfOk result (λ lines. ExplainsLine file.now.bytes.now file.now.name.now rule at lines.items) }
 {
     let earlier = barring_line(file.bytes, rule, at);
-    let counts = counts_characters(file.bytes, rule, at);
-    let cut = shows_cut(file.bytes, rule, at);
     let mut lines = lines_of_broken(alloc, file.name, at, earlier, sentence_for(rule), rule)?;
-    push_length_hint(&mut lines, file.name, counts)?;
-    push_cut_hint(&mut lines, file.name, cut)?;
+    let hints = hints_at_line(alloc, file, rule, at)?;
+    lines.extend_from_slice(&hints)?;
     Ok(lines)
 }
 
