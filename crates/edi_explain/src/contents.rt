@@ -5,6 +5,8 @@ ghost use Rattle.edi_line.specs.Bytes.{line_feed};
 ghost use Rattle.edi_line.specs.Lines.{content_of, without_last};
 ghost use Rattle.edi_line.specs.inner.Lines.{contents_of, lines_of};
 
+use memchr::memchr;
+
 /// The first line, with its line feed if it has one, and the bytes behind it.
 pub(crate) fn first_line(bytes: &[u8]) -> (&[u8], &[u8])
     requires { 0 < length bytes.now }
@@ -21,7 +23,7 @@ pub(crate) fn first_line(bytes: &[u8]) -> (&[u8], &[u8])
 fn feed_in(bytes: &[u8]) -> Option<usize>
     ensures { result ≡ position (λ c. c == line_feed) bytes.now }
 {
-    bytes.iter().position(|c| *c == b'\n')
+    memchr(b'\n', bytes)
 }
 
 /// A line without its line feed, and then without one carriage return.

@@ -3,31 +3,31 @@
 ghost use Rattle.std.specs.Prelude.{◌≡◌, ◌↔◌, ◌++◌, ◌-◌, ◌∷◌, [], ℕ, List, Option, IsTrue, IfOk, IfSome, MatchOption, OnOk, codes, decimal, option_copied};
 ghost use Rattle.edi_line.specs.Entry.{Entry, entries};
 ghost use Rattle.edi_line.specs.LineRules.{BreaksLineRule, IsZonesOf};
-ghost use Rattle.edi_line.specs.Refusal.{IsLeastBroken};
+ghost use Rattle.edi_line.specs.Refusal.{IsLeastBroken, IsUnbroken};
 ghost use Rattle.edi_schema.specs.SchemaRefusal.{IsSchemaRefusal};
 ghost use Rattle.edi_compare.specs.Refused.{IsRefusal};
 ghost use Rattle.edi_compare.specs.declared.fault.Fault.TheVariants.{Entry as AtRecord};
-ghost use Rattle.edi_explain.specs.Explained.{DescribesPlan, ExplainsLine, ExplainsSchema, ExplainsSchemaPlace, ExplainsSchemaZone, ExplainsSheet, IsRuleWord, IsTextOfWord, charset_line, count_line, count_lines, extent_lines, of_source, reason_lines, rule_page, span_line, worded_line};
+ghost use Rattle.edi_explain.specs.Explained.{DescribesPlan, ExplainsLine, ExplainsSchema, ExplainsSheet, IsRuleWord, IsTextOfWord, charset_line, count_line, count_lines, extent_lines, of_source, reason_lines, rule_page, span_line, worded_line};
 ghost use Rattle.edi_explain.specs.EndNodes.{IsEndNodeIfAny};
 ghost use Rattle.edi_explain.specs.Found.{IsFound};
 ghost use Rattle.edi_explain.specs.KindClasses.{codes_of};
 ghost use Rattle.edi_explain.specs.Lines.{lines_of_sites, sentence_of};
-ghost use Rattle.edi_explain.specs.Refusals.{AreSites, IsEarlierIfAny};
+ghost use Rattle.edi_explain.specs.Refusals.{AreSites, IsEarlierIfAny, IsRowRefusedAt};
 ghost use Rattle.edi_explain.specs.inner.Found.{AreFound};
 ghost use Rattle.edi_explain.specs.declared.refused.Refused.{Refused as Sites};
 ghost use Rattle.edi_explain.specs.Texts.{IsRuleText};
+ghost use Rattle.edi_explain.specs.ZoneLines.{ExplainsZone};
 ghost use Rattle.edi_explain.specs.declared.text.RuleText.{RuleText as Texts};
 ghost use Rattle.edi_shown.specs.Shown.{shown_bytes};
 
 use crate::barring::barring_line;
 use crate::counts::count_of;
-use crate::cuts::{push_cut_hint, shows_cut};
 use crate::end_nodes::line_of_node;
 use crate::examined::Found;
 use crate::kind_lines::explain_kinds;
-use crate::lengths::{counts_characters, push_length_hint};
 use crate::lines::{lines_of_broken, lines_of_refused};
-use crate::refused::{FoundRecords, records_in, refused_row, sites_of_records};
+use crate::refusal_hints::hints_at_line;
+use crate::refused::{FoundRecords, earlier_row, records_in, sites_of_records};
 use crate::site::zones_of;
 use crate::text::{RuleText, rule_text};
 use crate::zone_lines::{explain_zone, explain_zone_of_sheet};
@@ -70,11 +70,9 @@ fn explain_line(
     ensures { IfOk result (λ lines. ExplainsLine file.now.bytes.now file.now.name.now rule at lines.items) }
 {
     let earlier = barring_line(file.bytes, rule, at);
-    let counts = counts_characters(file.bytes, rule, at);
-    let cut = shows_cut(file.bytes, rule, at);
     let mut lines = lines_of_broken(alloc, file.name, at, earlier, sentence_for(rule), rule)?;
-    push_length_hint(&mut lines, file.name, counts)?;
-    push_cut_hint(&mut lines, file.name, cut)?;
+    let hints = hints_at_line(alloc, file, rule, at)?;
+    lines.extend_from_slice(&hints)?;
     Ok(lines)
 }
 
@@ -179,60 +177,27 @@ fn file_of<'a>(file: Source, scd: &NamedFile<'a>, dic: &NamedFile<'a>) -> NamedF
     }
 }
 
-/// Of the refusal of a schema under the codes of the kinds, the same; for rule 604 the lines of the classes that
-/// break it.
-fn explain_schema_place(
+/// The lines that explain the refusal of a file of a schema at a record: where the record is, with the sentence of the
+/// rule; the earlier one that the rule speaks of; and the zone with which the record breaks it.
+fn explain_row(
     alloc: Global,
-    scd: &NamedFile<'_>,
-    dic: &NamedFile<'_>,
-    codes: &ByRole<&[u8]>,
-    fault: &SchemaFault,
+    file: &NamedFile<'_>,
+    rule: u16,
+    at: u64,
 ) -> Result<Vec<u8>, AllocError>
-    requires { IsSchemaRefusal scd.now.bytes.now dic.now.bytes.now (codes_of codes.now) fault.now }
-    ensures { IfOk result (λ lines. ExplainsSchemaPlace (codes_of codes.now) scd.now.bytes.now dic.now.bytes.now
-        scd.now.name.now dic.now.name.now fault.now lines.items) }
+    requires { IsUnbroken (BreaksLineRule file.now.bytes.now) }
+    ensures { IfOk result (λ lines. (text : Option Texts) × (sites : Sites) × (zone : List ℕ)
+        × IsRuleText rule text × IsRowRefusedAt file.now.bytes.now rule at sites
+        × ExplainsZone file.now.bytes.now file.now.name.now rule at zone
+        × (lines.items ≡ lines_of_sites file.now.name.now sites (sentence_of text) rule ++ zone)) }
 {
-    match fault {
-        SchemaFault::Memory(error) => Err(*error),
-        SchemaFault::Line { file, rule, at } => {
-            let broken = file_of(*file, scd, dic);
-            explain_line(alloc, &broken, *rule, *at)
-        }
-        SchemaFault::Entry { file, rule, at } => {
-            let refused = file_of(*file, scd, dic);
-            let sites = refused_row(alloc, refused.bytes, *rule, *at)?;
-            lines_of_refused(
-                alloc,
-                refused.name,
-                &sites,
-                sentence_for(*rule).as_bytes(),
-                *rule,
-            )
-        }
-        SchemaFault::Kinds => explain_kinds(alloc, scd, codes),
-    }
-}
-
-/// Of the refusal of a schema at a record, the zone with which the record breaks the rule.
-fn explain_schema_zone(
-    alloc: Global,
-    scd: &NamedFile<'_>,
-    dic: &NamedFile<'_>,
-    codes: &ByRole<&[u8]>,
-    fault: &SchemaFault,
-) -> Result<Vec<u8>, AllocError>
-    requires { IsSchemaRefusal scd.now.bytes.now dic.now.bytes.now (codes_of codes.now) fault.now }
-    ensures { IfOk result (λ lines. ExplainsSchemaZone scd.now.bytes.now dic.now.bytes.now
-        scd.now.name.now dic.now.name.now fault.now lines.items) }
-{
-    let _ = codes;
-    match fault {
-        SchemaFault::Entry { file, rule, at } => {
-            let refused = file_of(*file, scd, dic);
-            explain_zone(alloc, refused.bytes, refused.name, *rule, *at)
-        }
-        _ => Ok(Vec::new(alloc)),
-    }
+    let zones = zones_of(alloc, file.bytes)?;
+    let earlier = earlier_row(&zones, rule, at.saturating_sub(1));
+    let records = records_in(&zones, at, earlier);
+    let mut lines = explain_place(alloc, &records, file.name, rule)?;
+    let zone = explain_zone(alloc, &records, file.name, rule)?;
+    lines.extend_from_slice(&zone)?;
+    Ok(lines)
 }
 
 /// The lines that explain the refusal of a schema under the codes of the kinds, in the same form; for rule 604 those of
@@ -249,10 +214,18 @@ pub fn explain_schema(
         (codes_of codes.now) scd.now.bytes.now dic.now.bytes.now scd.now.name.now dic.now.name.now fault.now
         lines.items) }
 {
-    let mut lines = explain_schema_place(alloc, scd, dic, codes, fault)?;
-    let zone = explain_schema_zone(alloc, scd, dic, codes, fault)?;
-    lines.extend_from_slice(&zone)?;
-    Ok(lines)
+    match fault {
+        SchemaFault::Memory(error) => Err(*error),
+        SchemaFault::Line { file, rule, at } => {
+            let broken = file_of(*file, scd, dic);
+            explain_line(alloc, &broken, *rule, *at)
+        }
+        SchemaFault::Entry { file, rule, at } => {
+            let refused = file_of(*file, scd, dic);
+            explain_row(alloc, &refused, *rule, *at)
+        }
+        SchemaFault::Kinds => explain_kinds(alloc, scd, codes),
+    }
 }
 
 /// Appends words and a sentence, as a line.

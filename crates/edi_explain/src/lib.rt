@@ -54,7 +54,7 @@ pub use listing::{push_line_rule, push_record_rule, sites_of_all};
 pub use objects::equal_object;
 pub use partner::{equal_node, same_arc};
 pub use refusal_hints::hints_on_refused;
-pub use refused::{Refused, refused_row};
+pub use refused::Refused;
 pub use rows::row_namesake;
 pub use rules::list_rules;
 pub use site::RecordSite;

@@ -24,7 +24,7 @@ fn lines_judged(alloc: Global, bytes: &[u8]) -> Result<(), LineFault>
 }
 
 /// The hints on the line with which a file breaks its first rule of lines.
-fn hints_at_line(
+pub(crate) fn hints_at_line(
     alloc: Global,
     file: &NamedFile<'_>,
     rule: u16,

@@ -10,12 +10,12 @@ ghost use Rattle.edi_compare.specs.Refused.{IsRefusal};
 ghost use Rattle.edi_compare.specs.Rules.{RecordsHold};
 ghost use Rattle.edi_compare.specs.declared.fault.Fault.TheVariants.{Entry as AtRecord};
 ghost use Rattle.edi_schema.specs.Classes.{Classes};
-ghost use Rattle.edi_explain.specs.Refusals.{AreSites, IsEarlierIfAny, IsEarlierRowIfAny, IsRowRefusedAt};
+ghost use Rattle.edi_explain.specs.Refusals.{AreSites, IsEarlierIfAny, IsEarlierRowIfAny};
 ghost use Rattle.edi_explain.specs.inner.Found.{AreFound};
 
 use crate::links::same_side;
 use crate::rows::{first_link, row_namesake};
-use crate::site::{RecordSite, record_at, site_if_found, zones_of};
+use crate::site::{RecordSite, record_at, site_if_found};
 use edi_line::{LineFault, Zone};
 use edi_record::{RecordFault, Sheet, SheetFault, read_sheet};
 use edi_schema::Schema;
@@ -128,7 +128,7 @@ pub(crate) fn sites_of(
 }
 
 /// The place of the earlier record of a schema's file that rule 602 speaks of.
-fn earlier_row(zones: &[Zone<'_>], rule: u16, place: u64) -> Option<u64>
+pub(crate) fn earlier_row(zones: &[Zone<'_>], rule: u16, place: u64) -> Option<u64>
     ensures { IsEarlierRowIfAny (entries zones.now) rule place result }
 {
     if rule == 602 {
@@ -136,19 +136,4 @@ fn earlier_row(zones: &[Zone<'_>], rule: u16, place: u64) -> Option<u64>
     } else {
         None
     }
-}
-
-/// Where the record of a refusal in a schema's file stands, and the earlier one with its name for rule 602.
-pub fn refused_row(
-    alloc: Global,
-    bytes: &[u8],
-    rule: u16,
-    number: u64,
-) -> Result<Refused, AllocError>
-    requires { IsUnbroken (BreaksLineRule bytes.now) }
-    ensures { IfOk result (IsRowRefusedAt bytes.now rule number) }
-{
-    let zones = zones_of(alloc, bytes)?;
-    let earlier = earlier_row(&zones, rule, number.saturating_sub(1));
-    sites_of(alloc, &zones, number, earlier)
 }

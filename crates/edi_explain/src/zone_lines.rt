@@ -2,17 +2,15 @@
 
 ghost use Rattle.std.specs.Prelude.{◌≡◌, ◌≢◌, ◌++◌, ℕ, List, Option, suc, IfOk, OnOk, codes, option_and_then, option_map, unwrap_or};
 ghost use Rattle.edi_line.specs.Entry.{Entry, entries, entry, first};
-ghost use Rattle.edi_line.specs.LineRules.{BreaksLineRule};
-ghost use Rattle.edi_line.specs.Refusal.{IsUnbroken};
 ghost use Rattle.edi_line.specs.Zones.{groups_of};
 ghost use Rattle.edi_record.specs.Records.{values};
 ghost use Rattle.edi_schema.specs.Classes.{Classes};
 ghost use Rattle.edi_explain.specs.AstrayZones.{IsZoneOfRecord, IsZoneOfSheet, first_end_at};
-ghost use Rattle.edi_explain.specs.BreakingZones.{IsBreakingZoneOf};
+ghost use Rattle.edi_explain.specs.BreakingZones.{IsBreakingZone, IsBreakingZoneOf};
 ghost use Rattle.edi_explain.specs.Lines.{position_text, rule_mark};
 ghost use Rattle.edi_explain.specs.inner.LostEnds.{IsLostEndOf};
 ghost use Rattle.edi_explain.specs.inner.Found.{AreFound};
-ghost use Rattle.edi_explain.specs.ZoneLines.{ExplainsZone, IsSaidOfZone, IsZoneLine, count_text, second_sentence, zone_line, zone_sentence};
+ghost use Rattle.edi_explain.specs.ZoneLines.{IsSaidOfZone, IsZoneLine, count_text, second_sentence, zone_line, zone_sentence};
 ghost use Rattle.edi_shown.specs.Shown.{shown_bytes};
 
 use crate::astray::zone_of_record;
@@ -21,7 +19,6 @@ use crate::lines::{push_position, push_sentence};
 use crate::lost_ends::{first_lost_end, names_of_records};
 use crate::refused::FoundRecords;
 use crate::right_texts::is_right_text;
-use crate::site::{record_at, zones_of};
 use edi_line::{Zone, push_number};
 use edi_record::first_value;
 use edi_schema::Schema;
@@ -183,20 +180,19 @@ fn first_end<'b>(records: &FoundRecords<'_, 'b>, earlier: Option<u64>) -> Option
     }
 }
 
-/// The line on the zone with which the record with a number breaks a rule, if there is such a zone, in a file of a
-/// schema that breaks no rule of lines.
+/// The line on the zone with which a record of a schema's file breaks a rule, if there is such a zone. The zones of the
+/// record may have been found.
 pub(crate) fn explain_zone(
     alloc: Global,
-    bytes: &[u8],
+    records: &FoundRecords<'_, '_>,
     name: &[u8],
     rule: u16,
-    number: u64,
 ) -> Result<Vec<u8>, AllocError>
-    requires { IsUnbroken (BreaksLineRule bytes.now) }
-    ensures { IfOk result (λ lines. ExplainsZone bytes.now name.now rule number lines.items) }
+    ensures { IfOk result (λ lines. (zones : List Entry) (number : ℕ) (earlier : Option ℕ)
+        → AreFound zones number earlier records.now
+        → IsZoneLine (IsBreakingZone zones rule number) name.now rule lines.items) }
 {
-    let zones = zones_of(alloc, bytes)?;
-    match record_at(&zones, number.checked_sub(1)) {
+    match records.here {
         Some(group) => line_of_row(alloc, group, name, rule),
         None => Ok(Vec::new(alloc)),
     }

@@ -1,4 +1,4 @@
-use Rattle.std.proofs.Common.{◌≡◌, List, [], ℕ, ap, ap₂, ◌∙◌, subst, sym}
+use Rattle.std.proofs.Common.{◌≡◌, ◌++◌, List, [], ℕ, ap, append-nil, ◌∙◌, refl, subst, sym}
 use Rattle.std.proofs.lemmas.Result.{IfOk-weaker}
 use Rattle.edi_line.specs.Entry.{Entry}
 use Rattle.edi_line.specs.LineRules.{BreaksLineRule, IsZonesOf}
@@ -14,10 +14,11 @@ use Rattle.edi_schema.specs.declared.fault.Source.{Source}
 use Rattle.edi_schema.specs.declared.fault.Source.TheVariants.{Scd, Dic}
 use Rattle.edi_explain.specs.Explained.{ExplainsLine, of_source}
 use Rattle.edi_explain.specs.KindClasses.{codes_of}
-use Rattle.edi_explain.specs.Lines.{lines_of_sites}
+use Rattle.edi_explain.specs.Lines.{lines_of_sites, sentence_of}
 use Rattle.edi_explain.specs.Refusals.{IsRowRefusedAt}
+use Rattle.edi_explain.specs.ZoneLines.{ExplainsZone}
 use Rattle.edi_explain.proofs.Sources.{lines_of}
-use Rattle.edi_explain.proofs.explained.explain_schema_place.Goals as goal
+use Rattle.edi_explain.proofs.explained.explain_schema.Goals as goal
 
 least_of : (file : Source) (scd dic : List ℕ) (kinds : KindCodes) (rule at : ℕ) → IsSchemaRefusal scd dic kinds (Line file rule at) → IsLeastBroken (BreaksLineRule (of_source file scd dic)) rule at
 least_of Scd scd dic kinds rule at h = h
@@ -31,28 +32,35 @@ explain_line-requires c =
     subst (λ (b : List ℕ). IsLeastBroken (BreaksLineRule b) c.in-Line.rule c.in-Line.at) (sym c.file_of-broken.ensures.bytes) (least_of c.in-Line.file scd dic (codes_of c.args.codes.now) c.in-Line.rule c.in-Line.at refusal)
 
 pub returns-in-Line : goal.returns-in-Line
-returns-in-Line c = rw c.in-Line.is (IfOk-weaker c.explain_line.result _ _ (λ lines said.
-    subst (λ (b : List ℕ). ExplainsLine b (of_source c.in-Line.file c.args.scd.now.name.now c.args.dic.now.name.now) c.in-Line.rule c.in-Line.at lines.items) c.file_of-broken.ensures.bytes
-    (subst (λ (n : List ℕ). ExplainsLine c.file_of-broken.result.bytes.now n c.in-Line.rule c.in-Line.at lines.items) c.file_of-broken.ensures.name said)) c.explain_line.ensures)
+returns-in-Line c = rw c.in-Line.is (IfOk-weaker c.explain_line.result _ _ (λ lines said. (
+  lines.items,
+  [],
+  subst (λ (b : List ℕ). ExplainsLine b (of_source c.in-Line.file c.args.scd.now.name.now c.args.dic.now.name.now) c.in-Line.rule c.in-Line.at lines.items) c.file_of-broken.ensures.bytes
+      (subst (λ (n : List ℕ). ExplainsLine c.file_of-broken.result.bytes.now n c.in-Line.rule c.in-Line.at lines.items) c.file_of-broken.ensures.name said),
+  refl,
+  sym (append-nil lines.items),
+)) c.explain_line.ensures)
 
-pub refused_row-requires : goal.refused_row-requires
-refused_row-requires c =
+pub explain_row-requires : goal.explain_row-requires
+explain_row-requires c =
     let scd = c.args.scd.now.bytes.now in
     let dic = c.args.dic.now.bytes.now in
     let refusal = subst (IsSchemaRefusal scd dic (codes_of c.args.codes.now)) c.in-Entry.is c.requires in
     subst (λ (b : List ℕ). IsUnbroken (BreaksLineRule b)) (sym c.file_of-refused.ensures.bytes) (lines_of c.in-Entry.file scd dic refusal.0)
 
-pub returns-in_ok-sites-in-Entry : goal.returns-in_ok-sites-in-Entry
-returns-in_ok-sites-in-Entry c =
-    let said = c.sentence_for.ensures in
-    let sites = c.in_ok-sites-in-Entry.sites in
-    rw c.in-Entry.is (IfOk-weaker c.lines_of_refused.result _ _ (λ lines is. (
-      said.0,
-      sites,
-      said.1,
-      subst (λ (b : List ℕ). IsRowRefusedAt b c.in-Entry.rule c.in-Entry.at sites) c.file_of-refused.ensures.bytes c.in_ok-sites-in-Entry.ensures,
-      is ∙ ap₂ (λ (n s : List ℕ). lines_of_sites n sites s c.in-Entry.rule) c.file_of-refused.ensures.name (c.as_bytes.ensures.value ∙ said.2),
-    )) c.lines_of_refused.ensures)
+pub returns-in-Entry : goal.returns-in-Entry
+returns-in-Entry c =
+    let name = of_source c.in-Entry.file c.args.scd.now.name.now c.args.dic.now.name.now in
+    let rule = c.in-Entry.rule in
+    let at = c.in-Entry.at in
+    rw c.in-Entry.is (IfOk-weaker c.explain_row.result _ _ (λ lines h. (
+      lines_of_sites name h.1 (sentence_of h.0) rule,
+      h.2,
+      (h.0, h.1, h.3, subst (λ (b : List ℕ). IsRowRefusedAt b rule at h.1) c.file_of-refused.ensures.bytes h.4, refl),
+      subst (λ (b : List ℕ). ExplainsZone b name rule at h.2) c.file_of-refused.ensures.bytes
+          (subst (λ (n : List ℕ). ExplainsZone c.file_of-refused.result.bytes.now n rule at h.2) c.file_of-refused.ensures.name h.5),
+      h.6 ∙ ap (λ (n : List ℕ). lines_of_sites n h.1 (sentence_of h.0) rule ++ h.2) c.file_of-refused.ensures.name,
+    )) c.explain_row.ensures)
 
 -- the records of the file of classes break the rule, whichever zones it has
 broken_in : (scd dic : List ℕ) (kinds : KindCodes) → IsSchemaRefusal scd dic kinds Kinds → (zones : List Entry) → IsZonesOf scd zones → BreaksKinds (groups_of zones) [] kinds
@@ -71,4 +79,4 @@ explain_kinds-requires c =
     record { lines = refusal.0.0; broken = broken_in scd dic kinds refusal }
 
 pub returns-in-Kinds : goal.returns-in-Kinds
-returns-in-Kinds c = rw c.in-Kinds.is c.explain_kinds.ensures
+returns-in-Kinds c = rw c.in-Kinds.is (IfOk-weaker c.explain_kinds.result _ _ (λ lines said. (lines.items, [], said, refl, sym (append-nil lines.items))) c.explain_kinds.ensures)
