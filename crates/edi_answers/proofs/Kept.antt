@@ -3,14 +3,10 @@ use Rattle.std.proofs.Common.{◌≡◌, ◌≤◌, ◌<◌, ◌⊎◌, ◌∙�
 use Rattle.std.specs.Prelude.{IfOk, ⊤}
 use Rattle.std.specs.Bool.{MatchBool}
 use Rattle.edi_schema.specs.Roles.{KindCodes}
-use Rattle.edi_schema.specs.declared.fault.SchemaFault.{SchemaFault}
-use Rattle.edi_compare.specs.declared.fault.Fault.{Fault}
 use Rattle.edi_compare.specs.declared.fault.RunFault.{RunFault}
 use Rattle.edi_compare.specs.declared.fault.RunFault.TheVariants.{Memory, Read, TooLong, Schema, First, Second, Write}
 use Rattle.edi_compare.specs.Runs.{ComparingFault, FilesFault, HasFailed, IsRead, IsTooLong, MatchFault, Seen, IfBothKnown, IfFourKnown, IfThreeKnown, RefusesSchema, RefusesSecond, RefusesSheet, most_bytes}
-use Rattle.std.specs.Result.{IsErrAnd}
-use Rattle.edi_compare.proofs.Refusals.{err_kept}
-use Rattle.edi_pairing.specs.VerifyRuns.{IfFiveKnown, MatchRun, RefusesFile, VerifyingFault}
+use Rattle.edi_pairing.specs.UnderFiles.{MatchRun}
 use Rattle.edi_pairing.specs.declared.fault.VerifyRunFault.{VerifyRunFault}
 use Rattle.edi_pairing.specs.declared.fault.VerifyRunFault.TheVariants.{Run, Pairing as OfPairingFile}
 use Rattle.edi_shown.specs.Shown.{shown_bytes}
@@ -18,7 +14,7 @@ use Rattle.edi_answers.specs.Effects.{Inputs}
 use Rattle.edi_answers.specs.Notes.{GivesNote, IsNoteOn}
 use Rattle.edi_answers.specs.Paths.{input_name}
 use Rattle.edi_outcome.specs.Status.{status_of_fault}
-use Rattle.edi_answers.specs.SheetRuns.{Gives, HasFailedAt, HoldsTooMuch}
+use Rattle.edi_answers.specs.SheetRuns.{Gives}
 use Rattle.edi_answers.proofs.Noted.{names_some_kinds}
 
 -- ---- what holds of the bytes that were kept holds of the contents of the file
@@ -40,11 +36,6 @@ four_known : (a b c d : Option (List ℕ)) (x : List ℕ) (P : List ℕ → List
 four_known a b c None x P f h = tt
 four_known a b c (Some w) x P f h = three_known a b c x (λ s t u. P s t u w) f h
 
-five_known : (a b c d e : Option (List ℕ)) (x : List ℕ) (P : List ℕ → List ℕ → List ℕ → List ℕ → List ℕ → Type 0) → IfSome a (λ t. x ≡ t) → IfFiveKnown (Some x) b c d e P
-    → IfFiveKnown a b c d e P
-five_known a b c d None x P f h = tt
-five_known a b c d (Some v) x P f h = four_known a b c d x (λ s t u w. P s t u w v) f h
-
 -- over the codes of a run, which are those that were given, and what was kept
 module _ (k kinds : KindCodes) (is : k ≡ kinds) (o a : Option (List ℕ)) (x : List ℕ) (holds : o ≡ Some x) (all : IfSome a (λ t. x ≡ t)) where
   pub three_kept : (b c : Option (List ℕ)) (P : KindCodes → List ℕ → List ℕ → List ℕ → Type 0) → IfThreeKnown o b c (P k) → IfThreeKnown a b c (P kinds)
@@ -52,10 +43,6 @@ module _ (k kinds : KindCodes) (is : k ≡ kinds) (o a : Option (List ℕ)) (x :
 
   pub four_kept : (b c d : Option (List ℕ)) (P : KindCodes → List ℕ → List ℕ → List ℕ → List ℕ → Type 0) → IfFourKnown o b c d (P k) → IfFourKnown a b c d (P kinds)
   four_kept b c d P h = four_known a b c d x (P kinds) all (subst (λ (u : Option (List ℕ)). IfFourKnown u b c d (P kinds)) holds (subst (λ l. IfFourKnown o b c d (P l)) is h))
-
-  pub five_kept : (b c d e : Option (List ℕ)) (P : KindCodes → List ℕ → List ℕ → List ℕ → List ℕ → List ℕ → Type 0) → IfFiveKnown o b c d e (P k) → IfFiveKnown a b c d e (P kinds)
-  five_kept b c d e P h =
-      five_known a b c d e x (P kinds) all (subst (λ (u : Option (List ℕ)). IfFiveKnown u b c d e (P kinds)) holds (subst (λ l. IfFiveKnown o b c d e (P l)) is h))
 
 -- ---- why a run over what was kept has no answer is why one over the file has none
 
@@ -113,52 +100,6 @@ module _ (k kinds : KindCodes) (is : k ≡ kinds) (real kept : Seen) (x : List �
   pair_kept dic first second (Second f) h = four_kept k kinds is kept.before real.before x holds all dic.before first.before second.before (λ l s d a b. RefusesSecond l s d a b f) h
   pair_kept dic first second (Write w) h = absurd h
 
-  -- of a run over five
-  pub verify_kept : (dic first second file : Seen) (e : VerifyRunFault)
-      → VerifyingFault k (record { scd = kept; dic = dic; first = first; second = second; file = file }) e
-      → VerifyingFault kinds (record { scd = real; dic = dic; first = first; second = second; file = file }) e
-  verify_kept dic first second file (Run (Memory e)) h = tt
-  verify_kept dic first second file (Run (Read n)) h = (
-    h.0,
-    h.1,
-    λ one. fails_never _ (h.2 one).0,
-    λ two. (whole, (h.3 two).1, (h.3 two).2, (h.3 two).3, (h.3 two).4),
-    λ three. (whole, (h.4 three).1, (h.4 three).2, (h.4 three).3, (h.4 three).4),
-    λ four. (whole, (h.5 four).1, (h.5 four).2, (h.5 four).3, (h.5 four).4),
-    λ five. (whole, (h.6 five).1, (h.6 five).2, (h.6 five).3, (h.6 five).4),
-  )
-  verify_kept dic first second file (Run (TooLong n)) h = (
-    h.0,
-    h.1,
-    λ one. (too_long (h.2 one).0, (h.2 one).1, (h.2 one).2, (h.2 one).3, (h.2 one).4),
-    λ two. (whole, (h.3 two).1, (h.3 two).2, (h.3 two).3, (h.3 two).4),
-    λ three. (whole, (h.4 three).1, (h.4 three).2, (h.4 three).3, (h.4 three).4),
-    λ four. (whole, (h.5 four).1, (h.5 four).2, (h.5 four).3, (h.5 four).4),
-    λ five. (whole, (h.6 five).1, (h.6 five).2, (h.6 five).3, (h.6 five).4),
-  )
-  verify_kept dic first second file (Run (Schema f)) h = schema dic.before (λ l s d. RefusesSchema l s d f) h
-  verify_kept dic first second file (Run (First f)) h = three_kept k kinds is kept.before real.before x holds all dic.before first.before (λ l s d a. RefusesSheet l s d a f) h
-  verify_kept dic first second file (Run (Second f)) h = four_kept k kinds is kept.before real.before x holds all dic.before first.before second.before (λ l s d a b. RefusesSecond l s d a b f) h
-  verify_kept dic first second file (Run (Write w)) h = absurd h
-  verify_kept dic first second file (OfPairingFile at why) h = five_kept k kinds is kept.before real.before x holds all dic.before first.before second.before file.before (λ l s d a b t. RefusesFile l s d a b t at why) h
-
--- ---- the file itself could not be read
-
--- the fault of reading the file of classes, input 1, is one of a run over more inputs
-pub classes_fault : (inputs : Inputs) (path_at : ℕ → List ℕ) (most : ℕ) → 1 ≤ most → (input : Seen) → Gives inputs (path_at 1) input.before
-    → (HasFailed input → HasFailedAt inputs (path_at 1)) → (S : SchemaFault → Type 0) (F G : Fault → Type 0) (W : ℕ → Type 0) (e : RunFault)
-    → MatchFault e (λ n. (n ≡ 1) × HasFailed input) (λ n. (n ≡ 1) × IsTooLong input.before) (λ _. ⊥) (λ _. ⊥) (λ _. ⊥) (λ _. ⊥)
-    → MatchFault e (λ n. (1 ≤ n) × (n ≤ most) × HasFailedAt inputs (path_at n)) (λ n. (1 ≤ n) × (n ≤ most) × HoldsTooMuch inputs (path_at n)) S F G W
-classes_fault inputs path_at most one input gives fails S F G W (Memory e) h = tt
-classes_fault inputs path_at most one input gives fails S F G W (Read n) h =
-    subst (λ m. (1 ≤ m) × (m ≤ most) × HasFailedAt inputs (path_at m)) (sym h.0) (omega arith, one, fails h.1)
-classes_fault inputs path_at most one input gives fails S F G W (TooLong n) h =
-    subst (λ m. (1 ≤ m) × (m ≤ most) × HoldsTooMuch inputs (path_at m)) (sym h.0) (omega arith, one, (input.before, gives, h.1))
-classes_fault inputs path_at most one input gives fails S F G W (Schema f) h = absurd h
-classes_fault inputs path_at most one input gives fails S F G W (First f) h = absurd h
-classes_fault inputs path_at most one input gives fails S F G W (Second f) h = absurd h
-classes_fault inputs path_at most one input gives fails S F G W (Write w) h = absurd h
-
 -- its status is above those of answers and refusals
 pub unread : (R T : ℕ → Type 0) (e : RunFault) → MatchFault e R T (λ _. ⊥) (λ _. ⊥) (λ _. ⊥) (λ _. ⊥) → 2 < status_of_fault e
 unread R T (Memory e) h = omega arith
@@ -194,10 +135,6 @@ ok_whatever (Err e) P h = tt
 pub err_anyway : {T E : Type 0} (r : Result T E) (P : E → Type 0) → ((e : E) → P e) → IfErr r P
 err_anyway (Ok v) P f = tt
 err_anyway (Err e) P f = f e
-
--- the same of a run that checks the file of a pairing
-pub from_run : {T : Type 0} (r : Result T VerifyRunFault) (e : RunFault) (P : VerifyRunFault → Type 0) → IsErrAnd r (λ f. f ≡ Run e) → P (Run e) → IfErr r P
-from_run r e P is h = err_kept r (Run e) P is h
 
 pub run_anyway : {T : Type 0} (r : Result T VerifyRunFault) (G : Type 0) (Q : RunFault → Type 0) → G → IfErr r (λ e. MatchRun e (λ f. G ⊎ Q f) (λ _ _. G))
 run_anyway (Ok v) G Q h = tt

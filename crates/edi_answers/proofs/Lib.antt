@@ -3,6 +3,7 @@ pub mod Bundles
 pub mod Explaining
 pub mod Faults
 pub mod Kept
+pub mod LoadedPairs
 pub mod Loading
 pub mod Made
 pub mod Names

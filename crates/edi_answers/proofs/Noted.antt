@@ -8,7 +8,7 @@ use Rattle.edi_compare.specs.declared.fault.RunFault.{RunFault}
 use Rattle.edi_compare.specs.declared.pairing.Verdict.{Verdict}
 use Rattle.edi_compare.specs.declared.pairing.Verdict.TheVariants as verdict
 use Rattle.edi_files.specs.Reasons.{Why}
-use Rattle.edi_pairing.specs.VerifyRuns.{MatchRun}
+use Rattle.edi_pairing.specs.UnderFiles.{MatchRun}
 use Rattle.edi_pairing.specs.declared.verified.Verified.{Verified}
 use Rattle.edi_pairing.specs.declared.verified.Verified.TheVariants.{Carries, Fails}
 use Rattle.edi_pairing.specs.declared.fault.VerifyRunFault.{VerifyRunFault}

@@ -1,13 +1,12 @@
 -- The status of a run that puts a pairing, and of one that checks it.
-use Rattle.std.proofs.Common.{◌≡◌, ◌⊎◌, ◌<◌, ℕ, zero, suc, List, Option, Some, None, inl, inr, refl, ap, arith, Result, Ok, Err, IfOk, IfErr}
+use Rattle.std.proofs.Common.{◌≡◌, ◌⊎◌, ◌<◌, ℕ, List, Option, Some, None, inl, inr, refl, ap, arith, Result, Ok, Err, IfOk, IfErr}
 use Rattle.std.specs.Prelude.{MatchOption, ⊤}
 use Rattle.edi_schema.specs.Roles.{KindCodes}
 use Rattle.edi_compare.specs.declared.fault.RunFault.{RunFault}
 use Rattle.edi_compare.specs.declared.fault.RunFault.TheVariants.{Memory, Read, TooLong, Schema, First, Second, Write}
 use Rattle.edi_compare.specs.declared.pairing.Verdict.TheVariants.{Different}
-use Rattle.edi_compare.specs.Runs.{HasFailed, IsTooLong, IsVerdictOf}
-use Rattle.edi_pairing.specs.CompareRuns.{IsPairingFileOf}
-use Rattle.edi_pairing.specs.VerifyRuns.{VerifyInputs as Five, IsVerifiedUnder, MatchRun, OfVerifyInput, RefusesFile, VerifyingFault}
+use Rattle.edi_compare.specs.Runs.{IsVerdictOf}
+use Rattle.edi_pairing.specs.UnderFiles.{IsPairingFileOf, IsVerifiedUnder, MatchRun, RefusesFile}
 use Rattle.edi_pairing.specs.declared.verified.Verified.{Verified}
 use Rattle.edi_pairing.specs.declared.verified.Verified.TheVariants.{Carries, Fails}
 use Rattle.edi_pairing.specs.declared.fault.VerifyRunFault.{VerifyRunFault}
@@ -20,10 +19,9 @@ use Rattle.edi_answers.specs.Paths.{names_of_paths}
 use Rattle.edi_answers.specs.inner.Outcome.{paired_outcome, verified_outcome}
 use Rattle.edi_answers.specs.declared.form.AnswerForm.{AnswerForm}
 use Rattle.edi_answers.specs.Effects.{Effects, Inputs, Stream}
-use Rattle.edi_answers.specs.SheetRuns.{AreFiveThere, FirstOfFiveMissing, Gives, HasFailedAt, HoldsTooMuch, IsNoPairInput, IsPairInput, IsPairPut, IsPairReplaced, OfFive, OfPair, PairFileFault, PutPairFault, VerifyFileFault, verify_path_at}
+use Rattle.edi_answers.specs.SheetRuns.{AreFiveThere, FirstOfFiveMissing, IsNoPairInput, IsPairInput, IsPairPut, IsPairReplaced, OfFive, OfPair, PairFileFault, PutPairFault, VerifyFileFault}
 use Rattle.edi_answers.specs.Statuses.{AnswersIn, AreFourTried, IsAnsweredAs, IsPairingStatus, IsSaid, IsVerifyStatus, SaysPairFault, SaysPairRefusal, SaysVerifyRefusal, pair_paths_of, verify_paths_of}
 use Rattle.edi_answers.proofs.Made.{were_four}
-use Rattle.edi_answers.proofs.Faults.{if_err_map, both_of_four, three_of_four}
 use Rattle.edi_outcome.specs.declared.outcome.Outcome.{Outcome}
 use Rattle.edi_outcome.specs.declared.outcome.Outcome.TheVariants as outcome
 use Rattle.edi_answers.proofs.Refusals.{fault_status, known_fault, match_faulted, means_answer, means_fault, not_one, not_one_of_zero, not_zero_of_one, pair_faulted, pair_refused, pair_tried, unwritten}
@@ -96,90 +94,6 @@ module _ (run : Effects) (out err : Stream) (kinds : KindCodes) (files : PairFil
   }
 
 -- ---- a pairing's file, checked
-
-module _ (inputs : Inputs) (kinds : KindCodes) (files : PairFiles) (pairing : List ℕ) (i : Five) (gives_scd : Gives inputs files.scd.now i.scd.before)
-    (gives_dic : Gives inputs files.dic.now i.dic.before) (gives_first : Gives inputs files.first.now i.first.before) (gives_second : Gives inputs files.second.now i.second.before)
-    (gives_file : Gives inputs pairing i.file.before)
-    (scd_failed : HasFailed i.scd → HasFailedAt inputs files.scd.now) (dic_failed : HasFailed i.dic → HasFailedAt inputs files.dic.now)
-    (first_failed : HasFailed i.first → HasFailedAt inputs files.first.now) (second_failed : HasFailed i.second → HasFailedAt inputs files.second.now)
-    (file_failed : HasFailed i.file → HasFailedAt inputs pairing) where
-  five_there : AreFiveThere inputs files pairing
-  five_there = (((i.scd.before, gives_scd), (i.dic.before, gives_dic), (i.first.before, gives_first), (i.second.before, gives_second)), (i.file.before, gives_file))
-
-  failed_of_five : (n : ℕ) → OfVerifyInput i HasFailed n → HasFailedAt inputs (verify_path_at files pairing n)
-  failed_of_five zero h = absurd (omega (arith, h.0))
-  failed_of_five (suc zero) h = scd_failed (h.2 refl).0
-  failed_of_five (suc (suc zero)) h = dic_failed (h.3 refl).1
-  failed_of_five (suc (suc (suc zero))) h = first_failed (h.4 refl).2
-  failed_of_five (suc (suc (suc (suc zero)))) h = second_failed (h.5 refl).3
-  failed_of_five (suc (suc (suc (suc (suc zero))))) h = file_failed (h.6 refl).4
-  failed_of_five (suc (suc (suc (suc (suc (suc n)))))) h = absurd (omega (arith, h.1))
-
-  five_too_long : (n : ℕ) → OfVerifyInput i (λ input. IsTooLong input.before) n → HoldsTooMuch inputs (verify_path_at files pairing n)
-  five_too_long zero h = absurd (omega (arith, h.0))
-  five_too_long (suc zero) h = (i.scd.before, gives_scd, (h.2 refl).0)
-  five_too_long (suc (suc zero)) h = (i.dic.before, gives_dic, (h.3 refl).1)
-  five_too_long (suc (suc (suc zero))) h = (i.first.before, gives_first, (h.4 refl).2)
-  five_too_long (suc (suc (suc (suc zero)))) h = (i.second.before, gives_second, (h.5 refl).3)
-  five_too_long (suc (suc (suc (suc (suc zero))))) h = (i.file.before, gives_file, (h.6 refl).4)
-  five_too_long (suc (suc (suc (suc (suc (suc n)))))) h = absurd (omega (arith, h.1))
-
-  verify_matched : (e : VerifyRunFault) → VerifyingFault kinds i e
-      → MatchRun e (VerifyFileFault inputs kinds files pairing) (λ at why. OfFive inputs files pairing (λ s d a b f. RefusesFile kinds s d a b f at why))
-  verify_matched (Run (Memory e)) h = inr (five_there, tt)
-  verify_matched (Run (Read n)) h = inr (five_there, (h.0, h.1, failed_of_five n h))
-  verify_matched (Run (TooLong n)) h = inr (five_there, (h.0, h.1, five_too_long n h))
-  verify_matched (Run (Schema f)) h =
-      inr (
-        five_there,
-        (
-          i.scd.before,
-          i.dic.before,
-          i.first.before,
-          i.second.before,
-          gives_scd,
-          gives_dic,
-          gives_first,
-          gives_second,
-          both_of_four i.scd.before i.dic.before i.first.before i.second.before _ h,
-        ),
-      )
-  verify_matched (Run (First f)) h =
-      inr (
-        five_there,
-        (
-          i.scd.before,
-          i.dic.before,
-          i.first.before,
-          i.second.before,
-          gives_scd,
-          gives_dic,
-          gives_first,
-          gives_second,
-          three_of_four i.scd.before i.dic.before i.first.before i.second.before _ h,
-        ),
-      )
-  verify_matched (Run (Second f)) h =
-      inr (five_there, (i.scd.before, i.dic.before, i.first.before, i.second.before, gives_scd, gives_dic, gives_first, gives_second, h))
-  verify_matched (Run (Write w)) h = absurd h
-  verify_matched (OfPairingFile at why) h = (
-    i.scd.before,
-    i.dic.before,
-    i.first.before,
-    i.second.before,
-    i.file.before,
-    gives_scd,
-    gives_dic,
-    gives_first,
-    gives_second,
-    gives_file,
-    h,
-  )
-
-  -- of a run over five readers
-  pub verify_fault : {T : Type 0} (r : Result T VerifyRunFault) → IfErr r (VerifyingFault kinds i)
-      → IfErr r (λ e. MatchRun e (VerifyFileFault inputs kinds files pairing) (λ at why. OfFive inputs files pairing (λ s d a b f. RefusesFile kinds s d a b f at why)))
-  verify_fault r h = if_err_map r (VerifyingFault kinds i) _ verify_matched h
 
 pub verified_names : (r : Result Verified VerifyRunFault) → IfErr r (λ e. MatchRun e (λ f. FaultHasNames f 6) (λ _ _. ⊤)) → HasNames (verified_outcome r) 6
 verified_names (Ok Carries) h = tt

@@ -8,7 +8,7 @@ use Rattle.edi_explain.specs.KindLines.{NameLacking, lacking_words}
 use Rattle.edi_files.specs.Reasons.{ended}
 use Rattle.edi_shown.specs.Shown.{shown_bytes}
 use Rattle.edi_words.specs.declared.words.Request.{Request}
-use Rattle.edi_words.specs.declared.words.Request.TheVariants.{Bundle, Check, Canon, Pair, Hash, CheckList, Delivery, Manifest, CheckManifest, Explain, ExplainAll, Rule, Rules, Draw, Changed, Misused, Answered}
+use Rattle.edi_words.specs.declared.words.Request.TheVariants.{Bundle, Sheet, Pair, Many, Delivery, Manifest, CheckManifest, Explain, Rule, Rules, Changed, Misused, Answered}
 use Rattle.edi_answers.specs.Effects.{Inputs, Stream}
 use Rattle.edi_answers.specs.Paths.{input_name}
 use Rattle.edi_answers.specs.SheetRuns.{Gives}
@@ -56,19 +56,15 @@ IsNotedAs inputs kinds path status note = GivesNote inputs kinds path note ⊎ (
 -- `hash`, `delivery` and `explain --all` say theirs first, and `explain` says the class of each kind.
 abbrev pub IsNoteOf : Inputs → Request → ℕ → List ℕ → Type 0
 IsNoteOf inputs Bundle status note = note ≡ []
-IsNoteOf inputs (Check kinds files json) status note = IsNotedAs inputs kinds files.scd.now status note
-IsNoteOf inputs (Canon kinds files out) status note = IsNotedAs inputs kinds files.scd.now status note
+IsNoteOf inputs (Sheet kinds files what) status note = IsNotedAs inputs kinds files.scd.now status note
 IsNoteOf inputs (Pair kinds files what) status note = IsNotedAs inputs kinds files.scd.now status note
-IsNoteOf inputs (Hash kinds files with_schema json) status note = note ≡ []
-IsNoteOf inputs (CheckList kinds files list) status note = note ≡ []
+IsNoteOf inputs (Many kinds files what) status note = note ≡ []
 IsNoteOf inputs (Delivery kinds paths) status note = note ≡ []
 IsNoteOf inputs (Manifest kinds path file) status note = note ≡ []
 IsNoteOf inputs (CheckManifest kinds path manifest) status note = note ≡ []
 IsNoteOf inputs (Explain kinds files json) status note = note ≡ []
-IsNoteOf inputs (ExplainAll kinds files json) status note = note ≡ []
 IsNoteOf inputs (Rule word json) status note = note ≡ []
 IsNoteOf inputs (Rules json) status note = note ≡ []
-IsNoteOf inputs (Draw kinds files out) status note = IsNotedAs inputs kinds files.scd.now status note
 IsNoteOf inputs (Changed before after) status note = note ≡ []
 IsNoteOf inputs (Misused misuse) status note = note ≡ []
 IsNoteOf inputs (Answered given) status note = note ≡ []

@@ -6,7 +6,7 @@ use Rattle.edi_compare.specs.Bundle.{OfParts}
 use Rattle.edi_compare.specs.declared.fault.RunFault.{RunFault}
 use Rattle.edi_compare.specs.declared.fault.RunFault.TheVariants.{Read, Write}
 use Rattle.edi_compare.specs.Runs.{BeforeWriting, IsTooLong, MatchFault, OfFour, OfThree, RefusesSchema, RefusesSecond, RefusesSheet, IfFourKnown, IfThreeKnown}
-use Rattle.edi_pairing.specs.VerifyRuns.{IfFiveKnown}
+use Rattle.edi_pairing.specs.UnderFiles.{IfFiveKnown}
 use Rattle.edi_words.specs.Requests.{is_standard_path, usual_kinds}
 use Rattle.edi_words.specs.declared.words.PairFiles.{PairFiles}
 use Rattle.edi_words.specs.declared.words.SheetFiles.{SheetFiles}

@@ -20,8 +20,7 @@ use Rattle.edi_answers.specs.Reasons.{IsReason, lines_for}
 use Rattle.edi_outcome.specs.declared.outcome.Outcome.{Outcome}
 use Rattle.edi_outcome.specs.declared.outcome.Outcome.TheVariants as outcome
 use Rattle.edi_words.specs.Requests.{usual_kinds}
-use Rattle.edi_pairing.specs.CompareRuns.{IsPairingFileOf}
-use Rattle.edi_pairing.specs.VerifyRuns.{IsVerifiedUnder, RefusesFile}
+use Rattle.edi_pairing.specs.UnderFiles.{IsPairingFileOf, IsVerifiedUnder, RefusesFile}
 use Rattle.edi_pairing.specs.declared.fault.WrongLine.{WrongLine}
 use Rattle.edi_pairing.specs.declared.verified.Unpaired.{Unpaired}
 use Rattle.edi_pairing.specs.declared.verified.Verified.TheVariants.{Carries, Fails}

@@ -4,8 +4,7 @@ ghost use Rattle.std.specs.Bool.{MatchBool};
 ghost use Rattle.edi_compare.specs.Bundle.{OfParts};
 ghost use Rattle.edi_compare.specs.Runs.{BeforeWriting, IsSheetUnder, IsVerdictOf, WritesAll, WritesFirst};
 ghost use Rattle.edi_compare.specs.declared.pairing.Verdict.TheVariants.{Different};
-ghost use Rattle.edi_pairing.specs.CompareRuns.{IsComparedUnder, IsPairingFileOf};
-ghost use Rattle.edi_pairing.specs.VerifyRuns.{IsVerifiedUnder, MatchRun, RefusesFile};
+ghost use Rattle.edi_pairing.specs.UnderFiles.{IsComparedUnder, IsPairingFileOf, IsVerifiedUnder, MatchRun, RefusesFile};
 ghost use Rattle.edi_answers.specs.Notes.{GivesNote, HasNoteOf};
 ghost use Rattle.edi_outcome.specs.Words.{FaultHasNames};
 ghost use Rattle.edi_outcome.specs.Status.{status_of_fault};
@@ -14,11 +13,11 @@ ghost use Rattle.edi_answers.specs.Effects.{effects, inputs};
 ghost use Rattle.edi_answers.specs.SheetRuns.{FileFault, Gives, IsApart, IsDeviceOf, IsMissing, IsNoPairInput, IsPairInput, IsPairPut, IsPairReplaced, Meets, OfFiles, OfFive, OfPair, PairFileFault, PutPairFault, StandardFault, VerifyFileFault};
 
 use crate::classes::{Kept, read_classes};
-use crate::pair_inputs::{PairInputs, open_pair};
+use crate::pair_inputs::{PairInputs, load_pair, load_pair_and_file, open_pair};
 use edi_compare::{RunFault, Verdict, run_bundle, run_check, run_compare};
 use edi_files::{Folder, output};
-use edi_line::ByteOut;
-use edi_pairing::{Compared, Verified, VerifyRunFault, run_compare_to_file, run_verify};
+use edi_line::{ByteOut, FileBytes};
+use edi_pairing::{Compared, Verified, VerifyRunFault};
 use edi_schema::Kinds;
 use edi_words::{GivenKinds, PairFiles, SheetFiles, is_standard};
 use edi_write::Written;
@@ -146,7 +145,7 @@ pub fn pair<F: Folder>(
 }
 
 /// Whether a file states a pairing that carries the plan of the first sheet onto that of the second, and why it
-/// doesn't. All five files are opened before the first is read.
+/// doesn't. All five files are opened before the first is read, and all are read before one is looked at.
 pub fn verify<F: Folder>(
     alloc: Global,
     folder: &F,
@@ -168,22 +167,11 @@ pub fn verify<F: Folder>(
         note.old.items note.new.items)
         (λ _ _. GivesNote (inputs F.Folder F.Reader.ByteIn folder.now) kinds.now files.now.scd.now note.new.items)) }
 {
-    let mut scd = opened(folder, files.scd, 1)?;
-    let mut dic = opened(folder, files.dic, 2)?;
-    let mut first = opened(folder, files.first, 3)?;
-    let mut second = opened(folder, files.second, 4)?;
-    let mut file = opened(folder, pairing, 5)?;
-    let classes = read_classes(alloc, kinds, files.scd, &mut scd, note)?;
-    let mut kept = Kept::new(&classes);
-    run_verify(
-        alloc,
-        kinds.kinds(),
-        &mut kept,
-        &mut dic,
-        &mut first,
-        &mut second,
-        &mut file,
-    )
+    let (pair, file) = load_pair_and_file(alloc, folder, kinds, files, pairing, note)?;
+    let first = FileBytes::InPieces(pair.first);
+    let second = FileBytes::InPieces(pair.second);
+    let answer = edi_pairing::verify(alloc, &pair.schema, first, second, &file)?;
+    Ok(answer)
 }
 
 // What comparing the two sheets of four files answers, with a pairing's file.
@@ -205,22 +193,11 @@ fn compare_to_file<F: Folder>(
         HasNoteOf (inputs F.Folder F.Reader.ByteIn folder.now) kinds.now files.now.scd.now (status_of_fault e)
         note.old.items note.new.items) }
 {
-    let pair = open_pair(alloc, folder, kinds, files, note)?;
-    let PairInputs {
-        classes,
-        mut dic,
-        mut first,
-        mut second,
-    } = pair;
-    let mut kept = Kept::new(&classes);
-    run_compare_to_file(
-        alloc,
-        kinds.kinds(),
-        &mut kept,
-        &mut dic,
-        &mut first,
-        &mut second,
-    )
+    let pair = load_pair(alloc, folder, kinds, files, note)?;
+    let first = FileBytes::InPieces(pair.first);
+    let second = FileBytes::InPieces(pair.second);
+    let compared = edi_pairing::compare_to_file(alloc, &pair.schema, first, second)?;
+    Ok(compared)
 }
 
 /// An input that is there to read.

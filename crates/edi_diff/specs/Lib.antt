@@ -2,7 +2,7 @@ pub mod Changes
 pub mod Forms
 pub mod Differences
 pub mod Directions
-pub mod Runs
+pub mod UnderFiles
 pub mod Laws
 pub mod Known
 pub mod inner

@@ -128,7 +128,7 @@ pub fn diff(
 }
 
 /// What `diff` gives of files that are let go, where they are owned, one after the other.
-pub(crate) fn diff_from(
+pub fn diff_from(
     alloc: Global,
     schema: &Schema,
     a: FileBytes<'_>,

@@ -9,9 +9,7 @@ pub mod known;
 pub mod laws;
 mod parting;
 mod proposing;
-pub mod runs;
 mod totals;
 
-pub use differing::{Difference, Findings, diff, find_differences};
+pub use differing::{Difference, Findings, diff, diff_from, find_differences};
 pub use form::TextForm;
-pub use runs::run_diff;

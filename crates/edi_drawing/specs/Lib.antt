@@ -2,6 +2,6 @@ pub mod Marked
 pub mod Labels
 pub mod Tints
 pub mod Drawn
-pub mod Runs
+pub mod UnderFiles
 pub mod Laws
 pub mod inner

@@ -1,7 +1,7 @@
 //! Pictures of sheets, from their files.
 #![tactic(auto)]
 
-mod drawing;
+pub mod drawing;
 pub mod drawn;
 mod identifiers;
 mod labels;
@@ -13,6 +13,7 @@ mod pictures;
 pub mod runs;
 mod tints;
 
+pub use drawing::draw_difference_from;
 pub use drawn::DrawnDifference;
 pub use names::FileNames;
-pub use runs::{run_draw, run_draw_difference};
+pub use runs::run_draw;

@@ -1,37 +1,23 @@
 -- The values of all that sheets break, and texts of lines of such values.
-use Rattle.std.proofs.Common.{◌≡◌, ◌∙◌, ◌++◌, ◌+◌, ◌<◌, ℕ, Bool, true, false, cond, List, [], ◌∷◌, Option, Some, None, arith, ap, get_or, length, map, subst, sym, take}
+use Rattle.std.proofs.Common.{◌≡◌, ◌∙◌, ◌++◌, ◌+◌, ◌<◌, ℕ, Bool, true, false, cond, List, [], ◌∷◌, Some, None, arith, codes, ap, get_or, length, map, subst, sym, take}
 use Rattle.std.specs.Prelude.{nat_lt}
 use Rattle.std.proofs.lemmas.List.{map-append, take_more}
 use Rattle.json.specs.Json.{Json}
-use Rattle.json.specs.Token.{Token}
-use Rattle.json.specs.Tree.{json_tokens}
 use Rattle.edi_line.specs.declared.broken.BrokenRule.{BrokenRule}
 use Rattle.edi_json.specs.Texts.{ReadsAs, json_text}
 use Rattle.edi_json.specs.inner.Lines.{HasLines}
 use Rattle.edi_json.proofs.LineLemmas.{all_read, more_lines}
-use Rattle.edi_json.proofs.PlainTexts.{IsPlainToken, all_append, plain_decimal}
-use Rattle.edi_json_answers.specs.Answers.{number_or_null}
-use Rattle.edi_json_answers.specs.BrokenSheets.{IsTextOfValues, accepted_sheet_value, broken_at_value, broken_rule_value, rule_count_value}
+use Rattle.edi_json.proofs.PlainTexts.{plain_decimal}
+use Rattle.edi_json_answers.specs.BrokenSheets.{IsTextOfValues, accepted_sheet_value, broken_rule_value, rule_count_value}
 use Rattle.edi_json_answers.specs.declared.broken_sheets.RuleCount.{RuleCount}
-use Rattle.edi_json_answers.proofs.Values.{IsFit, number_or_null_flat}
-
-broken_at_fit : (name : List ℕ) (rule : ℕ) (line place : Option ℕ) → IsFit (broken_at_value name rule line place)
-broken_at_fit name rule line place =
-    let line_flat = number_or_null_flat line in
-    let place_flat = number_or_null_flat place in
-    let ends = all_append IsPlainToken (json_tokens (number_or_null place)) (Token.end_object ∷ []) place_flat.plain (tt, tt) in
-    let lines = all_append IsPlainToken (json_tokens (number_or_null line)) _ line_flat.plain (tt, ends) in
-    record {
-      shallow = omega (arith, line_flat.flat, place_flat.flat);
-      plain = (tt, (tt, (plain_decimal 1, (tt, (tt, (tt, (tt, (tt, (plain_decimal rule, (tt, lines))))))))));
-    }
+use Rattle.edi_json_answers.proofs.Values.{IsFit, broken_at_fit}
 
 either_fit : (b : Bool) (x y : Json) → IsFit x → IsFit y → IsFit (cond b x y)
 either_fit true x y h k = h
 either_fit false x y h k = k
 
 pub broken_rule_fit : (name : List ℕ) (it : BrokenRule) → IsFit (broken_rule_value name it)
-broken_rule_fit name it = either_fit (nat_lt it.rule 200) _ _ (broken_at_fit name it.rule (Some it.at) None) (broken_at_fit name it.rule None (Some it.at))
+broken_rule_fit name it = either_fit (nat_lt it.rule 200) _ _ (broken_at_fit (codes "broken") name it.rule (Some it.at) None) (broken_at_fit (codes "broken") name it.rule None (Some it.at))
 
 pub accepted_sheet_fit : (name : List ℕ) → IsFit (accepted_sheet_value name)
 accepted_sheet_fit name =

@@ -17,8 +17,8 @@ use Rattle.edi_outcome.specs.declared.outcome.Outcome.{Outcome}
 use Rattle.edi_outcome.specs.declared.outcome.Outcome.TheVariants.{Accepted, Same, Different, Pairs, Unpaired, WrongPairing, Fault}
 use Rattle.edi_json.specs.Values.{number_value, text_value}
 use Rattle.edi_json.proofs.PlainTexts.{IsPlainToken, all_append, plain_decimal}
-use Rattle.edi_json_answers.specs.Digests.{digest_value, refusal_value}
-use Rattle.edi_json_answers.specs.Answers.{answer_value, broken_value, different_value, failed_value, fault_value, first_word, number_or_null, outcome_value, reasoned_value, refused_value, schema_value, sheet_value, source_word, wrong_pairing_value}
+use Rattle.edi_json_answers.specs.Digests.{digest_value}
+use Rattle.edi_json_answers.specs.Answers.{answer_value, broken_at_value, broken_value, different_value, failed_value, fault_value, first_word, number_or_null, outcome_value, reasoned_value, refused_value, schema_value, sheet_value, source_word, wrong_pairing_value}
 
 -- a value that can stand in a line: it is shallow, and its numbers are printed
 pub record IsFit (value : Json) : Type 0 where
@@ -87,8 +87,8 @@ pub digest_fit : (of name digits : List ℕ) → IsFit (digest_value of name dig
 digest_fit of name digits =
     record { shallow = omega arith; plain = (tt, (tt, (plain_decimal 1, (tt, (tt, (tt, (tt, (tt, (tt, (tt, (tt, (tt, tt)))))))))))) }
 
-pub refusal_fit : (name : List ℕ) (rule : ℕ) (line place : Option ℕ) → IsFit (refusal_value name rule line place)
-refusal_fit name rule line place =
+pub broken_at_fit : (what name : List ℕ) (rule : ℕ) (line place : Option ℕ) → IsFit (broken_at_value what name rule line place)
+broken_at_fit what name rule line place =
     let line_flat = number_or_null_flat line in
     let place_flat = number_or_null_flat place in
     let places = all_append IsPlainToken (json_tokens (number_or_null place)) (Token.end_object ∷ []) place_flat.plain (tt, tt) in

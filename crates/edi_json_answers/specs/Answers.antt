@@ -31,6 +31,13 @@ abbrev pub number_or_null : Option ℕ → Json
 number_or_null None = null
 number_or_null (Some n) = number_value n
 
+-- what a line says of a sheet that breaks a rule: the name of its file, the rule, and the line or the record where it
+-- does
+abbrev pub broken_at_value : List ℕ → List ℕ → ℕ → Option ℕ → Option ℕ → Json
+broken_at_value what name rule line place = line_value what (member (codes "name") (text_value name)
+    (member (codes "rule") (number_value rule) (member (codes "line") (number_or_null line)
+    (member (codes "record") (number_or_null place) no_members))))
+
 -- what is refused: the file, the rule that it breaks, the line or the record where it does, and why in words
 abbrev pub refused_value : List ℕ → Json → Json → Json → Json → Json
 refused_value file rule line place why = answer_value (codes "refused") (member (codes "file") (string file)

@@ -1,23 +1,17 @@
 -- The values of JSON of all that sheets break (docs/JSON.md, "All that is broken"), by the name of each sheet's file.
-use Rattle.std.specs.Prelude.{◌≡◌, ℕ, List, [], ◌∷◌, Option, None, Some, codes, map, nat_lt, if◌then◌else◌}
+use Rattle.std.specs.Prelude.{◌≡◌, ℕ, List, [], ◌∷◌, None, Some, codes, map, nat_lt, if◌then◌else◌}
 use Rattle.json.specs.Json.{Json, member, no_members}
 use Rattle.edi_line.specs.declared.broken.BrokenRule.{BrokenRule}
 use Rattle.edi_json.specs.Texts.{ReadsAs, json_text}
 use Rattle.edi_json.specs.Values.{line_value, number_value, text_value}
-use Rattle.edi_json_answers.specs.Answers.{number_or_null}
+use Rattle.edi_json_answers.specs.Answers.{broken_at_value}
 use Rattle.edi_json_answers.specs.declared.broken_sheets.RuleCount.{RuleCount}
 
--- a rule that a sheet breaks, and the line or the record where it does
-abbrev pub broken_at_value : List ℕ → ℕ → Option ℕ → Option ℕ → Json
-broken_at_value name rule line place = line_value (codes "broken") (member (codes "name") (text_value name)
-    (member (codes "rule") (number_value rule) (member (codes "line") (number_or_null line)
-    (member (codes "record") (number_or_null place) no_members))))
-
--- the same: a rule below 200 is broken at a line, and another at a record
+-- a rule that a sheet breaks: one below 200 at a line, and another at a record
 abbrev pub broken_rule_value : List ℕ → BrokenRule → Json
 broken_rule_value name it =
-    if nat_lt it.rule 200 then broken_at_value name it.rule (Some it.at) None
-    else broken_at_value name it.rule None (Some it.at)
+    if nat_lt it.rule 200 then broken_at_value (codes "broken") name it.rule (Some it.at) None
+    else broken_at_value (codes "broken") name it.rule None (Some it.at)
 
 -- an accepted sheet
 abbrev pub accepted_sheet_value : List ℕ → Json

@@ -4,10 +4,9 @@ ghost use Rattle.std.specs.Prelude.{◌≡◌, ◌++◌, ◌∷◌, [], IfOk, On
 ghost use Rattle.json.specs.Tree.{json_tokens};
 ghost use Rattle.edi_json.specs.Texts.{ReadsAs, json_text};
 ghost use Rattle.edi_json.specs.inner.Lines.{HasLines};
-ghost use Rattle.edi_json_answers.specs.BrokenSheets.{accepted_sheet_value, all_broken_values, broken_at_value};
-ghost use Rattle.edi_json_answers.specs.BrokenSheets.{broken_rule_value, rule_count_value};
+ghost use Rattle.edi_json_answers.specs.BrokenSheets.{accepted_sheet_value, all_broken_values, broken_rule_value, rule_count_value};
 
-use crate::parts::put_number_or_null;
+use crate::parts::write_broken_at;
 use edi_json::lines::{begin_line, end_line};
 use edi_json::members::{begin, put_bytes, put_number};
 use edi_line::BrokenRule;
@@ -105,30 +104,10 @@ fn write_broken_rule(
         ≡ writer.old.tokens ++ json_tokens (broken_rule_value name.now it)) }
 {
     if it.rule < FIRST_OF_RECORDS {
-        write_broken_at(alloc, writer, name, it.rule, Some(it.at), None)
+        write_broken_at(alloc, writer, "broken", name, it.rule, Some(it.at), None)
     } else {
-        write_broken_at(alloc, writer, name, it.rule, None, Some(it.at))
+        write_broken_at(alloc, writer, "broken", name, it.rule, None, Some(it.at))
     }
-}
-
-fn write_broken_at(
-    alloc: Global,
-    writer: &mut Writer,
-    name: &[u8],
-    rule: u16,
-    line: Option<u64>,
-    place: Option<u64>,
-) -> Result<(), AllocError>
-    ensures before { writer.new.before ≡ writer.old.before }
-    ensures tokens { OnOk result (writer.new.tokens
-        ≡ writer.old.tokens ++ json_tokens (broken_at_value name.now rule line place)) }
-{
-    begin(writer, "broken")?;
-    put_bytes(alloc, writer, "name", name)?;
-    put_number(writer, "rule", rule as u64)?;
-    put_number_or_null(writer, "line", line)?;
-    put_number_or_null(writer, "record", place)?;
-    writer.end_object()
 }
 
 /// Appends the line of an accepted sheet.

@@ -1,16 +1,16 @@
 //! The lines of JSON of digests, and of sheets that have none (docs/JSON.md, "Digests").
 
-ghost use Rattle.std.specs.Prelude.{◌≡◌, ◌++◌, ◌∷◌, [], IfOk, OnOk};
+ghost use Rattle.std.specs.Prelude.{◌≡◌, ◌++◌, ◌∷◌, [], IfOk, OnOk, codes};
 ghost use Rattle.hex.specs.Hex.{encode_lower};
 ghost use Rattle.json.specs.Tree.{json_tokens};
 ghost use Rattle.edi_json.specs.Texts.{ReadsAs, json_text};
-ghost use Rattle.edi_json_answers.specs.Digests.{digest_value, refusal_value, refused_sheet_values};
-ghost use Rattle.edi_json_answers.specs.Digests.{schema_digest_value, sheet_digest_value};
+ghost use Rattle.edi_json_answers.specs.Answers.{broken_at_value};
+ghost use Rattle.edi_json_answers.specs.Digests.{digest_value, refused_sheet_values, schema_digest_value, sheet_digest_value};
 
-use crate::parts::put_number_or_null;
+use crate::parts::write_broken_at;
 use edi_compare::{Fault, RunFault};
 use edi_json::lines::{begin_line, end_line};
-use edi_json::members::{begin, put_bytes, put_number, put_text};
+use edi_json::members::{begin, put_bytes, put_text};
 use json::Writer;
 use std::alloc::{AllocError, Global};
 
@@ -112,33 +112,14 @@ fn json_of_refusal(
     line: Option<u64>,
     place: Option<u64>,
 ) -> Result<Vec<u8>, AllocError>
-    ensures text { IfOk result (λ text. text.items ≡ json_text (refusal_value name.now rule line place ∷ [])) }
-    ensures read { IfOk result (λ text. ReadsAs text.items (refusal_value name.now rule line place ∷ [])) }
+    ensures text { IfOk result (λ text. text.items
+        ≡ json_text (broken_at_value (codes "refusal") name.now rule line place ∷ [])) }
+    ensures read { IfOk result (λ text. ReadsAs text.items
+        (broken_at_value (codes "refusal") name.now rule line place ∷ [])) }
 {
     let mut text = Vec::new(alloc);
     let mut writer = begin_line(alloc, &mut text);
-    write_refusal(alloc, &mut writer, name, rule, line, place)?;
+    write_broken_at(alloc, &mut writer, "refusal", name, rule, line, place)?;
     end_line(&mut text, writer)?;
     Ok(text)
-}
-
-/// Writes the value of a refusal.
-fn write_refusal(
-    alloc: Global,
-    writer: &mut Writer,
-    name: &[u8],
-    rule: u16,
-    line: Option<u64>,
-    place: Option<u64>,
-) -> Result<(), AllocError>
-    ensures before { writer.new.before ≡ writer.old.before }
-    ensures tokens { OnOk result (writer.new.tokens
-        ≡ writer.old.tokens ++ json_tokens (refusal_value name.now rule line place)) }
-{
-    begin(writer, "refusal")?;
-    put_bytes(alloc, writer, "name", name)?;
-    put_number(writer, "rule", rule as u64)?;
-    put_number_or_null(writer, "line", line)?;
-    put_number_or_null(writer, "record", place)?;
-    writer.end_object()
 }

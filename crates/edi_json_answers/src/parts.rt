@@ -4,8 +4,7 @@ ghost use Rattle.std.specs.Prelude.{◌≡◌, ◌++◌, OnOk, codes};
 ghost use Rattle.json.specs.Json.{no_members};
 ghost use Rattle.json.specs.Tree.{json_tokens};
 ghost use Rattle.edi_json.specs.Members.{member_tokens};
-ghost use Rattle.edi_json_answers.specs.Answers.{answer_value, broken_value, number_or_null, reasoned_value};
-ghost use Rattle.edi_json_answers.specs.Answers.{wrong_pairing_value};
+ghost use Rattle.edi_json_answers.specs.Answers.{answer_value, broken_at_value, broken_value, number_or_null, reasoned_value, wrong_pairing_value};
 ghost use Rattle.edi_json_answers.specs.inner.Tokens.{answer_tokens, refused_tokens};
 
 use edi_json::members::{begin, put_bytes, put_null, put_number, put_text};
@@ -73,6 +72,28 @@ pub(crate) fn write_broken(
     put_number_or_null(writer, "line", line)?;
     put_number_or_null(writer, "record", place)?;
     put_null(writer, "why")?;
+    writer.end_object()
+}
+
+/// Writes what a line says of the sheet of a name: a rule that it breaks, and the line or the record where it does.
+pub(crate) fn write_broken_at(
+    alloc: Global,
+    writer: &mut Writer,
+    what: &str,
+    name: &[u8],
+    rule: u16,
+    line: Option<u64>,
+    place: Option<u64>,
+) -> Result<(), AllocError>
+    ensures before { writer.new.before ≡ writer.old.before }
+    ensures tokens { OnOk result (writer.new.tokens
+        ≡ writer.old.tokens ++ json_tokens (broken_at_value what.now name.now rule line place)) }
+{
+    begin(writer, what)?;
+    put_bytes(alloc, writer, "name", name)?;
+    put_number(writer, "rule", rule as u64)?;
+    put_number_or_null(writer, "line", line)?;
+    put_number_or_null(writer, "record", place)?;
     writer.end_object()
 }
 

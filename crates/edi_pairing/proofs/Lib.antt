@@ -6,5 +6,4 @@ pub mod TextLemmas
 pub mod WrongLemmas
 pub mod VerifyLemmas
 pub mod CarriedPairs
-pub mod FiveKnown
 pub mod Appended

@@ -4,8 +4,7 @@ pub mod PairingText
 pub mod WrongLines
 pub mod Verified
 pub mod UnpairedText
-pub mod CompareRuns
-pub mod VerifyRuns
+pub mod UnderFiles
 pub mod Laws
 pub mod Known
 pub mod inner

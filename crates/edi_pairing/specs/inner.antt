@@ -3,5 +3,4 @@ pub mod Named
 pub mod Places
 pub mod Reading
 pub mod Taken
-pub mod VerifyRuns
 pub mod Wrong

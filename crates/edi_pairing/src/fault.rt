@@ -4,6 +4,7 @@ ghost use Rattle.std.specs.Prelude.{◌≡◌, alloc_error};
 ghost use Rattle.edi_pairing.specs.declared.fault.PairingFault.TheVariants.{Memory};
 ghost use Rattle.edi_pairing.specs.declared.fault.VerifyFault.TheVariants as verified;
 ghost use Rattle.edi_pairing.specs.declared.fault.VerifyRunFault.TheVariants.{Run};
+ghost use Rattle.edi_pairing.specs.UnderFiles.{of_verify};
 ghost use Rattle.edi_pairing.specs.Verified.{of_pairing, of_sheets};
 ghost use Rattle.edi_pairing.specs.WrongLines.{reason_words};
 
@@ -154,5 +155,18 @@ impl From<RunFault> for VerifyRunFault {
 
     fn from(fault: RunFault) -> VerifyRunFault {
         VerifyRunFault::Run(fault)
+    }
+}
+
+impl From<VerifyFault> for VerifyRunFault {
+    ghost from_gives = { λ f e. e ≡ of_verify f };
+
+    fn from(fault: VerifyFault) -> VerifyRunFault {
+        match fault {
+            VerifyFault::Memory(error) => VerifyRunFault::Run(RunFault::Memory(error)),
+            VerifyFault::First(fault) => VerifyRunFault::Run(RunFault::First(fault)),
+            VerifyFault::Second(fault) => VerifyRunFault::Run(RunFault::Second(fault)),
+            VerifyFault::Pairing { at, why } => VerifyRunFault::Pairing { at, why },
+        }
     }
 }

@@ -10,8 +10,10 @@ use Rattle.clap.specs.declared.error.kind.ErrorKind.{ErrorKind}
 use Rattle.clap.specs.declared.error.kind.ErrorKind.TheVariants.{OutOfMemory, DisplayHelp, DisplayVersion}
 use Rattle.edi_schema.specs.Roles.{KindCodes, AreKindCodes}
 use Rattle.edi_words.specs.declared.words.Request.{Request}
-use Rattle.edi_words.specs.declared.words.Request.TheVariants.{Bundle, Check, Canon, Pair, Hash, CheckList, Delivery, Manifest, CheckManifest, Explain, ExplainAll, Rules, Draw, Changed, Misused, Answered}
+use Rattle.edi_words.specs.declared.words.Request.TheVariants.{Bundle, Sheet, Pair, Many, Delivery, Manifest, CheckManifest, Explain, Rules, Changed, Misused, Answered}
 use Rattle.edi_words.specs.declared.words.Request.TheVariants as asks
+use Rattle.edi_words.specs.declared.words.SheetRequest.TheVariants.{Check, Canon, Draw}
+use Rattle.edi_words.specs.declared.words.ManyRequest.TheVariants.{Hash, CheckList, ExplainAll}
 use Rattle.edi_words.specs.declared.words.PairRequest.TheVariants.{Compare, Verify, Diff}
 use Rattle.edi_words.specs.declared.words.Misuse.{Misuse}
 use Rattle.edi_words.specs.declared.words.Misuse.TheVariants.{BadKinds, TwoStandard, NoSheet, SeveralSheets, NothingHashed, ListAndMore, StandardPairing, StandardPicture, NotOneManifest}
@@ -319,20 +321,20 @@ IsOptionFile id rows file =
 -- whose status is 5
 abbrev pub Means : Option (Text × List Row) → Request → Type 0
 Means met Bundle = met ≡ None
-Means met (Check kinds files json) =
+Means met (Sheet kinds files (Check json)) =
     (rows : List Row) × (met ≡ Some (codes "check", rows)) × GiveKinds rows kinds × AreSheetFiles rows files
     × IsFlag (one_of (codes "json") rows) json
-Means met (Canon kinds files out) =
+Means met (Sheet kinds files (Canon out)) =
     (rows : List Row) × (met ≡ Some (codes "canon", rows)) × GiveKinds rows kinds × AreSheetFiles rows files
     × (out.now ≡ value_at (codes "OUT") rows)
 Means met (Pair kinds files (Compare pairing json)) =
     (rows : List Row) × (met ≡ Some (codes "compare", rows)) × GiveKinds rows kinds × ArePairFiles rows files
     × IsOptionFile (codes "pairing") rows pairing × IsFlag (one_of (codes "json") rows) json
-Means met (Hash kinds files with_schema json) =
+Means met (Many kinds files (Hash with_schema json)) =
     (rows : List Row) × (met ≡ Some (codes "hash", rows)) × GiveKinds rows kinds × AreManyFiles rows files
     × IsFlag (one_of (codes "schema") rows) with_schema × ((with_schema || is_given (codes "VEC") rows) ≡ true)
     × (is_given (codes "check") rows ≡ false) × IsFlag (one_of (codes "json") rows) json
-Means met (CheckList kinds files list) =
+Means met (Many kinds files (CheckList list)) =
     (rows : List Row) × (met ≡ Some (codes "hash", rows)) × GiveKinds rows kinds × AreManyFiles rows files
     × (first_of (codes "check") rows ≡ Some list.now) × IsFlag (one_of (codes "schema") rows) false
     × (is_given (codes "VEC") rows ≡ false) × IsFlag (one_of (codes "json") rows) false
@@ -350,7 +352,7 @@ Means met (Explain kinds files json) =
     (rows : List Row) × (met ≡ Some (codes "explain", rows)) × GiveKinds rows kinds × AreSheetFiles rows files
     × (is_given (codes "DIC") rows ≡ true) × (length (values_at (codes "VEC") rows) ≡ 1)
     × IsFlag (one_of (codes "all") rows) false × IsFlag (one_of (codes "json") rows) json
-Means met (ExplainAll kinds files json) =
+Means met (Many kinds files (ExplainAll json)) =
     (rows : List Row) × (met ≡ Some (codes "explain", rows)) × GiveKinds rows kinds × AreManyFiles rows files
     × (is_given (codes "DIC") rows ≡ true) × (is_given (codes "VEC") rows ≡ true)
     × IsFlag (one_of (codes "all") rows) true × IsFlag (one_of (codes "json") rows) json
@@ -370,7 +372,7 @@ Means met (Pair kinds files (Diff brief records json named_by picture)) =
     × IsFlag (one_of (codes "json") rows) json
     × (option_map (λ (text : Bor (List ℕ)). text.now) named_by ≡ first_of (codes "name-by") rows)
     × IsOptionFile (codes "picture") rows picture
-Means met (Draw kinds files out) =
+Means met (Sheet kinds files (Draw out)) =
     (rows : List Row) × (met ≡ Some (codes "draw", rows)) × GiveKinds rows kinds × AreSheetFiles rows files
     × (out.now ≡ value_at (codes "OUT") rows)
 Means met (Changed before after) =

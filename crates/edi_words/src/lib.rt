@@ -8,6 +8,6 @@ pub mod words;
 
 pub use given_kinds::GivenKinds;
 pub use words::{
-    BadKinds, KindsFault, ManyFiles, Misuse, PairFiles, PairRequest, Request, SheetFiles, asked,
-    is_standard,
+    BadKinds, KindsFault, ManyFiles, ManyRequest, Misuse, PairFiles, PairRequest, Request,
+    SheetFiles, SheetRequest, asked, is_standard,
 };

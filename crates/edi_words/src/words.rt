@@ -49,17 +49,11 @@ pub struct ManyFiles<'a> {
 pub enum Request<'a> {
     /// The canonical file of the bundle on standard input.
     Bundle,
-    /// Whether a sheet is accepted.
-    Check {
+    /// What is asked of one sheet, but for explaining it.
+    Sheet {
         kinds: GivenKinds<'a>,
         files: SheetFiles<'a>,
-        json: bool,
-    },
-    /// The canonical file of a sheet.
-    Canon {
-        kinds: GivenKinds<'a>,
-        files: SheetFiles<'a>,
-        out: &'a str,
+        what: SheetRequest<'a>,
     },
     /// What is asked of two sheets.
     Pair {
@@ -67,18 +61,11 @@ pub enum Request<'a> {
         files: PairFiles<'a>,
         what: PairRequest<'a>,
     },
-    /// The digests of the canonical files of sheets, and that of the schema first.
-    Hash {
+    /// What is asked of many sheets.
+    Many {
         kinds: GivenKinds<'a>,
         files: ManyFiles<'a>,
-        with_schema: bool,
-        json: bool,
-    },
-    /// Which digests of a list are those that are found now. No sheet is named.
-    CheckList {
-        kinds: GivenKinds<'a>,
-        files: ManyFiles<'a>,
-        list: &'a str,
+        what: ManyRequest<'a>,
     },
     /// The digests of the canonical files of the sheets of deliveries.
     Delivery {
@@ -89,12 +76,6 @@ pub enum Request<'a> {
     Explain {
         kinds: GivenKinds<'a>,
         files: SheetFiles<'a>,
-        json: bool,
-    },
-    /// All that the first broken phase of each sheet breaks.
-    ExplainAll {
-        kinds: GivenKinds<'a>,
-        files: ManyFiles<'a>,
         json: bool,
     },
     /// The manifest of a delivery, and where it goes.
@@ -118,12 +99,6 @@ pub enum Request<'a> {
     Rules {
         json: bool,
     },
-    /// The picture of a sheet.
-    Draw {
-        kinds: GivenKinds<'a>,
-        files: SheetFiles<'a>,
-        out: &'a str,
-    },
     /// Which digests are new, gone or changed between two lists.
     Changed {
         before: &'a str,
@@ -133,6 +108,28 @@ pub enum Request<'a> {
     Misused(Misuse<'a>),
     /// Nothing more: the words were answered on standard error, and this is the exit status.
     Answered(u8),
+}
+
+/// What is asked of one sheet, but for explaining it.
+#[derive(Clone, Copy)]
+pub enum SheetRequest<'a> {
+    /// Whether it is accepted.
+    Check { json: bool },
+    /// Its canonical file.
+    Canon { out: &'a str },
+    /// Its picture.
+    Draw { out: &'a str },
+}
+
+/// What is asked of many sheets.
+#[derive(Clone, Copy)]
+pub enum ManyRequest<'a> {
+    /// The digests of their canonical files, and that of the schema first.
+    Hash { with_schema: bool, json: bool },
+    /// Which digests of a list are those that are found now. No sheet is named.
+    CheckList { list: &'a str },
+    /// All that the first broken phase of each breaks.
+    ExplainAll { json: bool },
 }
 
 /// What is asked of two sheets.
@@ -250,15 +247,19 @@ fn subcommand_meant<'a, R: Eprint + AllocGlobal>(
         → Means (Some (name.now, rows_of (found_of given.now))) result }
 {
     match name {
-        "check" => Request::Check {
+        "check" => Request::Sheet {
             kinds,
             files: sheet_files(given),
-            json: flag(given, "json"),
+            what: SheetRequest::Check {
+                json: flag(given, "json"),
+            },
         },
-        "canon" => Request::Canon {
+        "canon" => Request::Sheet {
             kinds,
             files: sheet_files(given),
-            out: path(given, "OUT"),
+            what: SheetRequest::Canon {
+                out: path(given, "OUT"),
+            },
         },
         "compare" => compared(given, kinds),
         "hash" => hashed(rt, given, kinds),
@@ -271,10 +272,12 @@ fn subcommand_meant<'a, R: Eprint + AllocGlobal>(
             },
         },
         "diff" => differing(given, kinds),
-        "draw" => Request::Draw {
+        "draw" => Request::Sheet {
             kinds,
             files: sheet_files(given),
-            out: path(given, "OUT"),
+            what: SheetRequest::Draw {
+                out: path(given, "OUT"),
+            },
         },
         "delivery" => delivered(rt, given, kinds),
         "changed" => Request::Changed {
@@ -340,11 +343,13 @@ fn unlisted<'a, R: Eprint + AllocGlobal>(
         return Request::Misused(Misuse::NothingHashed);
     }
     match many_files(rt.alloc(), given) {
-        Ok(files) => Request::Hash {
+        Ok(files) => Request::Many {
             kinds,
             files,
-            with_schema,
-            json: flag(given, "json"),
+            what: ManyRequest::Hash {
+                with_schema,
+                json: flag(given, "json"),
+            },
         },
         Err(_) => Request::Answered(out_of_memory(rt)),
     }
@@ -368,7 +373,11 @@ fn listed<'a, R: Eprint + AllocGlobal>(
         return Request::Misused(Misuse::ListAndMore);
     }
     match many_files(rt.alloc(), given) {
-        Ok(files) => Request::CheckList { kinds, files, list },
+        Ok(files) => Request::Many {
+            kinds,
+            files,
+            what: ManyRequest::CheckList { list },
+        },
         Err(_) => Request::Answered(out_of_memory(rt)),
     }
 }
@@ -521,10 +530,12 @@ fn all_explained<'a, R: Eprint + AllocGlobal>(
         return Request::Misused(Misuse::NoSheet);
     }
     match many_files(rt.alloc(), given) {
-        Ok(files) => Request::ExplainAll {
+        Ok(files) => Request::Many {
             kinds,
             files,
-            json: flag(given, "json"),
+            what: ManyRequest::ExplainAll {
+                json: flag(given, "json"),
+            },
         },
         Err(_) => Request::Answered(out_of_memory(rt)),
     }

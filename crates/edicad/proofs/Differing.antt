@@ -3,9 +3,9 @@ use Rattle.std.proofs.Common.{◌≡◌, ◌≢◌, ◌⊎◌, ◌<◌, ℕ, Boo
 use Rattle.std.specs.Bool.{MatchBool}
 use Rattle.edi_schema.specs.Roles.{KindCodes}
 use Rattle.edi_compare.specs.declared.fault.RunFault.{RunFault}
-use Rattle.edi_diff.specs.Runs.{IsDifferenceUnder}
+use Rattle.edi_diff.specs.UnderFiles.{IsDifferenceUnder}
 use Rattle.edi_diff.specs.declared.differing.Difference.{Difference}
-use Rattle.edi_drawing.specs.Runs.{IsDrawnDifferenceUnder}
+use Rattle.edi_drawing.specs.UnderFiles.{IsDrawnDifferenceUnder}
 use Rattle.edi_drawing.specs.declared.drawn.DrawnDifference.{DrawnDifference}
 use Rattle.edi_words.specs.declared.words.PairFiles.{PairFiles}
 use Rattle.edi_outcome.specs.Status.{status_of_fault}

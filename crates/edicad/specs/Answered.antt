@@ -20,12 +20,17 @@ use Rattle.edi_answers.specs.Statuses.{IsBundleStatus, IsCompareStatus, IsFileSt
 use Rattle.edicad.specs.Forms.{answer_form_asked, form_asked}
 use Rattle.edicad.specs.Statuses.{IsDiffStatus, IsPictureStatus, IsPutStatus, IsSendStatus}
 use Rattle.edi_schema.specs.Roles.{KindCodes}
+use Rattle.edi_words.specs.declared.words.ManyFiles.{ManyFiles}
+use Rattle.edi_words.specs.declared.words.ManyRequest.{ManyRequest}
+use Rattle.edi_words.specs.declared.words.ManyRequest.TheVariants.{Hash, CheckList, ExplainAll}
 use Rattle.edi_words.specs.declared.words.PairFiles.{PairFiles}
 use Rattle.edi_words.specs.declared.words.PairRequest.{PairRequest}
 use Rattle.edi_words.specs.declared.words.PairRequest.TheVariants.{Compare, Verify, Diff}
 use Rattle.edi_words.specs.declared.words.SheetFiles.{SheetFiles}
+use Rattle.edi_words.specs.declared.words.SheetRequest.{SheetRequest}
+use Rattle.edi_words.specs.declared.words.SheetRequest.TheVariants.{Check, Canon, Draw}
 use Rattle.edi_words.specs.declared.words.Request.{Request}
-use Rattle.edi_words.specs.declared.words.Request.TheVariants.{Bundle, Check, Canon, Pair, Hash, CheckList, Delivery, Manifest, CheckManifest, Explain, ExplainAll, Rule, Rules, Draw, Changed, Misused, Answered}
+use Rattle.edi_words.specs.declared.words.Request.TheVariants.{Bundle, Sheet, Pair, Many, Delivery, Manifest, CheckManifest, Explain, Rule, Rules, Changed, Misused, Answered}
 
 -- The status of what is made of a sheet, which is sent to the output or put at a path.
 abbrev pub IsMadeStatus : Effects → Stream → Stream → Product → KindCodes → SheetFiles → List ℕ → ℕ → Type 0
@@ -39,6 +44,21 @@ abbrev pub IsMisusedStatus : Stream → Stream → Misuse → ℕ → Type 0
 IsMisusedStatus out err misuse s =
     ((s ≡ 3) × Complains out err (misuse_lines misuse))
     ⊎ ((s ≡ 5) × IsTrue (shows_words misuse) × Prints out [] × LacksMemory err)
+
+-- The status of what was asked of one sheet. Where no OUT is named, nothing in the folder has changed.
+abbrev pub IsSheetReplied : Effects → Stream → Stream → KindCodes → SheetFiles → SheetRequest → ℕ → Type 0
+IsSheetReplied run out err kinds files (Check json) s =
+    run.untouched × IsFileStatus run out err kinds files (answer_form_asked json) s
+IsSheetReplied run out err kinds files (Canon path) s = IsMadeStatus run out err Canonical kinds files path.now s
+IsSheetReplied run out err kinds files (Draw path) s = IsMadeStatus run out err Picture kinds files path.now s
+
+-- the status of what was asked of many sheets
+abbrev pub IsManyReplied : Effects → Stream → Stream → KindCodes → ManyFiles → ManyRequest → ℕ → Type 0
+IsManyReplied run out err kinds files (Hash with_schema json) s =
+    IsHashStatus run out err kinds files (answer_form_asked json) with_schema [] s
+IsManyReplied run out err kinds files (CheckList list) s = IsHeldStatus run out err kinds files list.now s
+IsManyReplied run out err kinds files (ExplainAll json) s =
+    IsCensusStatus run out err kinds files (answer_form_asked json) s
 
 -- The status of what was asked of two sheets. Where no FILE is named to which something goes, nothing in the folder has
 -- changed.
@@ -57,14 +77,10 @@ IsPairReplied run out err kinds files (Diff brief records json named_by picture)
 -- what the two streams have before and after. Where no OUT or FILE is named, nothing in the folder has changed.
 abbrev pub IsReplied : Effects → Listings → Stream → Stream → Request → ℕ → Type 0
 IsReplied run listings out err Bundle s = run.untouched × IsBundleStatus run out err s
-IsReplied run listings out err (Check kinds files json) s =
-    run.untouched × IsFileStatus run out err kinds files (answer_form_asked json) s
-IsReplied run listings out err (Canon kinds files path) s = IsMadeStatus run out err Canonical kinds files path.now s
+IsReplied run listings out err (Sheet kinds files what) s = IsSheetReplied run out err kinds files what s
 IsReplied run listings out err (Pair kinds files what) s = IsPairReplied run out err kinds files what s
-IsReplied run listings out err (Hash kinds files with_schema json) s =
-    run.untouched × IsHashStatus run out err kinds files (answer_form_asked json) with_schema [] s
-IsReplied run listings out err (CheckList kinds files list) s =
-    run.untouched × IsHeldStatus run out err kinds files list.now s
+IsReplied run listings out err (Many kinds files what) s =
+    run.untouched × IsManyReplied run out err kinds files what s
 IsReplied run listings out err (Delivery kinds paths) s =
     run.untouched × IsDeliveryStatus run listings kinds paths.items out err s
 IsReplied run listings out err (Manifest kinds path file) s =
@@ -73,13 +89,10 @@ IsReplied run listings out err (CheckManifest kinds path manifest) s = run.untou
     × IsCheckStatus run listings kinds manifest.now path.now out err s
 IsReplied run listings out err (Explain kinds files json) s =
     run.untouched × IsExplainStatus run out err kinds files (answer_form_asked json) s
-IsReplied run listings out err (ExplainAll kinds files json) s =
-    run.untouched × IsCensusStatus run out err kinds files (answer_form_asked json) s
 IsReplied run listings out err (Rule word json) s =
     run.untouched × IsRuleStatus out err (answer_form_asked json) word.now s
 IsReplied run listings out err (Rules json) s =
     run.untouched × IsRuleListStatus out err (answer_form_asked json) s
-IsReplied run listings out err (Draw kinds files path) s = IsMadeStatus run out err Picture kinds files path.now s
 IsReplied run listings out err (Changed before after) s =
     run.untouched × IsChangedStatus run out err before.now after.now s
 IsReplied run listings out err (Misused misuse) s = run.untouched × IsMisusedStatus out err misuse s

@@ -6,7 +6,7 @@ use Rattle.edi_compare.specs.declared.fault.RunFault.TheVariants.{Write}
 use Rattle.edi_compare.specs.Runs.{BeforeWriting, IsCanonOf}
 use Rattle.edi_diff.specs.declared.differing.Difference.{Difference}
 use Rattle.edi_drawing.specs.Drawn.{FileNames}
-use Rattle.edi_drawing.specs.Runs.{IsDrawnDifferenceUnder, IsPictureUnder}
+use Rattle.edi_drawing.specs.UnderFiles.{IsDrawnDifferenceUnder, IsPictureUnder}
 use Rattle.edi_drawing.specs.declared.drawn.DrawnDifference.{DrawnDifference}
 use Rattle.edi_words.specs.declared.words.PairFiles.{PairFiles}
 use Rattle.edi_words.specs.declared.words.SheetFiles.{SheetFiles}

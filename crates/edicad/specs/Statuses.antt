@@ -5,36 +5,40 @@ use Rattle.edi_compare.specs.declared.fault.RunFault.{RunFault}
 use Rattle.edi_compare.specs.Runs.{BeforeWriting}
 use Rattle.edi_files.specs.Reasons.{ended}
 use Rattle.edi_files.specs.declared.product.Product.{Product}
-use Rattle.edi_diff.specs.Runs.{IsDifferenceUnder}
+use Rattle.edi_diff.specs.UnderFiles.{IsDifferenceUnder}
 use Rattle.edi_diff.specs.declared.differing.Difference.{Difference}
 use Rattle.edi_words.specs.Requests.{IsAsked}
 use Rattle.edi_answers.specs.Effects.{Effects, Inputs, Stream}
 use Rattle.edi_answers.specs.Misuses.{shows_words}
 use Rattle.edi_answers.specs.SheetRuns.{FileFault, IsPairInput, IsPairPut, IsPairReplaced, OfFiles, OfPair, PairFileFault, PutPairFault}
 use Rattle.edicad.specs.Made.{IsInput, IsPictureOfPair, IsPut, IsReplaced, OfMade, PutFault, ShowsDifference, names_of_pair}
+use Rattle.edi_words.specs.declared.words.ManyRequest.{ManyRequest}
+use Rattle.edi_words.specs.declared.words.ManyRequest.TheVariants.{Hash, CheckList, ExplainAll}
 use Rattle.edi_words.specs.declared.words.PairFiles.{PairFiles}
 use Rattle.edi_words.specs.declared.words.SheetFiles.{SheetFiles}
 use Rattle.edi_words.specs.declared.words.Request.{Request}
-use Rattle.edi_words.specs.declared.words.Request.TheVariants.{Bundle, Check, Canon, Pair, Hash, CheckList, Delivery, Manifest, CheckManifest, Explain, ExplainAll, Rule, Rules, Draw, Changed, Misused, Answered}
+use Rattle.edi_words.specs.declared.words.Request.TheVariants.{Bundle, Sheet, Pair, Many, Delivery, Manifest, CheckManifest, Explain, Rule, Rules, Changed, Misused, Answered}
 use Rattle.edi_answers.specs.Statuses.{Answers, AreFourTried, AreTried, Complains, IsListStatus, IsPageStatus, IsPairStatus, IsSheetStatus, MeansStatus, Prints, PrintsFirst, SaysPairRefusal, SaysRefusal, pair_paths_of, paths_of}
 use Rattle.edi_diff.specs.declared.form.TextForm.{TextForm}
+
+-- of what was asked of many sheets
+abbrev pub IsManyStatus : ManyRequest → ℕ → Type 0
+IsManyStatus (Hash with_schema json) s = IsSheetStatus s
+IsManyStatus (CheckList list) s = IsPairStatus s
+IsManyStatus (ExplainAll json) s = IsSheetStatus s
 
 -- of what was asked for, whatever the files hold
 abbrev pub IsStatusOf : Request → ℕ → Type 0
 IsStatusOf Bundle s = IsSheetStatus s
-IsStatusOf (Check kinds files json) s = IsSheetStatus s
-IsStatusOf (Canon kinds files out) s = IsSheetStatus s
+IsStatusOf (Sheet kinds files what) s = IsSheetStatus s
 IsStatusOf (Pair kinds files what) s = IsPairStatus s
-IsStatusOf (Hash kinds files with_schema json) s = IsSheetStatus s
-IsStatusOf (CheckList kinds files list) s = IsPairStatus s
+IsStatusOf (Many kinds files what) s = IsManyStatus what s
 IsStatusOf (Delivery kinds paths) s = IsSheetStatus s
 IsStatusOf (Manifest kinds path file) s = IsSheetStatus s
 IsStatusOf (CheckManifest kinds path manifest) s = IsPairStatus s
 IsStatusOf (Explain kinds files json) s = IsSheetStatus s
-IsStatusOf (ExplainAll kinds files json) s = IsSheetStatus s
 IsStatusOf (Rule word json) s = IsPageStatus s
 IsStatusOf (Rules json) s = IsListStatus s
-IsStatusOf (Draw kinds files out) s = IsSheetStatus s
 IsStatusOf (Changed before after) s = IsPairStatus s
 IsStatusOf (Misused misuse) s = (s ≡ 3) ⊎ (IsTrue (shows_words misuse) × (s ≡ 5))
 IsStatusOf (Answered status) s = s ≡ status

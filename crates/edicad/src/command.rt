@@ -1,14 +1,14 @@
 //! What the program does with its words.
 ghost use Rattle.std.specs.Prelude.{◌≡◌, ◌⊎◌, ◌<◌, ℕ, List, MatchOption, map, string_bytes};
 ghost use Rattle.std.specs.Bool.{MatchBool};
-ghost use Rattle.edicad.specs.Answered.{AnswersWords, IsAnswered, IsMadeStatus, IsPairReplied, IsReplied, IsUnread};
+ghost use Rattle.edicad.specs.Answered.{AnswersWords, IsAnswered, IsMadeStatus, IsManyReplied, IsPairReplied, IsReplied, IsSheetReplied, IsUnread};
 ghost use Rattle.edi_answers.specs.Effects.{effects, inputs, written};
 ghost use Rattle.edi_answers.specs.Notes.{HasNoteOf};
 ghost use Rattle.edicad.specs.inner.Notes.{LeavesNoteOf};
 ghost use Rattle.edi_answers.specs.Statuses.{Answers, IsPairStatus, IsSheetStatus, IsUnsaid};
 ghost use Rattle.edi_deliveries.specs.Deliveries.{listings};
 ghost use Rattle.edicad.specs.Forms.{answer_form_asked, form_asked};
-ghost use Rattle.edicad.specs.Statuses.{HasStatus, IsDiffStatus, IsPictureStatus, IsPutStatus, IsSendStatus, IsStatus, IsStatusOf};
+ghost use Rattle.edicad.specs.Statuses.{HasStatus, IsDiffStatus, IsManyStatus, IsPictureStatus, IsPutStatus, IsSendStatus, IsStatus, IsStatusOf};
 
 use crate::sheets;
 use edi_answers::census::explain_all;
@@ -27,7 +27,10 @@ use edi_files::Product::{self, Canonical, Picture};
 use edi_files::{CommandLine, Disk, Errors, Folder, Listing, Progress, Words};
 use edi_line::{ByteOut, ToWrite};
 use edi_outcome::Outcome;
-use edi_words::{GivenKinds, PairFiles, PairRequest, Request, SheetFiles, asked, is_standard};
+use edi_words::{
+    GivenKinds, ManyFiles, ManyRequest, PairFiles, PairRequest, Request, SheetFiles, SheetRequest,
+    asked, is_standard,
+};
 use edi_write::put_all;
 use std::alloc::Global;
 use std::fs::File;
@@ -140,41 +143,14 @@ fn replied<F: Folder + Listing, O: ByteOut, E: ByteOut + Progress>(
 {
     match request {
         Request::Bundle => bundle(alloc, folder, out, err),
-        Request::Check { kinds, files, json } => {
-            let form = answer_form_asked(json);
-            check(alloc, folder, &kinds, &files, form, out, err, note)
+        Request::Sheet { kinds, files, what } => {
+            replied_of_sheet(alloc, folder, &kinds, &files, what, out, err, note)
         }
-        Request::Canon {
-            kinds,
-            files,
-            out: path,
-        } => make(
-            alloc, folder, Canonical, &kinds, &files, path, out, err, note,
-        ),
         Request::Pair { kinds, files, what } => {
             replied_of_pair(alloc, folder, &kinds, &files, what, out, err, note)
         }
-        Request::Hash {
-            kinds,
-            files,
-            with_schema,
-            json,
-        } => {
-            let form = answer_form_asked(json);
-            hash(
-                alloc,
-                folder,
-                &kinds,
-                &files,
-                form,
-                with_schema,
-                &[],
-                out,
-                err,
-            )
-        }
-        Request::CheckList { kinds, files, list } => {
-            check_list(alloc, folder, &kinds, &files, list, out, err)
+        Request::Many { kinds, files, what } => {
+            replied_of_many(alloc, folder, &kinds, &files, what, out, err)
         }
         Request::Delivery { kinds, paths } => answer_paths(alloc, folder, &kinds, &paths, out, err),
         Request::Manifest { kinds, path, file } => {
@@ -190,22 +166,83 @@ fn replied<F: Folder + Listing, O: ByteOut, E: ByteOut + Progress>(
             let form = answer_form_asked(json);
             explain(alloc, folder, &kinds, &files, form, out, err)
         }
-        Request::ExplainAll { kinds, files, json } => {
-            let form = answer_form_asked(json);
-            explain_all(alloc, folder, &kinds, &files, form, out, err)
-        }
         Request::Rule { word, json } => {
             let form = answer_form_asked(json);
             explain_rule(alloc, word, form, out, err)
         }
         Request::Rules { json } => explain_rules(alloc, answer_form_asked(json), out, err),
-        Request::Draw {
-            kinds,
-            files,
-            out: path,
-        } => make(alloc, folder, Picture, &kinds, &files, path, out, err, note),
         Request::Misused(misuse) => report::misused(alloc, err, misuse),
         Request::Answered(status) => status,
+    }
+}
+
+// What is asked of one sheet.
+fn replied_of_sheet<F: Folder, O: ByteOut, E: ByteOut>(
+    alloc: Global,
+    folder: &mut F,
+    kinds: &GivenKinds<'_>,
+    files: &SheetFiles<'_>,
+    what: SheetRequest<'_>,
+    out: &mut O,
+    err: &mut E,
+    note: &mut Vec<u8>,
+) -> u8
+    ensures status { IsSheetStatus result }
+    ensures answer { IsSheetReplied
+        (effects F.Folder F.Reader.ByteIn F.Sink.ByteOut F.NewFile.ByteOut folder.old folder.new)
+        (written O.ByteOut out.old out.new) (written E.ByteOut err.old err.new) kinds.now files.now what.entry result }
+    ensures note { HasNoteOf
+        (inputs F.Folder F.Reader.ByteIn folder.old) kinds.now files.now.scd.now result note.old.items note.new.items }
+{
+    match what {
+        SheetRequest::Check { json } => {
+            let form = answer_form_asked(json);
+            check(alloc, folder, kinds, files, form, out, err, note)
+        }
+        SheetRequest::Canon { out: path } => {
+            make(alloc, folder, Canonical, kinds, files, path, out, err, note)
+        }
+        SheetRequest::Draw { out: path } => {
+            make(alloc, folder, Picture, kinds, files, path, out, err, note)
+        }
+    }
+}
+
+// What is asked of many sheets.
+fn replied_of_many<F: Folder, O: ByteOut, E: ByteOut>(
+    alloc: Global,
+    folder: &F,
+    kinds: &GivenKinds<'_>,
+    files: &ManyFiles<'_>,
+    what: ManyRequest<'_>,
+    out: &mut O,
+    err: &mut E,
+) -> u8
+    ensures status { IsManyStatus what.entry result }
+    ensures answer { IsManyReplied
+        (effects F.Folder F.Reader.ByteIn F.Sink.ByteOut F.NewFile.ByteOut folder.now folder.now)
+        (written O.ByteOut out.old out.new) (written E.ByteOut err.old err.new) kinds.now files.now what.entry result }
+{
+    match what {
+        ManyRequest::Hash { with_schema, json } => {
+            let form = answer_form_asked(json);
+            hash(
+                alloc,
+                folder,
+                kinds,
+                files,
+                form,
+                with_schema,
+                &[],
+                out,
+                err,
+            )
+        }
+        ManyRequest::CheckList { list } => check_list(alloc, folder, kinds, files, list, out, err),
+        ManyRequest::ExplainAll { json } => {
+            let form = answer_form_asked(json);
+            explain_all(alloc, folder, kinds, files, form, out, err)
+        }
     }
 }
 

@@ -3,8 +3,8 @@ ghost use Rattle.std.specs.Prelude.{◌≡◌, ◌≤◌, length, take, OnOk, If
 ghost use Rattle.std.specs.Bool.{MatchBool};
 ghost use Rattle.std.specs.Io.KnownBytes.{Appends};
 ghost use Rattle.edi_compare.specs.Runs.{BeforeWriting, FilesFault, MatchFault, IfThreeKnown, seen};
-ghost use Rattle.edi_diff.specs.Runs.{IsDifferenceUnder};
-ghost use Rattle.edi_drawing.specs.Runs.{IsDrawnDifferenceUnder};
+ghost use Rattle.edi_diff.specs.UnderFiles.{IsDifferenceUnder};
+ghost use Rattle.edi_drawing.specs.UnderFiles.{IsDrawnDifferenceUnder};
 ghost use Rattle.edi_answers.specs.Notes.{GivesNote, HasNoteOf};
 ghost use Rattle.edi_outcome.specs.Words.{FaultHasNames};
 ghost use Rattle.edi_outcome.specs.Status.{status_of_fault};
@@ -13,13 +13,13 @@ ghost use Rattle.edi_answers.specs.SheetRuns.{FileFault, IsPairPut, IsPairReplac
 ghost use Rattle.edicad.specs.Made.{IsInput, IsMadeOf, IsNoInput, IsPictureOfPair, IsPut, IsReplaced, OfMade, PutFault, ShowsDifference, names_of_pair};
 
 use edi_answers::classes::{Kept, read_classes};
-use edi_answers::pair_inputs::{PairInputs, open_pair};
+use edi_answers::pair_inputs::load_pair;
 use edi_answers::sheets::{is_pair_input, meets, opened};
 use edi_compare::{RunFault, canon_of};
-use edi_diff::{Difference, TextForm, run_diff};
-use edi_drawing::{DrawnDifference, FileNames, run_draw, run_draw_difference};
+use edi_diff::{Difference, TextForm, diff_from};
+use edi_drawing::{DrawnDifference, FileNames, draw_difference_from, run_draw};
 use edi_files::{Folder, Product, output};
-use edi_line::{ByteIn, ByteOut};
+use edi_line::{ByteIn, ByteOut, FileBytes};
 use edi_schema::Kinds;
 use edi_words::{GivenKinds, PairFiles, SheetFiles};
 use edi_write::{Written, put_all};
@@ -113,23 +113,11 @@ pub fn diff<F: Folder>(
         HasNoteOf (inputs F.Folder F.Reader.ByteIn folder.now) kinds.now files.now.scd.now (status_of_fault e)
         note.old.items note.new.items) }
 {
-    let pair = open_pair(alloc, folder, kinds, files, note)?;
-    let PairInputs {
-        classes,
-        mut dic,
-        mut first,
-        mut second,
-    } = pair;
-    let mut kept = Kept::new(&classes);
-    run_diff(
-        alloc,
-        kinds.kinds(),
-        &mut kept,
-        &mut dic,
-        &mut first,
-        &mut second,
-        form,
-    )
+    let pair = load_pair(alloc, folder, kinds, files, note)?;
+    let first = FileBytes::InPieces(pair.first);
+    let second = FileBytes::InPieces(pair.second);
+    let difference = diff_from(alloc, &pair.schema, first, second, form)?;
+    Ok(difference)
 }
 
 /// What differs between the two sheets of four files, or that without the lines of records. A picture of both that
@@ -197,28 +185,15 @@ fn drawn_difference<F: Folder>(
         HasNoteOf (inputs F.Folder F.Reader.ByteIn folder.now) kinds.now files.now.scd.now (status_of_fault e)
         note.old.items note.new.items) }
 {
-    let pair = open_pair(alloc, folder, kinds, files, note)?;
-    let PairInputs {
-        classes,
-        mut dic,
-        mut first,
-        mut second,
-    } = pair;
-    let mut kept = Kept::new(&classes);
+    let pair = load_pair(alloc, folder, kinds, files, note)?;
     let names = FileNames {
         first: files.first,
         second: files.second,
     };
-    run_draw_difference(
-        alloc,
-        kinds.kinds(),
-        &names,
-        &mut kept,
-        &mut dic,
-        &mut first,
-        &mut second,
-        form,
-    )
+    let first = FileBytes::InPieces(pair.first);
+    let second = FileBytes::InPieces(pair.second);
+    let drawn = draw_difference_from(alloc, &pair.schema, &names, first, second, form)?;
+    Ok(drawn)
 }
 
 // Writes all bytes.

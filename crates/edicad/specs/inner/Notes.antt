@@ -1,7 +1,7 @@
 -- The note on the kinds of links that no class has, while a command runs.
 use Rattle.std.specs.Prelude.{◌≡◌, ℕ, List}
 use Rattle.edi_words.specs.declared.words.Request.{Request}
-use Rattle.edi_words.specs.declared.words.Request.TheVariants.{Bundle, Check, Canon, Pair, Hash, CheckList, Delivery, Manifest, CheckManifest, Explain, ExplainAll, Rule, Rules, Draw, Changed, Misused, Answered}
+use Rattle.edi_words.specs.declared.words.Request.TheVariants.{Bundle, Sheet, Pair, Many, Delivery, Manifest, CheckManifest, Explain, Rule, Rules, Changed, Misused, Answered}
 use Rattle.edi_answers.specs.Effects.{Inputs}
 use Rattle.edi_answers.specs.Notes.{HasNoteOf}
 
@@ -9,19 +9,15 @@ use Rattle.edi_answers.specs.Notes.{HasNoteOf}
 -- is no answer; a request that has no note leaves the place as it was
 abbrev pub LeavesNoteOf : Inputs → Request → ℕ → List ℕ → List ℕ → Type 0
 LeavesNoteOf inputs Bundle status old new = new ≡ old
-LeavesNoteOf inputs (Check kinds files json) status old new = HasNoteOf inputs kinds files.scd.now status old new
-LeavesNoteOf inputs (Canon kinds files out) status old new = HasNoteOf inputs kinds files.scd.now status old new
+LeavesNoteOf inputs (Sheet kinds files what) status old new = HasNoteOf inputs kinds files.scd.now status old new
 LeavesNoteOf inputs (Pair kinds files what) status old new = HasNoteOf inputs kinds files.scd.now status old new
-LeavesNoteOf inputs (Hash kinds files with_schema json) status old new = new ≡ old
-LeavesNoteOf inputs (CheckList kinds files list) status old new = new ≡ old
+LeavesNoteOf inputs (Many kinds files what) status old new = new ≡ old
 LeavesNoteOf inputs (Delivery kinds paths) status old new = new ≡ old
 LeavesNoteOf inputs (Manifest kinds path file) status old new = new ≡ old
 LeavesNoteOf inputs (CheckManifest kinds path manifest) status old new = new ≡ old
 LeavesNoteOf inputs (Explain kinds files json) status old new = new ≡ old
-LeavesNoteOf inputs (ExplainAll kinds files json) status old new = new ≡ old
 LeavesNoteOf inputs (Rule word json) status old new = new ≡ old
 LeavesNoteOf inputs (Rules json) status old new = new ≡ old
-LeavesNoteOf inputs (Draw kinds files out) status old new = HasNoteOf inputs kinds files.scd.now status old new
 LeavesNoteOf inputs (Changed before after) status old new = new ≡ old
 LeavesNoteOf inputs (Misused misuse) status old new = new ≡ old
 LeavesNoteOf inputs (Answered given) status old new = new ≡ old

@@ -1,27 +1,19 @@
-use Rattle.std.proofs.Common.{◌∙◌, Some, ap, inl, refl}
-use Rattle.std.proofs.lemmas.Result.{IfOk-weaker}
-use Rattle.edi_pairing.specs.CompareRuns.{IsComparedUnder}
-use Rattle.edi_answers.proofs.Kept.{err_anyway, ok_whatever}
-use Rattle.edi_answers.proofs.PairRuns.{fact_of_pair, fault_of_pair}
+use Rattle.edi_compare.specs.Faults.{of_pair}
+use Rattle.edi_compare.proofs.Refusals.{err_kept}
+use Rattle.edi_answers.specs.Effects.{inputs}
+use Rattle.edi_answers.specs.SheetRuns.{PairFileFault}
+use Rattle.edi_answers.proofs.LoadedPairs.{compared_pair, refused_pair}
 use Rattle.edi_answers.proofs.sheets.compare_to_file.Goals as goal
 
 pub returns-clause-ok : goal.returns-clause-ok
 returns-clause-ok g c =
-    let pair = c.in_ok-pair.pair in
-    IfOk-weaker c.run_compare_to_file.result _ _
-    (fact_of_pair g.F.Folder g.F.Reader.ByteIn c.args.folder.now c.args.files.now c.kinds.result.now c.args.kinds.now c.kinds.ensures pair.classes.items pair.dic pair.first pair.second
-    c.in_ok-pair.ensures.opened _ (c.new-kept.ensures ∙ ap Some c.deref.ensures.value) (λ v l s d a b. IsComparedUnder l s d a b v))
-    c.run_compare_to_file.ensures.ok
+    let done = c.in_ok-compared.ensures in
+    compared_pair (inputs g.F.Folder g.F.Reader.ByteIn c.args.folder.now) c.args.kinds.now c.args.files.now c.in_ok-pair.pair c.in_ok-pair.ensures.ok c.in_ok-compared.compared
+    done.first done.second done.compared
 
-pub returns-clause-err : goal.returns-clause-err
-returns-clause-err g c =
-    let pair = c.in_ok-pair.pair in
-    let new = c.run_compare_to_file.new in
-    fault_of_pair g.F.Folder g.F.Reader.ByteIn c.args.folder.now c.args.files.now c.kinds.result.now c.args.kinds.now c.kinds.ensures pair.classes.items pair.dic pair.first pair.second
-    c.in_ok-pair.ensures.opened _ (c.new-kept.ensures ∙ ap Some c.deref.ensures.value) refl new.dic new.first new.second c.run_compare_to_file.result c.run_compare_to_file.ensures.err
-
-pub returns-clause-noted : goal.returns-clause-noted
-returns-clause-noted g c = ok_whatever c.run_compare_to_file.result _ c.in_ok-pair.ensures.noted
-
-pub returns-clause-unnoted : goal.returns-clause-unnoted
-returns-clause-unnoted g c = err_anyway c.run_compare_to_file.result _ (λ e. inl c.in_ok-pair.ensures.noted)
+pub returns-in_err-compared-clause-err : goal.returns-in_err-compared-clause-err
+returns-in_err-compared-clause-err g c =
+    let inputs = inputs g.F.Folder g.F.Reader.ByteIn c.args.folder.now in
+    let f = c.in_err-compared.field-0.0 in
+    err_kept _ (of_pair f) (PairFileFault inputs c.args.kinds.now c.args.files.now (λ _. ⊥)) c.from_residual-in_err-compared.ensures.1
+    (refused_pair inputs c.args.kinds.now c.args.files.now c.in_ok-pair.pair c.in_ok-pair.ensures.ok f c.in_err-compared.ensures.refusal)

@@ -1,5 +1,5 @@
 use Rattle.std.proofs.Common.{inr, refl}
-use Rattle.edi_pairing.specs.CompareRuns.{IsPairingFileOf}
+use Rattle.edi_pairing.specs.UnderFiles.{IsPairingFileOf}
 use Rattle.edi_files.specs.Folders.{IsSpare}
 use Rattle.edi_files.proofs.Steps.{goes_map}
 use Rattle.edi_answers.specs.Effects.{effects, inputs}

@@ -1,5 +1,5 @@
 use Rattle.edi_compare.proofs.ThreeKnown.{known_ok, known_err, through}
-use Rattle.edi_drawing.specs.Runs.{IsPictureUnder}
+use Rattle.edi_drawing.specs.UnderFiles.{IsPictureUnder}
 use Rattle.edi_drawing.proofs.runs.run_draw.Goals as goal
 
 pub returns-clause-ok : goal.returns-clause-ok

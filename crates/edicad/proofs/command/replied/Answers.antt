@@ -1,11 +1,8 @@
-use Rattle.std.proofs.Common.{◌≡◌, ◌⊎◌, ℕ, [], IsTrue, inl, inr, refl, subst}
+use Rattle.std.proofs.Common.{◌≡◌, ◌⊎◌, ℕ, [], IsTrue, inl, inr, refl}
 use Rattle.edi_words.specs.declared.words.Misuse.{Misuse}
 use Rattle.edicad.specs.Answered.{IsMisusedStatus}
-use Rattle.edi_answers.specs.Census.{IsCensusStatus}
-use Rattle.edi_answers.specs.Effects.{Stream, effects, written}
-use Rattle.edi_answers.specs.Hashes.{IsHashStatus}
+use Rattle.edi_answers.specs.Effects.{Stream, written}
 use Rattle.edi_answers.specs.Misuses.{misuse_lines, shows_words}
-use Rattle.edi_answers.specs.declared.form.AnswerForm.{AnswerForm}
 use Rattle.edi_answers.specs.Statuses.{LacksMemory, Prints, Warns}
 use Rattle.edi_answers.proofs.Answering.{appends_nothing}
 use Rattle.edicad.proofs.command.replied.Goals as goal
@@ -28,35 +25,8 @@ returns-in-Misused-clause-answer g c =
     let err = written g.E.ByteOut c.args.err.now c.misused.new.err in
     rw c.in-Misused.is (refl, misused_status out err c.in-Misused.misuse c.misused.result (appends_nothing (g.O.ByteOut.contents c.args.out.now)) c.misused.ensures)
 
-pub returns-in-CheckList-clause-answer : goal.returns-in-CheckList-clause-answer
-returns-in-CheckList-clause-answer g c = rw c.in-CheckList.is (refl, c.check_list.ensures.answer)
-
 pub returns-in-CheckManifest-clause-answer : goal.returns-in-CheckManifest-clause-answer
 returns-in-CheckManifest-clause-answer g c = rw c.in-CheckManifest.is (refl, c.check_manifest.ensures.answer)
 
 pub returns-in-Changed-clause-answer : goal.returns-in-Changed-clause-answer
 returns-in-Changed-clause-answer g c = rw c.in-Changed.is (refl, c.changed.ensures.answer)
-
-pub returns-in-Hash-clause-answer : goal.returns-in-Hash-clause-answer
-returns-in-Hash-clause-answer g c =
-    let run = effects g.F.Folder g.F.Reader.ByteIn g.F.Sink.ByteOut g.F.NewFile.ByteOut c.args.folder.now c.args.folder.now in
-    let out = written g.O.ByteOut c.args.out.now c.hash.new.out in
-    let err = written g.E.ByteOut c.args.err.now c.hash.new.err in
-    let asked = c.in-Hash in
-    rw c.in-Hash.is (
-      refl,
-      subst (λ (form : AnswerForm). IsHashStatus run out err asked.kinds asked.files form asked.with_schema [] c.hash.result)
-          c.answer_form_asked-form-in-Hash.ensures c.hash.ensures.answer,
-    )
-
-pub returns-in-ExplainAll-clause-answer : goal.returns-in-ExplainAll-clause-answer
-returns-in-ExplainAll-clause-answer g c =
-    let run = effects g.F.Folder g.F.Reader.ByteIn g.F.Sink.ByteOut g.F.NewFile.ByteOut c.args.folder.now c.args.folder.now in
-    let out = written g.O.ByteOut c.args.out.now c.explain_all.new.out in
-    let err = written g.E.ByteOut c.args.err.now c.explain_all.new.err in
-    let asked = c.in-ExplainAll in
-    rw c.in-ExplainAll.is (
-      refl,
-      subst (λ (form : AnswerForm). IsCensusStatus run out err asked.kinds asked.files form c.explain_all.result)
-          c.answer_form_asked-form-in-ExplainAll.ensures c.explain_all.ensures.answer,
-    )

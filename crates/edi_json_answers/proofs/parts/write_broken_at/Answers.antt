@@ -3,7 +3,7 @@ use Rattle.json.specs.Token.{Token}
 use Rattle.edi_json.specs.Members.{member_tokens}
 use Rattle.edi_json.proofs.LineLemmas.{ended, two_more}
 use Rattle.edi_json_answers.specs.Answers.{number_or_null}
-use Rattle.edi_json_answers.proofs.broken_sheets.write_broken_at.Goals as goal
+use Rattle.edi_json_answers.proofs.parts.write_broken_at.Goals as goal
 
 pub returns-clause-tokens : goal.returns-clause-tokens
 returns-clause-tokens c =

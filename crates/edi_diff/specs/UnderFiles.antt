@@ -1,4 +1,4 @@
--- What the run over two sheets answers.
+-- What differs between two sheets under the schema of two files.
 use Rattle.std.specs.Prelude.{ℕ, List}
 use Rattle.edi_schema.specs.Classes.{Classes}
 use Rattle.edi_schema.specs.Roles.{KindCodes}

@@ -1,4 +1,4 @@
--- What the runs that draw answer.
+-- What is made of a sheet, and of two, under the schema of two files.
 use Rattle.std.specs.Prelude.{ℕ, List}
 use Rattle.edi_schema.specs.Classes.{Classes}
 use Rattle.edi_schema.specs.Roles.{KindCodes}
