@@ -40,7 +40,7 @@ pub struct Found<'a> {
     /// The place of the node that the rule speaks of beside an arc, counted from 0.
     pub node: Option<u64>,
     /// The zones of the file, if they were read for the earlier record.
-    pub(crate) zones: Option<Vec<Zone<'a>>>,
+    pub zones: Option<Vec<Zone<'a>>>,
 }
 
 /// Want of memory.

@@ -63,8 +63,8 @@ pub(crate) fn earlier_in_zones(zones: &[Zone<'_>], rule: u16, place: u64) -> Opt
     }
 }
 
-/// The earlier record that another rule of lines, of records or of references speaks of, for which the file is read once
-/// more: by the side of an arc, for 307; `None` where the rule speaks of none.
+/// The earlier record that another rule of lines, of records or of references speaks of: the link of the same side of an
+/// arc for 307, for which the file is read once more; `None` where the rule speaks of none.
 pub(crate) fn earlier_record(
     alloc: Global,
     schema: &Schema,
