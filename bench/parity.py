@@ -228,7 +228,7 @@ def main():
     words.add_argument("--instructions", action="store_true")
     words.add_argument("--phases", action="store_true")
     words.add_argument("--keep", action="store_true")
-    given = words.parse_args()
+    given = words.parse_intermixed_args()
     if given.phases:
         given.records = min(given.records, 30_000)
         with tempfile.TemporaryDirectory() as folder:
